@@ -1,0 +1,119 @@
+//! The yardstick of the bench: the job of `focusd run` as a plain Rust program, without proofs.
+//!
+//! It reads the same script from standard input, checks the same rules of each
+//! row, keeps every accepted row in memory, and answers posts and reports in the
+//! same words. Rows are kept as an expert would keep them: amounts as whole nanos
+//! (10^-9 of the currency unit), times as seconds since 1970.
+mod fields;
+mod rows;
+mod warehouse;
+
+use std::fmt;
+use std::io::{self, BufRead, BufReader, BufWriter, Write};
+use warehouse::{Report, Warehouse};
+
+const BUFFER: usize = 1 << 18;
+const MOST_LINES: usize = 1_000_000;
+
+enum Command {
+    Post { lines: usize },
+    Report { from_hour: i64, to_hour: i64 },
+}
+
+impl Command {
+    fn read(line: &str) -> Option<Command> {
+        if let Some(rest) = line.strip_prefix("post ") {
+            let mut words = rest.split(' ');
+            let (_origin, _seq, lines) = (words.next()?, words.next()?, words.next()?);
+            let is_number = !lines.is_empty() && lines.bytes().all(|byte| byte.is_ascii_digit());
+            let lines = lines
+                .parse()
+                .ok()
+                .filter(|&lines| is_number && lines <= MOST_LINES)?;
+            return words.next().is_none().then_some(Command::Post { lines });
+        }
+        let mut words = line.strip_prefix("report ")?.rsplitn(3, ' ');
+        let (to, from, _key) = (words.next()?, words.next()?, words.next()?);
+        Some(Command::Report {
+            from_hour: whole_hour(from)?,
+            to_hour: whole_hour(to)?,
+        })
+    }
+}
+
+fn whole_hour(text: &str) -> Option<i64> {
+    let seconds = fields::seconds(text.as_bytes())?;
+    (seconds % 3_600 == 0).then_some(seconds / 3_600)
+}
+
+/// Reads lines up to and with their line feeds into `text`, and tells how many there were.
+fn read_lines(input: &mut impl BufRead, count: usize, text: &mut Vec<u8>) -> io::Result<usize> {
+    text.clear();
+    for read in 0..count {
+        if input.read_until(b'\n', text)? == 0 {
+            return Ok(read);
+        }
+    }
+    Ok(count)
+}
+
+impl fmt::Display for Report {
+    fn fmt(&self, out: &mut fmt::Formatter<'_>) -> fmt::Result {
+        out.write_str("Group,BilledCost,EffectiveCost,ChargedCost\n")?;
+        if let Some(sums) = &self.sums {
+            let (billed, effective) = (Nanos(sums.billed), Nanos(sums.effective));
+            writeln!(out, ",{billed},{effective},{effective}")?;
+        }
+        Ok(())
+    }
+}
+
+struct Nanos(i128);
+
+impl fmt::Display for Nanos {
+    fn fmt(&self, out: &mut fmt::Formatter<'_>) -> fmt::Result {
+        let sign = if self.0 < 0 { "-" } else { "" };
+        let amount = self.0.unsigned_abs();
+        write!(
+            out,
+            "{sign}{}.{:09}",
+            amount / 1_000_000_000,
+            amount % 1_000_000_000
+        )
+    }
+}
+
+fn main() -> io::Result<()> {
+    let mut input = BufReader::with_capacity(BUFFER, io::stdin().lock());
+    let mut output = BufWriter::new(io::stdout().lock());
+    let mut warehouse = Warehouse::new(*b"USD");
+    let (mut line, mut text) = (Vec::new(), Vec::new());
+    while read_lines(&mut input, 1, &mut line)? == 1 {
+        let command = std::str::from_utf8(&line)
+            .ok()
+            .map(|line| line.strip_suffix('\n').unwrap_or(line));
+        match command.and_then(Command::read) {
+            None => writeln!(output, "bad command")?,
+            Some(Command::Post { lines }) => {
+                if read_lines(&mut input, lines, &mut text)? < lines {
+                    writeln!(output, "bad end")?;
+                    break;
+                }
+                match warehouse.post(&text) {
+                    Ok(number) => writeln!(output, "accepted {number}")?,
+                    Err(fault) => writeln!(output, "refused {fault}")?,
+                }
+            }
+            Some(Command::Report { from_hour, to_hour }) => {
+                match warehouse.report(from_hour, to_hour) {
+                    Some(report) => {
+                        let text = report.to_string();
+                        write!(output, "bytes {}\n{text}", text.len())?;
+                    }
+                    None => writeln!(output, "refused Q1 Range")?,
+                }
+            }
+        }
+    }
+    output.flush()
+}

@@ -1,0 +1,4 @@
+pub mod CommandsLaws
+pub mod HoursLaws
+pub mod LinesLaws
+pub mod WordsLaws

@@ -1,0 +1,69 @@
+-- Which commands a script holds.
+use Rattle.std.specs.Prelude.{◌≡◌, ℕ, List, [], ◌∷◌, ◌++◌, Contains, IsUtf8, codes}
+use Rattle.fw_script.specs.Hours.{IsHourText}
+use Rattle.fw_script.specs.Lines.{StartsWithLine, StartsWithLines, FollowsLines}
+use Rattle.fw_script.specs.Plain.{PlainCommand, post, report, bad_command, bad_end}
+use Rattle.fw_script.specs.Words.{space, IsLineCount}
+
+-- the line is `WORD ORIGIN SEQUENCE COUNT`, which asks for an entry whose content is that many lines after it
+pub record IsEntryLine (word line origin sequence : List ℕ) (count : ℕ) : Type 0 where
+  pub number : List ℕ
+  pub in_turn : line ≡ word ++ space ∷ (origin ++ space ∷ (sequence ++ space ∷ number))
+  pub origin_is_word : ¬ Contains origin space
+  pub sequence_is_word : ¬ Contains sequence space
+  pub counts : IsLineCount number count
+
+-- the line is `report KEY FROM TO`: the key may hold spaces, and the times stand on whole hours
+pub record IsReportLine (line key : List ℕ) (from to : ℕ) : Type 0 where
+  pub from_text : List ℕ
+  pub to_text : List ℕ
+  pub in_turn : line ≡ codes "report" ++ space ∷ (key ++ space ∷ (from_text ++ space ∷ to_text))
+  pub from_is_word : ¬ Contains from_text space
+  pub to_is_word : ¬ Contains to_text space
+  pub key_is_text : IsUtf8 key
+  pub from_is_hour : IsHourText from_text from
+  pub to_is_hour : IsHourText to_text to
+
+-- the word begins the line of an entry
+abbrev pub IsEntryWord : List ℕ → Type 0
+IsEntryWord word = word ≡ codes "post"
+
+-- the line is none of the commands
+pub record IsNoCommand (line : List ℕ) : Type 0 where
+  pub no_entry : (word origin sequence : List ℕ) (count : ℕ) → IsEntryWord word → ¬ IsEntryLine word line origin sequence count
+  pub no_report : (key : List ℕ) (from to : ℕ) → ¬ IsReportLine line key from to
+
+-- the line, with the text that follows it, is this entry, and `rest` follows its content
+pub record IsEntry (word line following origin sequence content rest : List ℕ) : Type 0 where
+  pub count : ℕ
+  pub asked : IsEntryLine word line origin sequence count
+  pub given : StartsWithLines count following content rest
+
+-- the line asks for more lines than follow it
+pub record IsCutShort (line following : List ℕ) : Type 0 where
+  pub word : List ℕ
+  pub origin : List ℕ
+  pub sequence : List ℕ
+  pub count : ℕ
+  pub begins : IsEntryWord word
+  pub asked : IsEntryLine word line origin sequence count
+  pub too_few : (rest : List ℕ) → ¬ FollowsLines count following rest
+
+-- the line, with the text that follows it, is this command, and `rest` is left to read
+unfoldable pub IsCommand : List ℕ → List ℕ → PlainCommand → List ℕ → Type 0
+IsCommand line following (post origin sequence content) rest = IsEntry (codes "post") line following origin sequence content rest
+IsCommand line following (report key from to) rest = IsReportLine line key from to × (rest ≡ following)
+IsCommand line following bad_command rest = IsNoCommand line × (rest ≡ following)
+IsCommand line following bad_end rest = IsCutShort line following × (rest ≡ [])
+
+-- the first command of a text, and what is left of the text after it
+pub record FirstCommand (text : List ℕ) (command : PlainCommand) (rest : List ℕ) : Type 0 where
+  pub line : List ℕ
+  pub following : List ℕ
+  pub begins : StartsWithLine text line following
+  pub reads : IsCommand line following command rest
+
+-- the commands that a script holds, in order
+unfoldable pub CommandsOf : List ℕ → List PlainCommand → Type 0
+CommandsOf text [] = text ≡ []
+CommandsOf text (command ∷ commands) = (rest : List ℕ) × FirstCommand text command rest × CommandsOf rest commands

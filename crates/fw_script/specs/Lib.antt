@@ -1,0 +1,6 @@
+pub mod Commands
+pub mod Hours
+pub mod Lines
+pub mod Plain
+pub mod Splits
+pub mod Words

@@ -1,0 +1,26 @@
+//! Scripts: which commands a text holds.
+//!
+//! A script is lines. A line ends with a line feed or with the script, and a line feed at the end opens no further line. Single
+//! spaces part the words of a line, so a word may be empty. The commands are:
+//!
+//! - `post ORIGIN SEQUENCE COUNT`, followed by that many lines of content, at most a million;
+//! - `report KEY FROM TO`, where KEY is the UTF-8 text between the first word and the last two, and FROM and TO are instants on
+//!   whole hours, not before 1970.
+//!
+//! Any other line is a bad command, and the next line is read as a command. Where fewer lines follow a post than it asks for,
+//! the script ends.
+#![tactic(auto)]
+
+mod commands;
+mod hours;
+mod laws;
+mod lines;
+mod reader;
+mod words;
+
+pub use commands::Command;
+pub use laws::{commands_are_one, first_command_is_one};
+pub use reader::Script;
+
+#[cfg(test)]
+mod tests;

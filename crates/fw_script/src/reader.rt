@@ -1,0 +1,123 @@
+//! A script that is read command by command.
+ghost use Rattle.std.specs.Prelude.{◌≡◌, ◌<◌, ℕ, List, [], length, MatchOption, OnSome, codes};
+ghost use Rattle.fw_script.specs.Commands.{FirstCommand, IsCommand, IsEntryLine, IsReportLine};
+ghost use Rattle.fw_script.specs.Plain.{plain_command};
+
+use crate::commands::Command;
+use crate::hours::hour_of;
+use crate::lines::{next_line, split_lines};
+use crate::words::{arguments_of, line_count, split_at_first, split_at_last};
+use std::marker::Model;
+
+/// The part of a script that is not yet read.
+#[derive(Debug, Drop)]
+pub struct Script<'a> {
+    rest: &'a [u8],
+}
+
+impl<'a> Model for Script<'a> {
+    ghost Value = { List ℕ };
+
+    ghost view = { λ s. s.rest.now };
+}
+
+impl<'a> Script<'a> {
+    /// The script of these bytes.
+    pub fn new(text: &'a [u8]) -> Self
+        ensures { result ≡ text.now }
+    {
+        Script { rest: text }
+    }
+
+    /// The next command, or `None` where nothing is left. What is left then begins after the command's line and the lines that
+    /// it takes. After `BadEnd` nothing is left.
+    pub fn next_command(&mut self) -> Option<Command<'a>>
+        ensures command { MatchOption result
+            ((self.old ≡ []) × (self.new ≡ []))
+            (λ c. FirstCommand self.old (plain_command c) self.new) }
+        ensures shorter { OnSome result (length self.new < length self.old) }
+    {
+        let (line, following) = next_line(self.rest)?;
+        let (command, rest) = read_command(line, following);
+        self.rest = rest;
+        Some(command)
+    }
+}
+
+/// The command of a line, with the lines that it takes from those that follow, and what is left after them.
+fn read_command<'a>(line: &'a [u8], following: &'a [u8]) -> (Command<'a>, &'a [u8])
+    ensures { IsCommand line.now following.now (plain_command result.0) result.1.now }
+{
+    if let Some(entry) = entry_line(b"post", line) {
+        return match split_lines(entry.count, following) {
+            Some((content, rest)) => (
+                Command::Post {
+                    origin: entry.origin,
+                    sequence: entry.sequence,
+                    content,
+                },
+                rest,
+            ),
+            None => (Command::BadEnd, b""),
+        };
+    }
+    match report_line(line) {
+        Some(report) => (
+            Command::Report {
+                key: report.key,
+                from: report.from,
+                to: report.to,
+            },
+            following,
+        ),
+        None => (Command::BadCommand, following),
+    }
+}
+
+/// The arguments of an entry's line.
+#[derive(Drop)]
+struct EntryLine<'a> {
+    origin: &'a [u8],
+    sequence: &'a [u8],
+    count: u32,
+}
+
+/// The arguments of a line `WORD ORIGIN SEQUENCE COUNT`, or `None` where the line isn't of this form.
+fn entry_line<'a>(word: &[u8], line: &'a [u8]) -> Option<EntryLine<'a>>
+    ensures { MatchOption result
+        ((origin sequence : List ℕ) (count : ℕ) → ¬ IsEntryLine word.now line.now origin sequence count)
+        (λ e. IsEntryLine word.now line.now e.origin.now e.sequence.now e.count) }
+{
+    let arguments = arguments_of(word, line)?;
+    let (origin, rest) = split_at_first(b' ', arguments)?;
+    let (sequence, number) = split_at_first(b' ', rest)?;
+    let count = line_count(number)?;
+    Some(EntryLine {
+        origin,
+        sequence,
+        count,
+    })
+}
+
+/// The arguments of a report's line.
+#[derive(Drop)]
+struct ReportLine<'a> {
+    key: &'a str,
+    from: u64,
+    to: u64,
+}
+
+/// The arguments of a line `report KEY FROM TO`, or `None` where the line isn't of this form.
+fn report_line(line: &[u8]) -> Option<ReportLine<'_>>
+    ensures { MatchOption result
+        ((key : List ℕ) (from to : ℕ) → ¬ IsReportLine line.now key from to)
+        (λ r. IsReportLine line.now r.key.now r.from r.to) }
+{
+    let arguments = arguments_of(b"report", line)?;
+    let (rest, to) = split_at_last(b' ', arguments)?;
+    let (key, from) = split_at_last(b' ', rest)?;
+    let key = str::from_utf8(key).ok()?;
+    let from = hour_of(from)?;
+    let to = hour_of(to)?;
+    Some(ReportLine { key, from, to })
+}

@@ -1,0 +1,81 @@
+#!/usr/bin/env python3
+"""Tests of the example's files: python3 examples/test_examples.py"""
+import csv
+import decimal
+import os
+import re
+import shutil
+import subprocess
+import sys
+import tempfile
+import unittest
+
+HERE = os.path.dirname(os.path.abspath(__file__))
+FILES = ["focus-export.csv", "first-report.script", "first-report.expected"]
+
+
+def read(*path):
+    with open(os.path.join(*path), "rb") as file:
+        return file.read()
+
+
+def answers_to(script):
+    return subprocess.run([sys.executable, os.path.join(HERE, "expected.py")], input=script, capture_output=True)
+
+
+class Example(unittest.TestCase):
+    def test_the_kept_files_are_what_their_programs_make(self):
+        with tempfile.TemporaryDirectory() as folder:
+            for part in ["examples", "tools"]:
+                shutil.copytree(os.path.join(HERE, "..", part), os.path.join(folder, part))
+            for name in FILES:
+                os.remove(os.path.join(folder, "examples", name))
+            subprocess.run(["sh", os.path.join(folder, "examples", "remake")], check=True)
+            for name in FILES:
+                with self.subTest(name=name):
+                    self.assertEqual(read(HERE, name), read(folder, "examples", name))
+
+    def test_the_export_has_what_it_is_to_show(self):
+        """All 43 columns, every category, and costs of each spelling."""
+        with open(os.path.join(HERE, "focus-export.csv"), newline="", encoding="utf-8-sig") as file:
+            rows = list(csv.DictReader(file, strict=True))
+        self.assertEqual({len(row) for row in rows}, {43})
+        self.assertEqual({row["ChargeCategory"] for row in rows}, {"Usage", "Purchase", "Tax", "Credit", "Adjustment"})
+        costs = [row[column] for row in rows for column in ("BilledCost", "EffectiveCost")]
+        decimals = {len(cost.partition(".")[2]) for cost in costs if "E" not in cost}
+        self.assertLessEqual(set(range(1, 13)), decimals)
+        self.assertTrue(any("E-" in cost for cost in costs))
+        self.assertTrue(any(cost.startswith("-") for cost in costs))
+        # Amounts that lie exactly between two nanos, above an even and above an odd one.
+        ends = {decimal.Decimal(cost) * 10**9 % 2 for cost in costs}
+        self.assertLessEqual({decimal.Decimal("0.5"), decimal.Decimal("1.5")}, ends)
+        self.assertTrue(any("\n" in row["ChargeDescription"] for row in rows))
+        self.assertTrue(any('"' in row["ChargeDescription"] and "," in row["ChargeDescription"] for row in rows))
+
+    def test_the_oracle_on_sums_done_by_hand(self):
+        """Ties go to the even nano, an exponent moves the point, and the hour after the last one isn't counted."""
+        script = (
+            b"post a 1 6\n"
+            b"BilledCost,EffectiveCost,BillingCurrency,ChargeCategory,ChargePeriodStart,ChargePeriodEnd\n"
+            b"0.0000000005,1,USD,Usage,2024-01-01T00:00:00Z,2024-01-01T01:00:00Z\n"
+            b"0.0000000015,.5,USD,Usage,2024-01-01T00:59:59Z,2024-01-01T01:00:00Z\n"
+            b"-0.0000000025,1e-9,USD,Credit,2024-01-01T00:00:00Z,2024-02-01T00:00:00Z\n"
+            b"1.2E-05,-0,USD,Tax,2024-01-01T01:00:00Z,2024-01-01T02:00:00Z\n"
+            b"7,7,USD,Usage,2024-01-01T02:00:00Z,2024-01-01T03:00:00Z\n"
+            b"report team 2024-01-01T00:00Z 2024-01-01T02:00Z\n"
+        )
+        ran = answers_to(script)
+        # 0 + 2 - 2 + 12,000 nanos; 1 + 0.5 units and 1 nano.
+        wanted = "Group,BilledCost,EffectiveCost,ChargedCost\n,0.000012000,1.500000001,1.500000001\n"
+        self.assertEqual((ran.returncode, ran.stdout.decode()), (0, f"accepted 1\nbytes {len(wanted)}\n{wanted}"))
+
+    def test_the_oracle_makes_up_no_answer(self):
+        for line in ["state", "post a 1 2\nBilledCost\n1"]:
+            with self.subTest(line=line):
+                ran = answers_to(line.encode())
+                self.assertEqual((ran.returncode, ran.stdout), (1, b""))
+                self.assertTrue(re.match("expected.py: this program has no answer to ", ran.stderr.decode()))
+
+
+if __name__ == "__main__":
+    unittest.main()
