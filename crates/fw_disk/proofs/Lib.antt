@@ -1,0 +1,5 @@
+pub mod Moments
+mod Outcomes
+mod Ranges
+mod Record
+mod Stops

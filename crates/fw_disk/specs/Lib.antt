@@ -1,0 +1,4 @@
+pub mod Memory
+pub mod Schedule
+pub mod Stop
+pub mod Volume
