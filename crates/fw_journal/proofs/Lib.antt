@@ -1,0 +1,4 @@
+pub mod Images
+pub mod Parsing
+pub mod Spelling
+pub mod Walk

@@ -1,0 +1,150 @@
+-- What the records of a text that were read say of its rows.
+use Rattle.std.proofs.Common.{◌≡◌, ℕ, zero, suc, ◌<◌, ◌≤◌, ◌+◌, ◌-◌, true, false, List, [], ◌∷◌, ◌++◌, length, get_or, Result, Ok, Err, refl, ◌∙◌, arith, length-append}
+use Rattle.std.specs.List.{AllZip}
+use Rattle.csv.specs.Reading.{default_config, records_from, strip_bom, Reached}
+use Rattle.csv.specs.declared.parser.State.{State}
+use Rattle.csv.specs.declared.parser.State.TheVariants as st
+use Rattle.csv.specs.declared.reader.Reader.{Reader}
+use Rattle.std.specs.Borrow.{Bor}
+use Rattle.fw_rows.specs.At.{At, Finds}
+use Rattle.fw_rows.specs.Charge.{Charge}
+use Rattle.fw_rows.specs.Columns.{Record, missing_column, place_in}
+use Rattle.fw_rows.specs.Header.{ArePlaces}
+use Rattle.fw_rows.specs.Rules.{RecordReads, BreaksNoRule}
+use Rattle.fw_rows.specs.Rows.{RecordsRead, RowsRead, IsHeader, records_of, most_rows}
+use Rattle.fw_rows.specs.declared.header.Places.{Places}
+use Rattle.fw_rows.specs.declared.fault.RecordFault.{RecordFault}
+use Rattle.fw_rows.specs.declared.fault.RowFault.{RowFault}
+use Rattle.fw_rows.specs.declared.fault.RowFault.TheVariants as fault
+use Rattle.fw_rows.specs.declared.column.Column.TheVariants as column
+use Rattle.fw_rows.proofs.RecordFacts.{records_end, records_more, whole_end, whole_more, whole_last, reached_next, reached_first, no_rows}
+
+-- the rows are those of the records
+abbrev pub AreRows : List ℕ → Record → List Record → List Charge → Type 0
+AreRows currency header body rows = AllZip (λ fields row. RecordReads currency header fields (Ok row)) body rows
+
+-- where the reader stands behind a header and some records, and the rows of these
+pub record Read (currency text : List ℕ) (reader : Reader (Bor (List ℕ))) (places : Places) (rows : List Charge) : Type 0 where
+  pub state : State
+  pub rest : List ℕ
+  pub header : Record
+  pub body : List Record
+  pub at : At reader state rest
+  pub reached : Reached default_config st.StartRecord (strip_bom text) (header ∷ body) state rest
+  pub stand : ArePlaces header places
+  pub whole : IsHeader header
+  pub are : AreRows currency header body rows
+  pub counted : length body ≡ length rows
+  pub few : length body ≤ most_rows
+
+pub AllZip-push : {A B : Type 0} (R : A → B → Type 0) (xs : List A) (ys : List B) (x : A) (y : B) → AllZip R xs ys → R x y → AllZip R (xs ++ x ∷ []) (ys ++ y ∷ [])
+AllZip-push R [] [] x y h r = (r, tt)
+AllZip-push R [] (b ∷ ys) x y h r = absurd h
+AllZip-push R (a ∷ xs) [] x y h r = absurd h
+AllZip-push R (a ∷ xs) (b ∷ ys) x y h r = (h.0, AllZip-push R xs ys x y h.1 r)
+
+-- a record that stands for a row breaks no rule
+pub none_broken : (currency : List ℕ) (header : Record) (body : List Record) (rows : List Charge) → AreRows currency header body rows → (k : ℕ) (d : Record) → k < length body
+    → BreaksNoRule currency header (get_or body k d)
+unfolding RecordReads
+none_broken currency header [] rows are k d lt = absurd (omega arith)
+none_broken currency header (b ∷ body) [] are k d lt = absurd are
+none_broken currency header (b ∷ body) (r ∷ rows) are zero d lt = are.0.0
+none_broken currency header (b ∷ body) (r ∷ rows) are (suc k) d lt = none_broken currency header body rows are.1 k d (omega arith)
+
+-- what the records of a text read as is what the text reads as
+pub text_reads : (currency text : List ℕ) (header : Record) (body : List Record) (r : Result (List Charge) RowFault)
+    → records_from default_config 4098 st.StartRecord (strip_bom text) ≡ header ∷ body → RecordsRead currency header body r → RowsRead currency text r
+unfolding RowsRead records_of
+text_reads currency text header body r all reads = rw all reads
+
+-- a text without records
+pub nothing_reads : (currency text : List ℕ) (new : Reader (Bor (List ℕ))) (f : Record) → Finds new st.StartRecord (strip_bom text) f false
+    → RowsRead currency text (Err (fault.MissingColumn column.BilledCost))
+unfolding RowsRead records_of missing_column place_in
+nothing_reads currency text new f finds = rw (records_end 4098 st.StartRecord (strip_bom text) finds) refl
+
+-- a header's fault
+pub header_reads : (currency text : List ℕ) (new : Reader (Bor (List ℕ))) (f : Record) (e : RowFault) → Finds new st.StartRecord (strip_bom text) f true
+    → ((currency : List ℕ) (body : List Record) → RecordsRead currency f body (Err e)) → RowsRead currency text (Err e)
+header_reads currency text new f e finds bad =
+    text_reads currency text f (records_from default_config 4097 finds.0 finds.1) (Err e) (records_more 4097 st.StartRecord finds.0 (strip_bom text) finds.1 f finds.3)
+    (bad currency (records_from default_config 4097 finds.0 finds.1))
+
+-- memory may be wanting at any place
+pub memory_reads : (currency text : List ℕ) → RowsRead currency text (Err fault.NoMemory)
+unfolding RowsRead
+memory_reads currency text = tt
+
+-- the header was read
+pub read-start : (currency text : List ℕ) (new : Reader (Bor (List ℕ))) (f : Record) (places : Places) → Finds new st.StartRecord (strip_bom text) f true → ArePlaces f places → IsHeader f
+    → Read currency text new places []
+read-start currency text new f places finds stand whole = record {
+  state = finds.0;
+  rest = finds.1;
+  header = f;
+  body = [];
+  at = finds.2;
+  reached = reached_first finds.0 (strip_bom text) finds.1 f finds.3;
+  stand = stand;
+  whole = whole;
+  are = tt;
+  counted = refl;
+  few = omega arith;
+}
+
+-- a record more was read, and stands for a row
+pub read-more : (currency text : List ℕ) (old new : Reader (Bor (List ℕ))) (places : Places) (rows : List Charge) (f : Record) (row : Charge) → Read currency text old places rows
+    → ((s : State) (y : List ℕ) → At old s y → Finds new s y f true) → ((header : Record) → ArePlaces header places → RecordReads currency header f (Ok row)) → length rows < 4096
+    → Read currency text new places (rows ++ row ∷ [])
+read-more currency text old new places rows f row r finds reads few =
+    let m = finds r.state r.rest r.at in
+    record {
+      state = m.0;
+      rest = m.1;
+      header = r.header;
+      body = r.body ++ (f ∷ []);
+      at = m.2;
+      reached = reached_next r.state m.0 (strip_bom text) r.rest m.1 r.header f r.body r.reached m.3;
+      stand = r.stand;
+      whole = r.whole;
+      are = AllZip-push (λ fields charge. RecordReads currency r.header fields (Ok charge)) r.body rows f row r.are (reads r.header r.stand);
+      counted = omega (arith, r.counted, length-append r.body (f ∷ []), length-append rows (row ∷ []));
+      few = omega (arith, r.counted, length-append r.body (f ∷ []));
+    }
+
+-- a record more was read, and breaks a rule
+pub read-fault : (currency text : List ℕ) (old new : Reader (Bor (List ℕ))) (places : Places) (rows : List Charge) (f : Record) (number : ℕ) (e : RecordFault) → Read currency text old places rows
+    → ((s : State) (y : List ℕ) → At old s y → Finds new s y f true) → ((header : Record) → ArePlaces header places → RecordReads currency header f (Err e)) → length rows < 4096
+    → number ≡ length rows + 1 → RowsRead currency text (Err (fault.Record number e))
+read-fault currency text old new places rows f number e r finds reads few is =
+    let m = finds r.state r.rest r.at in
+    let k = 4096 - length r.body in
+    let after = records_from default_config k m.0 m.1 in
+    let all = whole_more 4098 k r.state m.0 (strip_bom text) r.rest m.1 r.header f r.body r.reached (omega (arith, r.counted)) m.3 in
+    text_reads currency text r.header (r.body ++ (f ∷ after)) (Err (fault.Record number e)) all
+    (r.whole, r.body, f, after, refl, omega (arith, r.counted), omega (arith, r.counted), none_broken currency r.header r.body rows r.are, reads r.header r.stand)
+
+-- a record more was read than a text may have
+pub read-full : (currency text : List ℕ) (old new : Reader (Bor (List ℕ))) (places : Places) (rows : List Charge) (f : Record) → Read currency text old places rows
+    → ((s : State) (y : List ℕ) → At old s y → Finds new s y f true) → length rows ≡ 4096 → RowsRead currency text (Err fault.TooManyRows)
+read-full currency text old new places rows f r finds full =
+    let m = finds r.state r.rest r.at in
+    let all = whole_last 4098 r.state m.0 (strip_bom text) r.rest m.1 r.header f r.body r.reached (omega (arith, r.counted)) m.3 in
+    text_reads currency text r.header (r.body ++ (f ∷ [])) (Err fault.TooManyRows) all (r.whole, r.body, f, refl, r.counted ∙ full, none_broken currency r.header r.body rows r.are)
+
+-- no record is left behind the header
+pub read-none : (currency text : List ℕ) (old new : Reader (Bor (List ℕ))) (places : Places) (rows : List Charge) (f : Record) → Read currency text old places rows
+    → ((s : State) (y : List ℕ) → At old s y → Finds new s y f false) → length rows ≡ 0 → RowsRead currency text (Err fault.NoRows)
+read-none currency text old new places rows f r finds none =
+    let k = 4097 - length r.body in
+    let all = whole_end 4098 k r.state (strip_bom text) r.rest r.header r.body r.reached (omega (arith, r.counted, r.few)) (finds r.state r.rest r.at) in
+    text_reads currency text r.header r.body (Err fault.NoRows) all (r.whole, no_rows r.body (r.counted ∙ none))
+
+-- no record is left behind the rows
+pub read-all : (currency text : List ℕ) (old new : Reader (Bor (List ℕ))) (places : Places) (rows : List Charge) (f : Record) → Read currency text old places rows
+    → ((s : State) (y : List ℕ) → At old s y → Finds new s y f false) → 0 < length rows → RowsRead currency text (Ok rows)
+read-all currency text old new places rows f r finds some =
+    let k = 4097 - length r.body in
+    let all = whole_end 4098 k r.state (strip_bom text) r.rest r.header r.body r.reached (omega (arith, r.counted, r.few)) (finds r.state r.rest r.at) in
+    text_reads currency text r.header r.body (Ok rows) all (r.whole, omega (arith, r.counted), r.few, r.are)

@@ -1,0 +1,41 @@
+//! The records of a text in memory, one at a time.
+ghost use Rattle.std.specs.Prelude.{◌≡◌, ◌<◌, ℕ, List, Some, length, IfOk};
+ghost use Rattle.csv.specs.Reading.{strip_bom};
+ghost use Rattle.csv.specs.Records.{fields_of, field_at};
+ghost use Rattle.csv.specs.declared.parser.State.{State};
+ghost use Rattle.csv.specs.declared.parser.State.TheVariants as st;
+ghost use Rattle.fw_rows.specs.At.{At, Finds};
+
+use csv::{ByteRecord, Reader, ReaderBuilder};
+use std::alloc::{AllocError, Global};
+
+/// A reader at the start of a text.
+pub(crate) fn open<'a>(alloc: Global, text: &'a [u8]) -> Reader<&'a [u8]>
+    ensures { At result st.StartRecord (strip_bom text.now) }
+{
+    ReaderBuilder::new()
+        .has_headers(false)
+        .flexible(true)
+        .from_reader(alloc, text)
+}
+
+/// Reads the next record into `fields`, and says whether there is one. A text in memory is always read, so memory alone can be wanting.
+pub(crate) fn advance<'a>(
+    reader: &mut Reader<&'a [u8]>,
+    fields: &mut ByteRecord,
+) -> Result<bool, AllocError>
+    ensures { IfOk result (λ found. (s : State) (y : List ℕ) → At reader.old s y → Finds reader.new s y (fields_of fields.new) found) }
+{
+    let Ok(found) = reader.read_byte_record(fields) else {
+        return Err(AllocError);
+    };
+    Ok(found)
+}
+
+/// The field of a record at a place.
+pub(crate) fn field<'r>(fields: &'r ByteRecord, place: usize) -> &'r [u8]
+    requires { place < length (fields_of fields.now) }
+    ensures { field_at (fields_of fields.now) place ≡ Some result.now }
+{
+    fields.get(place).unwrap()
+}
