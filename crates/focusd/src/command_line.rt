@@ -1,0 +1,48 @@
+//! The command line, and what its help says.
+use clap::{Arg, Command};
+use std::alloc::{AllocError, Global};
+
+/// The id of the option that names the currency.
+pub(crate) const CURRENCY: &str = "currency";
+
+const EXAMPLE: &str = "Example:
+  printf '%s\\n' \\
+    'post billing 1 2' \\
+    'BilledCost,EffectiveCost,BillingCurrency,ChargeCategory,ChargePeriodStart,ChargePeriodEnd' \\
+    '0.1,0.25,USD,Usage,2024-01-01T00:00Z,2024-01-01T01:00Z' \\
+    'report team 2024-01-01T00:00Z 2024-01-02T00:00Z' | focusd run
+
+  prints
+    accepted 1
+    bytes 80
+    Group,BilledCost,EffectiveCost,ChargedCost
+    ,0.100000000,0.250000000,0.250000000";
+
+const SCRIPT: &str = "Commands of a script, one a line:
+  post ORIGIN SEQUENCE LINES  accept the charge rows of the CSV on the next LINES lines
+  report KEY FROM TO          sum the rows whose period starts in an hour from FROM up to, not including, TO
+
+A post is answered `accepted N`, where N counts the accepted posts, or `refused CODE NAME` and what is refused.
+A report is answered `bytes N` and a CSV of N bytes, or `refused Q1 Range`.
+Other lines are answered `bad command`; a post with too few lines after it `bad end`.
+
+Exit status: 0 where the script was served, 1 where reading, writing or memory failed, 2 where the command line is wrong.";
+
+/// The command line of the program.
+pub(crate) fn command_line<'a>(alloc: Global) -> Result<Command<'a>, AllocError> {
+    let currency = Arg::new(alloc, CURRENCY)
+        .long("currency")
+        .value_name("CUR")
+        .default_value("USD")
+        .help("The currency of all costs: three capital letters");
+    let run = Command::new(alloc, "run")
+        .about("Reads a script from standard input and prints the answers")
+        .after_help(SCRIPT)
+        .arg(currency)?;
+    Command::new(alloc, "focusd")
+        .about("Keeps a warehouse of cloud charges in the columns of FOCUS 1.0")
+        .after_help(EXAMPLE)
+        .subcommand_required(true)
+        .arg_required_else_help(true)
+        .subcommand(run)
+}

@@ -1,0 +1,30 @@
+//! Why a script was not served to its end.
+ghost use Rattle.std.specs.Prelude.{◌≡◌};
+ghost use Rattle.focusd.specs.declared.fault.ServeFault.TheVariants.{NoMemory};
+
+use std::alloc::AllocError;
+
+/// Why a script was not served to its end.
+#[derive(Clone, Copy, Debug, Drop, PartialEq, Eq, thiserror::Error)]
+pub enum ServeFault {
+    /// The reader failed. No command was done.
+    #[error("F1 Read")]
+    Read,
+    /// The writer failed. The commands before stay done.
+    #[error("F2 Write")]
+    Write,
+    /// The script has more than 2^30 bytes, or took more than 2^30 reads. No command was done.
+    #[error("F3 TooLong")]
+    TooLong,
+    /// Memory is wanting for the script. No command was done.
+    #[error("NoMemory")]
+    NoMemory,
+}
+
+impl From<AllocError> for ServeFault {
+    ghost from_gives = { λ _ fault. fault ≡ NoMemory };
+
+    fn from(_refused: AllocError) -> ServeFault {
+        ServeFault::NoMemory
+    }
+}
