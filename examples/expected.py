@@ -23,6 +23,7 @@ INSTANT = re.compile(r"\d{4}-\d\d-\d\dT\d\d:\d\d(?::\d\d)?Z", re.ASCII)
 MOST_ROWS = 4_096
 MOST_NANOS = 10**17
 MOST_HOURS = 26_304
+MOST_LINES = 1_000_000
 EXACT = decimal.Context(prec=100, rounding=decimal.ROUND_HALF_EVEN)
 NANOS_OF_ONE = decimal.Decimal(10**9)
 
@@ -83,6 +84,8 @@ class Warehouse:
         records = csv.reader(io.StringIO(text.decode(), newline=""), strict=True)
         records = (record for record in records if record)
         header = next(records)
+        if any(header.count(column) != 1 for column in COLUMNS):
+            raise Unknown(f"the header {header}")
         places = [header.index(column) for column in COLUMNS]
         rows = []
         for record in records:
@@ -123,6 +126,8 @@ def answers(script):
     for line in script:
         words = line.decode().rstrip("\n").split(" ")
         if words[0] == "post" and len(words) == 4:
+            if not re.fullmatch(r"[0-9]{1,7}", words[3]) or int(words[3]) > MOST_LINES:
+                raise Unknown(f"a post of {words[3]!r} lines")
             content = [next(script, b"") for _ in range(int(words[3]))]
             if not all(content):
                 raise Unknown("a post with fewer lines than it names")

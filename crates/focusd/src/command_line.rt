@@ -18,12 +18,17 @@ const EXAMPLE: &str = "Example:
     Group,BilledCost,EffectiveCost,ChargedCost
     ,0.100000000,0.250000000,0.250000000";
 
-const SCRIPT: &str = "Commands of a script, one a line:
+const SCRIPT: &str = "Commands of a script, one a line, which a line feed alone ends:
   post ORIGIN SEQUENCE LINES  accept the charge rows of the CSV on the next LINES lines
   report KEY FROM TO          sum the rows whose period starts in an hour from FROM up to, not including, TO
 
-A post is answered `accepted N`, where N counts the accepted posts, or `refused CODE NAME` and what is refused.
+LINES is at most 1,000,000 and counts line feeds, also those within quotes; a post has at most 4,096 rows.
+FROM and TO are instants on whole hours, as 2024-01-01T00:00Z, at most 26,304 hours apart.
+KEY is the tag that groups the rows; until tags are read all rows are in one group.
+
+A post is answered `accepted N`, where N counts the accepted posts, or `refused CODE NAME` and the column or record.
 A report is answered `bytes N` and a CSV of N bytes, or `refused Q1 Range`.
+A command for which memory is wanting is answered `no memory`, and changes nothing.
 Other lines are answered `bad command`; a post with too few lines after it `bad end`.
 
 Exit status: 0 where the script was served, 1 where reading, writing or memory failed, 2 where the command line is wrong.";

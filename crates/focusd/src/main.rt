@@ -18,9 +18,9 @@ pub use desk::Desk;
 pub use fault::ServeFault;
 use fw_rows::Currency;
 pub use server::serve;
-use std::env;
 use std::io::BufWriter;
 use std::process::ExitCode;
+use std::{env, io};
 
 /// Where the command line is wrong.
 const WRONG_USE: u8 = 2;
@@ -41,10 +41,13 @@ fn main(rt: HostRuntime) -> ExitCode {
 
 fn run(rt: &HostRuntime) -> Result<ExitCode, ServeFault> {
     let alloc = rt.alloc();
-    let Ok(words) = env::args(rt) else {
-        return Err(ServeFault::NoMemory);
+    let words: Vec<String> = match env::args(rt) {
+        Ok(words) => words.collect(alloc)?,
+        Err(error) if error.kind() == io::ErrorKind::OutOfMemory => {
+            return Err(ServeFault::NoMemory);
+        }
+        Err(_) => return Ok(wrong_use(rt, "an argument is not UTF-8")),
     };
-    let words: Vec<String> = words.collect(alloc)?;
     match command_line(alloc)?.try_get_matches_from(words.as_slice()) {
         Ok(matches) => {
             let text = matches
@@ -53,20 +56,25 @@ fn run(rt: &HostRuntime) -> Result<ExitCode, ServeFault> {
                 .unwrap_or("USD");
             match Currency::new(text.as_bytes()) {
                 Some(currency) => serve_streams(rt, currency),
-                None => Ok(wrong_currency(rt)),
+                None => Ok(wrong_use(rt, "currency")),
             }
         }
         Err(error) if error.kind() == ErrorKind::OutOfMemory => Err(ServeFault::NoMemory),
-        Err(error) => match error.print(rt) {
-            Ok(()) => Ok(ExitCode::from(error.exit_code() as u8)),
-            Err(_) => Err(ServeFault::Write),
-        },
+        Err(error) => {
+            let status = error.exit_code() as u8;
+            let printed = error.print(rt);
+            // A help that was asked for has to come out; a wrong command line is wrong also where nobody can be told.
+            if printed.is_err() && status == 0 {
+                return Err(ServeFault::Write);
+            }
+            Ok(ExitCode::from(status))
+        }
     }
 }
 
-// Tells that no warehouse can have this currency.
-fn wrong_currency(rt: &HostRuntime) -> ExitCode {
-    let _ = eprintln!(rt; "focusd: currency");
+// Tells what is wrong with the command line.
+fn wrong_use(rt: &HostRuntime, what: &str) -> ExitCode {
+    let _ = eprintln!(rt; "focusd: {what}");
     ExitCode::from(WRONG_USE)
 }
 
