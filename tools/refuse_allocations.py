@@ -1,10 +1,13 @@
 #!/usr/bin/env python3
-"""Runs each crate's tests with the Nth allocation refused, for N from 1 on until no test meets a refusal.
+"""Runs each crate's tests with the Nth allocation refused, for N from 1 on until no test meets a refusal or N is --most.
 
 A test that meets the refusal has to end in one of two ways: it passes (it looked at the answer and at what stands after it), or it ends
 with an error that names want of memory. An assertion that fails is an answer that changed in place of the error, and so is a crash.
 
-    tools/refuse_allocations.py [--jobs J] [CRATE ...]
+    tools/refuse_allocations.py [--most N] [--jobs J] [CRATE ...]
+
+Each run builds the tests anew, which takes some ten seconds. The default of --most is past the allocations of each single call that
+the tests make; what comes later in a test is a further call of the same kind. `--most 1000` leaves nothing out.
 
 Exit status: 0 where every run was as it has to be, 1 where one wasn't, 2 where the toolchain did not answer.
 """
@@ -19,8 +22,8 @@ from concurrent.futures import ThreadPoolExecutor
 # The errors by which a test may end under a refused allocation: want of memory by its names, and a device that failed
 # because a volume in memory could not grow.
 WANT_OF_MEMORY = {"AllocError", "NoMemory", "Io", "Device", "OutOfMemory"}
-# More than any test allocates: reaching it means that the runs do not end.
-MOST = 400
+# The last allocation that is refused where the command line doesn't say.
+MOST = 24
 
 
 def crates_with_tests(top):
@@ -61,40 +64,42 @@ def run(top, crate, number):
     return int(ended.group(2)), wrong
 
 
-def sweep(top, crate, jobs):
-    """All runs of a crate, `jobs` at a time, until none of a batch meets a refusal: what is wrong."""
+def sweep(top, crate, most, jobs):
+    """All runs of a crate, `jobs` at a time, until none of a batch meets a refusal: what is wrong, and whether all runs answered."""
     met = first = 0
     wrong = []
-    while first < MOST:
-        numbers = range(first + 1, first + jobs + 1)
+    while first < most:
+        numbers = range(first + 1, min(first + jobs, most) + 1)
         with ThreadPoolExecutor(jobs) as pool:
             answers = list(pool.map(lambda number: run(top, crate, number), numbers))
         for _, faults in answers:
             wrong += faults
         if any(count is None for count, _ in answers):
-            return wrong, True
-        met += sum(1 for count, _ in answers if count)
-        first += jobs
-        if not any(count for count, _ in answers):
-            print(f"{crate}: {met} allocations refused in turn", flush=True)
             return wrong, False
-    return wrong + [f"{crate}: still refused at allocation {first}"], False
+        met += sum(1 for count, _ in answers if count)
+        first = numbers[-1]
+        if not any(count for count, _ in answers):
+            print(f"{crate}: {met} allocations refused in turn, which are all", flush=True)
+            return wrong, True
+    print(f"{crate}: the first {met} allocations refused in turn", flush=True)
+    return wrong, True
 
 
 def main():
     parser = argparse.ArgumentParser(description=__doc__, formatter_class=argparse.RawDescriptionHelpFormatter)
+    parser.add_argument("--most", type=int, default=MOST, metavar="N", help=f"the last allocation to refuse (default: {MOST})")
     parser.add_argument("--jobs", type=int, default=max(1, min(4, os.cpu_count() or 1)), help="runs at a time")
     parser.add_argument("crates", nargs="*", metavar="CRATE", help="the crates to run (default: each that has tests)")
     options = parser.parse_args()
     top = os.path.dirname(os.path.dirname(os.path.abspath(__file__)))
-    wrong, silent = [], False
+    wrong, answered = [], True
     for crate in options.crates or crates_with_tests(top):
-        found, gave_none = sweep(top, crate, options.jobs)
-        wrong += found
-        silent = silent or gave_none
+        faults, all_answered = sweep(top, crate, options.most, options.jobs)
+        wrong += faults
+        answered = answered and all_answered
     for fault in wrong:
         print(fault)
-    sys.exit(2 if silent else 1 if wrong else 0)
+    sys.exit(2 if not answered else 1 if wrong else 0)
 
 
 if __name__ == "__main__":

@@ -21,19 +21,27 @@ enum Command {
 }
 
 impl Command {
-    fn read(line: &str) -> Option<Command> {
-        if let Some(rest) = line.strip_prefix("post ") {
-            let mut words = rest.split(' ');
+    fn read(line: &[u8]) -> Option<Command> {
+        if let Some(rest) = line.strip_prefix(b"post ") {
+            let mut words = rest.split(|&byte| byte == b' ');
             let (_origin, _seq, lines) = (words.next()?, words.next()?, words.next()?);
-            let is_number = !lines.is_empty() && lines.bytes().all(|byte| byte.is_ascii_digit());
-            let lines = lines
-                .parse()
-                .ok()
-                .filter(|&lines| is_number && lines <= MOST_LINES)?;
-            return words.next().is_none().then_some(Command::Post { lines });
+            if words.next().is_some() || lines.is_empty() {
+                return None;
+            }
+            let mut count = 0;
+            for byte in lines {
+                if !byte.is_ascii_digit() {
+                    return None;
+                }
+                count = (count * 10 + usize::from(byte - b'0')).min(MOST_LINES + 1);
+            }
+            return (count <= MOST_LINES).then_some(Command::Post { lines: count });
         }
-        let mut words = line.strip_prefix("report ")?.rsplitn(3, ' ');
-        let (to, from, _key) = (words.next()?, words.next()?, words.next()?);
+        let mut words = line
+            .strip_prefix(b"report ")?
+            .rsplitn(3, |&byte| byte == b' ');
+        let (to, from, key) = (words.next()?, words.next()?, words.next()?);
+        std::str::from_utf8(key).ok()?;
         Some(Command::Report {
             from_hour: whole_hour(from)?,
             to_hour: whole_hour(to)?,
@@ -41,8 +49,8 @@ impl Command {
     }
 }
 
-fn whole_hour(text: &str) -> Option<i64> {
-    let seconds = fields::seconds(text.as_bytes())?;
+fn whole_hour(text: &[u8]) -> Option<i64> {
+    let seconds = fields::seconds(text)?;
     (seconds % 3_600 == 0).then_some(seconds / 3_600)
 }
 
@@ -86,13 +94,11 @@ impl fmt::Display for Nanos {
 fn main() -> io::Result<()> {
     let mut input = BufReader::with_capacity(BUFFER, io::stdin().lock());
     let mut output = BufWriter::new(io::stdout().lock());
-    let mut warehouse = Warehouse::new(*b"USD");
+    let currency = std::env::args().nth(3).unwrap_or("USD".to_string());
+    let mut warehouse = Warehouse::new(currency.as_bytes().try_into().unwrap());
     let (mut line, mut text) = (Vec::new(), Vec::new());
     while read_lines(&mut input, 1, &mut line)? == 1 {
-        let command = std::str::from_utf8(&line)
-            .ok()
-            .map(|line| line.strip_suffix('\n').unwrap_or(line));
-        match command.and_then(Command::read) {
+        match Command::read(line.strip_suffix(b"\n").unwrap_or(&line)) {
             None => writeln!(output, "bad command")?,
             Some(Command::Post { lines }) => {
                 if read_lines(&mut input, lines, &mut text)? < lines {
