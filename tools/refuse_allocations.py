@@ -6,8 +6,8 @@ with an error that names want of memory. An assertion that fails is an answer th
 
     tools/refuse_allocations.py [--most N] [--jobs J] [CRATE ...]
 
-Each run builds the tests anew, which takes some ten seconds. The default of --most is past the allocations of each single call that
-the tests make; what comes later in a test is a further call of the same kind. `--most 1000` leaves nothing out.
+Each run builds the tests anew, which takes ten seconds and more, so the default of --most is small: the first allocations of each test,
+which are those of its first calls. `--most 1000` leaves nothing out, and is for a change of what allocates.
 
 Exit status: 0 where every run was as it has to be, 1 where one wasn't, 2 where the toolchain did not answer.
 """
@@ -23,7 +23,7 @@ from concurrent.futures import ThreadPoolExecutor
 # because a volume in memory could not grow.
 WANT_OF_MEMORY = {"AllocError", "NoMemory", "Io", "Device", "OutOfMemory"}
 # The last allocation that is refused where the command line doesn't say.
-MOST = 24
+MOST = 12
 
 
 def crates_with_tests(top):
