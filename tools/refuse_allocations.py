@@ -79,7 +79,7 @@ def sweep(top, crate, most, jobs):
         met += sum(1 for count, _ in answers if count)
         first = numbers[-1]
         if not any(count for count, _ in answers):
-            print(f"{crate}: {met} allocations refused in turn, which are all", flush=True)
+            print(f"{crate}: {met} allocations refused in turn, and no test meets one after {first - len(numbers)}", flush=True)
             return wrong, True
     print(f"{crate}: the first {met} allocations refused in turn", flush=True)
     return wrong, True

@@ -16,7 +16,7 @@ use std::io::{Read, Write};
 /// them may have its answer written in part, or not at all. A command for which memory is wanting is answered
 /// `no memory` and changes nothing, and the script goes on.
 ///
-/// The number of workers, from 1 to 64, has no effect yet.
+/// The number of workers is not looked at yet: it will be 1 to 64.
 pub fn serve<R: Read, W: Write>(
     alloc: Global,
     reader: &mut R,

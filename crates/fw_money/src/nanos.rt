@@ -47,7 +47,7 @@ impl Nanos {
     /// The greatest amount, in nanos: 10^17, which is 100,000,000 units.
     pub const MOST: i64 = 100_000_000_000_000_000;
 
-    /// The amount of this many nanos.
+    /// The amount of this many nanos, at most 10^17 of them either way.
     pub fn of_fields(count: i64) -> Self
         requires { nat_abs count ≤ most_nanos }
         ensures { result ≡ count }

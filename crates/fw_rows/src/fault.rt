@@ -18,7 +18,7 @@ pub enum RecordFault {
     /// ChargeCategory is none of the five words of `Category`.
     #[error("ChargeCategory is none of the five words")]
     Category,
-    /// BilledCost or EffectiveCost is empty, no number text, or past the greatest amount.
+    /// BilledCost or EffectiveCost is empty, no number text, too long a one, or past the greatest amount.
     #[error("BilledCost or EffectiveCost is empty or no amount")]
     Cost,
     /// BillingCurrency is not the code of the currency.

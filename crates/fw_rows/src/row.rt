@@ -23,9 +23,9 @@ pub enum Category {
 /// The fields of a charge row.
 #[derive(Debug, Drop)]
 pub struct RowFields {
-    /// The cost that is the basis of an invoice.
+    /// The cost that is the basis of an invoice, in nanos.
     pub billed: Nanos,
-    /// The cost with prepaid purchases spread over what they paid for.
+    /// The cost with prepaid purchases spread over what they paid for, in nanos.
     pub effective: Nanos,
     /// What kind of charge the row is.
     pub category: Category,
@@ -57,7 +57,7 @@ impl Row {
     ghost use Rattle.fw_rows.specs.Charge.{IsCharge, hour_of};
     ghost use Rattle.fw_rows.specs.ChargeView.{charge_of};
 
-    /// The row with these fields.
+    /// The row with these fields: the period doesn't end before it starts, and ends within the year 9999.
     pub fn of_fields(fields: RowFields) -> Row
         requires { IsCharge (charge_of fields) }
         ensures { result ≡ charge_of fields }
@@ -65,14 +65,14 @@ impl Row {
         Row { fields }
     }
 
-    /// BilledCost: the cost that is the basis of an invoice.
+    /// BilledCost: the cost that is the basis of an invoice, in nanos.
     pub fn billed(&self) -> Nanos
         ensures { result ≡ self.now.billed }
     {
         self.fields.billed
     }
 
-    /// EffectiveCost: the cost with prepaid purchases spread over what they paid for.
+    /// EffectiveCost: the cost with prepaid purchases spread over what they paid for, in nanos.
     pub fn effective(&self) -> Nanos
         ensures { result ≡ self.now.effective }
     {
@@ -110,7 +110,7 @@ impl Row {
         (self.fields.start / 3600) as u32
     }
 
-    /// An equal row.
+    /// An equal row. It takes no memory yet; the texts that a row is to keep will.
     pub fn copy(&self, _alloc: Global) -> Result<Row, AllocError>
         ensures { IfOk result (λ row. row ≡ self.now) }
     {

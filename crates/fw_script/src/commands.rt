@@ -3,7 +3,7 @@
 /// A command, which borrows from the script that it stands in.
 #[derive(Clone, Copy, Debug, Drop, PartialEq, Eq)]
 pub enum Command<'a> {
-    /// `post ORIGIN SEQUENCE COUNT`, and the lines that follow it.
+    /// `post ORIGIN SEQUENCE LINES`, and the lines that follow it.
     Post {
         /// The origin, as it stands: nothing is checked of it here.
         origin: &'a [u8],

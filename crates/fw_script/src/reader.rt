@@ -82,7 +82,7 @@ struct EntryLine<'a> {
     count: u32,
 }
 
-/// The arguments of a line `WORD ORIGIN SEQUENCE COUNT`, or `None` where the line isn't of this form.
+/// The arguments of a line `WORD ORIGIN SEQUENCE LINES`, or `None` where the line isn't of this form.
 fn entry_line<'a>(word: &[u8], line: &'a [u8]) -> Option<EntryLine<'a>>
     ensures { MatchOption result
         ((origin sequence : List ℕ) (count : ℕ) → ¬ IsEntryLine word.now line.now origin sequence count)
