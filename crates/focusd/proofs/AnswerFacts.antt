@@ -4,8 +4,8 @@ use Rattle.std.specs.Io.KnownBytes.{Appends, Keeps}
 use Rattle.std.proofs.KnownBytes.{Appends-nil, Appends-trans, Appends-kept}
 use Rattle.fw_script.specs.Commands.{CommandsOf, FirstCommand}
 use Rattle.fw_script.specs.Plain.{PlainCommand}
-use Rattle.focusd.specs.Holdings.{Holdings}
-use Rattle.focusd.specs.Answers.{Answer, Answers}
+use Rattle.fw_desk.specs.Holdings.{Holdings}
+use Rattle.fw_desk.specs.Answers.{Answer, Answers}
 use Rattle.focusd.specs.Served.{StartsWithCommands, ServesSoFar, Serves}
 
 -- one more command was read

@@ -1,8 +1,2 @@
-pub mod Holdings
-pub mod Reports
-pub mod Replies
-pub mod ReplyText
-pub mod Answers
-pub mod Served
-pub mod Totals
 pub mod Writing
+pub mod Served

@@ -3,8 +3,8 @@ use Rattle.std.specs.Prelude.{◌≡◌, ℕ, List, [], ◌∷◌, Option, IfSom
 use Rattle.std.specs.Io.KnownBytes.{Appends, Keeps}
 use Rattle.fw_script.specs.Commands.{CommandsOf, FirstCommand}
 use Rattle.fw_script.specs.Plain.{PlainCommand}
-use Rattle.focusd.specs.Holdings.{Holdings}
-use Rattle.focusd.specs.Answers.{Answer, Answers}
+use Rattle.fw_desk.specs.Holdings.{Holdings}
+use Rattle.fw_desk.specs.Answers.{Answer, Answers}
 use Rattle.focusd.specs.Writing.{WritesPart}
 
 -- each command of the script is done, and the writer, where its bytes are known, got their answers and nothing else

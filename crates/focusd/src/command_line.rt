@@ -8,28 +8,31 @@ pub(crate) const CURRENCY: &str = "currency";
 const EXAMPLE: &str = "Example:
   printf '%s\\n' \\
     'post billing 1 2' \\
-    'BilledCost,EffectiveCost,BillingCurrency,ChargeCategory,ChargePeriodStart,ChargePeriodEnd' \\
-    '0.1,0.25,USD,Usage,2024-01-01T00:00Z,2024-01-01T01:00Z' \\
+    'BilledCost,EffectiveCost,BillingCurrency,ChargeCategory,ChargePeriodStart,ChargePeriodEnd,Tags' \\
+    '0.1,0.25,USD,Usage,2024-01-01T00:00Z,2024-01-01T01:00Z,\"{\"\"team\"\":\"\"web\"\"}\"' \\
     'report team 2024-01-01T00:00Z 2024-01-02T00:00Z' | focusd run
 
   prints
     accepted 1
-    bytes 80
+    bytes 83
     Group,BilledCost,EffectiveCost,ChargedCost
-    ,0.100000000,0.250000000,0.250000000";
+    web,0.100000000,0.250000000,0.250000000";
 
 const SCRIPT: &str = "Commands of a script, one a line, which a line feed alone ends:
-  post ORIGIN SEQUENCE LINES  accept the charge rows of the CSV on the next LINES lines
-  report KEY FROM TO          sum the rows whose period starts in an hour from FROM up to, not including, TO
+  post ORIGIN SEQUENCE LINES    accept the charge rows of the CSV on the next LINES lines
+  commit ORIGIN SEQUENCE LINES  accept the commitment whose TOML stands on the next LINES lines
+  policy ORIGIN SEQUENCE LINES  share costs by the policy whose TOML stands on the next LINES lines
+  report KEY FROM TO            sum the costs of the hours from FROM up to, not including, TO, by the tag KEY
+  lines FROM TO                 list what these hours cost, line by line: purchases, rows, used and unused parts
 
 LINES is at most 1,000,000 and counts line feeds, also those within quotes; a post has at most 4,096 rows.
 FROM and TO are instants on whole hours, as 2024-01-01T00:00Z, at most 26,304 hours apart.
-KEY is the tag that groups the rows; until tags are read all rows are in one group.
+KEY is a tag's key; rows without the tag are in the group of the empty text.
 
-A post is answered `accepted N`, where N counts the accepted posts, or `refused CODE NAME` and the column or record.
-A report is answered `bytes N` and a CSV of N bytes, or `refused Q1 Range`.
+An entry is answered `accepted N`, where N counts the accepted entries, or `refused CODE NAME` and the column, record or field.
+A report and lines are answered `bytes N` and a CSV of N bytes, or `refused` and why.
 A command for which memory is wanting is answered `no memory`, and changes nothing.
-Other lines are answered `bad command`; a post with too few lines after it `bad end`.
+Other lines are answered `bad command`; an entry with too few lines after it `bad end`.
 
 Exit status: 0 where the script was served, 1 where reading, writing or memory failed, 2 where the command line is wrong.";
 

@@ -4,18 +4,16 @@
 #![tactic(auto)]
 
 mod command_line;
-mod desk;
 mod fault;
 mod input;
 mod reply;
-mod report;
 mod server;
 mod writing;
 
 use clap::error::ErrorKind;
 use command_line::{CURRENCY, command_line};
-pub use desk::Desk;
 pub use fault::ServeFault;
+use fw_desk::Desk;
 use fw_rows::Currency;
 pub use server::serve;
 use std::io::BufWriter;

@@ -2,9 +2,10 @@
 ghost use Rattle.std.specs.Prelude.{◌≡◌, ◌≢◌, ◌≤◌, length, OnOk, IfErr, IfSome, Err};
 ghost use Rattle.focusd.specs.Served.{IsServed, IsServedInPart, Serves, ServesInPart, most_bytes};
 
-use crate::desk::Desk;
 use crate::fault::ServeFault;
 use crate::input::read_script;
+use crate::reply::write_reply;
+use fw_desk::Desk;
 use fw_script::Script;
 use std::alloc::Global;
 use std::io::{Read, Write};
@@ -40,7 +41,8 @@ fn answer_all<W: Write>(text: &[u8], writer: &mut W, desk: &mut Desk) -> Result<
 {
     let mut script = Script::new(text);
     while let Some(command) = script.next_command() {
-        desk.answer(command).write_to(writer)?;
+        let reply = desk.answer(command);
+        write_reply(writer, &reply)?;
     }
     match writer.flush() {
         Ok(()) => Ok(()),

@@ -1,7 +1,7 @@
 //! Scripts and their answers, and readers and writers that fail.
-use crate::desk::Desk;
 use crate::fault::ServeFault;
 use crate::server::serve;
+use fw_desk::Desk;
 use fw_rows::Currency;
 use std::alloc::Global;
 use std::io;
@@ -216,7 +216,7 @@ fn headers_and_lines_that_are_no_commands(rt: HostRuntime) -> Result<(), Fail> {
             HEADER,
             "post a 1 1\nBilledCost,",
             HEADER,
-            "commit a 1 1\nx\npost a 1 2\nx\n",
+            "commits a 1 1\nx\npost a 1 2\nx\n",
         ],
     )?;
     let wanted = "refused H1 MissingColumn BilledCost
@@ -325,4 +325,98 @@ fn a_writer_that_takes_all(rt: HostRuntime) -> Result<(), Fail> {
     serve(alloc, &mut b"x\n".as_slice(), &mut writer, &mut desk, 64)?;
     assert_eq!(rt; writer.text.as_slice(), b"bad command\n".as_slice());
     Ok(())
+}
+
+const COMMITMENT: &str = "commit billing 1 12
+id = \"cd-1\"
+category = \"Usage\"
+start = \"2024-01-01T00:00Z\"
+hours = 3
+capacity = \"2\"
+unit = \"Hours\"
+skus = [\"vm\"]
+[tags]
+team = \"platform\"
+[[purchase]]
+at = \"2024-01-01T00:00Z\"
+billed = \"0.00000001\"
+";
+
+const USAGE: &str = "post billing 2 3
+BilledCost,EffectiveCost,BillingCurrency,ChargeCategory,ChargePeriodStart,ChargePeriodEnd,ConsumedQuantity,ConsumedUnit,SkuId,Tags
+0.1,0.1,USD,Usage,2024-01-01T00:00:00Z,2024-01-01T01:00:00Z,1,Hours,vm,\"{\"\"team\"\":\"\"web\"\"}\"
+0.05,0.05,USD,Usage,2024-01-01T00:00:00Z,2024-01-01T01:00:00Z,0.5,Hours,vm,\"{\"\"team\"\":\"\"data\"\"}\"
+";
+
+const POLICY: &str = "policy billing 3 4
+key = \"team\"
+[[rule]]
+from = \"platform\"
+to = { web = 3, data = 1 }
+";
+
+#[test]
+fn a_commitment_that_is_shared(rt: HostRuntime) -> Result<(), Fail> {
+    let alloc = rt.alloc();
+    let mut desk = dollar_desk(alloc)?;
+    let questions = "report team 2024-01-01T00:00Z 2024-01-01T03:00Z
+lines 2024-01-01T00:00Z 2024-01-01T01:00Z
+lines 2024-01-01T00:00Z 2024-01-01T00:00Z
+";
+    let script = text_of(alloc, &[COMMITMENT, USAGE, POLICY, questions])?;
+    let wanted = "accepted 1
+accepted 2
+accepted 3
+bytes 169
+Group,BilledCost,EffectiveCost,ChargedCost
+data,0.000000000,0.000000001,0.000000003
+platform,0.000000010,0.000000008,0.000000000
+web,0.000000000,0.000000001,0.000000007
+bytes 405
+Hour,ChargeCategory,CommitmentDiscountId,CommitmentDiscountCategory,CommitmentDiscountStatus,BilledCost,EffectiveCost,ConsumedQuantity,SkuId,SubAccountId
+473352,Purchase,cd-1,Usage,,0.000000010,0.000000000,,,
+473352,Usage,cd-1,Usage,Used,0.000000000,0.000000001,1.000000000,vm,
+473352,Usage,cd-1,Usage,Used,0.000000000,0.000000001,0.500000000,vm,
+473352,Usage,cd-1,Usage,Unused,0.000000000,0.000000001,,,
+refused Q1 Range
+";
+    check(&rt, alloc, &mut desk, script.as_str(), wanted)?;
+    assert_eq!(rt; desk.commitments().len(), 1);
+    assert!(rt; desk.policy().is_some());
+    Ok(())
+}
+
+#[test]
+fn entries_that_do_not_go_together(rt: HostRuntime) -> Result<(), Fail> {
+    let alloc = rt.alloc();
+    let mut desk = dollar_desk(alloc)?;
+    let own = "post a 1 2
+BilledCost,EffectiveCost,BillingCurrency,ChargeCategory,ChargePeriodStart,ChargePeriodEnd,CommitmentDiscountId,CommitmentDiscountCategory,CommitmentDiscountStatus
+0,0.7,USD,Usage,2024-01-01T00:00Z,2024-01-01T01:00Z,cd-1,Usage,Used
+";
+    let script = text_of(
+        alloc,
+        &[
+            COMMITMENT,
+            COMMITMENT,
+            own,
+            "commit a 1 1\nid = \"\"\npolicy a 1 1\nkey = 1\n",
+        ],
+    )?;
+    let wanted = "accepted 1
+refused J2 DoubleId
+refused J4 OwnCommitment
+refused C3 Limit id
+refused P2 Field key
+";
+    check(&rt, alloc, &mut desk, script.as_str(), wanted)?;
+    let mut desk = dollar_desk(alloc)?;
+    let script = text_of(alloc, &[own, COMMITMENT])?;
+    check(
+        &rt,
+        alloc,
+        &mut desk,
+        script.as_str(),
+        "accepted 1\nrefused J3 IdInUse\n",
+    )
 }

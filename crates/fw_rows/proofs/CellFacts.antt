@@ -1,237 +1,86 @@
--- What the fields of a record, as the reader takes them out, say of its rules.
-use Rattle.std.proofs.Common.{◌≡◌, ◌≢◌, ℕ, ℤ, zero, suc, ◌<◌, ◌≤◌, ◌*◌, Option, Some, Result, Ok, Err, List, [], ◌∷◌, length, get_or, refl, sym, ◌∙◌, arith, ap, inl, inr, subst}
-use Rattle.std.specs.Prelude.{MatchOption, IsUtf8, IsSomeAnd, nat_lt}
-use Rattle.std.specs.Result.{result_ok}
-use Rattle.std.proofs.lemmas.Option.{cond_some}
-use Rattle.std.specs.List.{position_or_len, AllByRecursion}
-use Rattle.csv.specs.Records.{field_at}
-use Rattle.fw_money.specs.Reading.{Reads}
-use Rattle.fw_money.specs.declared.nanos.MoneyFault.{MoneyFault}
-use Rattle.fw_money.proofs.ReadingLaws.{reads-apart}
-use Rattle.fw_rules.specs.Table.{FirstBroken, NoneBroken}
-use Rattle.fw_rows.specs.Columns.{Record, is_name, place_in, field_in, required}
-use Rattle.fw_rows.specs.Charge.{category_word}
-use Rattle.fw_rows.specs.Instants.{IsSecond, nanos_per_second}
-use Rattle.fw_rows.specs.Rules.{HasNonText, HasAmount, HasCategory, HasSecond, rules_of, RecordReads}
-use Rattle.fw_rows.specs.CellView.{AreCells}
+-- What the places of the columns, and the texts that the reader has taken out, say of a record.
+use Rattle.std.proofs.Common.{◌≡◌, ◌<◌, ◌≤◌, ◌≢◌, ◌+◌, ℕ, zero, suc, Option, None, List, [], ◌∷◌, length, get_or, set, refl, sym, ap, ◌∙◌, arith, map, subst, below_more, get_or-set_other, get_or-set_same, length-set}
+use Rattle.std.specs.Prelude.{IsUtf8, slice_index_or}
+use Rattle.std.specs.Borrow.{Bor}
+use Rattle.fw_rows.specs.Columns.{Record, columns, index_of, place_in, text_at, text_in}
+use Rattle.fw_rows.specs.Header.{ArePlaces, place_of}
+use Rattle.fw_rows.specs.Parts.{AreCells}
+use Rattle.fw_rows.specs.Rules.{HasNonText}
 use Rattle.fw_rows.specs.declared.cells.Cells.{Cells}
 use Rattle.fw_rows.specs.declared.column.Column.{Column}
 use Rattle.fw_rows.specs.declared.column.Column.TheVariants as column
-use Rattle.fw_rows.specs.declared.fault.RecordFault.TheVariants as fault
-use Rattle.fw_rows.specs.declared.row.Category.{Category}
-use Rattle.fw_rows.proofs.FieldFacts.{field_at-get_or}
+use Rattle.fw_rows.specs.declared.header.Places.{Places}
+use Rattle.fw_rows.proofs.ColumnFacts.{column_at, index_within, index_at}
 
--- a text that reads as an amount or doesn't
-pub amount_from : (t : List ℕ) (r : Result ℤ MoneyFault) (o : Option ℤ) → Reads t r → o ≡ result_ok r → MatchOption o ((n : ℤ) → ¬ Reads t (Ok n)) (λ n. Reads t (Ok n))
-amount_from t (Ok n) o reads is = rw is reads
-amount_from t (Err e) o reads is = rw is (λ n other. reads-apart t n e other reads)
+-- ---- the places
 
--- the place of a column lies within the header
-pub place-within : (header : Record) (c : Column) (place : ℕ) → place_in header c ≡ Some place → place < length header
-unfolding place_in
-place-within header c place at =
-    let both = cond_some (nat_lt (position_or_len (is_name c) header) (length header)) (position_or_len (is_name c) header) place at in
-    let within = both.0 in let same = both.1 in grind arith
+-- the first n columns stand at these places
+pub record Placed (header : Record) (places : List (Option ℕ)) (n : ℕ) : Type 0 where
+  pub size : length places ≡ 15
+  pub at : (k : ℕ) → k < n → get_or places k None ≡ place_in header (get_or columns k column.BilledCost)
 
--- the field of a column is that at its place
-pub field_in-at : (header fields : Record) (c : Column) (place : ℕ) (text : List ℕ) → place_in header c ≡ Some place → field_at fields place ≡ Some text → field_in header fields c ≡ Some text
-unfolding field_in
-field_in-at header fields c place text at is = rw at is
+pub placed_more : (header : Record) (places : List (Option ℕ)) (i : ℕ) (place : Option ℕ) → i < length places → Placed header places i → place ≡ place_in header (get_or columns i column.BilledCost)
+    → Placed header (set places i place) (i + 1)
+placed_more header places i place lt so_far here = record {
+  size = length-set places i place ∙ so_far.size;
+  at = below_more (λ k. get_or (set places i place) k None ≡ place_in header (get_or columns k column.BilledCost)) i
+      (λ k below. let ne : k ≢ i = omega arith in rw (get_or-set_other places i k place None ne) (so_far.at k below))
+      (rw (get_or-set_same places i place None lt) here);
+}
 
--- the k-th of the columns has a field that is no text
-pub non_text : (header fields : Record) (k : ℕ) (c : Column) (place : ℕ) → k < 6 → get_or required k c ≡ c → place_in header c ≡ Some place → length fields ≡ length header
-    → ((text : List ℕ) → field_at fields place ≡ Some text → ¬ IsUtf8 text) → HasNonText header fields
-non_text header fields k c place lt is at as_long bad =
-    let within = place-within header c place at in
-    let here = field_at-get_or fields place [] (omega (arith, within, as_long)) in
-    let field = field_in-at header fields c place (get_or fields place []) at here in
-    (k, c, lt, is, (rw field (bad (get_or fields place []) here)))
+pub places_are : (header : Record) (p : Places) (n : ℕ) → p.fields ≡ length header → 15 ≤ n → Placed header p.places n → ArePlaces header p
+places_are header p n fields done placed = record {
+  fields = fields;
+  places = λ c. placed.at (index_of c) (omega (arith, index_within c)) ∙ ap (place_in header) (column_at c column.BilledCost);
+}
 
--- none of some columns has P where each of them hasn't
-pub any-none : (P : Column → Type 0) (columns : List Column) → AllByRecursion (λ c. ¬ P c) columns → (k : ℕ) (c : Column) → k < length columns → get_or columns k c ≡ c → P c → ⊥
-any-none P [] none k c lt is p = absurd (omega arith)
-any-none P (d ∷ columns) none zero c lt is p = none.0 (subst P (sym is) p)
-any-none P (d ∷ columns) none (suc k) c lt is p = any-none P columns none.1 k c (omega arith) is p
+-- ---- the texts
 
--- a field that is text is not a field that isn't
-pub text_stands : (field : Option (List ℕ)) (text : List ℕ) → field ≡ Some text → IsUtf8 text → ¬ IsSomeAnd field (λ t. ¬ IsUtf8 t)
-text_stands field text is utf8 = λ h. let no_text = rw is at h in no_text utf8
+-- the first n of the texts are those of the fields at these places, and UTF-8
+pub record Taken (fields : Record) (places : List (Option ℕ)) (texts : List (Bor (List ℕ))) (n : ℕ) : Type 0 where
+  pub size : length texts ≡ 15
+  pub at : (k : ℕ) (d : Bor (List ℕ)) → k < n → (get_or texts k d).now ≡ text_at fields (get_or places k None)
+  pub utf8 : (k : ℕ) → k < n → IsUtf8 (text_at fields (get_or places k None))
 
--- an instant has one second
-pub second-one : (text : List ℕ) (s t : ℕ) → IsSecond text s → IsSecond text t → s ≡ t
-unfolding IsSecond
-second-one text s t a b =
-    let both = sym a ∙ b in
-    let same : s * nanos_per_second ≡ t * nanos_per_second = grind arith in
-    omega (arith, same)
+pub taken_more : (fields : Record) (places : List (Option ℕ)) (texts : List (Bor (List ℕ))) (i : ℕ) (t : Bor (List ℕ)) → i < length texts → Taken fields places texts i
+    → t.now ≡ text_at fields (get_or places i None) → IsUtf8 (text_at fields (get_or places i None)) → Taken fields places (set texts i t) (i + 1)
+taken_more fields places texts i t lt so_far here is_text = record {
+  size = length-set texts i t ∙ so_far.size;
+  at = λ k d. below_more (λ k. (get_or (set texts i t) k d).now ≡ text_at fields (get_or places k None)) i
+      (λ k below. let ne : k ≢ i = omega arith in rw (get_or-set_other texts i k t d ne) (so_far.at k d below))
+      (rw (get_or-set_same texts i t d lt) here) k;
+  utf8 = below_more (λ k. IsUtf8 (text_at fields (get_or places k None))) i so_far.utf8 is_text;
+}
 
--- an order of two instants is one of their seconds
-later : (cells : Cells) (s t s2 t2 : ℕ) → IsSecond cells.start.now s → IsSecond cells.end.now t → IsSecond cells.start.now s2 → IsSecond cells.end.now t2 → s ≤ t → t2 < s2 → ⊥
-later cells s t s2 t2 hs ht hs2 ht2 ordered before =
-    let one = second-one cells.start.now s s2 hs hs2 in let two = second-one cells.end.now t t2 ht ht2 in omega arith
+-- the field at a column's place is the text in the column
+text_is : (header fields : Record) (p : Places) (c : Column) → ArePlaces header p → text_at fields (place_of p c) ≡ text_in header fields c
+unfolding text_in
+text_is header fields p c are = ap (text_at fields) (are.places c)
 
--- ---- the rules, from the fields
+-- a text among those that were taken
+text_among : (texts : List (Bor (List ℕ))) (k : ℕ) (t : List ℕ) → k < length texts → ((d : Bor (List ℕ)) → (get_or texts k d).now ≡ t) → slice_index_or (map (λ b. b.now) texts) k [] ≡ t
+text_among [] k t lt is = absurd (omega arith)
+text_among (b ∷ texts) zero t lt is = is b
+text_among (b ∷ texts) (suc k) t lt is = text_among texts k t (omega arith) is
 
-pub fields_fault : (currency : List ℕ) (header fields : Record) → length fields ≢ length header → RecordReads currency header fields (Err fault.Fields)
-unfolding RecordReads FirstBroken rules_of
-fields_fault currency header fields ne = inl (ne, refl)
+pub cells_are : (header fields : Record) (p : Places) (cells : Cells) (n : ℕ) → ArePlaces header p → 15 ≤ n → Taken fields p.places cells.texts n → AreCells header fields cells
+cells_are header fields p cells n are done taken = record {
+  all_text = λ h.
+      let text = subst (λ t. IsUtf8 t) (text_is header fields p h.1 are) (taken.utf8 (index_of h.1) (omega (arith, index_within h.1))) in
+      h.4 text;
+  texts = λ c. text_among cells.texts (index_of c) (text_at fields (place_of p c)) (omega (arith, taken.size, index_within c)) (λ d. taken.at (index_of c) d (omega (arith, index_within c))) ∙ text_is header fields p c are;
+}
 
-pub text_fault : (currency : List ℕ) (header fields : Record) → length fields ≡ length header → HasNonText header fields → RecordReads currency header fields (Err fault.NotUtf8)
-unfolding RecordReads FirstBroken rules_of
-text_fault currency header fields as_long bad = inr (λ ne. ne as_long, inl (bad, refl))
+-- within a list the default is not read
+get_or-any : (cs : List Column) (k : ℕ) (d e : Column) → k < length cs → get_or cs k d ≡ get_or cs k e
+get_or-any [] k d e lt = absurd (omega arith)
+get_or-any (c ∷ cs) zero d e lt = refl
+get_or-any (c ∷ cs) (suc k) d e lt = get_or-any cs k d e (omega arith)
 
-pub category_fault : (currency : List ℕ) (header fields : Record) (cells : Cells) → AreCells header fields cells → ((k : Category) → ¬ (cells.category.now ≡ category_word k))
-    → RecordReads currency header fields (Err fault.Category)
-unfolding RecordReads FirstBroken rules_of
-category_fault currency header fields cells are no_word =
-    inr (λ ne. ne are.as_long, inr (are.all_text, inl ((λ h. no_word h.0 (let same = sym are.category ∙ h.1 in cc)), refl)))
-
--- what the reader has found of a record, rule by rule
-pub record HasWord (header fields : Record) (cells : Cells) (k : Category) : Type 0 where
-  pub are : AreCells header fields cells
-  pub word : cells.category.now ≡ category_word k
-
-pub record HasCosts (header fields : Record) (cells : Cells) (k : Category) (b e : ℤ) : Type 0 where
-  pub word : HasWord header fields cells k
-  pub billed : Reads cells.billed.now (Ok b)
-  pub effective : Reads cells.effective.now (Ok e)
-
-pub record HasPeriod (header fields : Record) (cells : Cells) (k : Category) (b e : ℤ) (code : List ℕ) (s t : ℕ) : Type 0 where
-  pub costs : HasCosts header fields cells k b e
-  pub currency : cells.currency.now ≡ code
-  pub start : IsSecond cells.start.now s
-  pub end : IsSecond cells.end.now t
-
-word_kept : (header fields : Record) (cells : Cells) (k : Category) → HasWord header fields cells k → ¬ ¬ ((k : Category) × HasCategory (field_in header fields column.ChargeCategory) k)
-word_kept header fields cells k has never = never (k, has.are.category ∙ ap Some has.word)
-
-amount_in : (field : Option (List ℕ)) (text : List ℕ) (n : ℤ) → field ≡ Some text → Reads text (Ok n) → HasAmount field n
-amount_in field text n is reads = rw is reads
-
-amount_out : (field : Option (List ℕ)) (text : List ℕ) (n : ℤ) → field ≡ Some text → HasAmount field n → Reads text (Ok n)
-amount_out field text n is has = rw is at has
-
-second_in : (field : Option (List ℕ)) (text : List ℕ) (s : ℕ) → field ≡ Some text → IsSecond text s → HasSecond field s
-second_in field text s is reads = rw is reads
-
-second_out : (field : Option (List ℕ)) (text : List ℕ) (s : ℕ) → field ≡ Some text → HasSecond field s → IsSecond text s
-second_out field text s is has = rw is at has
-
-costs_kept : (header fields : Record) (cells : Cells) (k : Category) (b e : ℤ) → HasCosts header fields cells k b e
-    → ¬ ¬ (((n : ℤ) × HasAmount (field_in header fields column.BilledCost) n) × ((n : ℤ) × HasAmount (field_in header fields column.EffectiveCost) n))
-costs_kept header fields cells k b e has never =
-    never ((b, amount_in (field_in header fields column.BilledCost) cells.billed.now b has.word.are.billed has.billed), (e, amount_in (field_in header fields column.EffectiveCost) cells.effective.now e has.word.are.effective has.effective))
-
-pub cost_fault : (currency : List ℕ) (header fields : Record) (cells : Cells) (k : Category) → HasWord header fields cells k
-    → ¬ (((n : ℤ) × Reads cells.billed.now (Ok n)) × ((n : ℤ) × Reads cells.effective.now (Ok n))) → RecordReads currency header fields (Err fault.Cost)
-unfolding RecordReads FirstBroken rules_of
-cost_fault currency header fields cells k has bad =
-    inr (
-      λ ne. ne has.are.as_long,
-      inr (
-        has.are.all_text,
-        inr (
-          word_kept header fields cells k has,
-          inl ((λ h. bad ((h.0.0, amount_out (field_in header fields column.BilledCost) cells.billed.now h.0.0 has.are.billed h.0.1), (h.1.0, amount_out (field_in header fields column.EffectiveCost) cells.effective.now h.1.0 has.are.effective h.1.1))), refl),
-        ),
-      ),
-    )
-
-pub currency_fault : (currency : List ℕ) (header fields : Record) (cells : Cells) (k : Category) (b e : ℤ) → HasCosts header fields cells k b e → cells.currency.now ≢ currency
-    → RecordReads currency header fields (Err fault.Currency)
-unfolding RecordReads FirstBroken rules_of
-currency_fault currency header fields cells k b e has other =
-    inr (
-      λ ne. ne has.word.are.as_long,
-      inr (
-        has.word.are.all_text,
-        inr (
-          word_kept header fields cells k has.word,
-          inr (
-            costs_kept header fields cells k b e has,
-            inl ((λ h. other (let same = sym has.word.are.currency ∙ h in cc)), refl),
-          ),
-        ),
-      ),
-    )
-
-pub time_fault : (currency : List ℕ) (header fields : Record) (cells : Cells) (k : Category) (b e : ℤ) → HasCosts header fields cells k b e → cells.currency.now ≡ currency
-    → ¬ (((s : ℕ) × IsSecond cells.start.now s) × ((s : ℕ) × IsSecond cells.end.now s)) → RecordReads currency header fields (Err fault.Time)
-unfolding RecordReads FirstBroken rules_of
-time_fault currency header fields cells k b e has same bad =
-    inr (
-      λ ne. ne has.word.are.as_long,
-      inr (
-        has.word.are.all_text,
-        inr (
-          word_kept header fields cells k has.word,
-          inr (
-            costs_kept header fields cells k b e has,
-            inr (
-              (λ ne. ne (has.word.are.currency ∙ ap Some same)),
-              inl ((λ h. bad ((h.0.0, second_out (field_in header fields column.ChargePeriodStart) cells.start.now h.0.0 has.word.are.start h.0.1), (h.1.0, second_out (field_in header fields column.ChargePeriodEnd) cells.end.now h.1.0 has.word.are.end h.1.1))), refl),
-            ),
-          ),
-        ),
-      ),
-    )
-
-period_kept : (header fields : Record) (cells : Cells) (k : Category) (b e : ℤ) (currency : List ℕ) (s t : ℕ) → HasPeriod header fields cells k b e currency s t
-    → ¬ ¬ (((s : ℕ) × HasSecond (field_in header fields column.ChargePeriodStart) s) × ((s : ℕ) × HasSecond (field_in header fields column.ChargePeriodEnd) s))
-period_kept header fields cells k b e currency s t has never =
-    never ((s, second_in (field_in header fields column.ChargePeriodStart) cells.start.now s has.costs.word.are.start has.start), (t, second_in (field_in header fields column.ChargePeriodEnd) cells.end.now t has.costs.word.are.end has.end))
-
-pub order_fault : (currency : List ℕ) (header fields : Record) (cells : Cells) (k : Category) (b e : ℤ) (s t : ℕ) → HasPeriod header fields cells k b e currency s t → t < s
-    → RecordReads currency header fields (Err fault.PeriodOrder)
-unfolding RecordReads FirstBroken rules_of
-order_fault currency header fields cells k b e s t has before =
-    inr (
-      λ ne. ne has.costs.word.are.as_long,
-      inr (
-        has.costs.word.are.all_text,
-        inr (
-          word_kept header fields cells k has.costs.word,
-          inr (
-            costs_kept header fields cells k b e has.costs,
-            inr (
-              (λ ne. ne (has.costs.word.are.currency ∙ ap Some has.currency)),
-              inr (
-                period_kept header fields cells k b e currency s t has,
-                inl ((s, t, second_in (field_in header fields column.ChargePeriodStart) cells.start.now s has.costs.word.are.start has.start, second_in (field_in header fields column.ChargePeriodEnd) cells.end.now t has.costs.word.are.end has.end, before), refl),
-              ),
-            ),
-          ),
-        ),
-      ),
-    )
-
-pub row_reads : (currency : List ℕ) (header fields : Record) (cells : Cells) (k : Category) (b e : ℤ) (s t : ℕ) → HasPeriod header fields cells k b e currency s t → s ≤ t
-    → RecordReads currency header fields (Ok (record { billed = b; effective = e; category = k; start = s; end = t }))
-unfolding RecordReads NoneBroken rules_of
-row_reads currency header fields cells k b e s t has ordered =
-    let are = has.costs.word.are in
-    let starts = second_in (field_in header fields column.ChargePeriodStart) cells.start.now s are.start has.start in
-    let ends = second_in (field_in header fields column.ChargePeriodEnd) cells.end.now t are.end has.end in
-    let not_before : ¬ ((s2 t2 : ℕ) × HasSecond (field_in header fields column.ChargePeriodStart) s2 × HasSecond (field_in header fields column.ChargePeriodEnd) t2 × (t2 < s2)) =
-    λ h. later cells s t h.0 h.1 has.start has.end (second_out (field_in header fields column.ChargePeriodStart) cells.start.now h.0 are.start h.2) (second_out (field_in header fields column.ChargePeriodEnd) cells.end.now h.1 are.end h.3) ordered h.4 in (
-      (
-        λ ne. ne are.as_long,
-        (
-          are.all_text,
-          (
-            word_kept header fields cells k has.costs.word,
-            (
-              costs_kept header fields cells k b e has.costs,
-              ((λ ne. ne (are.currency ∙ ap Some has.currency)), (period_kept header fields cells k b e currency s t has, (not_before, tt))),
-            ),
-          ),
-        ),
-      ),
-      record {
-        billed = amount_in (field_in header fields column.BilledCost) cells.billed.now b are.billed has.costs.billed;
-        effective = amount_in (field_in header fields column.EffectiveCost) cells.effective.now e are.effective has.costs.effective;
-        category = are.category ∙ ap Some has.costs.word.word;
-        start = starts;
-        end = ends;
-      },
-    )
+-- a text that isn't UTF-8
+pub non_text : (header fields : Record) (p : Places) (k : ℕ) → ArePlaces header p → k < 15 → ¬ IsUtf8 (text_at fields (get_or p.places k None)) → HasNonText header fields
+unfolding text_in
+non_text header fields p k are lt bad =
+    let c = get_or columns k column.BilledCost in
+    let place : get_or p.places k None ≡ place_in header c = subst (λ i. get_or p.places i None ≡ place_in header c) (index_at k column.BilledCost lt) (are.places c) in
+    (k, c, lt, get_or-any columns k c column.BilledCost lt, λ text. bad (subst (λ t. IsUtf8 t) (sym (ap (text_at fields) place)) text))

@@ -1,7 +1,12 @@
-mod InstantFacts
-mod RecordFacts
 mod FieldFacts
+mod RecordFacts
 mod HeaderFacts
+mod JudgedFacts
+mod WordFacts
+mod DiscountFacts
+mod TagFacts
+mod ColumnFacts
 mod CellFacts
+mod MakingFacts
 mod RowFacts
 mod OneReading

@@ -1,21 +1,28 @@
 -- A text reads as one thing under a currency, want of memory aside.
-use Rattle.std.proofs.Common.{◌≡◌, ◌≢◌, ℕ, ℤ, suc, ◌<◌, List, [], ◌∷◌, ◌++◌, length, Option, Some, None, Result, Ok, Err, refl, sym, ap, ◌∙◌, arith, length-append, subst}
-use Rattle.std.specs.Prelude.{if◌then◌else◌, ◌==◌}
+use Rattle.std.proofs.Common.{◌≡◌, ◌≢◌, ℕ, ℤ, suc, ◌<◌, List, [], ◌∷◌, ◌++◌, length, Option, Some, None, Result, Ok, Err, refl, sym, ap, ◌∙◌, arith, get_or, length-append, subst, Bool, true, false, inl, inr}
+use Rattle.std.specs.Prelude.{if◌then◌else◌, ◌==◌, MatchOption}
 use Rattle.std.specs.List.{AllZip, All}
-use Rattle.fw_money.proofs.ReadingLaws.{reads-one}
+use Rattle.fw_charge.specs.Charge.{Charge, DiscountText, category_word, kind_word, status_word}
+use Rattle.fw_charge.specs.Tags.{TagText}
+use Rattle.fw_charge.specs.declared.category.Category.{Category}
+use Rattle.fw_charge.specs.declared.category.Category.TheVariants as category
+use Rattle.fw_charge.specs.declared.discount.DiscountKind.{DiscountKind}
+use Rattle.fw_charge.specs.declared.discount.DiscountKind.TheVariants as kind
+use Rattle.fw_charge.specs.declared.discount.DiscountStatus.{DiscountStatus}
+use Rattle.fw_charge.specs.declared.discount.DiscountStatus.TheVariants as status
+use Rattle.fw_money.proofs.ReadingLaws.{reads-apart, reads-one}
+use Rattle.fw_money.specs.Reading.{Reads}
+use Rattle.fw_money.specs.declared.nanos.MoneyFault.TheVariants as money
 use Rattle.fw_rules.proofs.TableLaws.{first-one, first-not_none}
-use Rattle.fw_rows.specs.Charge.{Charge, category_word}
-use Rattle.fw_rows.specs.Columns.{Record, field_in, missing_column, double_column}
-use Rattle.fw_rows.specs.Rules.{HasAmount, HasCategory, HasSecond, Stands, RecordReads, BreaksNoRule, rules_of}
+use Rattle.fw_rows.specs.Columns.{Record, text_in, missing_column, double_column}
+use Rattle.fw_rows.specs.Rules.{BreaksNoRule, DiscountStands, KindReads, QuantityReads, RecordReads, Stands, StatusReads, Texts, class_word, rules_of, tags_stated}
 use Rattle.fw_rows.specs.Rows.{RecordsRead, RowsRead, IsHeader, records_of, header_of, body_of}
 use Rattle.fw_rows.specs.declared.column.Column.{Column}
 use Rattle.fw_rows.specs.declared.column.Column.TheVariants as column
 use Rattle.fw_rows.specs.declared.fault.RecordFault.{RecordFault}
 use Rattle.fw_rows.specs.declared.fault.RowFault.{RowFault}
 use Rattle.fw_rows.specs.declared.fault.RowFault.TheVariants as fault
-use Rattle.fw_rows.specs.declared.row.Category.{Category}
-use Rattle.fw_rows.specs.declared.row.Category.TheVariants as category
-use Rattle.fw_rows.proofs.CellFacts.{second-one}
+use Rattle.fw_rows.proofs.WordFacts.{second-one}
 
 -- ---- a record stands for one row
 
@@ -31,32 +38,110 @@ category_back category.Tax = refl
 category_back category.Credit = refl
 category_back category.Adjustment = refl
 
-category-one : (field : Option (List ℕ)) (j k : Category) → HasCategory field j → HasCategory field k → j ≡ k
-category-one field j k a b =
-    let both = sym a ∙ b in
-    let words : category_word j ≡ category_word k = cc in
+category-one : (text : List ℕ) (j k : Category) → text ≡ category_word j → text ≡ category_word k → j ≡ k
+category-one text j k a b =
+    let words = sym a ∙ b in
     sym (category_back j) ∙ (ap (λ w. of_length (length w)) words ∙ category_back k)
 
-amount-one : (field : Option (List ℕ)) (m n : ℤ) → HasAmount field m → HasAmount field n → m ≡ n
-amount-one None m n a b = absurd a
-amount-one (Some text) m n a b = let same = reads-one text (Ok m) (Ok n) a b in cc
+class-one : (text : List ℕ) (c d : Bool) → text ≡ class_word c → text ≡ class_word d → c ≡ d
+unfolding class_word
+class-one text false false a b = refl
+class-one text false true a b = let both = sym a ∙ b in absurd (cc)
+class-one text true false a b = let both = sym a ∙ b in absurd (cc)
+class-one text true true a b = refl
 
-instant-one : (field : Option (List ℕ)) (s t : ℕ) → HasSecond field s → HasSecond field t → s ≡ t
-instant-one None s t a b = absurd a
-instant-one (Some text) s t a b = second-one text s t a b
+amount-one : (text : List ℕ) (m n : ℤ) → Reads text (Ok m) → Reads text (Ok n) → m ≡ n
+amount-one text m n a b = let same = reads-one text (Ok m) (Ok n) a b in cc
 
-charge_same : (b b2 e e2 : ℤ) (k k2 : Category) (s s2 t t2 : ℕ) → b ≡ b2 → e ≡ e2 → k ≡ k2 → s ≡ s2 → t ≡ t2
-    → ◌≡◌ {A = Charge} (record { billed = b; effective = e; category = k; start = s; end = t }) (record { billed = b2; effective = e2; category = k2; start = s2; end = t2 })
-charge_same b b2 e e2 k k2 s s2 t t2 p q r u v = rw (p, q, r, u, v) refl
+quantity-one : (text : List ℕ) (p q : Option ℤ) → QuantityReads text p → QuantityReads text q → p ≡ q
+unfolding QuantityReads
+quantity-one text None None a b = refl
+quantity-one text None (Some n) (inl null) b = absurd (b.0 null)
+quantity-one text None (Some n) (inr past) b = absurd (reads-apart text n money.Range b.1 past)
+quantity-one text (Some m) None a (inl null) = absurd (a.0 null)
+quantity-one text (Some m) None a (inr past) = absurd (reads-apart text m money.Range a.1 past)
+quantity-one text (Some m) (Some n) a b = ap Some (amount-one text m n a.1 b.1)
 
-stands-one : (header fields : Record) (x y : Charge) → Stands header fields x → Stands header fields y → x ≡ y
-stands-one header fields x y a b =
-    charge_same x.billed y.billed x.effective y.effective x.category y.category x.start y.start x.end y.end
-    (amount-one (field_in header fields column.BilledCost) x.billed y.billed a.billed b.billed)
-    (amount-one (field_in header fields column.EffectiveCost) x.effective y.effective a.effective b.effective)
-    (category-one (field_in header fields column.ChargeCategory) x.category y.category a.category b.category)
-    (instant-one (field_in header fields column.ChargePeriodStart) x.start y.start a.start b.start)
-    (instant-one (field_in header fields column.ChargePeriodEnd) x.end y.end a.end b.end)
+kind_word-one : (j k : DiscountKind) → kind_word j ≡ kind_word k → j ≡ k
+unfolding kind_word
+kind_word-one kind.Usage kind.Usage same = refl
+kind_word-one kind.Usage kind.Spend same = let letter : 85 ≡ 83 = ap (λ word. get_or word 0 0) same in absurd (omega (arith, letter))
+kind_word-one kind.Spend kind.Usage same = let letter : 83 ≡ 85 = ap (λ word. get_or word 0 0) same in absurd (omega (arith, letter))
+kind_word-one kind.Spend kind.Spend same = refl
+
+kind-one : (id text : List ℕ) (j k : DiscountKind) → KindReads id text (Some j) → KindReads id text (Some k) → j ≡ k
+unfolding KindReads
+kind-one id text j k a b = kind_word-one j k (sym a.1 ∙ b.1)
+
+status_word-one : (s t : DiscountStatus) → status_word s ≡ status_word t → s ≡ t
+unfolding status_word
+status_word-one status.Used status.Used same = refl
+status_word-one status.Used status.Unused same = absurd (cc)
+status_word-one status.Unused status.Used same = absurd (cc)
+status_word-one status.Unused status.Unused same = refl
+
+status_word-some : (s : DiscountStatus) → ¬ ([] ≡ status_word s)
+unfolding status_word
+status_word-some status.Used same = absurd (cc)
+status_word-some status.Unused same = absurd (cc)
+
+status-one : (category id text : List ℕ) (s t : Option DiscountStatus) → StatusReads category id text s → StatusReads category id text t → s ≡ t
+unfolding StatusReads
+status-one category id text None None a b = refl
+status-one category id text None (Some t) a b = absurd (status_word-some t (sym a.0 ∙ b.1))
+status-one category id text (Some s) None a b = absurd (status_word-some s (sym b.0 ∙ a.1))
+status-one category id text (Some s) (Some t) a b = ap Some (status_word-one s t (sym a.1 ∙ b.1))
+
+-- a discount that stands has an id
+id_some : (at : Texts) (d : DiscountText) → DiscountStands at d → at column.CommitmentDiscountId ≡ [] → ⊥
+unfolding KindReads
+id_some at d stands null = stands.kind.0 null
+
+discount_text-one : (at : Texts) (d e : DiscountText) → DiscountStands at d → DiscountStands at e → d ≡ e
+discount_text-one at d e a b =
+    let ids = sym a.id ∙ b.id in
+    let kinds = kind-one (at column.CommitmentDiscountId) (at column.CommitmentDiscountCategory) d.kind e.kind a.kind b.kind in
+    let states = status-one (at column.ChargeCategory) (at column.CommitmentDiscountId) (at column.CommitmentDiscountStatus) d.status e.status a.status b.status in
+    λ i. record { id = ids i; kind = kinds i; status = states i }
+
+discount-one : (at : Texts) (d e : Option DiscountText) → MatchOption d (at column.CommitmentDiscountId ≡ []) (DiscountStands at) → MatchOption e (at column.CommitmentDiscountId ≡ []) (DiscountStands at)
+    → d ≡ e
+discount-one at None None a b = refl
+discount-one at None (Some e) a b = absurd (id_some at e b a)
+discount-one at (Some d) None a b = absurd (id_some at d a b)
+discount-one at (Some d) (Some e) a b = ap Some (discount_text-one at d e a b)
+
+tags-one : (o : Option (List TagText)) (x y : List TagText) → o ≡ Some x → o ≡ Some y → x ≡ y
+tags-one o x y a b = let both = sym a ∙ b in cc
+
+stands-one : (at : Texts) (x y : Charge) → Stands at x → Stands at y → x ≡ y
+stands-one at x y a b =
+    let billed = amount-one (at column.BilledCost) x.billed y.billed a.billed b.billed in
+    let effective = amount-one (at column.EffectiveCost) x.effective y.effective a.effective b.effective in
+    let category = category-one (at column.ChargeCategory) x.category y.category a.category b.category in
+    let is_correction = class-one (at column.ChargeClass) x.is_correction y.is_correction a.class b.class in
+    let start = second-one (at column.ChargePeriodStart) x.start y.start a.start b.start in
+    let end = second-one (at column.ChargePeriodEnd) x.end y.end a.end b.end in
+    let discount = discount-one at x.discount y.discount a.discount b.discount in
+    let quantity = quantity-one (at column.ConsumedQuantity) x.quantity y.quantity a.quantity b.quantity in
+    let unit = a.unit ∙ sym b.unit in
+    let sku = a.sku ∙ sym b.sku in
+    let sub_account = a.sub_account ∙ sym b.sub_account in
+    let tags = tags-one (tags_stated (at column.Tags)) x.tags y.tags a.tags b.tags in
+    λ i. record {
+      billed = billed i;
+      effective = effective i;
+      category = category i;
+      is_correction = is_correction i;
+      start = start i;
+      end = end i;
+      discount = discount i;
+      quantity = quantity i;
+      unit = unit i;
+      sku = sku i;
+      sub_account = sub_account i;
+      tags = tags i;
+    }
 
 -- a record that breaks no rule has no fault
 unbroken : (currency : List ℕ) (header fields : Record) (f : RecordFault) → BreaksNoRule currency header fields → RecordReads currency header fields (Err f) → ⊥
@@ -76,7 +161,7 @@ rows-one currency header [] (x ∷ xs) ys a b = absurd a
 rows-one currency header (f ∷ body) [] ys a b = absurd a
 rows-one currency header (f ∷ body) (x ∷ xs) [] a b = absurd b
 rows-one currency header (f ∷ body) (x ∷ xs) (y ∷ ys) a b =
-    let one = stands-one header f x y a.0.1 b.0.1 in let more = rows-one currency header body xs ys a.1 b.1 in rw (one, more) refl
+    let one = stands-one (text_in header f) x y a.0.1 b.0.1 in let more = rows-one currency header body xs ys a.1 b.1 in rw (one, more) refl
 
 -- ---- where a record breaks a rule
 

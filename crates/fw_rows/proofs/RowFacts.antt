@@ -7,17 +7,33 @@ use Rattle.csv.specs.declared.parser.State.TheVariants as st
 use Rattle.csv.specs.declared.reader.Reader.{Reader}
 use Rattle.std.specs.Borrow.{Bor}
 use Rattle.fw_rows.specs.At.{At, Finds}
-use Rattle.fw_rows.specs.Charge.{Charge}
-use Rattle.fw_rows.specs.Columns.{Record, missing_column, place_in}
+use Rattle.fw_charge.specs.Charge.{Charge}
+use Rattle.fw_rows.specs.Columns.{Record, missing_column, place_in, text_in}
 use Rattle.fw_rows.specs.Header.{ArePlaces}
-use Rattle.fw_rows.specs.Rules.{RecordReads, BreaksNoRule}
+use Rattle.fw_rows.specs.Judged.{JudgedWithin}
+use Rattle.fw_rows.specs.Refusals.{fault_at}
+use Rattle.fw_rows.specs.Rules.{RecordReads, BreaksNoRule, Stands, rules_of}
 use Rattle.fw_rows.specs.Rows.{RecordsRead, RowsRead, IsHeader, records_of, most_rows}
 use Rattle.fw_rows.specs.declared.header.Places.{Places}
 use Rattle.fw_rows.specs.declared.fault.RecordFault.{RecordFault}
+use Rattle.fw_rows.specs.declared.fault.Refusal.{Refusal}
+use Rattle.fw_rows.specs.declared.fault.Refusal.TheVariants as refusal
 use Rattle.fw_rows.specs.declared.fault.RowFault.{RowFault}
 use Rattle.fw_rows.specs.declared.fault.RowFault.TheVariants as fault
 use Rattle.fw_rows.specs.declared.column.Column.TheVariants as column
 use Rattle.fw_rows.proofs.RecordFacts.{records_end, records_more, whole_end, whole_more, whole_last, reached_next, reached_first, no_rows}
+
+-- what the reader has found of a record
+abbrev pub Judged : List ℕ → Record → Record → Result Charge Refusal → Type 0
+Judged currency header fields r = JudgedWithin (rules_of currency header fields) (Stands (text_in header fields)) r
+
+row-reads : (currency : List ℕ) (header fields : Record) (row : Charge) → Judged currency header fields (Ok row) → RecordReads currency header fields (Ok row)
+unfolding RecordReads
+row-reads currency header fields row judged = judged
+
+fault-reads : (currency : List ℕ) (header fields : Record) (f : RecordFault) → Judged currency header fields (Err (refusal.Broken f)) → RecordReads currency header fields (Err f)
+unfolding RecordReads
+fault-reads currency header fields f judged = judged
 
 -- the rows are those of the records
 abbrev pub AreRows : List ℕ → Record → List Record → List Charge → Type 0
@@ -95,7 +111,7 @@ read-start currency text new f places finds stand whole = record {
 
 -- a record more was read, and stands for a row
 pub read-more : (currency text : List ℕ) (old new : Reader (Bor (List ℕ))) (places : Places) (rows : List Charge) (f : Record) (row : Charge) → Read currency text old places rows
-    → ((s : State) (y : List ℕ) → At old s y → Finds new s y f true) → ((header : Record) → ArePlaces header places → RecordReads currency header f (Ok row)) → length rows < 4096
+    → ((s : State) (y : List ℕ) → At old s y → Finds new s y f true) → ((header : Record) → ArePlaces header places → Judged currency header f (Ok row)) → length rows < 4096
     → Read currency text new places (rows ++ row ∷ [])
 read-more currency text old new places rows f row r finds reads few =
     let m = finds r.state r.rest r.at in
@@ -108,14 +124,14 @@ read-more currency text old new places rows f row r finds reads few =
       reached = reached_next r.state m.0 (strip_bom text) r.rest m.1 r.header f r.body r.reached m.3;
       stand = r.stand;
       whole = r.whole;
-      are = AllZip-push (λ fields charge. RecordReads currency r.header fields (Ok charge)) r.body rows f row r.are (reads r.header r.stand);
+      are = AllZip-push (λ fields charge. RecordReads currency r.header fields (Ok charge)) r.body rows f row r.are (row-reads currency r.header f row (reads r.header r.stand));
       counted = omega (arith, r.counted, length-append r.body (f ∷ []), length-append rows (row ∷ []));
       few = omega (arith, r.counted, length-append r.body (f ∷ []));
     }
 
 -- a record more was read, and breaks a rule
-pub read-fault : (currency text : List ℕ) (old new : Reader (Bor (List ℕ))) (places : Places) (rows : List Charge) (f : Record) (number : ℕ) (e : RecordFault) → Read currency text old places rows
-    → ((s : State) (y : List ℕ) → At old s y → Finds new s y f true) → ((header : Record) → ArePlaces header places → RecordReads currency header f (Err e)) → length rows < 4096
+read-fault : (currency text : List ℕ) (old new : Reader (Bor (List ℕ))) (places : Places) (rows : List Charge) (f : Record) (number : ℕ) (e : RecordFault) → Read currency text old places rows
+    → ((s : State) (y : List ℕ) → At old s y → Finds new s y f true) → ((header : Record) → ArePlaces header places → Judged currency header f (Err (refusal.Broken e))) → length rows < 4096
     → number ≡ length rows + 1 → RowsRead currency text (Err (fault.Record number e))
 read-fault currency text old new places rows f number e r finds reads few is =
     let m = finds r.state r.rest r.at in
@@ -123,7 +139,14 @@ read-fault currency text old new places rows f number e r finds reads few is =
     let after = records_from default_config k m.0 m.1 in
     let all = whole_more 4098 k r.state m.0 (strip_bom text) r.rest m.1 r.header f r.body r.reached (omega (arith, r.counted)) m.3 in
     text_reads currency text r.header (r.body ++ (f ∷ after)) (Err (fault.Record number e)) all
-    (r.whole, r.body, f, after, refl, omega (arith, r.counted), omega (arith, r.counted), none_broken currency r.header r.body rows r.are, reads r.header r.stand)
+    (r.whole, r.body, f, after, refl, omega (arith, r.counted), omega (arith, r.counted), none_broken currency r.header r.body rows r.are, fault-reads currency r.header f e (reads r.header r.stand))
+
+-- a record more was read, and no row comes of it
+pub read-refused : (currency text : List ℕ) (old new : Reader (Bor (List ℕ))) (places : Places) (rows : List Charge) (f : Record) (number : ℕ) (e : Refusal) → Read currency text old places rows
+    → ((s : State) (y : List ℕ) → At old s y → Finds new s y f true) → ((header : Record) → ArePlaces header places → Judged currency header f (Err e)) → length rows < 4096
+    → number ≡ length rows + 1 → RowsRead currency text (Err (fault_at number e))
+read-refused currency text old new places rows f number (refusal.Broken e) r finds reads few is = read-fault currency text old new places rows f number e r finds reads few is
+read-refused currency text old new places rows f number refusal.NoMemory r finds reads few is = memory_reads currency text
 
 -- a record more was read than a text may have
 pub read-full : (currency text : List ℕ) (old new : Reader (Bor (List ℕ))) (places : Places) (rows : List Charge) (f : Record) → Read currency text old places rows

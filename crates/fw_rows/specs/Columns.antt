@@ -1,5 +1,5 @@
 -- The columns that are read, and where a header has them.
-use Rattle.std.specs.Prelude.{ℕ, Bool, List, [], ◌∷◌, Option, is_none, codes, count_by, find, position, option_and_then, nat_lt}
+use Rattle.std.specs.Prelude.{ℕ, Bool, List, [], ◌∷◌, ◌++◌, Option, is_none, codes, count_by, find, position, option_and_then, unwrap_or, nat_lt}
 use Rattle.std.specs.Str.{bytes_eq}
 use Rattle.csv.specs.Records.{field_at}
 use Rattle.fw_rows.specs.declared.column.Column.{Column}
@@ -17,10 +17,47 @@ name_of column.BillingCurrency = codes "BillingCurrency"
 name_of column.ChargeCategory = codes "ChargeCategory"
 name_of column.ChargePeriodStart = codes "ChargePeriodStart"
 name_of column.ChargePeriodEnd = codes "ChargePeriodEnd"
+name_of column.ChargeClass = codes "ChargeClass"
+name_of column.CommitmentDiscountId = codes "CommitmentDiscountId"
+name_of column.CommitmentDiscountCategory = codes "CommitmentDiscountCategory"
+name_of column.CommitmentDiscountStatus = codes "CommitmentDiscountStatus"
+name_of column.ConsumedQuantity = codes "ConsumedQuantity"
+name_of column.ConsumedUnit = codes "ConsumedUnit"
+name_of column.SkuId = codes "SkuId"
+name_of column.SubAccountId = codes "SubAccountId"
+name_of column.Tags = codes "Tags"
 
 -- the columns that a header must have, in the order in which the first that is missing is named
 abbrev pub required : List Column
 required = column.BilledCost ∷ column.EffectiveCost ∷ column.BillingCurrency ∷ column.ChargeCategory ∷ column.ChargePeriodStart ∷ column.ChargePeriodEnd ∷ []
+
+-- the columns that a header may have
+abbrev pub optional : List Column
+optional =
+    column.ChargeClass ∷ column.CommitmentDiscountId ∷ column.CommitmentDiscountCategory ∷ column.CommitmentDiscountStatus ∷ column.ConsumedQuantity
+    ∷ column.ConsumedUnit ∷ column.SkuId ∷ column.SubAccountId ∷ column.Tags ∷ []
+
+-- the columns that are read, in the order in which the first that stands twice is named
+abbrev pub columns : List Column
+columns = required ++ optional
+
+-- where a column stands among those that are read
+unfoldable pub index_of : Column → ℕ
+index_of column.BilledCost = 0
+index_of column.EffectiveCost = 1
+index_of column.BillingCurrency = 2
+index_of column.ChargeCategory = 3
+index_of column.ChargePeriodStart = 4
+index_of column.ChargePeriodEnd = 5
+index_of column.ChargeClass = 6
+index_of column.CommitmentDiscountId = 7
+index_of column.CommitmentDiscountCategory = 8
+index_of column.CommitmentDiscountStatus = 9
+index_of column.ConsumedQuantity = 10
+index_of column.ConsumedUnit = 11
+index_of column.SkuId = 12
+index_of column.SubAccountId = 13
+index_of column.Tags = 14
 
 -- whether a header's field is the name of a column
 abbrev pub is_name : Column → List ℕ → Bool
@@ -40,8 +77,12 @@ missing_column header = find (λ c. is_none (place_in header c)) required
 
 -- the first column that stands in the header twice or more
 unfoldable pub double_column : Record → Option Column
-double_column header = find (λ c. nat_lt 1 (times header c)) required
+double_column header = find (λ c. nat_lt 1 (times header c)) columns
 
--- the field of a record in a column; it may be empty, and is `None` where there is no such column or field
-unfoldable pub field_in : Record → Record → Column → Option (List ℕ)
-field_in header fields c = option_and_then (λ place. field_at fields place) (place_in header c)
+-- the text of the field at a place; the empty text where there is no place, or the record has no such field
+abbrev pub text_at : Record → Option ℕ → List ℕ
+text_at fields place = unwrap_or (option_and_then (λ p. field_at fields p) place) []
+
+-- the text of a record in a column. It is null where the header doesn't have the column, and where the field is empty: null is the empty text
+unfoldable pub text_in : Record → Record → Column → List ℕ
+text_in header fields c = text_at fields (place_in header c)

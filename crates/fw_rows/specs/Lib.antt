@@ -1,11 +1,9 @@
 pub mod Columns
-pub mod Currencies
-pub mod Instants
-pub mod Charge
-pub mod ChargeView
 pub mod Rules
 pub mod Rows
 pub mod Shown
 pub mod At
 pub mod Header
-pub mod CellView
+pub mod Refusals
+pub mod Judged
+pub mod Parts

@@ -3,7 +3,7 @@ use Rattle.std.specs.Prelude.{◌≡◌, ◌+◌, ◌<◌, ◌≤◌, ℕ, List,
 use Rattle.std.specs.List.{AllZip}
 use Rattle.csv.specs.Reading.{default_config, records_from, strip_bom}
 use Rattle.csv.specs.declared.parser.State.TheVariants as st
-use Rattle.fw_rows.specs.Charge.{Charge}
+use Rattle.fw_charge.specs.Charge.{Charge}
 use Rattle.fw_rows.specs.Columns.{Record, missing_column, double_column}
 use Rattle.fw_rows.specs.Rules.{RecordReads, BreaksNoRule}
 use Rattle.fw_rows.specs.declared.fault.RowFault.{RowFault}

@@ -1,8 +1,10 @@
 //! Why a text has no rows.
 ghost use Rattle.std.specs.Prelude.{◌≡◌};
+ghost use Rattle.fw_rows.specs.declared.fault.Refusal.TheVariants.{Broken, NoMemory as WantOfMemory};
 ghost use Rattle.fw_rows.specs.declared.fault.RowFault.TheVariants.{NoMemory};
 
 use crate::column::Column;
+use fw_tags::TagFault;
 use std::alloc::{AllocError, AllocFailed};
 use thiserror::Error;
 
@@ -18,8 +20,11 @@ pub enum RecordFault {
     /// ChargeCategory is none of the five words of `Category`.
     #[error("ChargeCategory is none of the five words")]
     Category,
-    /// BilledCost or EffectiveCost is empty, no number text, too long a one, or past the greatest amount.
-    #[error("BilledCost or EffectiveCost is empty or no amount")]
+    /// ChargeClass is neither null nor `Correction`.
+    #[error("ChargeClass is neither null nor Correction")]
+    Class,
+    /// BilledCost or EffectiveCost is null, no number text, too long a one, or past the greatest amount.
+    #[error("BilledCost or EffectiveCost is null or no amount")]
     Cost,
     /// BillingCurrency is not the code of the currency.
     #[error("BillingCurrency is not the currency of the warehouse")]
@@ -30,6 +35,75 @@ pub enum RecordFault {
     /// ChargePeriodEnd is before ChargePeriodStart; they may be equal.
     #[error("ChargePeriodEnd is before ChargePeriodStart")]
     PeriodOrder,
+    /// Of CommitmentDiscountId and CommitmentDiscountCategory one alone is null, or the category is neither `Usage` nor `Spend`.
+    #[error("CommitmentDiscountCategory is not Usage or Spend exactly where CommitmentDiscountId is not null")]
+    Commitment,
+    /// CommitmentDiscountStatus stands without CommitmentDiscountId, is neither `Used` nor `Unused`, or is null in a usage row with an id.
+    #[error("CommitmentDiscountStatus is not Used or Unused where it must be, or stands where it must not")]
+    Status,
+    /// ConsumedQuantity is neither null nor a number text. One past the greatest quantity is no fault, and is kept as null.
+    #[error("ConsumedQuantity is neither null nor a number")]
+    Quantity,
+    /// Tags is neither null nor a JSON object of texts, `true`, `false` and null.
+    #[error("Tags is neither null nor an object of texts, true, false and null")]
+    BadTags,
+    /// CommitmentDiscountId, ConsumedUnit, SkuId or SubAccountId has more than 256 bytes, a tag's key or text has more than 1,024 bytes,
+    /// or there are more than 256 tags. Tags are counted as the object is read, with each key once.
+    #[error("an id, a unit, a SKU, an account or a tag is too long, or there are too many tags")]
+    TooLong,
+}
+
+/// Why no row comes of a record.
+#[derive(Clone, Copy, Debug, Drop, PartialEq, Eq)]
+pub(crate) enum Refusal {
+    /// The record breaks a rule, and this is the first one.
+    Broken(RecordFault),
+    /// Memory ran out.
+    NoMemory,
+}
+
+impl Refusal {
+    ghost use Rattle.fw_rows.specs.Refusals.{fault_at};
+
+    /// The fault of a text of whose record with this number no row comes.
+    pub(crate) fn at_record(self, number: u32) -> RowFault
+        ensures { result ≡ fault_at number self }
+    {
+        match self {
+            Refusal::Broken(fault) => RowFault::Record { number, fault },
+            Refusal::NoMemory => RowFault::NoMemory,
+        }
+    }
+}
+
+impl From<RecordFault> for Refusal {
+    ghost from_gives = { λ fault refusal. refusal ≡ Broken fault };
+
+    fn from(fault: RecordFault) -> Refusal {
+        Refusal::Broken(fault)
+    }
+}
+
+impl From<AllocError> for Refusal {
+    ghost from_gives = { λ _ refusal. refusal ≡ WantOfMemory };
+
+    fn from(_refused: AllocError) -> Refusal {
+        Refusal::NoMemory
+    }
+}
+
+impl From<TagFault> for Refusal {
+    ghost use Rattle.fw_rows.specs.Refusals.{refusal_of};
+
+    ghost from_gives = { λ fault refusal. refusal ≡ refusal_of fault };
+
+    fn from(fault: TagFault) -> Refusal {
+        match fault {
+            TagFault::NotTags => Refusal::Broken(RecordFault::BadTags),
+            TagFault::TooLong => Refusal::Broken(RecordFault::TooLong),
+            TagFault::NoMemory => Refusal::NoMemory,
+        }
+    }
 }
 
 /// The first fault of a text.

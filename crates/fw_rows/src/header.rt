@@ -1,36 +1,21 @@
 //! Where the columns stand in a header.
-ghost use Rattle.std.specs.Prelude.{◌≡◌, ◌<◌, ℕ, List, [], length, get_or, Some, Err, IsSome, MatchResult};
+ghost use Rattle.std.specs.Prelude.{◌≡◌, ◌<◌, ℕ, List, [], length, get_or, Err, MatchResult};
 ghost use Rattle.csv.specs.Records.{fields_of};
 ghost use Rattle.fw_rows.specs.Columns.{Record, is_name, place_in, times, missing_column, double_column};
 ghost use Rattle.fw_rows.specs.Rows.{IsHeader, RecordsRead};
 ghost use Rattle.fw_rows.specs.Header.{ArePlaces};
 
-use crate::column::Column;
+use crate::column::{COLUMNS, COUNT, Column, REQUIRED};
 use crate::fault::RowFault;
 use crate::records::field;
 use csv::ByteRecord;
 
-/// The places of the columns in a header, and how many fields the header has.
+/// Where a header has the columns that are read, in their order, and how many fields it has.
 #[derive(Clone, Copy, Drop)]
 pub(crate) struct Places {
     pub(crate) fields: usize,
-    pub(crate) billed: usize,
-    pub(crate) effective: usize,
-    pub(crate) currency: usize,
-    pub(crate) category: usize,
-    pub(crate) start: usize,
-    pub(crate) end: usize,
+    pub(crate) places: [Option<usize>; COUNT],
 }
-
-/// The columns that a header must have.
-const REQUIRED: [Column; 6] = [
-    Column::BilledCost,
-    Column::EffectiveCost,
-    Column::BillingCurrency,
-    Column::ChargeCategory,
-    Column::ChargePeriodStart,
-    Column::ChargePeriodEnd,
-];
 
 /// Whether the field of a header at a place is the name of a column.
 fn is_name_at(header: &ByteRecord, place: usize, column: Column) -> bool
@@ -50,14 +35,6 @@ fn first_place(header: &ByteRecord, column: Column) -> Option<usize>
         }
     }
     None
-}
-
-/// The first place of a column that isn't missing.
-fn place_of(header: &ByteRecord, column: Column) -> usize
-    requires { IsSome (place_in (fields_of header.now) column) }
-    ensures { place_in (fields_of header.now) column ≡ Some result }
-{
-    first_place(header, column).unwrap()
 }
 
 /// How often a column stands in a header.
@@ -87,13 +64,27 @@ fn missing_column(header: &ByteRecord) -> Option<Column>
 fn double_column(header: &ByteRecord) -> Option<Column>
     ensures { result ≡ double_column (fields_of header.now) }
 {
-    REQUIRED
+    COLUMNS
         .iter()
         .find(|column| times(header, **column) > 1)
         .copied()
 }
 
 impl Places {
+    /// Where the columns stand.
+    fn of_columns(header: &ByteRecord) -> Places
+        ensures { ArePlaces (fields_of header.now) result }
+    {
+        let mut places = [None; COUNT];
+        for index in 0..COUNT {
+            places[index] = first_place(header, COLUMNS[index]);
+        }
+        Places {
+            fields: header.len(),
+            places,
+        }
+    }
+
     /// The places of the columns, or the header's first fault.
     pub(crate) fn of_header(header: &ByteRecord) -> Result<Places, RowFault>
         ensures { MatchResult result (λ places. ArePlaces (fields_of header.now) places × IsHeader (fields_of header.now)) (λ fault. (currency : List ℕ) (body : List Record) → RecordsRead currency (fields_of header.now) body (Err fault)) }
@@ -104,14 +95,6 @@ impl Places {
         if let Some(column) = double_column(header) {
             return Err(RowFault::DoubleColumn(column));
         }
-        Ok(Places {
-            fields: header.len(),
-            billed: place_of(header, Column::BilledCost),
-            effective: place_of(header, Column::EffectiveCost),
-            currency: place_of(header, Column::BillingCurrency),
-            category: place_of(header, Column::ChargeCategory),
-            start: place_of(header, Column::ChargePeriodStart),
-            end: place_of(header, Column::ChargePeriodEnd),
-        })
+        Ok(Places::of_columns(header))
     }
 }

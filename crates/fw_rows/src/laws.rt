@@ -1,11 +1,11 @@
 //! What is so of every text.
 ghost use Rattle.std.specs.Prelude.{◌≡◌, ◌≢◌, List, Result, Err};
-ghost use Rattle.fw_rows.specs.Charge.{Charge};
+ghost use Rattle.fw_charge.specs.Charge.{Charge};
 ghost use Rattle.fw_rows.specs.Rows.{RowsRead};
 ghost use Rattle.fw_rows.specs.declared.fault.RowFault.{RowFault};
 ghost use Rattle.fw_rows.specs.declared.fault.RowFault.TheVariants.{NoMemory};
 
-use crate::currency::Currency;
+use fw_charge::Currency;
 
 /// Under a currency a text has one list of rows or one first fault, want of memory aside.
 pub fn rows_read_as_one(text: &[u8], currency: Currency)

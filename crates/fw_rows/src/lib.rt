@@ -1,24 +1,28 @@
-//! Charge rows, and what a CSV of them reads as.
+//! What a CSV text of charges reads as: its rows, or its first fault.
+//!
+//! The rows themselves, their tags and currencies are those of [`fw_charge`], and stand here too. Fifteen columns are read; others are
+//! passed over.
 #![tactic(auto)]
 
 mod cells;
 mod column;
-mod currency;
+mod details;
 mod fault;
 mod header;
-mod instant;
 mod laws;
+mod making;
+mod parts;
 mod reading;
 mod records;
-mod row;
+mod words;
 
 pub use column::Column;
-pub use currency::Currency;
 pub use fault::{RecordFault, RowFault};
-pub use instant::second_of;
+pub use fw_charge::{
+    Category, Currency, Discount, DiscountKind, DiscountStatus, Row, RowFields, Tag, Tags,
+};
 pub use laws::rows_read_as_one;
 pub use reading::read_rows;
-pub use row::{Category, Row, RowFields};
 
 #[cfg(test)]
 mod tests;

@@ -1,12 +1,16 @@
 //! Texts and what they read as.
 use crate::{
-    Category, Column, Currency, RecordFault, Row, RowFault, RowFields, read_rows, second_of,
+    Category, Column, Currency, DiscountKind, DiscountStatus, RecordFault, Row, RowFault, read_rows,
 };
+use fw_money::Nanos;
 use std::alloc::{AllocError, Global};
 use std::test::Fail;
 
 const HEADER: &str =
     "BilledCost,EffectiveCost,BillingCurrency,ChargeCategory,ChargePeriodStart,ChargePeriodEnd\n";
+
+const ALL: &str =
+    "BilledCost,EffectiveCost,BillingCurrency,ChargeCategory,ChargePeriodStart,ChargePeriodEnd,ChargeClass,CommitmentDiscountId,CommitmentDiscountCategory,CommitmentDiscountStatus,ConsumedQuantity,ConsumedUnit,SkuId,SubAccountId,Tags\n";
 
 const RIGHT: &str = "0.1,0.25,USD,Usage,2024-01-01T00:00:00Z,2024-01-01T01:00:00Z\n";
 
@@ -27,7 +31,7 @@ fn fault_of(alloc: Global, text: &[u8]) -> Result<Option<RowFault>, RowFault> {
     }
 }
 
-/// The header and so many right records, with room for `more` bytes.
+/// The header and so many right records, and more.
 fn right_text(alloc: Global, records: usize, more: &str) -> Result<Vec<u8>, AllocError> {
     let mut text = Vec::with_capacity(alloc, 512_000)?;
     text.extend_from_slice(HEADER.as_bytes())?;
@@ -78,16 +82,21 @@ fn missing_columns(rt: HostRuntime) -> Result<(), Fail> {
 
 #[test]
 fn headers_alone(rt: HostRuntime) -> Result<(), Fail> {
-    let cases: [(&str, RowFault); 3] = [
+    let cases: [(&str, RowFault); 4] = [
         (HEADER, RowFault::NoRows),
         // The first that stands twice is that of the columns' order, not of the header's.
         (
             "ChargeCategory,ChargeCategory,BillingCurrency,BilledCost,EffectiveCost,BillingCurrency,ChargePeriodStart,ChargePeriodEnd\n",
             RowFault::DoubleColumn(Column::BillingCurrency),
         ),
-        // A column that isn't read may stand twice.
+        // A column that may be missing may not stand twice.
         (
             "Tags,Tags,BilledCost,EffectiveCost,BillingCurrency,ChargeCategory,ChargePeriodStart,ChargePeriodEnd\n",
+            RowFault::DoubleColumn(Column::Tags),
+        ),
+        // A column that isn't read may.
+        (
+            "Note,Note,BilledCost,EffectiveCost,BillingCurrency,ChargeCategory,ChargePeriodStart,ChargePeriodEnd\n",
             RowFault::NoRows,
         ),
     ];
@@ -102,8 +111,8 @@ fn headers_alone(rt: HostRuntime) -> Result<(), Fail> {
 }
 
 #[test]
-fn faults_of_words_and_costs(rt: HostRuntime) -> Result<(), Fail> {
-    let cases: [(&str, RecordFault); 6] = [
+fn first_fault_of_a_record(rt: HostRuntime) -> Result<(), Fail> {
+    let cases: [(&str, RecordFault); 16] = [
         (
             "0.1,0.25,USD,Usage,2024-01-01T00:00Z\n",
             RecordFault::Fields,
@@ -128,20 +137,6 @@ fn faults_of_words_and_costs(rt: HostRuntime) -> Result<(), Fail> {
             "0.1,0.25,EUR,Usage,2024-01-01T00:00Z,2024-01-01T01:00Z\n",
             RecordFault::Currency,
         ),
-    ];
-    for (record, fault) in cases {
-        assert_eq!(rt;
-            fault_after(rt.alloc(), 0, record)?,
-            first(fault),
-            "at {record}"
-        );
-    }
-    Ok(())
-}
-
-#[test]
-fn faults_of_periods(rt: HostRuntime) -> Result<(), Fail> {
-    let cases: [(&str, RecordFault); 4] = [
         (
             "0.1,0.25,USD,Usage,2024-01-01T00:00:00.5Z,2024-01-01T01:00Z\n",
             RecordFault::Time,
@@ -158,20 +153,7 @@ fn faults_of_periods(rt: HostRuntime) -> Result<(), Fail> {
             "0.1,0.25,USD,Usage,2024-01-01T01:00Z,2024-01-01T00:59:59Z\n",
             RecordFault::PeriodOrder,
         ),
-    ];
-    for (record, fault) in cases {
-        assert_eq!(rt;
-            fault_after(rt.alloc(), 0, record)?,
-            first(fault),
-            "at {record}"
-        );
-    }
-    Ok(())
-}
-
-#[test]
-fn first_fault_of_a_record(rt: HostRuntime) -> Result<(), Fail> {
-    let cases: [(&str, RecordFault); 6] = [
+        // Each of these breaks the later rules too.
         ("x,0.25,EUR,x,x\n", RecordFault::Fields),
         ("x,0.25,EUR,x,x,x\n", RecordFault::Category),
         ("x,0.25,EUR,Tax,x,x\n", RecordFault::Cost),
@@ -285,57 +267,118 @@ fn rows_of_other_columns(rt: HostRuntime) -> Result<(), Fail> {
             1
         )
     );
-    assert_eq!(rt; shown(&late.copy(rt.alloc())?), shown(late));
     Ok(())
 }
 
-#[test]
-fn row_of_fields(rt: HostRuntime) -> Result<(), Fail> {
-    let row = Row::of_fields(RowFields {
-        billed: fw_money::Nanos::of_fields(-1),
-        effective: fw_money::Nanos::of_fields(2),
-        category: Category::Tax,
-        start: 3600,
-        end: 253_402_300_799,
-    });
-    assert_eq!(rt;
-        shown(&row),
-        (-1, 2, Category::Tax, 3600, 253_402_300_799, 1)
-    );
-    Ok(())
+/// The fault of one record under the header of all columns; `record` is what follows its costs and currency.
+fn fault_of_all(alloc: Global, record: &str) -> Result<Option<RowFault>, RowFault> {
+    let mut text = Vec::with_capacity(alloc, 4096)?;
+    text.extend_from_slice(ALL.as_bytes())?;
+    text.extend_from_slice(b"1,2,USD,")?;
+    text.extend_from_slice(record.as_bytes())?;
+    fault_of(alloc, text.as_slice())
 }
 
 #[test]
-fn currencies(rt: HostRuntime) {
-    for (code, valid) in [
-        ("USD", true),
-        ("usd", false),
-        ("US", false),
-        ("USDX", false),
-        ("U\u{d6}", false),
-        ("", false),
-    ] {
-        assert_eq!(rt;
-            Currency::new(code.as_bytes()).is_some(),
-            valid,
-            "at {code}"
-        );
-    }
-}
-
-#[test]
-fn seconds(rt: HostRuntime) {
-    let cases: [(&str, Option<u64>); 8] = [
-        ("1970-01-01T00:00Z", Some(0)),
-        ("2024-01-01T00:00:00Z", Some(1_704_067_200)),
-        ("2024-01-01T00:00:00.000Z", Some(1_704_067_200)),
-        ("2024-01-01T01:30+01:30", Some(1_704_067_200)),
-        ("2024-01-01T00:00:00.000000001Z", None),
-        ("1970-01-01T00:30+01:00", None),
-        ("2024-01-01T00:00", None),
-        ("2024-02-30T00:00Z", None),
+fn first_fault_of_other_columns(rt: HostRuntime) -> Result<(), Fail> {
+    let cases: [(&str, Option<RowFault>); 10] = [
+        (
+            "Usage,x,x,correction,,Usage,Used,x,,,,x\n",
+            first(RecordFault::Class),
+        ),
+        (
+            "Usage,2024-01-01T00:00Z,2024-01-01T01:00Z,Correction,,Usage,Used,x,,,,x\n",
+            first(RecordFault::Commitment),
+        ),
+        (
+            "Usage,2024-01-01T00:00Z,2024-01-01T01:00Z,,cd-1,,,x,,,,x\n",
+            first(RecordFault::Commitment),
+        ),
+        (
+            "Usage,2024-01-01T00:00Z,2024-01-01T01:00Z,,cd-1,usage,Used,x,,,,x\n",
+            first(RecordFault::Commitment),
+        ),
+        // A usage row with an id has a status.
+        (
+            "Usage,2024-01-01T00:00Z,2024-01-01T01:00Z,,cd-1,Usage,,x,,,,x\n",
+            first(RecordFault::Status),
+        ),
+        (
+            "Tax,2024-01-01T00:00Z,2024-01-01T01:00Z,,,,Used,x,,,,x\n",
+            first(RecordFault::Status),
+        ),
+        (
+            "Tax,2024-01-01T00:00Z,2024-01-01T01:00Z,,,,,x,,,,x\n",
+            first(RecordFault::Quantity),
+        ),
+        (
+            "Tax,2024-01-01T00:00Z,2024-01-01T01:00Z,,,,,1,,,,[]\n",
+            first(RecordFault::BadTags),
+        ),
+        // Blanks are not null.
+        (
+            "Tax,2024-01-01T00:00Z,2024-01-01T01:00Z,,,,,1,,,, \n",
+            first(RecordFault::BadTags),
+        ),
+        // A purchase with an id needs none.
+        (
+            "Purchase,2024-01-01T00:00Z,2024-01-01T01:00Z,,cd-1,Spend,,,,,,\n",
+            None,
+        ),
     ];
-    for (text, second) in cases {
-        assert_eq!(rt; second_of(text), second, "at {text}");
+    for (record, fault) in cases {
+        assert_eq!(rt; fault_of_all(rt.alloc(), record)?, fault, "at {record}");
     }
+    Ok(())
+}
+
+#[test]
+fn greatest_length_of_a_text(rt: HostRuntime) -> Result<(), Fail> {
+    for (bytes, fault) in [(256, None), (257, first(RecordFault::TooLong))] {
+        let mut record = String::from_str(
+            rt.alloc(),
+            "Tax,2024-01-01T00:00Z,2024-01-01T01:00Z,,,,,,,",
+        )?;
+        for _ in 0..bytes {
+            record.push('s')?;
+        }
+        record.push_str(",,\n")?;
+        assert_eq!(rt; fault_of_all(rt.alloc(), record.as_str())?, fault);
+    }
+    Ok(())
+}
+
+#[test]
+fn row_of_all_columns(rt: HostRuntime) -> Result<(), Fail> {
+    let text =
+        "\u{feff}Note,Tags,SubAccountId,SkuId,ConsumedUnit,ConsumedQuantity,CommitmentDiscountStatus,CommitmentDiscountCategory,CommitmentDiscountId,ChargeClass,BilledCost,EffectiveCost,BillingCurrency,ChargeCategory,ChargePeriodStart,ChargePeriodEnd\n\
+        \"a, b\",\"{\"\"team\"\":\"\"x\"\",\"\"spot\"\":true,\"\"app\"\":null}\",acc-1,vm-4,Hours,0.5,Used,Spend,cd-1,Correction,1,2,USD,Usage,2024-01-01T00:00Z,2024-01-01T01:00Z\n\
+        ,,,,,500000000,,,,,1,2,USD,Usage,2024-01-01T00:00Z,2024-01-01T01:00Z\n";
+    let rows = dollars(rt.alloc(), text.as_bytes())?;
+    let [full, bare] = rows.as_slice() else {
+        return Err(Fail::from(RowFault::NoRows));
+    };
+    let Some(discount) = full.discount() else {
+        return Err(Fail::from(RowFault::NoRows));
+    };
+    assert_eq!(rt; discount.id(), "cd-1");
+    assert_eq!(rt; discount.kind(), DiscountKind::Spend);
+    assert_eq!(rt; discount.status(), Some(DiscountStatus::Used));
+    assert_eq!(rt; full.is_correction(), true);
+    assert_eq!(rt; full.quantity(), Some(Nanos::of_fields(500_000_000)));
+    assert_eq!(rt; full.unit(), Some("Hours"));
+    assert_eq!(rt; full.sku(), Some("vm-4"));
+    assert_eq!(rt; full.sub_account(), Some("acc-1"));
+    assert_eq!(rt; full.tags().value("app"), Some(""));
+    assert_eq!(rt; full.tags().value("spot"), Some("true"));
+    assert_eq!(rt; full.tags().value("team"), Some("x"));
+    assert_eq!(rt; bare.discount().is_none(), true);
+    assert_eq!(rt; bare.is_correction(), false);
+    // A quantity past the greatest one is null.
+    assert_eq!(rt; bare.quantity(), None);
+    assert_eq!(rt; bare.unit(), None);
+    assert_eq!(rt; bare.sku(), None);
+    assert_eq!(rt; bare.sub_account(), None);
+    assert_eq!(rt; bare.tags().as_slice().len(), 0);
+    Ok(())
 }

@@ -1,10 +1,12 @@
 -- A text holds one list of commands.
 use Rattle.std.proofs.Common.{◌≡◌, ℕ, ◌≤◌, ◌<◌, List, [], ◌∷◌, ◌++◌, length, lit<, refl, sym, ap, subst, ◌∙◌, arith, append_assoc}
-use Rattle.std.specs.Prelude.{codes, IsUtf8}
+use Rattle.std.specs.Prelude.{codes, IsUtf8, Bool, true, false}
 use Rattle.std.specs.Str.Parse.{digits_value}
-use Rattle.fw_script.specs.Commands.{IsEntryLine, IsReportLine, IsEntryWord, IsEntry, IsCutShort, IsCommand, FirstCommand, CommandsOf}
+use Rattle.fw_script.specs.Commands.{IsEntryLine, IsReportLine, IsLinesLine, IsEntry, IsCutShort, IsCommand, FirstCommand, CommandsOf, entry_word}
+use Rattle.fw_script.specs.declared.commands.EntryKind.{EntryKind}
+use Rattle.fw_script.specs.declared.commands.EntryKind.TheVariants as kind
 use Rattle.fw_script.specs.Hours.{IsHourText}
-use Rattle.fw_script.specs.Plain.{PlainCommand, post, report, bad_command, bad_end}
+use Rattle.fw_script.specs.Plain.{PlainCommand, entry, report, lines, bad_command, bad_end}
 use Rattle.fw_script.specs.Splits.{FirstSplit, LastSplit}
 use Rattle.fw_script.specs.Words.{IsLineCount, space}
 use Rattle.fw_script.specs.Lines.{StartsWithLines, FollowsLines}
@@ -27,6 +29,27 @@ pub entry_number : (word line arguments origin rest sequence number o s : List �
     → FirstSplit space rest sequence number → IsEntryLine word line o s n → IsLineCount number n
 entry_number word line arguments origin rest sequence number o s n h f g e =
     subst (λ w. IsLineCount w n) (FirstSplit-one space rest _ _ _ _ (entry_rest word line arguments origin rest o s n h f e) g).1 e.counts
+
+-- a line that is split so is an entry's
+pub entry_there : (word line arguments origin rest sequence number : List ℕ) (n : ℕ) → line ≡ word ++ space ∷ arguments → FirstSplit space arguments origin rest
+    → FirstSplit space rest sequence number → IsLineCount number n → IsEntryLine word line origin sequence n
+entry_there word line arguments origin rest sequence number n h f g counts = record {
+  number = number;
+  in_turn = h ∙ ap (λ l. word ++ space ∷ l) (f.in_turn ∙ ap (λ l. origin ++ space ∷ l) g.in_turn);
+  origin_is_word = f.clear;
+  sequence_is_word = g.clear;
+  counts = counts;
+}
+
+pub never_both : (b : Bool) → b ≡ true → b ≡ false → ⊥
+never_both true h k = absurd (cc)
+never_both false h k = absurd (cc)
+
+-- what holds of each kind of entry holds of all
+pub every_kind : (P : EntryKind → Type 0) → P kind.Post → P kind.Commit → P kind.Policy → (k : EntryKind) → P k
+every_kind P post commit policy kind.Post = post
+every_kind P post commit policy kind.Commit = commit
+every_kind P post commit policy kind.Policy = policy
 
 -- a report's line, split word by word from its end
 pub report_arguments : (line arguments key : List ℕ) (from to : ℕ) → line ≡ codes "report" ++ space ∷ arguments → (e : IsReportLine line key from to)
@@ -62,6 +85,33 @@ report_words line arguments rest last key first k from to h f g e =
       to_is_hour = subst (λ w. IsHourText w to) late.1 e.to_is_hour;
     }
 
+-- the line of `lines`, split word by word from its end
+pub lines_last : (line : List ℕ) (from to : ℕ) → (e : IsLinesLine line from to) → LastSplit space line (codes "lines" ++ space ∷ e.from_text) e.to_text
+lines_last line from to e = record { in_turn = e.in_turn ∙ sym (append_assoc (codes "lines") (space ∷ e.from_text) (space ∷ e.to_text)); clear = e.to_is_word }
+
+pub lines_rest : (line rest last : List ℕ) (from to : ℕ) → LastSplit space line rest last → (e : IsLinesLine line from to) → LastSplit space rest (codes "lines") e.from_text
+lines_rest line rest last from to f e = record {
+  in_turn = (LastSplit-one space line _ _ _ _ f (lines_last line from to e)).0;
+  clear = e.from_is_word;
+}
+
+-- the words of the line are those that it was split into
+pub record IsLinesOf (word from_text to_text : List ℕ) (from to : ℕ) : Type 0 where
+  pub same_word : word ≡ codes "lines"
+  pub from_is_hour : IsHourText from_text from
+  pub to_is_hour : IsHourText to_text to
+
+pub lines_words : (line rest last word first : List ℕ) (from to : ℕ) → LastSplit space line rest last → LastSplit space rest word first → IsLinesLine line from to
+    → IsLinesOf word first last from to
+lines_words line rest last word first from to f g e =
+    let late = LastSplit-one space line _ _ _ _ (lines_last line from to e) f in
+    let early = LastSplit-one space rest _ _ _ _ (lines_rest line rest last from to f e) g in
+    record {
+      same_word = sym early.0;
+      from_is_hour = subst (λ w. IsHourText w from) early.1 e.from_is_hour;
+      to_is_hour = subst (λ w. IsHourText w to) late.1 e.to_is_hour;
+    }
+
 IsLineCount-one : (word word' : List ℕ) (n m : ℕ) → word ≡ word' → IsLineCount word n → IsLineCount word' m → n ≡ m
 IsLineCount-one word word' n m e h k = sym h.value ∙ ap (λ w. digits_value 10 w) e ∙ k.value
 
@@ -82,47 +132,109 @@ IsReportLine-one line key key' from to from' to' h k =
     let same = report_words line _ _ _ _ _ key' from' to' h.in_turn last first k in
     (sym same.same_key, IsHourText-one h.from_text from from' h.from_is_hour same.from_is_hour, IsHourText-one h.to_text to to' h.to_is_hour same.to_is_hour)
 
-IsEntry-one : (word line following o s c rest o' s' c' rest' : List ℕ) → IsEntry word line following o s c rest → IsEntry word line following o' s' c' rest'
-    → (o ≡ o') × (s ≡ s') × (c ≡ c') × (rest ≡ rest')
-IsEntry-one word line following o s c rest o' s' c' rest' h k =
-    let line_parts = IsEntryLine-one word line o s o' s' h.count k.count h.asked k.asked in
-    let lines = StartsWithLines-one k.count following c rest c' rest' (subst (λ n. StartsWithLines n following c rest) line_parts.2 h.given) k.given in
-    (line_parts.0, line_parts.1, lines.0, lines.1)
+IsLinesLine-one : (line : List ℕ) (from to from' to' : ℕ) → IsLinesLine line from to → IsLinesLine line from' to' → (from ≡ from') × (to ≡ to')
+IsLinesLine-one line from to from' to' h k =
+    let same = lines_words line _ _ (codes "lines") h.from_text from' to' (lines_last line from to h) (record { in_turn = refl; clear = h.from_is_word }) k in
+    (IsHourText-one h.from_text from from' h.from_is_hour same.from_is_hour, IsHourText-one h.to_text to to' h.to_is_hour same.to_is_hour)
 
-heads_apart : (x y : ℕ) (xs ys : List ℕ) → x < y → x ∷ xs ≡ y ∷ ys → ⊥
-heads_apart x y xs ys lt e = let same : x ≡ y = cc in omega arith
+apart : (x y : ℕ) → x < y → x ≡ y → ⊥
+apart x y lt e = omega arith
+
+heads : (x y : ℕ) (xs ys : List ℕ) → x ∷ xs ≡ y ∷ ys → x ≡ y
+heads x y xs ys e = cc
+
+thirds : (a b c d x y : ℕ) (xs ys : List ℕ) → a ∷ b ∷ x ∷ xs ≡ c ∷ d ∷ y ∷ ys → x ≡ y
+thirds a b c d x y xs ys e = cc
+
+-- the words of entries differ, from each other and from those of the other commands
+same_kind : (k j : EntryKind) (xs ys : List ℕ) → entry_word k ++ xs ≡ entry_word j ++ ys → k ≡ j
+unfolding entry_word
+same_kind kind.Post kind.Post xs ys e = refl
+same_kind kind.Commit kind.Commit xs ys e = refl
+same_kind kind.Policy kind.Policy xs ys e = refl
+same_kind kind.Post kind.Commit xs ys e = absurd (apart 99 112 (lit< tt) (sym (heads _ _ _ _ e)))
+same_kind kind.Commit kind.Post xs ys e = absurd (apart 99 112 (lit< tt) (heads _ _ _ _ e))
+same_kind kind.Commit kind.Policy xs ys e = absurd (apart 99 112 (lit< tt) (heads _ _ _ _ e))
+same_kind kind.Policy kind.Commit xs ys e = absurd (apart 99 112 (lit< tt) (sym (heads _ _ _ _ e)))
+same_kind kind.Post kind.Policy xs ys e = absurd (apart 108 115 (lit< tt) (sym (thirds _ _ _ _ _ _ _ _ e)))
+same_kind kind.Policy kind.Post xs ys e = absurd (apart 108 115 (lit< tt) (thirds _ _ _ _ _ _ _ _ e))
+
+not_report : (k : EntryKind) (xs ys : List ℕ) → entry_word k ++ xs ≡ codes "report" ++ ys → ⊥
+unfolding entry_word
+not_report kind.Post xs ys e = apart 112 114 (lit< tt) (heads _ _ _ _ e)
+not_report kind.Commit xs ys e = apart 99 114 (lit< tt) (heads _ _ _ _ e)
+not_report kind.Policy xs ys e = apart 112 114 (lit< tt) (heads _ _ _ _ e)
+
+not_lines : (k : EntryKind) (xs ys : List ℕ) → entry_word k ++ xs ≡ codes "lines" ++ ys → ⊥
+unfolding entry_word
+not_lines kind.Post xs ys e = apart 108 112 (lit< tt) (sym (heads _ _ _ _ e))
+not_lines kind.Commit xs ys e = apart 99 108 (lit< tt) (heads _ _ _ _ e)
+not_lines kind.Policy xs ys e = apart 108 112 (lit< tt) (sym (heads _ _ _ _ e))
 
 -- a line is of one command
-entry_no_report : (word line o s key : List ℕ) (n from to : ℕ) → IsEntryWord word → IsEntryLine word line o s n → IsReportLine line key from to → ⊥
-entry_no_report word line o s key n from to begins e r =
-    let entry = subst (λ w. IsEntryLine w line o s n) begins e in
-    heads_apart 112 114 _ _ (lit< tt) (sym entry.in_turn ∙ r.in_turn)
+entry_no_report : (k : EntryKind) (line o s key : List ℕ) (n from to : ℕ) → IsEntryLine (entry_word k) line o s n → IsReportLine line key from to → ⊥
+entry_no_report k line o s key n from to e r = not_report k _ _ (sym e.in_turn ∙ r.in_turn)
 
-entry_not_short : (line following o s c rest : List ℕ) → IsEntry (codes "post") line following o s c rest → IsCutShort line following → ⊥
-entry_not_short line following o s c rest h k =
-    let asked = subst (λ w. IsEntryLine w line k.origin k.sequence k.count) k.begins k.asked in
-    let same = IsEntryLine-one (codes "post") line _ _ _ _ _ _ h.asked asked in
-    k.too_few rest (subst (λ n. FollowsLines n following rest) same.2 h.given.follows)
+entry_no_lines : (k : EntryKind) (line o s : List ℕ) (n from to : ℕ) → IsEntryLine (entry_word k) line o s n → IsLinesLine line from to → ⊥
+entry_no_lines k line o s n from to e r = not_lines k _ _ (sym e.in_turn ∙ r.in_turn)
+
+report_no_lines : (line key : List ℕ) (from to from' to' : ℕ) → IsReportLine line key from to → IsLinesLine line from' to' → ⊥
+report_no_lines line key from to from' to' r l = apart 108 114 (lit< tt) (sym (heads _ _ _ _ (sym r.in_turn ∙ l.in_turn)))
+
+-- an entry's line is of one kind, with one list of arguments
+pub record AreSame (k j : EntryKind) (o s o' s' : List ℕ) (n m : ℕ) : Type 0 where
+  pub kind : k ≡ j
+  pub origin : o ≡ o'
+  pub sequence : s ≡ s'
+  pub count : n ≡ m
+
+entry_one : (k j : EntryKind) (line o s o' s' : List ℕ) (n m : ℕ) → IsEntryLine (entry_word k) line o s n → IsEntryLine (entry_word j) line o' s' m → AreSame k j o s o' s' n m
+entry_one k j line o s o' s' n m h g =
+    let same = same_kind k j _ _ (sym h.in_turn ∙ g.in_turn) in
+    let moved = subst (λ i. IsEntryLine (entry_word i) line o' s' m) (sym same) g in
+    let parts = IsEntryLine-one (entry_word k) line o s o' s' n m h moved in
+    record { kind = same; origin = parts.0; sequence = parts.1; count = parts.2 }
+
+IsEntry-one : (k j : EntryKind) (line following o s c rest o' s' c' rest' : List ℕ) → IsEntry k line following o s c rest → IsEntry j line following o' s' c' rest'
+    → (k ≡ j) × (o ≡ o') × (s ≡ s') × (c ≡ c') × (rest ≡ rest')
+IsEntry-one k j line following o s c rest o' s' c' rest' h g =
+    let same = entry_one k j line o s o' s' h.count g.count h.asked g.asked in
+    let lines = StartsWithLines-one g.count following c rest c' rest' (subst (λ n. StartsWithLines n following c rest) same.count h.given) g.given in
+    (same.kind, same.origin, same.sequence, lines.0, lines.1)
+
+entry_not_short : (k : EntryKind) (line following o s c rest : List ℕ) → IsEntry k line following o s c rest → IsCutShort line following → ⊥
+entry_not_short k line following o s c rest h short =
+    let same = entry_one k short.kind line o s _ _ h.count short.count h.asked short.asked in
+    short.too_few rest (subst (λ n. FollowsLines n following rest) same.count h.given.follows)
 
 -- a line and what follows it are one command
 IsCommand-one : (line following : List ℕ) (c d : PlainCommand) (rest rest' : List ℕ) → IsCommand line following c rest → IsCommand line following d rest' → (c ≡ d) × (rest ≡ rest')
 unfolding IsCommand
-IsCommand-one line following (post o s c) (post o' s' c') rest rest' h k = let same = IsEntry-one _ _ _ _ _ _ _ _ _ _ _ h k in (cc, same.3)
-IsCommand-one line following (report key from to) (report key' from' to') rest rest' h k = let same = IsReportLine-one _ _ _ _ _ _ _ h.0 k.0 in (cc, h.1 ∙ sym k.1)
-IsCommand-one line following bad_command bad_command rest rest' h k = (refl, h.1 ∙ sym k.1)
-IsCommand-one line following bad_end bad_end rest rest' h k = (refl, h.1 ∙ sym k.1)
-IsCommand-one line following (post o s c) (report key from to) rest rest' h k = absurd (entry_no_report _ _ _ _ _ _ _ _ refl h.asked k.0)
-IsCommand-one line following (report key from to) (post o s c) rest rest' h k = absurd (entry_no_report _ _ _ _ _ _ _ _ refl k.asked h.0)
-IsCommand-one line following (post o s c) bad_command rest rest' h k = absurd (k.0.no_entry _ _ _ _ refl h.asked)
-IsCommand-one line following bad_command (post o s c) rest rest' h k = absurd (h.0.no_entry _ _ _ _ refl k.asked)
-IsCommand-one line following (post o s c) bad_end rest rest' h k = absurd (entry_not_short _ _ _ _ _ _ h k.0)
-IsCommand-one line following bad_end (post o s c) rest rest' h k = absurd (entry_not_short _ _ _ _ _ _ k h.0)
-IsCommand-one line following (report key from to) bad_command rest rest' h k = absurd (k.0.no_report _ _ _ h.0)
-IsCommand-one line following bad_command (report key from to) rest rest' h k = absurd (h.0.no_report _ _ _ k.0)
-IsCommand-one line following (report key from to) bad_end rest rest' h k = absurd (entry_no_report _ _ _ _ _ _ _ _ k.0.begins k.0.asked h.0)
-IsCommand-one line following bad_end (report key from to) rest rest' h k = absurd (entry_no_report _ _ _ _ _ _ _ _ h.0.begins h.0.asked k.0)
-IsCommand-one line following bad_command bad_end rest rest' h k = absurd (h.0.no_entry _ _ _ _ k.0.begins k.0.asked)
-IsCommand-one line following bad_end bad_command rest rest' h k = absurd (k.0.no_entry _ _ _ _ h.0.begins h.0.asked)
+IsCommand-one line following (entry k o s c) (entry j o' s' c') rest rest' h g = let same = IsEntry-one _ _ _ _ _ _ _ _ _ _ _ _ h g in (cc, same.4)
+IsCommand-one line following (report key from to) (report key' from' to') rest rest' h g = let same = IsReportLine-one _ _ _ _ _ _ _ h.0 g.0 in (cc, h.1 ∙ sym g.1)
+IsCommand-one line following (lines from to) (lines from' to') rest rest' h g = let same = IsLinesLine-one _ _ _ _ _ h.0 g.0 in (cc, h.1 ∙ sym g.1)
+IsCommand-one line following bad_command bad_command rest rest' h g = (refl, h.1 ∙ sym g.1)
+IsCommand-one line following bad_end bad_end rest rest' h g = (refl, h.1 ∙ sym g.1)
+IsCommand-one line following (entry k o s c) (report key from to) rest rest' h g = absurd (entry_no_report _ _ _ _ _ _ _ _ h.asked g.0)
+IsCommand-one line following (report key from to) (entry k o s c) rest rest' h g = absurd (entry_no_report _ _ _ _ _ _ _ _ g.asked h.0)
+IsCommand-one line following (entry k o s c) (lines from to) rest rest' h g = absurd (entry_no_lines _ _ _ _ _ _ _ h.asked g.0)
+IsCommand-one line following (lines from to) (entry k o s c) rest rest' h g = absurd (entry_no_lines _ _ _ _ _ _ _ g.asked h.0)
+IsCommand-one line following (entry k o s c) bad_command rest rest' h g = absurd (g.0.no_entry _ _ _ _ h.asked)
+IsCommand-one line following bad_command (entry k o s c) rest rest' h g = absurd (h.0.no_entry _ _ _ _ g.asked)
+IsCommand-one line following (entry k o s c) bad_end rest rest' h g = absurd (entry_not_short _ _ _ _ _ _ _ h g.0)
+IsCommand-one line following bad_end (entry k o s c) rest rest' h g = absurd (entry_not_short _ _ _ _ _ _ _ g h.0)
+IsCommand-one line following (report key from to) (lines from' to') rest rest' h g = absurd (report_no_lines _ _ _ _ _ _ h.0 g.0)
+IsCommand-one line following (lines from' to') (report key from to) rest rest' h g = absurd (report_no_lines _ _ _ _ _ _ g.0 h.0)
+IsCommand-one line following (report key from to) bad_command rest rest' h g = absurd (g.0.no_report _ _ _ h.0)
+IsCommand-one line following bad_command (report key from to) rest rest' h g = absurd (h.0.no_report _ _ _ g.0)
+IsCommand-one line following (lines from to) bad_command rest rest' h g = absurd (g.0.no_lines _ _ h.0)
+IsCommand-one line following bad_command (lines from to) rest rest' h g = absurd (h.0.no_lines _ _ g.0)
+IsCommand-one line following (report key from to) bad_end rest rest' h g = absurd (entry_no_report _ _ _ _ _ _ _ _ g.0.asked h.0)
+IsCommand-one line following bad_end (report key from to) rest rest' h g = absurd (entry_no_report _ _ _ _ _ _ _ _ h.0.asked g.0)
+IsCommand-one line following (lines from to) bad_end rest rest' h g = absurd (entry_no_lines _ _ _ _ _ _ _ g.0.asked h.0)
+IsCommand-one line following bad_end (lines from to) rest rest' h g = absurd (entry_no_lines _ _ _ _ _ _ _ h.0.asked g.0)
+IsCommand-one line following bad_command bad_end rest rest' h g = absurd (h.0.no_entry _ _ _ _ g.0.asked)
+IsCommand-one line following bad_end bad_command rest rest' h g = absurd (g.0.no_entry _ _ _ _ h.0.asked)
 
 -- a text begins with one command
 pub FirstCommand-one : (text : List ℕ) (c d : PlainCommand) (rest rest' : List ℕ) → FirstCommand text c rest → FirstCommand text d rest' → (c ≡ d) × (rest ≡ rest')
@@ -143,8 +255,9 @@ CommandsOf-one text (c ∷ these) (d ∷ those) h k =
 
 command_length : (line following : List ℕ) (c : PlainCommand) (rest : List ℕ) → IsCommand line following c rest → length rest ≤ length following
 unfolding IsCommand
-command_length line following (post o s c) rest h = StartsWithLines-shorter h.count following c rest h.given
+command_length line following (entry k o s c) rest h = StartsWithLines-shorter h.count following c rest h.given
 command_length line following (report key from to) rest h = omega (arith, ap (λ t. length t) h.1)
+command_length line following (lines from to) rest h = omega (arith, ap (λ t. length t) h.1)
 command_length line following bad_command rest h = omega (arith, ap (λ t. length t) h.1)
 command_length line following bad_end rest h = rw h.1 (omega arith)
 

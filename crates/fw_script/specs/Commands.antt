@@ -2,7 +2,9 @@
 use Rattle.std.specs.Prelude.{◌≡◌, ℕ, List, [], ◌∷◌, ◌++◌, Contains, IsUtf8, codes}
 use Rattle.fw_script.specs.Hours.{IsHourText}
 use Rattle.fw_script.specs.Lines.{StartsWithLine, StartsWithLines, FollowsLines}
-use Rattle.fw_script.specs.Plain.{PlainCommand, post, report, bad_command, bad_end}
+use Rattle.fw_script.specs.Plain.{PlainCommand, entry, report, lines, bad_command, bad_end}
+use Rattle.fw_script.specs.declared.commands.EntryKind.{EntryKind}
+use Rattle.fw_script.specs.declared.commands.EntryKind.TheVariants as kind
 use Rattle.fw_script.specs.Words.{space, IsLineCount}
 
 -- the line is `WORD ORIGIN SEQUENCE COUNT`, which asks for an entry whose content is that many lines after it
@@ -24,35 +26,48 @@ pub record IsReportLine (line key : List ℕ) (from to : ℕ) : Type 0 where
   pub from_is_hour : IsHourText from_text from
   pub to_is_hour : IsHourText to_text to
 
--- the word begins the line of an entry
-abbrev pub IsEntryWord : List ℕ → Type 0
-IsEntryWord word = word ≡ codes "post"
+-- the line is `lines FROM TO`: the times stand on whole hours
+pub record IsLinesLine (line : List ℕ) (from to : ℕ) : Type 0 where
+  pub from_text : List ℕ
+  pub to_text : List ℕ
+  pub in_turn : line ≡ codes "lines" ++ space ∷ (from_text ++ space ∷ to_text)
+  pub from_is_word : ¬ Contains from_text space
+  pub to_is_word : ¬ Contains to_text space
+  pub from_is_hour : IsHourText from_text from
+  pub to_is_hour : IsHourText to_text to
+
+-- the word that begins the line of an entry
+unfoldable pub entry_word : EntryKind → List ℕ
+entry_word kind.Post = codes "post"
+entry_word kind.Commit = codes "commit"
+entry_word kind.Policy = codes "policy"
 
 -- the line is none of the commands
 pub record IsNoCommand (line : List ℕ) : Type 0 where
-  pub no_entry : (word origin sequence : List ℕ) (count : ℕ) → IsEntryWord word → ¬ IsEntryLine word line origin sequence count
+  pub no_entry : (k : EntryKind) (origin sequence : List ℕ) (count : ℕ) → ¬ IsEntryLine (entry_word k) line origin sequence count
   pub no_report : (key : List ℕ) (from to : ℕ) → ¬ IsReportLine line key from to
+  pub no_lines : (from to : ℕ) → ¬ IsLinesLine line from to
 
 -- the line, with the text that follows it, is this entry, and `rest` follows its content
-pub record IsEntry (word line following origin sequence content rest : List ℕ) : Type 0 where
+pub record IsEntry (k : EntryKind) (line following origin sequence content rest : List ℕ) : Type 0 where
   pub count : ℕ
-  pub asked : IsEntryLine word line origin sequence count
+  pub asked : IsEntryLine (entry_word k) line origin sequence count
   pub given : StartsWithLines count following content rest
 
 -- the line asks for more lines than follow it
 pub record IsCutShort (line following : List ℕ) : Type 0 where
-  pub word : List ℕ
+  pub kind : EntryKind
   pub origin : List ℕ
   pub sequence : List ℕ
   pub count : ℕ
-  pub begins : IsEntryWord word
-  pub asked : IsEntryLine word line origin sequence count
+  pub asked : IsEntryLine (entry_word kind) line origin sequence count
   pub too_few : (rest : List ℕ) → ¬ FollowsLines count following rest
 
 -- the line, with the text that follows it, is this command, and `rest` is left to read
 unfoldable pub IsCommand : List ℕ → List ℕ → PlainCommand → List ℕ → Type 0
-IsCommand line following (post origin sequence content) rest = IsEntry (codes "post") line following origin sequence content rest
+IsCommand line following (entry k origin sequence content) rest = IsEntry k line following origin sequence content rest
 IsCommand line following (report key from to) rest = IsReportLine line key from to × (rest ≡ following)
+IsCommand line following (lines from to) rest = IsLinesLine line from to × (rest ≡ following)
 IsCommand line following bad_command rest = IsNoCommand line × (rest ≡ following)
 IsCommand line following bad_end rest = IsCutShort line following × (rest ≡ [])
 
@@ -67,3 +82,8 @@ pub record FirstCommand (text : List ℕ) (command : PlainCommand) (rest : List 
 unfoldable pub CommandsOf : List ℕ → List PlainCommand → Type 0
 CommandsOf text [] = text ≡ []
 CommandsOf text (command ∷ commands) = (rest : List ℕ) × FirstCommand text command rest × CommandsOf rest commands
+
+-- these commands come first in the text, and `rest` is what follows them
+unfoldable pub StartsWithCommands : List ℕ → List PlainCommand → List ℕ → Type 0
+StartsWithCommands text [] rest = rest ≡ text
+StartsWithCommands text (command ∷ commands) rest = (next : List ℕ) × FirstCommand text command next × StartsWithCommands next commands rest

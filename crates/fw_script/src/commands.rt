@@ -1,10 +1,39 @@
 //! The commands of a script.
+ghost use Rattle.std.specs.Prelude.{◌≡◌};
+
+/// What an entry brings.
+#[derive(Clone, Copy, Debug, Drop, PartialEq, Eq)]
+pub enum EntryKind {
+    /// Charge rows, as CSV.
+    Post,
+    /// A commitment, as TOML.
+    Commit,
+    /// A policy, as TOML.
+    Policy,
+}
+
+impl EntryKind {
+    ghost use Rattle.fw_script.specs.Commands.{entry_word};
+
+    /// The word that begins the line of such an entry.
+    #[tactic(auto, unfolding(crate::specs::Commands::entry_word))]
+    pub fn word(self) -> &'static str
+        ensures { result.now ≡ entry_word self }
+    {
+        match self {
+            EntryKind::Post => "post",
+            EntryKind::Commit => "commit",
+            EntryKind::Policy => "policy",
+        }
+    }
+}
 
 /// A command, which borrows from the script that it stands in.
 #[derive(Clone, Copy, Debug, Drop, PartialEq, Eq)]
 pub enum Command<'a> {
-    /// `post ORIGIN SEQUENCE LINES`, and the lines that follow it.
-    Post {
+    /// `post ORIGIN SEQUENCE LINES`, `commit ..` or `policy ..`, and the lines that follow it.
+    Entry {
+        kind: EntryKind,
         /// The origin, as it stands: nothing is checked of it here.
         origin: &'a [u8],
         /// The sequence number, as it stands: nothing is checked of it here.
@@ -16,6 +45,13 @@ pub enum Command<'a> {
     Report {
         /// The tag key: all that stands between the command's word and the last two words. It may be empty and may hold spaces.
         key: &'a str,
+        /// The first hour, in hours since 1970.
+        from: u64,
+        /// The hour after the last one, in hours since 1970.
+        to: u64,
+    },
+    /// `lines FROM TO`.
+    Lines {
         /// The first hour, in hours since 1970.
         from: u64,
         /// The hour after the last one, in hours since 1970.

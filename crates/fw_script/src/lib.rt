@@ -3,11 +3,13 @@
 //! A script is lines. A line ends with a line feed or with the script, and a line feed at the end opens no further line. Single
 //! spaces part the words of a line, so a word may be empty. The commands are:
 //!
-//! - `post ORIGIN SEQUENCE LINES`, followed by that many lines of content, at most a million;
+//! - `post ORIGIN SEQUENCE LINES`, `commit ORIGIN SEQUENCE LINES` and `policy ORIGIN SEQUENCE LINES`, each followed by that many
+//!   lines of content, at most a million;
 //! - `report KEY FROM TO`, where KEY is the UTF-8 text between the first word and the last two, and FROM and TO are instants on
-//!   whole hours, not before 1970.
+//!   whole hours, not before 1970;
+//! - `lines FROM TO`, with the same kind of instants.
 //!
-//! Any other line is a bad command, and the next line is read as a command. Where fewer lines follow a post than it asks for,
+//! Any other line is a bad command, and the next line is read as a command. Where fewer lines follow an entry than it asks for,
 //! the script ends.
 #![tactic(auto)]
 
@@ -18,7 +20,7 @@ mod lines;
 mod reader;
 mod words;
 
-pub use commands::Command;
+pub use commands::{Command, EntryKind};
 pub use laws::{commands_are_one, first_command_is_one};
 pub use reader::Script;
 

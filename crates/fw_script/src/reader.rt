@@ -1,9 +1,10 @@
 //! A script that is read command by command.
-ghost use Rattle.std.specs.Prelude.{◌≡◌, ◌<◌, ℕ, List, [], length, MatchOption, OnSome, codes};
-ghost use Rattle.fw_script.specs.Commands.{FirstCommand, IsCommand, IsEntryLine, IsReportLine};
+ghost use Rattle.std.specs.Prelude.{◌≡◌, ◌<◌, ◌↔◌, ℕ, List, [], length, MatchOption, OnSome, IsTrue, codes};
+ghost use Rattle.fw_script.specs.Commands.{FirstCommand, IsCommand, IsEntryLine, IsReportLine, IsLinesLine, entry_word};
+ghost use Rattle.fw_script.specs.declared.commands.EntryKind.{EntryKind};
 ghost use Rattle.fw_script.specs.Plain.{plain_command};
 
-use crate::commands::Command;
+use crate::commands::{Command, EntryKind};
 use crate::hours::hour_of;
 use crate::lines::{next_line, split_lines};
 use crate::words::{arguments_of, line_count, split_at_first, split_at_last};
@@ -48,51 +49,92 @@ impl<'a> Script<'a> {
 fn read_command<'a>(line: &'a [u8], following: &'a [u8]) -> (Command<'a>, &'a [u8])
     ensures { IsCommand line.now following.now (plain_command result.0) result.1.now }
 {
-    if let Some(entry) = entry_line(b"post", line) {
-        return match split_lines(entry.count, following) {
-            Some((content, rest)) => (
-                Command::Post {
-                    origin: entry.origin,
-                    sequence: entry.sequence,
-                    content,
-                },
-                rest,
-            ),
-            None => (Command::BadEnd, b""),
+    match entry_line(line) {
+        Some(entry) => read_entry(line, entry, following),
+        None => (read_question(line), following),
+    }
+}
+
+/// The entry of a line with these arguments, which takes its content from the lines that follow, and what is left after them.
+fn read_entry<'a>(
+    line: &'a [u8],
+    entry: EntryLine<'a>,
+    following: &'a [u8],
+) -> (Command<'a>, &'a [u8])
+    requires { IsEntryLine (entry_word entry.kind) line.now entry.origin.now entry.sequence.now entry.count }
+    ensures { IsCommand line.now following.now (plain_command result.0) result.1.now }
+{
+    match split_lines(entry.count, following) {
+        Some((content, rest)) => (
+            Command::Entry {
+                kind: entry.kind,
+                origin: entry.origin,
+                sequence: entry.sequence,
+                content,
+            },
+            rest,
+        ),
+        None => (Command::BadEnd, b""),
+    }
+}
+
+/// The command of a line that is no entry's.
+fn read_question(line: &[u8]) -> Command<'_>
+    requires { (k : EntryKind) (origin sequence : List ℕ) (count : ℕ) → ¬ IsEntryLine (entry_word k) line.now origin sequence count }
+    ensures { (following : List ℕ) → IsCommand line.now following (plain_command result) following }
+{
+    if let Some(report) = report_line(line) {
+        return Command::Report {
+            key: report.key,
+            from: report.from,
+            to: report.to,
         };
     }
-    match report_line(line) {
-        Some(report) => (
-            Command::Report {
-                key: report.key,
-                from: report.from,
-                to: report.to,
-            },
-            following,
-        ),
-        None => (Command::BadCommand, following),
+    match lines_line(line) {
+        Some((from, to)) => Command::Lines { from, to },
+        None => Command::BadCommand,
     }
 }
 
 /// The arguments of an entry's line.
 #[derive(Drop)]
 struct EntryLine<'a> {
+    kind: EntryKind,
     origin: &'a [u8],
     sequence: &'a [u8],
     count: u32,
 }
 
-/// The arguments of a line `WORD ORIGIN SEQUENCE LINES`, or `None` where the line isn't of this form.
-fn entry_line<'a>(word: &[u8], line: &'a [u8]) -> Option<EntryLine<'a>>
+/// The arguments of an entry's line, or `None` where the line isn't of this form.
+fn entry_line(line: &[u8]) -> Option<EntryLine<'_>>
     ensures { MatchOption result
-        ((origin sequence : List ℕ) (count : ℕ) → ¬ IsEntryLine word.now line.now origin sequence count)
-        (λ e. IsEntryLine word.now line.now e.origin.now e.sequence.now e.count) }
+        ((k : EntryKind) (origin sequence : List ℕ) (count : ℕ) → ¬ IsEntryLine (entry_word k) line.now origin sequence count)
+        (λ e. IsEntryLine (entry_word e.kind) line.now e.origin.now e.sequence.now e.count) }
 {
-    let arguments = arguments_of(word, line)?;
+    if let Some(entry) = entry_of_kind(EntryKind::Post, line) {
+        return Some(entry);
+    }
+    if let Some(entry) = entry_of_kind(EntryKind::Commit, line) {
+        return Some(entry);
+    }
+    if let Some(entry) = entry_of_kind(EntryKind::Policy, line) {
+        return Some(entry);
+    }
+    None
+}
+
+/// The arguments of the line of an entry of a kind, `WORD ORIGIN SEQUENCE LINES`, or `None` where the line isn't of this form.
+fn entry_of_kind<'a>(kind: EntryKind, line: &'a [u8]) -> Option<EntryLine<'a>>
+    ensures { MatchOption result
+        ((origin sequence : List ℕ) (count : ℕ) → ¬ IsEntryLine (entry_word kind) line.now origin sequence count)
+        (λ e. IsEntryLine (entry_word e.kind) line.now e.origin.now e.sequence.now e.count) }
+{
+    let arguments = arguments_of(kind.word().as_bytes(), line)?;
     let (origin, rest) = split_at_first(b' ', arguments)?;
     let (sequence, number) = split_at_first(b' ', rest)?;
     let count = line_count(number)?;
     Some(EntryLine {
+        kind,
         origin,
         sequence,
         count,
@@ -120,4 +162,27 @@ fn report_line(line: &[u8]) -> Option<ReportLine<'_>>
     let from = hour_of(from)?;
     let to = hour_of(to)?;
     Some(ReportLine { key, from, to })
+}
+
+/// The first hour and the hour after the last of a line `lines FROM TO`, or `None` where the line isn't of this form.
+fn lines_line(line: &[u8]) -> Option<(u64, u64)>
+    ensures { MatchOption result
+        ((from to : ℕ) → ¬ IsLinesLine line.now from to)
+        (λ hours. IsLinesLine line.now hours.0 hours.1) }
+{
+    let (rest, to) = split_at_last(b' ', line)?;
+    let (word, from) = split_at_last(b' ', rest)?;
+    if !is_lines(word) {
+        return None;
+    }
+    let from = hour_of(from)?;
+    let to = hour_of(to)?;
+    Some((from, to))
+}
+
+/// Whether a word is `lines`.
+fn is_lines(word: &[u8]) -> bool
+    ensures { IsTrue result ↔ (word.now ≡ codes "lines") }
+{
+    word == b"lines".as_slice()
 }

@@ -8,7 +8,8 @@ const BAD: Command<'static> = Command::BadCommand;
 
 macro_rules! post {
     ($origin:expr, $sequence:expr, $content:expr) => {
-        Command::Post {
+        Command::Entry {
+            kind: EntryKind::Post,
             origin: $origin,
             sequence: $sequence,
             content: $content,
@@ -44,8 +45,10 @@ const SCRIPTS: &[Case] = &[
         "lines that are no commands",
         b"\nfoo\npost a 1\npost a 1 x\npost a 1 1000001\nreport t x y\n\
             report t 2024-01-01T00:30Z 2024-01-01T01:00Z\nreport t 1969-12-31T23:00Z 2024-01-01T01:00Z\n\
-            report\n post a 1 0\nstate \nlines\n",
-        &[BAD, BAD, BAD, BAD, BAD, BAD, BAD, BAD, BAD, BAD, BAD, BAD],
+            report\n post a 1 0\nstate \nlines\nlines 2024-01-01T00:00Z\nlines a 2024-01-01T00:00Z 2024-01-01T01:00Z\n",
+        &[
+            BAD, BAD, BAD, BAD, BAD, BAD, BAD, BAD, BAD, BAD, BAD, BAD, BAD, BAD,
+        ],
     ),
     (
         "fewer lines than asked for",
@@ -166,9 +169,36 @@ const LINES: &[Case] = &[
         &[BAD, BAD, BAD, BAD, BAD],
     ),
     (
+        "entries of other kinds",
+        b"commit a 1 1\nid = 1\npolicy b 2 0\nPolicy b 2 0\n",
+        &[
+            Command::Entry {
+                kind: EntryKind::Commit,
+                origin: b"a",
+                sequence: b"1",
+                content: b"id = 1\n",
+            },
+            Command::Entry {
+                kind: EntryKind::Policy,
+                origin: b"b",
+                sequence: b"2",
+                content: b"",
+            },
+            BAD,
+        ],
+    ),
+    (
+        "lines",
+        b"lines 2024-01-01T00:00Z 2024-01-01T01:00Z\n",
+        &[Command::Lines {
+            from: 473_352,
+            to: 473_353,
+        }],
+    ),
+    (
         "words that begin no command",
-        b"commit a 1 0\npolicy a 1 0\ncheckpoint\nstate\nlines 2024-01-01T00:00Z 2024-01-01T01:00Z\n",
-        &[BAD, BAD, BAD, BAD, BAD],
+        b"checkpoint\nstate\nlines  2024-01-01T00:00Z\n",
+        &[BAD, BAD, BAD],
     ),
 ];
 

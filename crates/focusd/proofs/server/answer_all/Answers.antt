@@ -2,16 +2,16 @@ use Rattle.std.proofs.Common.{refl, inl, inr}
 use Rattle.std.proofs.lemmas.Result.{err_from_is_err_and}
 use Rattle.focusd.proofs.AnswerFacts.{ServesSoFar-none, ServesSoFar-more, Serves-whole}
 use Rattle.fw_script.specs.Plain.{plain_command}
-use Rattle.focusd.specs.ReplyText.{reply_text}
+use Rattle.fw_desk.specs.ReplyText.{reply_text}
 use Rattle.focusd.proofs.server.answer_all.Goals as goal
 
 pub loop-command-init : goal.loop-command-init
 loop-command-init g c = ServesSoFar-none _ _ _ _ c.new-script.ensures
 
-pub returns-in_err-write_to-clause-write : goal.returns-in_err-write_to-clause-write
-returns-in_err-write_to-clause-write g c =
+pub returns-in_err-write_reply-clause-write : goal.returns-in_err-write_reply-clause-write
+returns-in_err-write_reply-clause-write g c =
     let p = err_from_is_err_and c.from_residual.result c.from_residual.ensures.1 in
-    let why = c.in_err-write_to.ensures.part in
+    let why = c.in_err-write_reply.ensures.part in
     rw (p.1, p.2) (
       why.0,
       record {
@@ -23,20 +23,20 @@ returns-in_err-write_to-clause-write g c =
           command = plain_command c.in-Some.command;
           rest = c.next_command.new.self;
           reads = c.in-Some.ensures.command;
-          answer = reply_text c.answer.result;
-          answered = c.answer.ensures;
+          answer = reply_text c.answer-reply.result;
+          answered = c.answer-reply.ensures;
           writes = why.1;
         });
       },
     )
 
-pub loop-command-preserved-in_ok-write_to : goal.loop-command-preserved-in_ok-write_to
-loop-command-preserved-in_ok-write_to g c =
-    ServesSoFar-more _ _ _ _ _ _ _ _ _ _ _ c.loop-command.invariant c.in-Some.ensures.command c.answer.ensures c.in_ok-write_to.ensures.whole
+pub loop-command-preserved-in_ok-write_reply : goal.loop-command-preserved-in_ok-write_reply
+loop-command-preserved-in_ok-write_reply g c =
+    ServesSoFar-more _ _ _ _ _ _ _ _ _ _ _ c.loop-command.invariant c.in-Some.ensures.command c.answer-reply.ensures c.in_ok-write_reply.ensures.whole
 
 pub loop-command-preserved : goal.loop-command-preserved
 loop-command-preserved g c =
-    ServesSoFar-more _ _ _ _ _ _ _ _ _ _ _ c.loop-command.invariant c.in-Some.ensures.command c.answer.ensures c.in_ok-write_to.ensures.whole
+    ServesSoFar-more _ _ _ _ _ _ _ _ _ _ _ c.loop-command.invariant c.in-Some.ensures.command c.answer-reply.ensures c.in_ok-write_reply.ensures.whole
 
 pub returns-in-Ok-clause-done : goal.returns-in-Ok-clause-done
 returns-in-Ok-clause-done g c = Serves-whole _ _ _ _ _ _ _ c.loop-command.invariant c.in_default.ensures.command.0 c.in-Ok.ensures.bytes

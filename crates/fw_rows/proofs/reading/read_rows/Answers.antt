@@ -4,7 +4,7 @@ use Rattle.csv.specs.Records.{fields_of}
 use Rattle.csv.specs.declared.parser.State.TheVariants as st
 use Rattle.std.proofs.lemmas.Result.{err_from_is_err_and}
 use Rattle.std.proofs.lemmas.Bool.{eqb-true, eqb-false}
-use Rattle.fw_rows.proofs.RowFacts.{nothing_reads, header_reads, memory_reads, read-start, read-more, read-fault, read-full, read-none, read-all}
+use Rattle.fw_rows.proofs.RowFacts.{nothing_reads, header_reads, memory_reads, read-start, read-more, read-refused, read-full, read-none, read-all}
 use Rattle.fw_rows.proofs.reading.read_rows.Goals as goal
 
 pub returns-in_err-advance : goal.returns-in_err-advance
@@ -53,8 +53,8 @@ loop-rows-preserved c =
 pub returns-in-Err : goal.returns-in-Err
 returns-in-Err c =
     let some : c.in_ok-advance-2.field-0 ≡ true = search rules in
-    read-fault c.args.currency c.args.text.now c.loop-rows.reader c.advance-in-loop-rows.new.reader c.in_ok-places.places c.loop-rows.rows.items (fields_of c.advance-in-loop-rows.new.fields) (c.len-in-Err.result + 1) c.in-Err.fault c.loop-rows.invariant
-    (rw some at c.in_ok-advance-2.ensures) c.in-Err.ensures (omega (arith, c.loop-rows.invariant.few, c.loop-rows.invariant.counted, c.len.ensures)) (omega (arith, c.len-in-Err.ensures))
+    rw c.at_record.ensures (read-refused c.args.currency c.args.text.now c.loop-rows.reader c.advance-in-loop-rows.new.reader c.in_ok-places.places c.loop-rows.rows.items (fields_of c.advance-in-loop-rows.new.fields) (c.len-in-Err.result + 1) c.in-Err.refusal c.loop-rows.invariant
+    (rw some at c.in_ok-advance-2.ensures) c.in-Err.ensures (omega (arith, c.loop-rows.invariant.few, c.loop-rows.invariant.counted, c.len.ensures)) (omega (arith, c.len-in-Err.ensures)))
 
 pub returns-then-is_empty : goal.returns-then-is_empty
 returns-then-is_empty c =

@@ -1,48 +1,22 @@
-use Rattle.std.proofs.Common.{◌≡◌, rules}
-use Rattle.fw_rows.proofs.CellFacts.{HasWord, HasCosts, HasPeriod, category_fault, cost_fault, currency_fault, time_fault, order_fault, row_reads}
+use Rattle.std.proofs.lemmas.Result.{err_from_is_err_and}
+use Rattle.fw_rows.specs.Parts.{texts_of, charged_rules, detail_rules}
+use Rattle.fw_rows.proofs.JudgedFacts.{first-front, none-both, rules_parted}
+use Rattle.fw_rows.proofs.MakingFacts.{details_fault}
 use Rattle.fw_rows.proofs.cells.Cells.row.Goals as goal
 
-pub returns-in_default : goal.returns-in_default
-returns-in_default c = λ header fields are. category_fault c.args.currency header fields c.args.self.now are c.in_default.ensures
+pub returns-in_err-charged : goal.returns-in_err-charged
+returns-in_err-charged c =
+    let at = texts_of c.args.self.now in
+    let p = err_from_is_err_and c.from_residual.result c.from_residual.ensures.1 in
+    rw (p.1, p.2, rules_parted c.args.currency at) (first-front (charged_rules c.args.currency at) (detail_rules at) c.in_err-charged.field-0.0 c.in_err-charged.ensures)
 
-pub returns-in_default-costs : goal.returns-in_default-costs
-returns-in_default-costs c = λ header fields are. cost_fault c.args.currency header fields c.args.self.now c.in-Some.category (record { are = are; word = c.in-Some.ensures }) c.in_default-costs.ensures
-
-pub returns-then-not-is_in : goal.returns-then-not-is_in
-returns-then-not-is_in c = λ header fields are.
-    let cells = c.args.self.now in
-    let word : HasWord header fields cells c.in-Some.category = record { are = are; word = c.in-Some.ensures } in
-    let b = c.in-Some-costs.costs.billed in let e = c.in-Some-costs.costs.effective in
-    let costs : HasCosts header fields cells c.in-Some.category b e = record { word = word; billed = c.in-Some-costs.ensures.0; effective = c.in-Some-costs.ensures.1 } in
-    currency_fault c.args.currency header fields cells c.in-Some.category b e costs (λ same. let yes_ = c.is_in.ensures.1 same in let not_ = c.if-not-is_in.true in cc)
-
-pub returns-in_default-period : goal.returns-in_default-period
-returns-in_default-period c = λ header fields are.
-    let cells = c.args.self.now in
-    let word : HasWord header fields cells c.in-Some.category = record { are = are; word = c.in-Some.ensures } in
-    let b = c.in-Some-costs.costs.billed in let e = c.in-Some-costs.costs.effective in
-    let costs : HasCosts header fields cells c.in-Some.category b e = record { word = word; billed = c.in-Some-costs.ensures.0; effective = c.in-Some-costs.ensures.1 } in
-    let same : c.args.self.now.currency.now ≡ c.args.currency = c.is_in.ensures.0 (search rules) in
-    time_fault c.args.currency header fields cells c.in-Some.category b e costs same c.in_default-period.ensures
-
-pub returns-then-period : goal.returns-then-period
-returns-then-period c = λ header fields are.
-    let same : c.args.self.now.currency.now ≡ c.args.currency = c.is_in.ensures.0 (search rules) in
-    let cells = c.args.self.now in
-    let word : HasWord header fields cells c.in-Some.category = record { are = are; word = c.in-Some.ensures } in
-    let b = c.in-Some-costs.costs.billed in let e = c.in-Some-costs.costs.effective in
-    let costs : HasCosts header fields cells c.in-Some.category b e = record { word = word; billed = c.in-Some-costs.ensures.0; effective = c.in-Some-costs.ensures.1 } in
-    let s = c.in-Some-period.period.start in let t = c.in-Some-period.period.end in
-    let period : HasPeriod header fields cells c.in-Some.category b e c.args.currency s t = record { costs = costs; currency = same; start = c.in-Some-period.ensures.0; end = c.in-Some-period.ensures.1 } in
-    order_fault c.args.currency header fields cells c.in-Some.category b e s t period c.if-period.true
+pub returns-in_err-details : goal.returns-in_err-details
+returns-in_err-details c =
+    let at = texts_of c.args.self.now in
+    let p = err_from_is_err_and c.from_residual-in_err-details.result c.from_residual-in_err-details.ensures.1 in
+    rw (p.1, p.2) (details_fault c.args.currency at c.in_err-details.field-0.0 c.in_ok-charged.ensures.0 c.in_err-details.ensures)
 
 pub returns : goal.returns
-returns c = λ header fields are.
-    let same : c.args.self.now.currency.now ≡ c.args.currency = c.is_in.ensures.0 (search rules) in
-    let cells = c.args.self.now in
-    let word : HasWord header fields cells c.in-Some.category = record { are = are; word = c.in-Some.ensures } in
-    let b = c.in-Some-costs.costs.billed in let e = c.in-Some-costs.costs.effective in
-    let costs : HasCosts header fields cells c.in-Some.category b e = record { word = word; billed = c.in-Some-costs.ensures.0; effective = c.in-Some-costs.ensures.1 } in
-    let s = c.in-Some-period.period.start in let t = c.in-Some-period.period.end in
-    let period : HasPeriod header fields cells c.in-Some.category b e c.args.currency s t = record { costs = costs; currency = same; start = c.in-Some-period.ensures.0; end = c.in-Some-period.ensures.1 } in
-    rw c.of_fields.ensures (row_reads c.args.currency header fields cells c.in-Some.category b e s t period c.if-period.false)
+returns c =
+    let at = texts_of c.args.self.now in
+    rw (rules_parted c.args.currency at) (none-both (charged_rules c.args.currency at) (detail_rules at) c.in_ok-charged.ensures.0 c.in_ok-details.ensures.0, c.in_ok-made.ensures)

@@ -1,0 +1,232 @@
+//! The lines of an hour.
+ghost use Rattle.std.specs.Prelude.{◌≡◌, ◌≤◌, ◌<◌, ◌+◌, ◌++◌, ℕ, length, map, slice_index, slice_get, true, ◌∷◌, [], All, IfOk, OnOk};
+ghost use Rattle.fw_cover.specs.Eligible.{is_of_hour};
+ghost use Rattle.fw_terms.specs.Commitment.{CommitmentValue};
+ghost use Rattle.fw_cover.specs.Applies.{is_in_term};
+ghost use Rattle.fw_cover.specs.Cover.{IsTakeWithin, taken_of_row, used_of};
+ghost use Rattle.fw_cover.specs.Hour.{quantity_of, quantities_of, capacities_of, takes_of, unused_of};
+ghost use Rattle.fw_amortise.specs.Lines.{AreHourLines, AreLines, rows_in, purchase_lines, purchase_lines_of, given_lines, rest_of, rest_lines, running};
+ghost use Rattle.fw_amortise.specs.Adding.{places_running, AddsCommitment, AddsShared};
+
+use crate::line::Line;
+use crate::shared::{push_commitment, takes_of};
+use crate::single::{given_line, is_in_hour, purchase_line, rest_line};
+use fw_charge::Row;
+use fw_cover::{HourCover, cover_hour, in_order, is_eligible, is_in_term};
+use fw_terms::Commitment;
+use std::alloc::{AllocError, Global};
+
+/// Adds the purchases of a commitment that fall in the hour.
+#[tactic(auto, unfolding(crate::specs::Lines::purchase_lines_of))]
+fn push_purchases_of<'a>(
+    lines: &mut Vec<Line<'a>>,
+    commitment: &'a Commitment,
+    hour: u32,
+) -> Result<(), AllocError>
+    ensures { OnOk result (lines.new.items ≡ lines.old.items ++ purchase_lines_of hour commitment.now) }
+{
+    for purchase in commitment.purchases() {
+        if is_in_hour(purchase.at(), hour) {
+            lines.push(purchase_line(commitment, purchase, hour))?;
+        }
+    }
+    Ok(())
+}
+
+/// Adds the purchases of the hour, by the order of the commitments.
+#[tactic(auto, unfolding(crate::specs::Lines::purchase_lines))]
+fn push_purchases<'a>(
+    lines: &mut Vec<Line<'a>>,
+    commitments: &'a [Commitment],
+    hour: u32,
+) -> Result<(), AllocError>
+    ensures { OnOk result (lines.new.items ≡ lines.old.items ++ purchase_lines commitments.now hour) }
+{
+    for commitment in commitments {
+        push_purchases_of(lines, commitment, hour)?;
+    }
+    Ok(())
+}
+
+/// Adds the rows that no commitment may cover.
+#[tactic(auto, unfolding(crate::specs::Lines::given_lines))]
+fn push_given<'a>(lines: &mut Vec<Line<'a>>, rows: &[&'a Row], hour: u32) -> Result<(), AllocError>
+    ensures { OnOk result (lines.new.items ≡ lines.old.items ++ given_lines (map (λ r. r.now) rows.now) hour) }
+{
+    for row in rows {
+        if !is_eligible(row) {
+            lines.push(given_line(row, hour))?;
+        }
+    }
+    Ok(())
+}
+
+/// Adds what is left of a row, if commitments may cover it and something is left.
+#[tactic(auto, unfolding(crate::specs::Lines::rest_of))]
+fn push_rest<'a>(
+    lines: &mut Vec<Line<'a>>,
+    row: &'a Row,
+    left: u64,
+    hour: u32,
+) -> Result<(), AllocError>
+    requires { left ≤ quantity_of row.now }
+    ensures { OnOk result (lines.new.items ≡ lines.old.items ++ rest_of hour row.now left) }
+{
+    if is_eligible(row) && left > 0 {
+        lines.push(rest_line(row, left, hour))?;
+    }
+    Ok(())
+}
+
+/// Adds what is left of the rows that commitments may cover.
+fn push_rests<'a>(
+    lines: &mut Vec<Line<'a>>,
+    rows: &[&'a Row],
+    cover: &HourCover,
+    hour: u32,
+) -> Result<(), AllocError>
+    requires one_each { length cover.now.row_left.items ≡ length rows.now }
+    requires left { (r : ℕ) → taken_of_row r cover.now.taken.items + slice_index cover.now.row_left.items r ≡ slice_index (quantities_of (map (λ r. r.now) rows.now)) r }
+    ensures { OnOk result (lines.new.items ≡ lines.old.items ++ rest_lines (map (λ r. r.now) rows.now) cover.now.taken.items hour) }
+{
+    for (place, row) in rows.iter().enumerate() {
+        push_rest(lines, row, cover.row_left[place], hour)?;
+    }
+    Ok(())
+}
+
+/// Adds the place of a commitment, if its term has the hour.
+fn push_running(
+    places: &mut Vec<usize>,
+    commitments: &[Commitment],
+    place: usize,
+    hour: u32,
+) -> Result<(), AllocError>
+    requires { place < length commitments.now }
+    ensures { OnOk result ((c : CommitmentValue) → slice_get commitments.now place ≡ Some c → places.new.items ≡ places.old.items ++ places_running hour ((place, c) ∷ [])) }
+{
+    if is_in_term(&commitments[place], hour) {
+        places.push(place)?;
+    }
+    Ok(())
+}
+
+/// The places of the commitments whose term has the hour, in their order.
+#[tactic(auto, unfolding(crate::specs::Lines::running))]
+fn running(alloc: Global, commitments: &[Commitment], hour: u32) -> Result<Vec<usize>, AllocError>
+    ensures { IfOk result (λ v. v.items ≡ map (λ c. c.0) (running commitments.now hour)) }
+{
+    let places = in_order(alloc, commitments)?;
+    let mut found = Vec::new(alloc);
+    for place in &places {
+        push_running(&mut found, commitments, *place, hour)?;
+    }
+    Ok(found)
+}
+
+/// Adds the lines of the commitment at a place, whose term has the hour.
+fn push_shared_at<'a>(
+    alloc: Global,
+    lines: &mut Vec<Line<'a>>,
+    commitments: &'a [Commitment],
+    place: usize,
+    rows: &[&'a Row],
+    cover: &HourCover,
+    hour: u32,
+) -> Result<(), AllocError>
+    requires place { place < length commitments.now }
+    requires term { (c : CommitmentValue) → slice_get commitments.now place ≡ Some c → is_in_term c hour ≡ true }
+    requires commitments { length cover.now.unused.items ≡ length commitments.now }
+    requires takes { All (IsTakeWithin (length commitments.now) (length rows.now)) cover.now.taken.items }
+    requires unused { (c : ℕ) → used_of c cover.now.taken.items + slice_index cover.now.unused.items c ≡ slice_index (capacities_of commitments.now) c }
+    ensures { OnOk result ((c : CommitmentValue) → slice_get commitments.now place ≡ Some c → AddsCommitment hour c (map (λ r. r.now) rows.now) (takes_of place cover.now.taken.items) (unused_of commitments.now cover.now.taken.items place) lines.old.items lines.new.items) }
+{
+    let commitment = &commitments[place];
+    let takes = takes_of(alloc, &cover.taken, place)?;
+    push_commitment(
+        alloc,
+        lines,
+        commitment,
+        rows,
+        &takes,
+        cover.unused[place],
+        hour,
+    )
+}
+
+/// Adds the lines of each commitment whose term has the hour, in their order.
+fn push_shared<'a>(
+    alloc: Global,
+    lines: &mut Vec<Line<'a>>,
+    commitments: &'a [Commitment],
+    rows: &[&'a Row],
+    cover: &HourCover,
+    hour: u32,
+) -> Result<(), AllocError>
+    requires commitments { length cover.now.unused.items ≡ length commitments.now }
+    requires takes { All (IsTakeWithin (length commitments.now) (length rows.now)) cover.now.taken.items }
+    requires unused { (c : ℕ) → used_of c cover.now.taken.items + slice_index cover.now.unused.items c ≡ slice_index (capacities_of commitments.now) c }
+    ensures { OnOk result (AddsShared commitments.now (map (λ r. r.now) rows.now) cover.now.taken.items hour (running commitments.now hour) lines.old.items lines.new.items) }
+{
+    let places = running(alloc, commitments, hour)?;
+    for place in &places {
+        push_shared_at(alloc, lines, commitments, *place, rows, cover, hour)?;
+    }
+    Ok(())
+}
+
+/// The rows of an hour.
+#[tactic(auto, unfolding(crate::specs::Lines::rows_in, fw_cover::specs::Eligible::is_of_hour))]
+fn rows_in<'a>(alloc: Global, rows: &'a [Row], hour: u32) -> Result<Vec<&'a Row>, AllocError>
+    ensures { IfOk result (λ v. map (λ r. r.now) v.items ≡ rows_in hour rows.now) }
+{
+    let mut found = Vec::new(alloc);
+    for row in rows {
+        if row.hour() == hour {
+            found.push(row)?;
+        }
+    }
+    Ok(found)
+}
+
+/// The lines of an hour, counted from 1970, of rows that are all of that hour.
+///
+/// First come the purchases of the hour, then the rows that no commitment may cover, then for each commitment that runs what it covered of
+/// the rows and what it left unused, and last what is left of the rows that commitments may cover. The lines lend the texts and tags of the
+/// rows and commitments.
+///
+/// # Errors
+/// The one error is that memory ran out.
+pub fn lines_of_hour<'a>(
+    alloc: Global,
+    commitments: &'a [Commitment],
+    rows: &[&'a Row],
+    hour: u32,
+) -> Result<Vec<Line<'a>>, AllocError>
+    ensures { IfOk result (λ v. AreHourLines commitments.now (map (λ r. r.now) rows.now) hour v.items) }
+{
+    let cover = cover_hour(alloc, commitments, rows, hour)?;
+    let mut lines = Vec::with_capacity(alloc, rows.len())?;
+    push_purchases(&mut lines, commitments, hour)?;
+    push_given(&mut lines, rows, hour)?;
+    push_shared(alloc, &mut lines, commitments, rows, &cover, hour)?;
+    push_rests(&mut lines, rows, &cover, hour)?;
+    Ok(lines)
+}
+
+/// The lines of an hour, counted from 1970, among rows of any hours; rows of other hours are passed over. They are those of
+/// [`lines_of_hour`] for the rows of the hour.
+///
+/// # Errors
+/// The one error is that memory ran out.
+pub fn lines<'a>(
+    alloc: Global,
+    commitments: &'a [Commitment],
+    rows: &'a [Row],
+    hour: u32,
+) -> Result<Vec<Line<'a>>, AllocError>
+    ensures { IfOk result (λ v. AreLines commitments.now rows.now hour v.items) }
+{
+    let rows = rows_in(alloc, rows, hour)?;
+    lines_of_hour(alloc, commitments, &rows, hour)
+}

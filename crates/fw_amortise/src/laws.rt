@@ -1,0 +1,29 @@
+//! What holds of the lines of every hour: laws, each the contract of a function that does nothing.
+ghost use Rattle.std.specs.Prelude.{◌≡◌, ◌+◌, ◌<◌, ℕ, ℤ, pos, ◌+ℤ◌, fold, map, List, All};
+ghost use Rattle.std.specs.List.{range_with_len};
+ghost use Rattle.fw_charge.specs.Charge.{Charge};
+ghost use Rattle.fw_terms.specs.Commitment.{CommitmentValue, cost_of};
+ghost use Rattle.fw_amortise.specs.LineValue.{LineValue};
+ghost use Rattle.fw_amortise.specs.Lines.{AreLines, amount_in};
+ghost use Rattle.fw_amortise.specs.Carrying.{IsOnly, carried};
+ghost use Rattle.fw_amortise.specs.declared.line.LineKind.TheVariants as kind;
+
+/// At most one list is the lines of an hour, so [`lines`](crate::lines) has one answer.
+pub fn lines_are_one()
+    ensures { (cs : List CommitmentValue) (rows : List Charge) (hour : ℕ) (xs ys : List LineValue) → AreLines cs rows hour xs → AreLines cs rows hour ys → xs ≡ ys }
+{}
+
+/// The purchases of commitments have no effective cost.
+pub fn purchases_cost_nothing()
+    ensures { (cs : List CommitmentValue) (rows : List Charge) (hour : ℕ) (lines : List LineValue) → AreLines cs rows hour lines → All (λ line. line.kind ≡ kind.Purchase → line.effective ≡ pos 0) lines }
+{}
+
+/// The used and unused lines of a commitment carry its amount of the hour, which is nothing in an hour outside its term.
+pub fn lines_carry_the_amount()
+    ensures { (cs : List CommitmentValue) (rows : List Charge) (hour : ℕ) (lines : List LineValue) (c : CommitmentValue) → AreLines cs rows hour lines → IsOnly cs c → carried c.id lines ≡ pos (amount_in c hour) }
+{}
+
+/// The used and unused lines of a commitment over the hours of its term carry what its purchases cost, to the last nano.
+pub fn lines_carry_the_purchases()
+    ensures { (cs : List CommitmentValue) (rows : List Charge) (lines : ℕ → List LineValue) (c : CommitmentValue) → 0 < c.hours → ((k : ℕ) → k < c.hours → AreLines cs rows (c.start + k) (lines k)) → IsOnly cs c → fold ◌+ℤ◌ (pos 0) (map (λ k. carried c.id (lines k)) (range_with_len 0 c.hours)) ≡ pos (cost_of c.purchases) }
+{}

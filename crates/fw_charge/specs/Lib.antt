@@ -1,0 +1,4 @@
+pub mod Currencies
+pub mod Tags
+pub mod Charge
+pub mod ChargeView

@@ -1,0 +1,9 @@
+pub mod RuleFacts
+pub mod ValueFacts
+pub mod ListFacts
+pub mod OrderFacts
+pub mod TermFacts
+pub mod HasFacts
+pub mod KindFacts
+pub mod OneReading
+pub mod ReadFacts

@@ -1,0 +1,6 @@
+pub mod FieldNames
+pub mod Fields
+pub mod Rules
+pub mod Reading
+pub mod Finding
+pub mod Head

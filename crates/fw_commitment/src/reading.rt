@@ -1,0 +1,47 @@
+//! How a TOML text reads as a commitment.
+ghost use Rattle.fw_toml.specs.Tree.{stated};
+ghost use Rattle.fw_commitment.specs.Finding.{Finds};
+ghost use Rattle.fw_commitment.specs.Rules.{rules_of};
+ghost use Rattle.fw_commitment.specs.Reading.{CommitmentReads, Stands};
+
+use crate::fault::CommitmentFault;
+use crate::head::Head;
+use crate::rest::Rest;
+use crate::terms::terms;
+use fw_terms::{Commitment, CommitmentFields};
+use fw_toml::{Table, TableFault, table_of};
+use std::alloc::Global;
+
+/// Reads a commitment from a TOML text.
+///
+/// Where there is a fault, the first one is the answer: `Syntax` where the text is not UTF-8 or no TOML document; then, field by field in
+/// the order of `CommitmentField`, `Field` where the field is missing, of the wrong kind or can't be read, and `Limit` where it is out of
+/// its limits. `NoMemory` comes where memory runs out, at any place.
+pub fn read_commitment(alloc: Global, text: &[u8]) -> Result<Commitment, CommitmentFault>
+    ensures { CommitmentReads text.now result }
+{
+    match table_of(alloc, text) {
+        Ok(table) => commitment_of(alloc, &table),
+        Err(TableFault::Syntax) => Err(CommitmentFault::Syntax),
+        Err(TableFault::NoMemory) => Err(CommitmentFault::NoMemory),
+    }
+}
+
+/// The commitment of a table.
+fn commitment_of(alloc: Global, table: &Table) -> Result<Commitment, CommitmentFault>
+    ensures { Finds (rules_of (stated table.now)) (Stands (stated table.now)) result }
+{
+    let head = Head::of_table(alloc, table)?;
+    let terms = terms(alloc, table, head.kind)?;
+    let rest = Rest::of_table(alloc, table, head.kind)?;
+    Ok(Commitment::of_fields(CommitmentFields {
+        id: head.id,
+        terms,
+        sub_account: rest.sub_account,
+        tags: rest.tags,
+        start: head.start,
+        hours: head.hours,
+        capacity: head.capacity,
+        purchases: rest.purchases,
+    }))
+}

@@ -1,0 +1,9 @@
+pub mod Part
+pub mod Eligible
+pub mod Applies
+pub mod Order
+pub mod Cover
+pub mod Hour
+pub mod PlacedView
+pub mod Offers
+pub mod RosterView

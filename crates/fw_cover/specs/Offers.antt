@@ -1,0 +1,66 @@
+-- The SKUs that the commitments of an order list, put in the order of their bytes. The private functions that look a row's SKU up cite it.
+use Rattle.std.specs.Prelude.{◌≡◌, ◌≤◌, ℕ, length, Bool, true, false, List, [], Option, Some, None, if◌then◌else◌, map, filter}
+use Rattle.std.specs.Option.{option_map_or}
+use Rattle.std.specs.List.{enumerate_from, flat_map, filter_map}
+use Rattle.std.specs.declared.cmp.Ordering.{Ordering}
+use Rattle.std.specs.List.Sorted.{IsPartitionPoint}
+use Rattle.std.specs.Ordering.{is_lt, is_le, nat_cmp}
+use Rattle.std.specs.Cmp.Lexicographic.{slice_cmp}
+use Rattle.std.specs.Str.{bytes_eq}
+use Rattle.fw_charge.specs.Charge.{Charge}
+use Rattle.fw_terms.specs.Commitment.{CommitmentValue}
+use Rattle.fw_cover.specs.Applies.{Listing, listings, fits, is_open}
+use Rattle.fw_cover.specs.Order.{in_order}
+use Rattle.fw_cover.specs.PlacedView.{placed_of}
+use Rattle.fw_cover.specs.declared.offers.Offer.{Offer}
+use Rattle.fw_cover.specs.declared.pair.Pair.{Pair}
+
+-- a SKU, its rate, and the commitment that lists it, beside its places in the order and in the list
+pub record OfferValue : Type 0 where
+  pub sku : List ℕ
+  pub rate : Option ℕ
+  pub standing : ℕ × (ℕ × CommitmentValue)
+
+abbrev pub offer_of : Offer → OfferValue
+offer_of o = record { sku = o.sku.now; rate = o.rate; standing = (o.rank, placed_of o.placed) }
+
+abbrev pub offer_for : ℕ × (ℕ × CommitmentValue) → Listing → OfferValue
+offer_for c listing = record { sku = listing.sku; rate = listing.rate; standing = c }
+
+abbrev pub offers_by : ℕ × (ℕ × CommitmentValue) → List OfferValue
+offers_by c = map (offer_for c) (listings c.1.1.terms)
+
+-- the offers of the commitments in turn
+abbrev pub offers_of : List (ℕ × CommitmentValue) → List OfferValue
+offers_of cs = flat_map offers_by (enumerate_from 0 cs)
+
+-- by the bytes of the SKU; offers of one SKU keep the order of their commitments
+abbrev pub offer_before : OfferValue → OfferValue → Bool
+offer_before a b = is_lt (slice_cmp nat_cmp a.sku b.sku)
+
+unfoldable pub index_of : List (ℕ × CommitmentValue) → List OfferValue
+index_of cs = in_order offer_before (offers_of cs)
+
+-- the offers of a SKU
+abbrev pub offered : List ℕ → List OfferValue → List OfferValue
+offered sku offers = filter (λ o. bytes_eq o.sku sku) offers
+
+-- how an offer's SKU stands to one in the order of bytes
+abbrev pub standing_to : List ℕ → Offer → Ordering
+standing_to sku o = slice_cmp nat_cmp o.sku.now sku
+
+-- in an index the offers of lower SKUs stand before the first place, and those of higher ones from the second on
+pub record ArePoints (sku : List ℕ) (xs : List Offer) (from to : ℕ) : Type 0 where
+  pub from_within : from ≤ length xs
+  pub to_within : to ≤ length xs
+  pub below : IsPartitionPoint (λ o. is_lt (standing_to sku o) ≡ true) (λ o. is_lt (standing_to sku o) ≡ false) xs from
+  pub upto : IsPartitionPoint (λ o. is_le (standing_to sku o) ≡ true) (λ o. is_le (standing_to sku o) ≡ false) xs to
+
+-- the pair that an offer makes with a row that commitments may cover in the hour
+abbrev pub pair_by : ℕ → ℕ × Charge → OfferValue → Option Pair
+pair_by hour row o =
+    if fits o.standing.1.1 hour row.1 then Some (record { rank = o.standing.0; commitment = o.standing.1.0; row = row.0; rate = o.rate }) else None
+
+-- the pairs of one row, by the offers of its SKU
+unfoldable pub pairs_with : ℕ → List OfferValue → ℕ × Charge → List Pair
+pairs_with hour index row = if is_open hour row.1 then option_map_or (λ sku. filter_map (pair_by hour row) (offered sku index)) row.1.sku [] else []

@@ -1,0 +1,85 @@
+//! What each pair takes.
+ghost use Rattle.std.specs.Prelude.{◌≡◌, ℕ, ◌^◌, ◌<◌, ◌≤◌, length, All, IfOk, IfSome, OnOk, [], ◌∷◌, ◌++◌, filter, ◌+◌, slice_index};
+ghost use Rattle.fw_cover.specs.Cover.{IsPairWithin, IsTakeWithin, cover_of, taken_of_row, used_of, takes_something};
+ghost use Rattle.fw_cover.specs.Part.{part_of};
+
+use crate::hour::HourCover;
+use crate::pair::Pair;
+use crate::part::{Part, spend_part, usage_part};
+use crate::taken::Taken;
+use std::alloc::{AllocError, Global};
+
+impl Pair {
+    /// What the pair takes of a row with this billed cost and quantity, where so much is left of the row and of the commitment.
+    fn part(&self, billed: u64, quantity: u64, row_left: u64, capacity_left: u64) -> Part
+        requires billed { billed ≤ 10 ^ 17 }
+        requires quantity { 0 < quantity }
+        requires left { row_left ≤ quantity }
+        requires rate { IfSome self.now.rate (λ rate. rate ≤ 1000000) }
+        ensures part { result ≡ part_of self.now.rate billed quantity row_left capacity_left }
+        ensures within_row { result.quantity ≤ row_left }
+        ensures within_capacity { result.weight ≤ capacity_left }
+        ensures nothing { result.quantity ≡ 0 → result.weight ≡ 0 }
+    {
+        match self.rate {
+            None => usage_part(row_left, capacity_left),
+            Some(rate) => spend_part(billed, quantity, rate, row_left, capacity_left),
+        }
+    }
+}
+
+/// Keeps what was taken, where it is anything.
+fn keep(all: &mut Vec<Taken>, taken: Taken) -> Result<(), AllocError>
+    ensures { OnOk result (all.new.items ≡ all.old.items ++ filter takes_something (taken ∷ [])) }
+{
+    if taken.quantity > 0 {
+        all.push(taken)?;
+    }
+    Ok(())
+}
+
+/// What each pair takes, one after another, and what is left; `billed` and `quantities` are of the rows, `capacities` of the commitments.
+pub(crate) fn cover_pairs(
+    alloc: Global,
+    pairs: &[Pair],
+    billed: &[u64],
+    quantities: &[u64],
+    capacities: &[u64],
+) -> Result<HourCover, AllocError>
+    requires one_each { length billed.now ≡ length quantities.now }
+    requires pairs { All (IsPairWithin billed.now quantities.now capacities.now) pairs.now }
+    ensures taken { IfOk result (λ h. h.taken.items ≡ cover_of billed.now quantities.now capacities.now pairs.now) }
+    ensures rows { IfOk result (λ h. length h.row_left.items ≡ length quantities.now) }
+    ensures commitments { IfOk result (λ h. length h.unused.items ≡ length capacities.now) }
+    ensures takes { IfOk result (λ h. All (IsTakeWithin (length capacities.now) (length quantities.now)) h.taken.items) }
+    ensures row_left { IfOk result (λ h. (r : ℕ) → taken_of_row r h.taken.items + slice_index h.row_left.items r ≡ slice_index quantities.now r) }
+    ensures unused { IfOk result (λ h. (c : ℕ) → used_of c h.taken.items + slice_index h.unused.items c ≡ slice_index capacities.now c) }
+{
+    let mut row_left = quantities.to_vec(alloc)?;
+    let mut capacity_left = capacities.to_vec(alloc)?;
+    let mut taken = Vec::new(alloc);
+    for pair in pairs {
+        let part = pair.part(
+            billed[pair.row],
+            quantities[pair.row],
+            row_left[pair.row],
+            capacity_left[pair.commitment],
+        );
+        row_left[pair.row] -= part.quantity;
+        capacity_left[pair.commitment] -= part.weight;
+        keep(
+            &mut taken,
+            Taken {
+                commitment: pair.commitment,
+                row: pair.row,
+                quantity: part.quantity,
+                weight: part.weight,
+            },
+        )?;
+    }
+    Ok(HourCover {
+        taken,
+        row_left,
+        unused: capacity_left,
+    })
+}

@@ -1,0 +1,72 @@
+ghost use Rattle.std.specs.Prelude.{◌≡◌, ℕ, ◌*◌, ◌^◌, ◌<◌, ◌≤◌};
+ghost use Rattle.fw_cover.specs.Part.{usage_part_of, spend_part_of};
+
+/// What a commitment takes of a row, in nanos: the quantity taken, and its weight, which is what it uses of the commitment's capacity.
+#[derive(Clone, Copy, Debug, PartialEq, Eq)]
+pub(crate) struct Part {
+    pub(crate) quantity: u64,
+    pub(crate) weight: u64,
+}
+
+/// A commitment to a quantity takes what the row and the commitment both have left.
+pub(crate) fn usage_part(row_left: u64, capacity_left: u64) -> Part
+    ensures part { result ≡ usage_part_of row_left capacity_left }
+    ensures within_row { result.quantity ≤ row_left }
+    ensures within_capacity { result.weight ≤ capacity_left }
+    ensures nothing { result.quantity ≡ 0 → result.weight ≡ 0 }
+{
+    let quantity = row_left.min(capacity_left);
+    Part {
+        quantity,
+        weight: quantity,
+    }
+}
+
+/// A commitment to a cost takes all that is left of the row where what it needs for its cost fits in what is left of the capacity, and
+/// else the part that does, which then weighs all that is left. Nothing is taken where the cost is too small to need a nano, or the part
+/// too small to be one. The need is the cost at the rate, in parts per million, rounded up.
+///
+/// Each product stays within 128 bits. A row is billed at most 10^17 nanos, and what is left of it is below 2^64, so the first is below
+/// 2 * 10^36. The cost is at most what is billed, so the second is at most 10^17 * 10^6. The last is of two numbers below 2^64.
+pub(crate) fn spend_part(
+    billed: u64,
+    quantity: u64,
+    rate: u32,
+    row_left: u64,
+    capacity_left: u64,
+) -> Part
+    requires billed { billed ≤ 10 ^ 17 }
+    requires quantity { 0 < quantity }
+    requires left { row_left ≤ quantity }
+    requires rate { rate ≤ 1000000 }
+    ensures part { result ≡ spend_part_of billed quantity rate row_left capacity_left }
+    ensures within_row { result.quantity ≤ row_left }
+    ensures within_capacity { result.weight ≤ capacity_left }
+    ensures nothing { result.quantity ≡ 0 → result.weight ≡ 0 }
+{
+    let cost = u128::from(billed) * u128::from(row_left) / u128::from(quantity);
+    let need = (cost * u128::from(rate)).div_ceil(1_000_000);
+    if need == 0 {
+        return Part {
+            quantity: 0,
+            weight: 0,
+        };
+    }
+    if need <= u128::from(capacity_left) {
+        return Part {
+            quantity: row_left,
+            weight: need as u64,
+        };
+    }
+    let part = (u128::from(row_left) * u128::from(capacity_left) / need) as u64;
+    if part == 0 {
+        return Part {
+            quantity: 0,
+            weight: 0,
+        };
+    }
+    Part {
+        quantity: part,
+        weight: capacity_left,
+    }
+}

@@ -1,0 +1,27 @@
+use Rattle.std.proofs.Common.{refl}
+use Rattle.fw_desk.specs.Contents.{ContentReads}
+use Rattle.fw_desk.proofs.content.read_content.Goals as goal
+
+pub returns-in-Ok : goal.returns-in-Ok
+unfolding ContentReads
+returns-in-Ok c = rw c.in-Post.is (c.in-Ok.rows.items, refl, rw c.in-Ok.is at c.read_rows.ensures)
+
+pub returns-in-Err : goal.returns-in-Err
+unfolding ContentReads
+returns-in-Err c = rw c.in-Post.is (c.in-Err.fault, c.row_reply.ensures, rw c.in-Err.is at c.read_rows.ensures)
+
+pub returns-in-Ok-read_commitment : goal.returns-in-Ok-read_commitment
+unfolding ContentReads
+returns-in-Ok-read_commitment c = rw c.in-Commit.is (c.in-Ok-read_commitment.commitment, refl, rw c.in-Ok-read_commitment.is at c.read_commitment.ensures)
+
+pub returns-in-Err-read_commitment : goal.returns-in-Err-read_commitment
+unfolding ContentReads
+returns-in-Err-read_commitment c = rw c.in-Commit.is (c.in-Err-read_commitment.fault, c.commitment_reply.ensures, rw c.in-Err-read_commitment.is at c.read_commitment.ensures)
+
+pub returns-in-Ok-read_policy : goal.returns-in-Ok-read_policy
+unfolding ContentReads
+returns-in-Ok-read_policy c = rw c.in-Policy.is (c.in-Ok-read_policy.policy, refl, rw c.in-Ok-read_policy.is at c.read_policy.ensures)
+
+pub returns-in-Err-read_policy : goal.returns-in-Err-read_policy
+unfolding ContentReads
+returns-in-Err-read_policy c = rw c.in-Policy.is (c.in-Err-read_policy.fault, c.policy_reply.ensures, rw c.in-Err-read_policy.is at c.read_policy.ensures)

@@ -1,0 +1,27 @@
+-- The text of a reply.
+use Rattle.std.specs.Prelude.{ℕ, List, [], ◌++◌, decimal}
+use Rattle.fw_desk.specs.Replies.{refused, detail, accepted_line, counted, no_memory_line, bad_command_line, bad_end_line}
+use Rattle.fw_desk.specs.declared.reply.Detail.{Detail}
+use Rattle.fw_desk.specs.declared.reply.Detail.TheVariants as of
+use Rattle.fw_desk.specs.declared.reply.Refusal.{Refusal}
+use Rattle.fw_desk.specs.declared.reply.Reply.{Reply}
+use Rattle.fw_desk.specs.declared.reply.Reply.TheVariants as reply
+
+-- what stands behind a refusal's name
+abbrev pub detail_text : Detail → List ℕ
+detail_text of.None = []
+detail_text (of.Word word) = detail word.now
+detail_text (of.Number number) = detail (decimal number)
+
+-- why a command was refused: the code and the name, and the detail
+unfoldable pub refusal_text : Refusal → List ℕ
+refusal_text refusal = refusal.name.now ++ detail_text refusal.detail
+
+-- the whole text of a reply, with the line feed that ends its first line
+unfoldable pub reply_text : Reply → List ℕ
+reply_text (reply.Accepted number) = accepted_line number
+reply_text (reply.Refused refusal) = refused (refusal_text refusal)
+reply_text (reply.Text text) = counted text.items
+reply_text reply.NoMemory = no_memory_line
+reply_text reply.BadCommand = bad_command_line
+reply_text reply.BadEnd = bad_end_line

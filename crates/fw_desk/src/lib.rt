@@ -1,0 +1,14 @@
+//! The desk: what was accepted so far, and the answer to each command.
+//!
+//! A [`Desk`] takes the commands of a script one by one and tells a [`Reply`] to each. Nothing is read or written here: the program hands
+//! commands in and writes the replies out.
+#![tactic(auto)]
+
+mod content;
+mod desk;
+mod judging;
+mod refusals;
+mod reply;
+
+pub use desk::Desk;
+pub use reply::{Detail, Refusal, Reply};

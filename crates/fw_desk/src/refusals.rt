@@ -1,0 +1,113 @@
+//! Faults as replies.
+ghost use Rattle.std.specs.Prelude.{◌≡◌, ◌++◌};
+ghost use Rattle.fw_desk.specs.Replies.{row_fault_line, record_fault_name, commitment_fault_line, policy_fault_line, entry_fault_line, query_fault_line, refused};
+ghost use Rattle.fw_desk.specs.ReplyText.{reply_text, detail_text};
+
+use crate::judging::EntryFault;
+use crate::reply::{Detail, Refusal, Reply};
+use fw_commitment::CommitmentFault;
+use fw_policy::PolicyFault;
+use fw_query::QueryFault;
+use fw_rows::{RecordFault, RowFault};
+
+/// The reply to rows that have a fault.
+#[tactic(auto, unfolding(crate::specs::Replies::row_fault_line, crate::specs::ReplyText::reply_text))]
+pub(crate) fn row_reply(fault: RowFault) -> Reply
+    ensures { reply_text result ≡ row_fault_line fault }
+{
+    match fault {
+        RowFault::MissingColumn(column) => refused("H1 MissingColumn", Detail::Word(column.name())),
+        RowFault::DoubleColumn(column) => refused("H2 DoubleColumn", Detail::Word(column.name())),
+        RowFault::Record { number, fault } => refused(
+            record_fault_name(fault),
+            Detail::Number(number),
+        ),
+        RowFault::NoRows => refused("V14 NoRows", Detail::None),
+        RowFault::TooManyRows => refused("V15 TooManyRows", Detail::None),
+        RowFault::NoMemory => Reply::NoMemory,
+    }
+}
+
+/// The code and the name of a record's fault.
+#[tactic(auto, unfolding(crate::specs::Replies::record_fault_name))]
+fn record_fault_name(fault: RecordFault) -> &'static str
+    ensures { result.now ≡ record_fault_name fault }
+{
+    match fault {
+        RecordFault::Fields => "V1 Fields",
+        RecordFault::NotUtf8 => "V2 NotUtf8",
+        RecordFault::Category => "V3 Category",
+        RecordFault::Class => "V4 Class",
+        RecordFault::Cost => "V5 Cost",
+        RecordFault::Currency => "V6 Currency",
+        RecordFault::Time => "V7 Time",
+        RecordFault::PeriodOrder => "V8 PeriodOrder",
+        RecordFault::Commitment => "V9 Commitment",
+        RecordFault::Status => "V10 Status",
+        RecordFault::Quantity => "V11 Quantity",
+        RecordFault::BadTags => "V12 BadTags",
+        RecordFault::TooLong => "V13 TooLong",
+    }
+}
+
+/// The reply to a commitment that has a fault.
+#[tactic(auto, unfolding(crate::specs::Replies::commitment_fault_line, crate::specs::ReplyText::reply_text))]
+pub(crate) fn commitment_reply(fault: CommitmentFault) -> Reply
+    ensures { reply_text result ≡ commitment_fault_line fault }
+{
+    match fault {
+        CommitmentFault::Syntax => refused("C1 Syntax", Detail::None),
+        CommitmentFault::Field(field) => refused("C2 Field", Detail::Word(field.name())),
+        CommitmentFault::Limit(field) => refused("C3 Limit", Detail::Word(field.name())),
+        CommitmentFault::NoMemory => Reply::NoMemory,
+    }
+}
+
+/// The reply to a policy that has a fault.
+#[tactic(auto, unfolding(crate::specs::Replies::policy_fault_line, crate::specs::ReplyText::reply_text))]
+pub(crate) fn policy_reply(fault: PolicyFault) -> Reply
+    ensures { reply_text result ≡ policy_fault_line fault }
+{
+    match fault {
+        PolicyFault::Syntax => refused("P1 Syntax", Detail::None),
+        PolicyFault::Field(field) => refused("P2 Field", Detail::Word(field.name())),
+        PolicyFault::Limit(field) => refused("P3 Limit", Detail::Word(field.name())),
+        PolicyFault::DoubleFrom => refused("P4 DoubleFrom", Detail::None),
+        PolicyFault::TargetIsFrom => refused("P5 TargetIsFrom", Detail::None),
+        PolicyFault::NoMemory => Reply::NoMemory,
+    }
+}
+
+/// The reply to an entry that doesn't go with what was accepted before.
+#[tactic(auto, unfolding(crate::specs::Replies::entry_fault_line, crate::specs::ReplyText::reply_text))]
+pub(crate) fn entry_reply(fault: EntryFault) -> Reply
+    ensures { reply_text result ≡ entry_fault_line fault }
+{
+    match fault {
+        EntryFault::Full => refused("J1 Full", Detail::None),
+        EntryFault::DoubleId => refused("J2 DoubleId", Detail::None),
+        EntryFault::IdInUse => refused("J3 IdInUse", Detail::None),
+        EntryFault::OwnCommitment => refused("J4 OwnCommitment", Detail::None),
+        EntryFault::TooManyCommitments => refused("J5 TooManyCommitments", Detail::None),
+    }
+}
+
+/// The reply to a report or lines that can't be had.
+#[tactic(auto, unfolding(crate::specs::Replies::query_fault_line, crate::specs::ReplyText::reply_text))]
+pub(crate) fn query_reply(fault: &QueryFault) -> Reply
+    ensures { reply_text result ≡ query_fault_line fault.now }
+{
+    match fault {
+        QueryFault::Range => refused("Q1 Range", Detail::None),
+        QueryFault::TotalTooLarge { group: _ } => refused("Q2 TotalTooLarge", Detail::None),
+        QueryFault::NoMemory => Reply::NoMemory,
+    }
+}
+
+// The reply of a refusal with this name and detail.
+#[tactic(auto, unfolding(crate::specs::ReplyText::reply_text, crate::specs::ReplyText::refusal_text))]
+fn refused(name: &'static str, detail: Detail) -> Reply
+    ensures { reply_text result ≡ refused (name.now ++ detail_text detail) }
+{
+    Reply::Refused(Refusal { name, detail })
+}

@@ -1,0 +1,3 @@
+pub mod FieldNames
+pub mod Policy
+pub mod Parts

@@ -1,0 +1,9 @@
+pub mod WriterFacts
+pub mod UntouchedFacts
+pub mod SumFacts
+pub mod EntryFacts
+pub mod ReportFacts
+pub mod HourFacts
+pub mod MovedFacts
+pub mod RangeFacts
+mod ListingFacts

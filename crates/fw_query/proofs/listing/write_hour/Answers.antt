@@ -1,0 +1,23 @@
+use Rattle.std.proofs.Common.{◌++◌, List, ℕ, map, ap, Bor}
+use Rattle.std.proofs.lemmas.Result.{IfOk-weaker}
+use Rattle.fw_charge.specs.Charge.{Charge}
+use Rattle.fw_query.specs.Listing.{WritesHour, records}
+use Rattle.fw_query.specs.Writers.{HasWritten}
+use Rattle.fw_query.proofs.ListingFacts.{no_lines}
+use Rattle.fw_query.proofs.listing.write_hour.Goals as goal
+
+pub returns-in_default : goal.returns-in_default
+returns-in_default c = λ text has.
+    no_lines c.args.writer.now text c.args.commitments.now _ c.args.hour (ap (map (λ (r : Bor Charge). r.now)) c.in_default.ensures.0) c.in_default.ensures.1 has
+
+pub returns : goal.returns
+returns c =
+    IfOk-weaker c.write_lines.result
+    (λ _. (text : List ℕ) → HasWritten c.args.writer.now text → HasWritten c.write_lines.new.writer (text ++ records c.as_slice.result.now))
+    (λ _. (text : List ℕ) → HasWritten c.args.writer.now text → WritesHour c.write_lines.new.writer text c.args.commitments.now (map (λ (r : Bor Charge). r.now) c.args.rows.now) c.args.hour)
+    (λ _ wrote text has. record {
+      lines = c.in_ok-lines.lines.items;
+      are_lines = rw c.in-Some.ensures at c.in_ok-lines.ensures;
+      wrote = rw c.as_slice.ensures.value at (wrote text has);
+    })
+    c.write_lines.ensures

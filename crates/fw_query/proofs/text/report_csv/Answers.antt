@@ -1,0 +1,18 @@
+use Rattle.std.proofs.Common.{◌∙◌, [], ◌++◌, Some, ap}
+use Rattle.fw_query.specs.Texts.{report_text}
+use Rattle.fw_query.specs.Writers.{HasWritten}
+use Rattle.fw_query.proofs.WriterFacts.{given_back}
+use Rattle.fw_query.proofs.text.report_csv.Goals as goal
+
+pub returns-in-Ok : goal.returns-in-Ok
+unfolding report_text
+returns-in-Ok c =
+    let made = c.from_writer-writer.ensures in
+    let start : HasWritten c.from_writer-writer.result [] = record {
+      setup = made.cfg ∙ c.new.ensures;
+      fields = made.fields;
+      wrote = made.wrote;
+      text_is = λ j. Some ((ap (λ v. v.items) made.wtr ∙ c.new-2.ensures.items) j ++ made.empty j);
+    } in
+    let done = c.in_ok-write_entries.ensures _ (c.in_ok-write_header.ensures [] start) in
+    rw (← c.entries.ensures) (given_back _ c.in-Ok.text _ done c.in-Ok.ensures.ok)

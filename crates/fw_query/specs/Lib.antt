@@ -1,0 +1,11 @@
+pub mod Costs
+pub mod Limits
+pub mod RangeLines
+pub mod Reports
+pub mod Refusals
+pub mod Texts
+pub mod Writers
+pub mod Hours
+pub mod Sums
+pub mod Listing
+pub mod LineTexts

@@ -1,0 +1,182 @@
+//! Sums by group, as they grow line by line.
+ghost use Rattle.std.specs.Prelude.{◌≡◌, ◌+ℤ◌, ◌+◌, ◌<◌, ◌^◌, length, ◌++◌, ◌∷◌, List, [], map, IfOk, IfSome, OnOk};
+ghost use Rattle.fw_query.specs.Costs.{Cost};
+ghost use Rattle.fw_query.specs.Hours.{lent, row_cost};
+ghost use Rattle.fw_query.specs.Reports.{costs_of};
+ghost use Rattle.fw_query.specs.Sums.{AddsLine, AreAmounts, AreEntries, AreSums, Counts, CountsHour, CountsHours, HasRoom, IsInOrder, kept_entry, sums_at};
+
+use crate::entries::Entry;
+use crate::hours::is_touched;
+use fw_amortise::{Line, lines_of_hour};
+use fw_charge::Row;
+use fw_money::Nanos;
+use fw_terms::Commitment;
+use indexmap::IndexMap;
+use std::alloc::{AllocError, Global};
+
+// Sums of costs, in nanos.
+#[derive(Drop)]
+pub(crate) struct Sums {
+    billed: i128,
+    effective: i128,
+}
+
+impl Sums {
+    // The sums of one line.
+    fn of_line(billed: Nanos, effective: Nanos) -> Sums
+        ensures value { result ≡ record { billed = billed; effective = effective } }
+        ensures amounts { AreAmounts billed effective }
+    {
+        Sums {
+            billed: i128::from(billed.count()),
+            effective: i128::from(effective.count()),
+        }
+    }
+
+    // Adds a line.
+    fn add(&mut self, billed: Nanos, effective: Nanos)
+        requires { HasRoom self.old }
+        ensures billed { self.new.billed ≡ self.old.billed +ℤ billed }
+        ensures effective { self.new.effective ≡ self.old.effective +ℤ effective }
+        ensures amounts { AreAmounts billed effective }
+    {
+        self.billed += i128::from(billed.count());
+        self.effective += i128::from(effective.count());
+    }
+}
+
+// The sums of each group that a line was in, under the group's text.
+#[derive(Drop)]
+pub(crate) struct Groups {
+    alloc: Global,
+    by_group: IndexMap<String, Sums>,
+    lines: u64,
+}
+
+impl Groups {
+    // No groups.
+    pub(crate) fn new(alloc: Global) -> Groups
+        ensures { Counts result [] }
+    {
+        Groups {
+            alloc,
+            by_group: IndexMap::new(alloc),
+            lines: 0,
+        }
+    }
+
+    // The sums of the lines of some hours from this one on, whose rows are these.
+    pub(crate) fn of_hours(
+        alloc: Global,
+        key: &str,
+        commitments: &[Commitment],
+        by_hour: &[Vec<&Row>],
+        from: u64,
+    ) -> Result<Groups, AllocError>
+        requires { from + length by_hour.now < 2 ^ 64 }
+        ensures { IfOk result (λ groups. CountsHours groups key.now commitments.now (map lent by_hour.now) from) }
+    {
+        let mut groups = Groups::new(alloc);
+        let mut hour = from;
+        for rows in by_hour {
+            groups.add_hour(key, commitments, rows.as_slice(), hour)?;
+            hour += 1;
+        }
+        Ok(groups)
+    }
+
+    // Counts the lines of an hour whose rows are these. Where no commitment has a line in it, the lines bring what the rows do.
+    fn add_hour(
+        &mut self,
+        key: &str,
+        commitments: &[Commitment],
+        rows: &[&Row],
+        hour: u64,
+    ) -> Result<(), AllocError>
+        requires { (costs : List Cost) × Counts self.old costs }
+        ensures { OnOk result ((costs : List Cost) → Counts self.old costs → CountsHour self.new costs key.now commitments.now (map (λ r. r.now) rows.now) hour) }
+    {
+        if !is_touched(commitments, hour) {
+            return self.add_rows(key, rows);
+        }
+        let lines = lines_of_hour(self.alloc, commitments, rows, hour as u32)?;
+        self.add_lines(key, lines.as_slice())
+    }
+
+    // Counts the rows of an hour in which no commitment has a line.
+    fn add_rows(&mut self, key: &str, rows: &[&Row]) -> Result<(), AllocError>
+        requires { (costs : List Cost) × Counts self.old costs }
+        ensures { OnOk result ((costs : List Cost) → Counts self.old costs → Counts self.new (costs ++ map (λ r. row_cost key.now r.now) rows.now)) }
+    {
+        for row in rows {
+            self.add(row.tags().group(key), row.billed(), row.effective())?;
+        }
+        Ok(())
+    }
+
+    // Counts lines.
+    fn add_lines(&mut self, key: &str, lines: &[Line<'_>]) -> Result<(), AllocError>
+        requires { (costs : List Cost) × Counts self.old costs }
+        ensures { OnOk result ((costs : List Cost) → Counts self.old costs → Counts self.new (costs ++ costs_of key.now lines.now)) }
+    {
+        for line in lines {
+            self.add(line.tags().group(key), line.billed(), line.effective())?;
+        }
+        Ok(())
+    }
+
+    // Counts a line in its group. More lines than 2^64, which no memory holds, are told as want of memory.
+    fn add(&mut self, group: &str, billed: Nanos, effective: Nanos) -> Result<(), AllocError>
+        requires { (costs : List Cost) × Counts self.old costs }
+        ensures { OnOk result ((costs : List Cost) → Counts self.old costs → Counts self.new (costs ++ record { group = group.now; billed = billed; effective = effective } ∷ [])) }
+    {
+        let Some(lines) = self.lines.checked_add(1) else {
+            return Err(AllocError);
+        };
+        self.put(group, billed, effective)?;
+        self.lines = lines;
+        Ok(())
+    }
+
+    // Adds a line to the sums of its group. Memory is taken for a new group alone.
+    fn put(&mut self, group: &str, billed: Nanos, effective: Nanos) -> Result<(), AllocError>
+        requires { IfSome (sums_at self.old group.now) HasRoom }
+        ensures { OnOk result (AddsLine self.old self.new (record { group = group.now; billed = billed; effective = effective })) }
+    {
+        match self.by_group.get_mut(group) {
+            Some(sums) => sums.add(billed, effective),
+            None => {
+                let sums = Sums::of_line(billed, effective);
+                self.by_group
+                    .insert(String::from_str(self.alloc, group)?, sums)?;
+            }
+        }
+        Ok(())
+    }
+
+    // The same sums, in rising byte order of the groups.
+    fn in_order(mut self) -> Result<Groups, AllocError>
+        ensures { IfOk result (IsInOrder self) }
+    {
+        self.by_group.sort_unstable_keys()?;
+        Ok(self)
+    }
+
+    // The entries of the groups, each charged its direct cost, in rising byte order of the groups.
+    pub(crate) fn into_entries(self) -> Result<Vec<Entry>, AllocError>
+        ensures { IfOk result (λ entries. (costs : List Cost) → AreSums self costs → AreEntries costs entries.items) }
+    {
+        let sorted = self.in_order()?;
+        listed(sorted.alloc, sorted.by_group)
+    }
+}
+
+// The entries of the groups, in the order in which they are kept.
+fn listed(alloc: Global, by_group: IndexMap<String, Sums>) -> Result<Vec<Entry>, AllocError>
+    ensures { IfOk result (λ entries. entries.items ≡ map kept_entry by_group.entries) }
+{
+    by_group
+        .into_iter()
+        .map(|pair| Entry::of_sums(pair.0, pair.1.billed, pair.1.effective))
+        .collect(alloc)
+}

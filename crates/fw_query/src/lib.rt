@@ -1,0 +1,27 @@
+//! Reports: what charge rows and commitments cost in some hours, by the groups of a tag key.
+//!
+//! [`report`] sums the lines of a range of hours by group, and [`report_csv`] writes what it found; [`lines_csv`] writes the lines. Costs are
+//! counted in nanos, which are 10^-9 of the currency unit, and hours from 1970.
+#![tactic(auto)]
+
+mod charges;
+mod entries;
+mod fault;
+mod groups;
+mod hours;
+mod line_text;
+mod listing;
+mod query;
+mod reporting;
+mod text;
+mod total;
+
+pub use entries::{Entry, Report};
+pub use fault::QueryFault;
+pub use listing::lines_csv;
+pub use query::Query;
+pub use reporting::report;
+pub use text::report_csv;
+
+#[cfg(test)]
+mod tests;

@@ -1,0 +1,92 @@
+//! The parts of a record, each held against its rules.
+ghost use Rattle.std.specs.Prelude.{◌≡◌, ◌↔◌, IsTrue};
+ghost use Rattle.fw_rows.specs.Judged.{Judged};
+ghost use Rattle.fw_rows.specs.Parts.{texts_of, WordsStand, CostsStand, PeriodStands};
+ghost use Rattle.fw_rows.specs.Rules.{word_rules, cost_rules, period_rules};
+ghost use Rattle.fw_rows.specs.declared.column.Column.TheVariants as column;
+
+use crate::cells::Cells;
+use crate::column::Column;
+use crate::fault::RecordFault;
+use crate::words::{amount_of, category_of, class_of};
+use fw_charge::{Category, Currency};
+use fw_instants::second_of;
+use fw_money::Nanos;
+
+/// ChargeCategory, and whether ChargeClass is that of a correction.
+#[derive(Clone, Copy, Drop)]
+pub(crate) struct Words {
+    pub(crate) category: Category,
+    pub(crate) is_correction: bool,
+}
+
+/// BilledCost and EffectiveCost.
+#[derive(Clone, Copy, Drop)]
+pub(crate) struct Costs {
+    pub(crate) billed: Nanos,
+    pub(crate) effective: Nanos,
+}
+
+/// The seconds of ChargePeriodStart and ChargePeriodEnd.
+#[derive(Clone, Copy, Drop)]
+pub(crate) struct Period {
+    pub(crate) start: u64,
+    pub(crate) end: u64,
+}
+
+impl<'a> Cells<'a> {
+    /// What kind of charge it is.
+    pub(crate) fn words(&self) -> Result<Words, RecordFault>
+        ensures { let at = texts_of self.now in Judged (word_rules at) (WordsStand at) result }
+    {
+        let Some(category) = category_of(self.text(Column::ChargeCategory)) else {
+            return Err(RecordFault::Category);
+        };
+        let Some(is_correction) = class_of(self.text(Column::ChargeClass)) else {
+            return Err(RecordFault::Class);
+        };
+        Ok(Words {
+            category,
+            is_correction,
+        })
+    }
+
+    /// The costs, which are in this currency.
+    pub(crate) fn costs(&self, currency: Currency) -> Result<Costs, RecordFault>
+        ensures { let at = texts_of self.now in Judged (cost_rules currency at) (CostsStand at) result }
+    {
+        let Some(billed) = amount_of(self.text(Column::BilledCost)) else {
+            return Err(RecordFault::Cost);
+        };
+        let Some(effective) = amount_of(self.text(Column::EffectiveCost)) else {
+            return Err(RecordFault::Cost);
+        };
+        if !self.is_in(currency) {
+            return Err(RecordFault::Currency);
+        }
+        Ok(Costs { billed, effective })
+    }
+
+    /// Whether the costs are in this currency.
+    fn is_in(&self, currency: Currency) -> bool
+        ensures { IsTrue result ↔ (texts_of self.now column.BillingCurrency ≡ currency) }
+    {
+        self.text(Column::BillingCurrency).as_bytes() == currency.code()
+    }
+
+    /// The charge period.
+    pub(crate) fn period(&self) -> Result<Period, RecordFault>
+        ensures { let at = texts_of self.now in Judged (period_rules at) (PeriodStands at) result }
+    {
+        let Some(start) = second_of(self.text(Column::ChargePeriodStart)) else {
+            return Err(RecordFault::Time);
+        };
+        let Some(end) = second_of(self.text(Column::ChargePeriodEnd)) else {
+            return Err(RecordFault::Time);
+        };
+        if end < start {
+            return Err(RecordFault::PeriodOrder);
+        }
+        Ok(Period { start, end })
+    }
+}

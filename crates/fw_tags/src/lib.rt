@@ -1,0 +1,11 @@
+//! What a text of tags reads as: a JSON object of texts, booleans and nulls.
+#![tactic(auto)]
+
+mod fault;
+mod reading;
+
+pub use fault::TagFault;
+pub use reading::read_tags;
+
+#[cfg(test)]
+mod tests;

@@ -1,0 +1,357 @@
+//! Commitments: what was bought ahead, for which use, over which hours, and what was paid for it.
+ghost use Rattle.std.specs.Prelude.{◌≡◌, ◌≤◌, ◌<ℤ◌, ◌≤ℤ◌, pos, length, map, option_map, string_bytes, IfOk};
+ghost use Rattle.fw_terms.specs.Commitment.{cost_of, most_purchases};
+
+use fw_charge::{DiscountKind, Tags};
+use fw_money::Nanos;
+use std::alloc::{AllocError, Global};
+use std::marker::Model;
+
+/// A payment for a commitment: a second within the year 9999 or before, and an amount of at least 0.
+#[derive(Debug, Drop)]
+pub struct Purchase {
+    at: u64,
+    billed: Nanos,
+}
+
+impl Model for Purchase {
+    ghost use Rattle.std.specs.Prelude.{◌≤ℤ◌, pos, nat_abs};
+    ghost use Rattle.fw_terms.specs.Commitment.{PurchaseValue};
+
+    ghost Value = { PurchaseValue };
+
+    ghost view = { λ p. record { at = p.at; billed = nat_abs p.billed } };
+
+    ghost invariant = { λ p. pos 0 ≤ℤ p.billed };
+}
+
+impl Purchase {
+    /// The purchase at this second since 1970, of this amount in nanos, which is at least 0.
+    pub fn of_fields(at: u64, billed: Nanos) -> Purchase
+        requires { pos 0 ≤ℤ billed }
+        ensures at { result.at ≡ at }
+        ensures billed { pos result.billed ≡ billed }
+    {
+        Purchase { at, billed }
+    }
+
+    /// When it was paid, in seconds since 1970.
+    pub fn at(&self) -> u64
+        ensures { result ≡ self.now.at }
+    {
+        self.at
+    }
+
+    /// How much was paid, in nanos.
+    pub fn billed(&self) -> Nanos
+        ensures { result ≡ pos self.now.billed }
+    {
+        self.billed
+    }
+}
+
+/// What some purchases cost together, in nanos: at most 64 of them.
+pub fn total_cost(purchases: &[Purchase]) -> u64
+    requires { length purchases.now ≤ most_purchases }
+    ensures { result ≡ cost_of purchases.now }
+{
+    let mut cost = 0;
+    for purchase in purchases {
+        cost += purchase.billed().count() as u64;
+    }
+    cost
+}
+
+/// How much of a row's cost counts against a commitment to spend, where the row has this SKU.
+#[derive(Debug, Drop)]
+pub struct Rate {
+    sku: String,
+    ppm: u32,
+}
+
+impl Model for Rate {
+    ghost use Rattle.std.specs.Prelude.{string_bytes};
+    ghost use Rattle.fw_terms.specs.Commitment.{RateValue};
+
+    ghost Value = { RateValue };
+
+    ghost view = { λ r. record { sku = string_bytes r.sku; ppm = r.ppm } };
+}
+
+impl Rate {
+    /// The rate of this SKU, in parts per million.
+    pub fn of_fields(sku: String, ppm: u32) -> Rate
+        ensures sku { result.sku ≡ string_bytes sku }
+        ensures ppm { result.ppm ≡ ppm }
+    {
+        Rate { sku, ppm }
+    }
+
+    /// The SKU of the rows that the rate is for.
+    pub fn sku(&self) -> &str
+        ensures { result.now ≡ self.now.sku }
+    {
+        &self.sku
+    }
+
+    /// How much of a row's cost counts, in parts per million.
+    pub fn ppm(&self) -> u32
+        ensures { result ≡ self.now.ppm }
+    {
+        self.ppm
+    }
+
+    /// An equal rate.
+    pub fn copy(&self, alloc: Global) -> Result<Rate, AllocError>
+        ensures { IfOk result (λ r. r ≡ self.now) }
+    {
+        Ok(Rate {
+            sku: String::from_str(alloc, &self.sku)?,
+            ppm: self.ppm,
+        })
+    }
+}
+
+/// What is committed to. In a commitment there are 1 to 256 SKUs or rates, in rising order of the SKUs' bytes.
+#[derive(Debug, Drop)]
+pub enum Terms {
+    /// A quantity each hour, for rows in this unit and with one of these SKUs.
+    Usage {
+        /// The unit that the quantity is counted in.
+        unit: String,
+        /// The SKUs of the rows that the commitment is for.
+        skus: Vec<String>,
+    },
+    /// A cost each hour, for rows with the SKU of one of these rates.
+    Spend {
+        /// The rates, one for each SKU.
+        rates: Vec<Rate>,
+    },
+}
+
+impl Terms {
+    ghost use Rattle.fw_terms.specs.Commitment.{kind_of};
+    ghost use Rattle.fw_terms.specs.TermsView.{terms_view};
+
+    /// Which of the two kinds of commitment the terms are of.
+    pub fn kind(&self) -> DiscountKind
+        ensures { result ≡ kind_of (terms_view self.now) }
+    {
+        match self {
+            Terms::Usage { .. } => DiscountKind::Usage,
+            Terms::Spend { .. } => DiscountKind::Spend,
+        }
+    }
+
+    /// Equal terms.
+    pub fn copy(&self, alloc: Global) -> Result<Terms, AllocError>
+        ensures { IfOk result (λ t. terms_view t ≡ terms_view self.now) }
+    {
+        match self {
+            Terms::Usage { unit, skus } => {
+                let unit = String::from_str(alloc, unit)?;
+                let skus = copy_skus(alloc, skus)?;
+                Ok(Terms::Usage { unit, skus })
+            }
+            Terms::Spend { rates } => Ok(Terms::Spend {
+                rates: copy_rates(alloc, rates)?,
+            }),
+        }
+    }
+}
+
+fn copy_skus(alloc: Global, skus: &[String]) -> Result<Vec<String>, AllocError>
+    ensures { IfOk result (λ copies. map string_bytes copies.items ≡ map string_bytes skus.now) }
+{
+    let mut copies = Vec::with_capacity(alloc, skus.len())?;
+    for sku in skus {
+        copies.push(String::from_str(alloc, sku)?)?;
+    }
+    Ok(copies)
+}
+
+fn copy_rates(alloc: Global, rates: &[Rate]) -> Result<Vec<Rate>, AllocError>
+    ensures { IfOk result (λ copies. copies.items ≡ rates.now) }
+{
+    let mut copies = Vec::with_capacity(alloc, rates.len())?;
+    for rate in rates {
+        copies.push(rate.copy(alloc)?)?;
+    }
+    Ok(copies)
+}
+
+fn copy_purchases(alloc: Global, purchases: &[Purchase]) -> Result<Vec<Purchase>, AllocError>
+    ensures { IfOk result (λ copies. copies.items ≡ purchases.now) }
+{
+    let mut copies = Vec::with_capacity(alloc, purchases.len())?;
+    for purchase in purchases {
+        copies.push(Purchase {
+            at: purchase.at,
+            billed: purchase.billed,
+        })?;
+    }
+    Ok(copies)
+}
+
+/// The fields of a commitment.
+#[derive(Debug, Drop)]
+pub struct CommitmentFields {
+    /// The name by which rows refer to the commitment: 1 to 256 bytes.
+    pub id: String,
+    /// What is committed to.
+    pub terms: Terms,
+    /// The account whose rows it is for, of 1 to 256 bytes, or `None` where it is for those of each account.
+    pub sub_account: Option<String>,
+    /// The tags of the lines that speak of no row.
+    pub tags: Tags,
+    /// The first hour of the term, counted from 1970: at most 70,389,527, the last hour of the year 9999.
+    pub start: u32,
+    /// How many hours the term has: 1 to 26,304.
+    pub hours: u32,
+    /// What each hour of the term holds, in nanos of the unit or of the currency: above 0.
+    pub capacity: Nanos,
+    /// What was paid: 1 to 64 purchases, which together cost at most 10^17 nanos.
+    pub purchases: Vec<Purchase>,
+}
+
+/// A commitment: use or spending that was bought ahead, so much each hour of a term. It keeps the limits that [`CommitmentFields`] gives.
+#[derive(Debug, Drop)]
+pub struct Commitment {
+    fields: CommitmentFields,
+}
+
+impl Model for Commitment {
+    ghost use Rattle.std.specs.Prelude.{◌<ℤ◌, pos};
+    ghost use Rattle.fw_terms.specs.Commitment.{CommitmentValue, IsCommitment};
+
+    ghost Value = { CommitmentValue };
+
+    ghost use Rattle.fw_terms.specs.CommitmentView.{commitment_of};
+
+    ghost view = { λ c. commitment_of c.fields };
+
+    ghost invariant = { λ c. IsCommitment (commitment_of c.fields) × (pos 0 <ℤ c.fields.capacity) };
+}
+
+impl Commitment {
+    ghost use Rattle.fw_terms.specs.Commitment.{IsCommitment, kind_of, cost_of};
+    ghost use Rattle.fw_terms.specs.TermsView.{terms_view};
+    ghost use Rattle.fw_terms.specs.CommitmentView.{commitment_of};
+
+    /// The commitment with these fields, which keep the limits that [`CommitmentFields`] gives.
+    pub fn of_fields(fields: CommitmentFields) -> Commitment
+        requires in_limits { IsCommitment (commitment_of fields) }
+        requires some_capacity { pos 0 <ℤ fields.capacity }
+        ensures { result ≡ commitment_of fields }
+    {
+        Commitment { fields }
+    }
+
+    /// The name by which rows refer to the commitment.
+    pub fn id(&self) -> &str
+        ensures value { result.now ≡ self.now.id }
+        ensures in_limits { IsCommitment self.now }
+    {
+        &self.fields.id
+    }
+
+    /// What is committed to.
+    pub fn terms(&self) -> &Terms
+        ensures value { terms_view result.now ≡ self.now.terms }
+        ensures in_limits { IsCommitment self.now }
+    {
+        &self.fields.terms
+    }
+
+    /// Which of the two kinds of commitment it is.
+    pub fn kind(&self) -> DiscountKind
+        ensures { result ≡ kind_of self.now.terms }
+    {
+        self.fields.terms.kind()
+    }
+
+    /// The account whose rows it is for, or `None` where it is for those of each account.
+    pub fn sub_account(&self) -> Option<&str>
+        ensures { option_map (λ s. s.now) result ≡ self.now.sub_account }
+    {
+        self.fields.sub_account.as_deref()
+    }
+
+    /// The tags of the lines that speak of no row.
+    pub fn tags(&self) -> &Tags
+        ensures { result.now ≡ self.now.tags }
+    {
+        &self.fields.tags
+    }
+
+    /// The first hour of the term, counted from 1970.
+    pub fn start(&self) -> u32
+        ensures value { result ≡ self.now.start }
+        ensures in_limits { IsCommitment self.now }
+    {
+        self.fields.start
+    }
+
+    /// How many hours the term has.
+    pub fn hours(&self) -> u32
+        ensures value { result ≡ self.now.hours }
+        ensures in_limits { IsCommitment self.now }
+    {
+        self.fields.hours
+    }
+
+    /// What each hour of the term holds, in nanos of the unit or of the currency.
+    pub fn capacity(&self) -> Nanos
+        ensures value { result ≡ pos self.now.capacity }
+        ensures in_limits { IsCommitment self.now }
+    {
+        self.fields.capacity
+    }
+
+    /// The purchases, in the order in which they were given.
+    pub fn purchases(&self) -> &[Purchase]
+        ensures value { result.now ≡ self.now.purchases }
+        ensures in_limits { IsCommitment self.now }
+    {
+        &self.fields.purchases
+    }
+
+    /// What all the purchases cost together, in nanos.
+    pub fn cost(&self) -> Nanos
+        ensures { result ≡ pos (cost_of self.now.purchases) }
+    {
+        Nanos::of_fields(total_cost(self.purchases()) as i64)
+    }
+
+    /// An equal commitment.
+    pub fn copy(&self, alloc: Global) -> Result<Commitment, AllocError>
+        ensures { IfOk result (λ c. c ≡ self.now) }
+    {
+        let id = String::from_str(alloc, &self.fields.id)?;
+        let terms = self.fields.terms.copy(alloc)?;
+        let sub_account = copy_name(alloc, self.sub_account())?;
+        let tags = self.fields.tags.copy(alloc)?;
+        let purchases = copy_purchases(alloc, &self.fields.purchases)?;
+        Ok(Commitment {
+            fields: CommitmentFields {
+                id,
+                terms,
+                sub_account,
+                tags,
+                start: self.fields.start,
+                hours: self.fields.hours,
+                capacity: self.fields.capacity,
+                purchases,
+            },
+        })
+    }
+}
+
+fn copy_name(alloc: Global, name: Option<&str>) -> Result<Option<String>, AllocError>
+    ensures { IfOk result (λ copied. option_map string_bytes copied ≡ option_map (λ s. s.now) name.entry) }
+{
+    match name {
+        Some(name) => Ok(Some(String::from_str(alloc, name)?)),
+        None => Ok(None),
+    }
+}

@@ -1,0 +1,4 @@
+pub mod KindFacts
+pub mod NameFacts
+pub mod ListFacts
+pub mod Readings
