@@ -13,6 +13,7 @@ Exit status: 0 measured, 1 a program failed or gave a wrong answer, 2 a wrong
 command line or a machine on which nothing can be measured.
 """
 import argparse
+import csv
 import hashlib
 import os
 import platform
@@ -143,9 +144,11 @@ def first_difference(output, right):
 
 
 def amounts(report):
-    """The nanos of a report's one record."""
-    _group, billed, effective, charged = report.decode().splitlines()[1].split(",")
-    return [int(amount.replace(".", "")) for amount in (billed, effective, charged)]
+    """The nanos of a report's records, one after the other."""
+    records = list(csv.reader(report.decode().splitlines()))[1:]
+    if not records:
+        raise ValueError("no record")
+    return [int(amount.replace(".", "")) for record in records for amount in record[1:]]
 
 
 class Turn:
@@ -187,7 +190,7 @@ def build_rust(options, notes):
         notes.append(f"{RUST}: there is no cargo")
         return None
     if not os.path.isdir(DEBIAN_CRATES):
-        notes.append(f"{RUST}: Debian's librust-csv-dev isn't installed")
+        notes.append(f"{RUST}: Debian's librust-csv-dev and librust-serde-json-dev aren't installed")
         return None
     folder, target = os.path.join(options.scratch, "expert"), os.path.join(options.scratch, "target")
     shutil.copytree(os.path.join(PEERS, "expert"), folder, dirs_exist_ok=True)

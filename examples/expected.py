@@ -3,33 +3,51 @@
 
     python3 examples/expected.py examples/first-report.script
 
-It reads the posts by Python's csv and rounds each amount by its decimal: to the
-nearest 10^-9, ties to even. Sums are whole numbers and so exact. It knows posts
-whose rows are all acceptable and reports over one group, the empty text; at
-anything else it stops with status 1 and says what it met, so that it never
-makes up an answer.
+It reads the posts by Python's csv and json, commitments and policies by
+tomllib, and rounds each amount by its decimal: to the nearest 10^-9, ties to
+even. Sums, shares and floors are whole numbers and so exact. It knows entries
+that are all acceptable; at anything else it stops with status 1 and says what
+it met, so that it never makes up an answer.
 """
 import csv
 import datetime
 import decimal
 import io
+import json
 import re
 import sys
+import tomllib
+from collections import defaultdict
+from fractions import Fraction
 
-COLUMNS = "BilledCost EffectiveCost BillingCurrency ChargeCategory ChargePeriodStart ChargePeriodEnd".split()
+REQUIRED = "BilledCost EffectiveCost BillingCurrency ChargeCategory ChargePeriodStart ChargePeriodEnd".split()
+OPTIONAL = (
+    "ChargeClass CommitmentDiscountId CommitmentDiscountCategory CommitmentDiscountStatus ConsumedQuantity ConsumedUnit "
+    "SkuId SubAccountId Tags"
+).split()
 CATEGORIES = {"Usage", "Purchase", "Tax", "Credit", "Adjustment"}
 NUMBER = re.compile(r"[+-]?(?:[0-9]+\.?[0-9]*|\.[0-9]+)(?:[eE]([+-]?[0-9]+))?")
-INSTANT = re.compile(r"\d{4}-\d\d-\d\dT\d\d:\d\d(?::\d\d)?Z", re.ASCII)
+INSTANT = re.compile(r"(\d{4}-\d\d-\d\dT\d\d:\d\d)(:\d\d(?:\.0+)?)?Z", re.ASCII)
 MOST_ROWS = 4_096
 MOST_NANOS = 10**17
 MOST_HOURS = 26_304
 MOST_LINES = 1_000_000
+MOST_TOTAL = 10**19
 EXACT = decimal.Context(prec=100, rounding=decimal.ROUND_HALF_EVEN)
 NANOS_OF_ONE = decimal.Decimal(10**9)
+REPORT_HEADER = ["Group", "BilledCost", "EffectiveCost", "ChargedCost"]
+LINES_HEADER = (
+    "Hour ChargeCategory CommitmentDiscountId CommitmentDiscountCategory CommitmentDiscountStatus BilledCost EffectiveCost "
+    "ConsumedQuantity SkuId SubAccountId"
+).split()
 
 
 class Unknown(Exception):
     """Something that this program can't answer."""
+
+
+class OutOfRange(Unknown):
+    """A number text past 10^17 nanos."""
 
 
 def nanos(text):
@@ -40,7 +58,7 @@ def nanos(text):
     exact = EXACT.multiply(decimal.Decimal(text), NANOS_OF_ONE)
     rounded = int(exact.to_integral_value(rounding=decimal.ROUND_HALF_EVEN))
     if abs(rounded) > MOST_NANOS:
-        raise Unknown(f"the amount {text!r}")
+        raise OutOfRange(f"the amount {text!r}")
     return rounded
 
 
@@ -48,6 +66,16 @@ def spelled(amount):
     """Nanos as a text with nine decimals."""
     whole, part = divmod(abs(amount), 10**9)
     return f"{'-' if amount < 0 else ''}{whole}.{part:09d}"
+
+
+def record(fields):
+    """A CSV record, quoted only where it must be."""
+    return ",".join('"' + f.replace('"', '""') + '"' if any(c in f for c in ',"\r\n') else f for f in fields) + "\n"
+
+
+def sized(text):
+    """A text behind the line that says how many bytes it has."""
+    return f"bytes {len(text.encode())}\n{text}"
 
 
 class Times:
@@ -58,82 +86,298 @@ class Times:
 
     def seconds(self, text):
         if text not in self.known:
-            if not INSTANT.fullmatch(text):
+            found = INSTANT.fullmatch(text)
+            if not found:
                 raise Unknown(f"the time {text!r}")
-            form = "%Y-%m-%dT%H:%MZ" if len(text) == 17 else "%Y-%m-%dT%H:%M:%SZ"
             try:
-                time = datetime.datetime.strptime(text, form)
+                time = datetime.datetime.strptime(found[1] + (found[2] or ":00")[:3], "%Y-%m-%dT%H:%M:%S")
             except ValueError as why:
                 raise Unknown(f"the time {text!r}: {why}") from why
             self.known[text] = (time - datetime.datetime(1970, 1, 1)) // datetime.timedelta(seconds=1)
         return self.known[text]
 
+    def hour(self, text):
+        hour, rest = divmod(self.seconds(text), 3_600)
+        if rest:
+            raise Unknown(f"the time {text!r}, which isn't on a whole hour")
+        return hour
+
+
+def number_in_json(text):
+    raise Unknown(f"the number {text} among tags")
+
+
+def tags_of(text, known={}):
+    """The tags of a row; words in place of true and false, and the empty text in place of null."""
+    if text == "":
+        return {}
+    if text not in known:
+        read = json.loads(text, parse_int=number_in_json, parse_float=number_in_json, parse_constant=number_in_json)
+        if not isinstance(read, dict) or len(read) > 256:
+            raise Unknown(f"the tags {text!r}")
+        words = {None: "", True: "true", False: "false"}
+        tags = {key: value if isinstance(value, str) else words[value] for key, value in read.items() if not isinstance(value, (dict, list))}
+        if len(tags) != len(read) or any(len(t.encode()) > 1_024 for pair in tags.items() for t in pair):
+            raise Unknown(f"the tags {text!r}")
+        known[text] = tags
+    return known[text]
+
+
+class Row:
+    """A charge row."""
+
+    def __init__(self, fields, times, currency):
+        start, end = times.seconds(fields["ChargePeriodStart"]), times.seconds(fields["ChargePeriodEnd"])
+        self.category = fields["ChargeCategory"]
+        self.corrects = fields["ChargeClass"]
+        self.id, self.kind, self.status = (
+            fields["CommitmentDiscountId"], fields["CommitmentDiscountCategory"], fields["CommitmentDiscountStatus"],
+        )  # fmt: skip
+        self.unit, self.sku, self.account = fields["ConsumedUnit"], fields["SkuId"], fields["SubAccountId"]
+        right = [
+            fields["BillingCurrency"] == currency and self.category in CATEGORIES and 0 <= start <= end,
+            self.corrects in ("", "Correction") and self.kind in ("", "Usage", "Spend") and self.status in ("", "Used", "Unused"),
+            (self.id == "") == (self.kind == ""),
+            self.status == "" if self.id == "" else self.status != "" or self.category != "Usage",
+            all(len(text.encode()) <= 256 for text in (self.id, self.unit, self.sku, self.account)),
+        ]
+        if not all(right):
+            raise Unknown(f"the row {fields}")
+        self.hour = start // 3_600
+        self.is_clock_hour = start % 3_600 == 0 and end == start + 3_600
+        self.billed, self.effective = nanos(fields["BilledCost"]), nanos(fields["EffectiveCost"])
+        try:
+            self.quantity = nanos(fields["ConsumedQuantity"]) if fields["ConsumedQuantity"] else None
+        except OutOfRange:
+            self.quantity = None
+        self.tags = tags_of(fields["Tags"])
+
+    def is_eligible(self):
+        """Whether a commitment may cover it."""
+        return (
+            self.category == "Usage" and not self.id and not self.corrects and self.is_clock_hour and self.sku != ""
+            and self.quantity is not None and self.quantity > 0 and self.billed >= 0 and self.effective >= 0
+        )  # fmt: skip
+
+
+class Commitment:
+    """What was committed to, and what was paid for it."""
+
+    def __init__(self, table, times):
+        self.id, self.kind = table.pop("id"), table.pop("category")
+        self.start, self.hours = times.hour(table.pop("start")), table.pop("hours")
+        self.capacity = nanos(table.pop("capacity"))
+        if self.kind == "Usage":
+            self.unit, self.rates = table.pop("unit"), {sku: None for sku in table.pop("skus")}
+        else:
+            self.unit, self.rates = None, table.pop("rates")
+        self.account = table.pop("sub_account", None)
+        self.tags = table.pop("tags", {})
+        self.purchases = [(times.seconds(p["at"]) // 3_600, nanos(p["billed"])) for p in table.pop("purchase")]
+        if table:
+            raise Unknown(f"the fields {sorted(table)} of a commitment")
+
+    def runs_in(self, hour):
+        return self.start <= hour < self.start + self.hours
+
+    def applies_to(self, row):
+        same = row.sku in self.rates and self.account in (None, row.account)
+        return same and self.unit in (None, row.unit)
+
+    def amount(self, hour):
+        """The part of the purchases that an hour of the term carries."""
+        paid, k = sum(billed for _, billed in self.purchases), hour - self.start
+        return paid * (k + 1) // self.hours - paid * k // self.hours
+
+
+def shares(total, weights):
+    """A total in parts by weights, by largest remainder; a tie goes to the earlier place."""
+    exact = [Fraction(abs(total) * weight, sum(weights)) for weight in weights]
+    parts = [int(part) for part in exact]
+    first = sorted(range(len(weights)), key=lambda i: (parts[i] - exact[i], i))
+    for i in first[: abs(total) - sum(parts)]:
+        parts[i] += 1
+    return [-part if total < 0 else part for part in parts]
+
+
+class Line:
+    """A line of an hour."""
+
+    def __init__(self, hour, category, owner, billed, effective, quantity, sku, account, tags):
+        self.hour, self.category, self.owner = hour, category, owner
+        self.billed, self.effective, self.quantity = billed, effective, quantity
+        self.sku, self.account, self.tags = sku, account, tags
+
+    def fields(self):
+        quantity = "" if self.quantity is None else spelled(self.quantity)
+        amounts = [spelled(self.billed), spelled(self.effective), quantity]
+        return [str(self.hour), self.category, *self.owner, *amounts, self.sku, self.account or ""]
+
+
+def lines_of_hour(commitments, rows, hour):
+    """The lines of an hour; `rows` are its rows in the order in which they were accepted."""
+    for c in commitments:
+        for at, billed in c.purchases:
+            if at == hour:
+                yield Line(hour, "Purchase", (c.id, c.kind, ""), billed, 0, None, "", c.account, c.tags)
+    for row in rows:
+        if not row.is_eligible():
+            owner = (row.id, row.kind, row.status)
+            yield Line(hour, row.category, owner, row.billed, row.effective, row.quantity, row.sku, row.account, row.tags)
+    rows = [row for row in rows if row.is_eligible()]
+    left = [row.quantity for row in rows]
+    for c in sorted(commitments, key=lambda c: (c.kind == "Spend", c.start, c.id.encode())):
+        if not c.runs_in(hour):
+            continue
+        capacity, taken = c.capacity, []
+        places = [i for i, row in enumerate(rows) if c.applies_to(row)]
+        for i in sorted(places, key=lambda i: c.rates[rows[i].sku] or 0):
+            row = rows[i]
+            if c.kind == "Usage":
+                quantity = weight = min(left[i], capacity)
+            else:
+                cost = row.billed * left[i] // row.quantity
+                need = -(-cost * c.rates[row.sku] // 10**6)
+                quantity, weight = (left[i], need) if need <= capacity else (left[i] * capacity // need, capacity)
+                quantity = 0 if need == 0 else quantity
+            if quantity:
+                taken.append((row, quantity, weight))
+                left[i] -= quantity
+                capacity -= weight
+        weights = [weight for _, _, weight in taken] + [capacity] * (capacity > 0)
+        parts = shares(c.amount(hour), weights)
+        for (row, quantity, _), part in zip(taken, parts):
+            yield Line(hour, "Usage", (c.id, c.kind, "Used"), 0, part, quantity, row.sku, row.account, row.tags)
+        if capacity:
+            yield Line(hour, "Usage", (c.id, c.kind, "Unused"), 0, parts[-1], None, "", c.account, c.tags)
+    for row, u in zip(rows, left):
+        if u:
+            billed, effective = row.billed * u // row.quantity, row.effective * u // row.quantity
+            yield Line(hour, row.category, ("", "", ""), billed, effective, u, row.sku, row.account, row.tags)
+
+
+def charged(direct, policy):
+    """What each group is charged: its direct cost, less what the policy gives away of it, and the shares that it gets."""
+    out = defaultdict(int, direct)
+    froms = {rule["from"] for rule in policy["rule"]}
+    for rule in policy["rule"]:
+        if "to" in rule:
+            weights = rule["to"]
+        else:
+            weights = {group: cost for group, cost in direct.items() if cost > 0 and group not in froms}
+        total = direct.get(rule["from"], 0)
+        for group in [rule["from"], *rule.get("to", {})]:
+            out[group] += 0
+        if sum(weights.values()):
+            groups = sorted(weights, key=str.encode)
+            out[rule["from"]] -= total
+            for group, part in zip(groups, shares(total, [weights[group] for group in groups])):
+                out[group] += part
+    return out
+
 
 class Warehouse:
-    """The rows posted so far, as (hour, billed, effective)."""
+    """What was accepted so far."""
 
     def __init__(self, currency="USD"):
         self.currency = currency
-        self.rows = []
-        self.posts = 0
+        self.entries = 0
+        self.rows = defaultdict(list)
+        self.commitments = []
+        self.policy = None
         self.times = Times()
+
+    def accepted(self):
+        self.entries += 1
+        return f"accepted {self.entries}\n"
 
     def post(self, text):
         if text.startswith(b"\xef\xbb\xbf"):
             text = text[3:]
         records = csv.reader(io.StringIO(text.decode(), newline=""), strict=True)
-        records = (record for record in records if record)
+        records = (fields for fields in records if fields)
         header = next(records)
-        if any(header.count(column) != 1 for column in COLUMNS):
+        if any(header.count(c) != 1 for c in REQUIRED) or any(header.count(c) > 1 for c in OPTIONAL):
             raise Unknown(f"the header {header}")
-        places = [header.index(column) for column in COLUMNS]
+        places = {c: header.index(c) for c in REQUIRED + OPTIONAL if c in header}
         rows = []
-        for record in records:
-            if len(record) != len(header):
-                raise Unknown(f"a row of {len(record)} fields under a header of {len(header)}")
-            rows.append(self.row(*(record[place] for place in places)))
-        if not 1 <= len(rows) <= MOST_ROWS:
+        for fields in records:
+            if len(fields) != len(header):
+                raise Unknown(f"a row of {len(fields)} fields under a header of {len(header)}")
+            named = {c: fields[places[c]] if c in places else "" for c in REQUIRED + OPTIONAL}
+            rows.append(Row(named, self.times, self.currency))
+        if not 1 <= len(rows) <= MOST_ROWS or {row.id for row in rows} & {c.id for c in self.commitments}:
             raise Unknown(f"a post of {len(rows)} rows")
-        self.rows += rows
-        self.posts += 1
-        return f"accepted {self.posts}\n"
+        for row in rows:
+            self.rows[row.hour].append(row)
+        return self.accepted()
 
-    def row(self, billed, effective, currency, category, start, end):
-        start, end = self.times.seconds(start), self.times.seconds(end)
-        if currency != self.currency or category not in CATEGORIES or start < 0 or end < start:
-            raise Unknown(f"the row {(currency, category, start, end)}")
-        return start // 3_600, nanos(billed), nanos(effective)
+    def commit(self, text):
+        commitment = Commitment(tomllib.loads(text.decode()), self.times)
+        ids = {c.id for c in self.commitments} | {row.id for rows in self.rows.values() for row in rows}
+        if commitment.id in ids:
+            raise Unknown(f"a commitment of the id {commitment.id}, which is there")
+        self.commitments.append(commitment)
+        return self.accepted()
 
-    def report(self, low, high):
-        low, high = self.times.seconds(low), self.times.seconds(high)
-        if low % 3_600 or high % 3_600:
-            raise Unknown("a report that doesn't lie on whole hours")
-        low, high = low // 3_600, high // 3_600
+    def set_policy(self, text):
+        policy = tomllib.loads(text.decode())
+        self.policy = {"key": policy["key"], "rule": policy.get("rule", [])}
+        return self.accepted()
+
+    def lines_between(self, low, high):
+        """The lines of a range of hours, or None where it is no range."""
+        low, high = self.times.hour(low), self.times.hour(high)
         if low >= high or high - low > MOST_HOURS:
+            return None
+        hours = (h for h in range(low, high) if h in self.rows or any(self.touches(c, h) for c in self.commitments))
+        return (line for h in hours for line in lines_of_hour(self.commitments, self.rows.get(h, []), h))
+
+    @staticmethod
+    def touches(commitment, hour):
+        return commitment.runs_in(hour) or any(at == hour for at, _ in commitment.purchases)
+
+    def lines(self, low, high):
+        lines = self.lines_between(low, high)
+        if lines is None:
             return "refused Q1 Range\n"
-        text = "Group,BilledCost,EffectiveCost,ChargedCost\n"
-        chosen = [row for row in self.rows if low <= row[0] < high]
-        if chosen:
-            billed = spelled(sum(row[1] for row in chosen))
-            effective = spelled(sum(row[2] for row in chosen))
-            text += f",{billed},{effective},{effective}\n"
-        return f"bytes {len(text)}\n{text}"
+        return sized(record(LINES_HEADER) + "".join(record(line.fields()) for line in lines))
+
+    def report(self, key, low, high):
+        lines = self.lines_between(low, high)
+        if lines is None:
+            return "refused Q1 Range\n"
+        billed, direct = defaultdict(int), defaultdict(int)
+        for line in lines:
+            group = line.tags.get(key, "")
+            billed[group] += line.billed
+            direct[group] += line.effective
+        if sum(abs(cost) for cost in direct.values()) > MOST_TOTAL:
+            return "refused Q2 TotalTooLarge\n"
+        charges = charged(direct, self.policy) if self.policy and self.policy["key"] == key else direct
+        text = record(REPORT_HEADER)
+        for group in sorted(charges, key=str.encode):
+            text += record([group, *map(spelled, (billed[group], direct.get(group, 0), charges[group]))])
+        return sized(text)
 
 
 def answers(script):
     """The answers to the commands of a script, one after the other."""
     warehouse = Warehouse()
+    entries = {"post": warehouse.post, "commit": warehouse.commit, "policy": warehouse.set_policy}
     for line in script:
         words = line.decode().rstrip("\n").split(" ")
-        if words[0] == "post" and len(words) == 4:
+        if words[0] in entries and len(words) == 4:
             if not re.fullmatch(r"[0-9]{1,7}", words[3]) or int(words[3]) > MOST_LINES:
-                raise Unknown(f"a post of {words[3]!r} lines")
+                raise Unknown(f"an entry of {words[3]!r} lines")
             content = [next(script, b"") for _ in range(int(words[3]))]
             if not all(content):
-                raise Unknown("a post with fewer lines than it names")
-            yield warehouse.post(b"".join(content))
+                raise Unknown("an entry with fewer lines than it names")
+            yield entries[words[0]](b"".join(content))
         elif words[0] == "report" and len(words) >= 4:
-            yield warehouse.report(words[-2], words[-1])
+            yield warehouse.report(" ".join(words[1:-2]), words[-2], words[-1])
+        elif words[0] == "lines" and len(words) == 3:
+            yield warehouse.lines(words[1], words[2])
         else:
             raise Unknown(f"the command {' '.join(words)!r}")
 
@@ -145,9 +389,9 @@ def main():
     try:
         with open(sys.argv[1], "rb") if sys.argv[1:] else sys.stdin.buffer as script:
             for answer in answers(iter(script.readline, b"")):
-                sys.stdout.write(answer)
-    except (Unknown, OSError, ValueError, csv.Error) as why:
-        print(f"expected.py: this program has no answer to {why}", file=sys.stderr)
+                sys.stdout.buffer.write(answer.encode())
+    except (Unknown, OSError, ValueError, KeyError, csv.Error) as why:
+        print(f"expected.py: this program has no answer to {why!r}", file=sys.stderr)
         return 1
     return 0
 

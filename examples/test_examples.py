@@ -11,7 +11,11 @@ import tempfile
 import unittest
 
 HERE = os.path.dirname(os.path.abspath(__file__))
-FILES = ["focus-export.csv", "first-report.script", "first-report.expected"]
+FILES = [
+    "focus-export.csv",
+    *(f"{name}.{kind}" for name in ("first-report", "providers", "commitments") for kind in ("script", "expected")),
+    *(f"providers/{name}.csv" for name in ("amazon", "microsoft", "google", "oracle")),
+]
 
 
 def read(*path):
@@ -68,6 +72,27 @@ class Example(unittest.TestCase):
         # 0 + 2 - 2 + 12,000 nanos; 1 + 0.5 units and 1 nano.
         wanted = "Group,BilledCost,EffectiveCost,ChargedCost\n,0.000012000,1.500000001,1.500000001\n"
         self.assertEqual((ran.returncode, ran.stdout.decode()), (0, f"accepted 1\nbytes {len(wanted)}\n{wanted}"))
+
+    def test_the_oracle_on_shares_done_by_hand(self):
+        """Ten nanos over three hours are 3, 3 and 4. In the first hour two rows of 1 and 0.5 hours and an unused half share 3."""
+        script = (
+            b'commit a 1 10\nid = "c"\ncategory = "Usage"\nstart = "2024-01-01T00:00Z"\nhours = 3\ncapacity = "2"\nunit = "Hours"\n'
+            b'skus = ["vm"]\n[[purchase]]\nat = "2024-01-01T00:00Z"\nbilled = "1e-8"\n'
+            b"post a 2 3\n"
+            b"BilledCost,EffectiveCost,BillingCurrency,ChargeCategory,ChargePeriodStart,ChargePeriodEnd,ConsumedQuantity,ConsumedUnit,SkuId,Tags\n"
+            b'9,9,USD,Usage,2024-01-01T00:00Z,2024-01-01T01:00Z,1,Hours,vm,"{""team"":""web""}"\n'
+            b'9,9,USD,Usage,2024-01-01T00:00Z,2024-01-01T01:00Z,0.5,Hours,vm,"{""team"":true}"\n'
+            b'policy a 3 4\nkey = "team"\n[[rule]]\nfrom = ""\nto = { web = 3, lab = 1 }\n'
+            b"report team 2024-01-01T00:00Z 2024-01-01T03:00Z\n"
+        )
+        ran = answers_to(script)
+        # The group without a team keeps what nothing used, 1 + 3 + 4 nanos, and gives them away as 6 and 2.
+        wanted = (
+            "Group,BilledCost,EffectiveCost,ChargedCost\n,0.000000010,0.000000008,0.000000000\nlab,0.000000000,0.000000000,0.000000002\n"
+            "true,0.000000000,0.000000001,0.000000001\nweb,0.000000000,0.000000001,0.000000007\n"
+        )
+        answers = "accepted 1\naccepted 2\naccepted 3\n"
+        self.assertEqual((ran.returncode, ran.stdout.decode()), (0, f"{answers}bytes {len(wanted)}\n{wanted}"))
 
     def test_the_oracle_makes_up_no_answer(self):
         for line in ["state", "post a 1 2\nBilledCost\n1"]:

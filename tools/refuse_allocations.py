@@ -23,7 +23,7 @@ from concurrent.futures import ThreadPoolExecutor
 # because a volume in memory could not grow.
 WANT_OF_MEMORY = {"AllocError", "NoMemory", "Io", "Device", "OutOfMemory"}
 # The last allocation that is refused where the command line doesn't say.
-MOST = 12
+MOST = 3
 
 
 def crates_with_tests(top):

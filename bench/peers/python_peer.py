@@ -9,6 +9,7 @@ scripts do. The export is one file; each different text of a time is read once.
 import csv
 import datetime
 import decimal
+import json
 import sys
 
 COLUMNS = "BilledCost EffectiveCost BillingCurrency ChargeCategory ChargePeriodStart ChargePeriodEnd".split()
@@ -44,17 +45,25 @@ class Times(dict):
         return self[text]
 
 
+def team(text):
+    """The group of a text of tags."""
+    group = json.loads(text).get("team") if text else None
+    return {None: "", True: "true", False: "false"}.get(group, group)
+
+
 def read_rows(path, amount):
     times, kept = Times(), []
     with open(path, newline="", encoding="utf-8-sig") as file:
         records = csv.reader(file, strict=True)
         header = next(records)
         billed, effective, currency, category, start, end = (header.index(column) for column in COLUMNS)
+        tags = header.index("Tags") if "Tags" in header else None
         for record in records:
             first, last = times[record[start]], times[record[end]]
             if record[currency] != "USD" or record[category] not in CATEGORIES or not 0 <= first <= last:
                 raise ValueError(f"line {records.line_num} breaks a rule")
-            kept.append((first, amount(record[billed]), amount(record[effective])))
+            group = team(record[tags]) if tags is not None else ""
+            kept.append((first, group, amount(record[billed]), amount(record[effective])))
     return kept
 
 
@@ -63,11 +72,17 @@ def main():
     amount, spell = (read_exact, spell_exact) if how == "exact" else (float, spell_float)
     kept = read_rows(path, amount)
     low, high = seconds(low), seconds(high)
-    chosen = [row for row in kept if low <= row[0] < high]
-    print("Group,BilledCost,EffectiveCost,ChargedCost")
-    if chosen:
-        billed, effective = sum(row[1] for row in chosen), spell(sum(row[2] for row in chosen))
-        print(f",{spell(billed)},{effective},{effective}")
+    sums = {}
+    for start, group, billed, effective in kept:
+        if low <= start < high:
+            pair = sums.setdefault(group, [0, 0])
+            pair[0] += billed
+            pair[1] += effective
+    out = csv.writer(sys.stdout, lineterminator="\n")
+    out.writerow(["Group", "BilledCost", "EffectiveCost", "ChargedCost"])
+    for group in sorted(sums, key=str.encode):
+        billed, effective = map(spell, sums[group])
+        out.writerow([group, billed, effective, effective])
 
 
 if __name__ == "__main__":

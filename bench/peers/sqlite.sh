@@ -41,7 +41,18 @@ spelled() {
     echo "printf('%s%d.%09d', CASE WHEN $1 < 0 THEN '-' ELSE '' END, abs($1) / 1000000000, abs($1) % 1000000000)"
 }
 
+# A text as a field of a CSV, quoted where it must be.
+quoted() {
+    echo "CASE WHEN $1 GLOB '*[,\"]*' OR instr($1, char(10)) OR instr($1, char(13)) THEN '\"' || replace($1, '\"', '\"\"') || '\"' ELSE $1 END"
+}
+
 in_range="substr(ChargePeriodStart, 1, 16) >= '$low' AND substr(ChargePeriodStart, 1, 16) < '$high'"
+# The team of a row: true and false count as these words, null and a missing tag as the empty text.
+team="''"
+if head -n 1 "$export" | grep -qw Tags; then
+    team="CASE WHEN Tags = '' THEN '' ELSE CASE json_type(Tags, '\$.team')
+      WHEN 'true' THEN 'true' WHEN 'false' THEN 'false' ELSE coalesce(json_extract(Tags, '\$.team'), '') END END"
+fi
 {
     echo "PRAGMA temp_store = MEMORY;"
     echo ".mode csv"
@@ -49,15 +60,15 @@ in_range="substr(ChargePeriodStart, 1, 16) >= '$low' AND substr(ChargePeriodStar
     echo ".mode list"
     echo "SELECT 'Group,BilledCost,EffectiveCost,ChargedCost';"
     if [ "$how" = exact ]; then
-        echo "WITH amounts AS (SELECT $(plain BilledCost) AS billed, $(plain EffectiveCost) AS effective"
+        echo "WITH amounts AS (SELECT $team AS team, $(plain BilledCost) AS billed, $(plain EffectiveCost) AS effective"
         echo "  FROM charge WHERE $in_range),"
-        echo "sums AS (SELECT sum($(nanos billed)) AS billed, sum($(nanos effective)) AS effective, count(*) AS rows"
-        echo "  FROM amounts)"
-        echo "SELECT ',' || $(spelled billed) || ',' || $(spelled effective) || ',' || $(spelled effective)"
-        echo "  FROM sums WHERE rows > 0;"
+        echo "sums AS (SELECT team, sum($(nanos billed)) AS billed, sum($(nanos effective)) AS effective"
+        echo "  FROM amounts GROUP BY team)"
+        echo "SELECT $(quoted team) || ',' || $(spelled billed) || ',' || $(spelled effective) || ',' || $(spelled effective)"
+        echo "  FROM sums ORDER BY team;"
     else
-        echo "WITH sums AS (SELECT sum(CAST(BilledCost AS REAL)) AS billed,"
-        echo "  sum(CAST(EffectiveCost AS REAL)) AS effective, count(*) AS rows FROM charge WHERE $in_range)"
-        echo "SELECT printf(',%.9f,%.9f,%.9f', billed, effective, effective) FROM sums WHERE rows > 0;"
+        echo "WITH sums AS (SELECT $team AS team, sum(CAST(BilledCost AS REAL)) AS billed,"
+        echo "  sum(CAST(EffectiveCost AS REAL)) AS effective FROM charge WHERE $in_range GROUP BY 1)"
+        echo "SELECT $(quoted team) || printf(',%.9f,%.9f,%.9f', billed, effective, effective) FROM sums ORDER BY team;"
     fi
 } | sqlite3 -batch :memory:

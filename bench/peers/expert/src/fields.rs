@@ -4,15 +4,26 @@ const MOST_NANOS: u64 = 100_000_000_000_000_000;
 const MOST_DIGITS: usize = 40;
 const MOST_EXPONENT: i32 = 40;
 
+/// Why a text is no amount.
+#[derive(PartialEq)]
+pub enum NoAmount {
+    /// It is no number text, or too long a one.
+    NoNumber,
+    /// It is past the greatest amount.
+    TooGreat,
+}
+
 /// An amount as nanos, rounded to the nearest one and on a tie to the even one.
-/// `None` where the text is no number, too long, or its amount too great.
-pub fn nanos(text: &[u8]) -> Option<i64> {
+pub fn nanos(text: &[u8]) -> Result<i64, NoAmount> {
     if text.len() > MOST_DIGITS {
-        return None;
+        return Err(NoAmount::NoNumber);
     }
     let (is_negative, text) = take_sign(text);
     let (mantissa, exponent) = match text.iter().position(|byte| matches!(byte, b'e' | b'E')) {
-        Some(at) => (&text[..at], exponent(&text[at + 1..])?),
+        Some(at) => (
+            &text[..at],
+            exponent(&text[at + 1..]).ok_or(NoAmount::NoNumber)?,
+        ),
         None => (text, 0),
     };
     let (whole, fraction) = match mantissa.iter().position(|&byte| byte == b'.') {
@@ -20,7 +31,7 @@ pub fn nanos(text: &[u8]) -> Option<i64> {
         None => (mantissa, &[][..]),
     };
     if (whole.is_empty() && fraction.is_empty()) || !all_digits(whole) || !all_digits(fraction) {
-        return None;
+        return Err(NoAmount::NoNumber);
     }
     let mut digits = whole
         .iter()
@@ -32,16 +43,16 @@ pub fn nanos(text: &[u8]) -> Option<i64> {
     for _ in 0..kept {
         amount = amount * 10 + digits.next().unwrap_or(0);
         if amount > MOST_NANOS {
-            return None;
+            return Err(NoAmount::TooGreat);
         }
     }
     if kept >= 0 && rounds_up(digits, amount % 2 == 1) {
         amount += 1;
     }
     if amount > MOST_NANOS {
-        return None;
+        return Err(NoAmount::TooGreat);
     }
-    Some(if is_negative {
+    Ok(if is_negative {
         -(amount as i64)
     } else {
         amount as i64

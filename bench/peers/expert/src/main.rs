@@ -5,19 +5,25 @@
 //! same words. Rows are kept as an expert would keep them: amounts as whole nanos
 //! (10^-9 of the currency unit), times as seconds since 1970.
 mod fields;
+mod names;
 mod rows;
 mod warehouse;
 
 use std::fmt;
 use std::io::{self, BufRead, BufReader, BufWriter, Write};
-use warehouse::{Report, Warehouse};
+use std::collections::BTreeMap;
+use warehouse::{NoReport, Sums, Warehouse};
 
 const BUFFER: usize = 1 << 18;
 const MOST_LINES: usize = 1_000_000;
 
 enum Command {
     Post { lines: usize },
-    Report { from_hour: i64, to_hour: i64 },
+    Report {
+        key: String,
+        from_hour: i64,
+        to_hour: i64,
+    },
 }
 
 impl Command {
@@ -41,8 +47,8 @@ impl Command {
             .strip_prefix(b"report ")?
             .rsplitn(3, |&byte| byte == b' ');
         let (to, from, key) = (words.next()?, words.next()?, words.next()?);
-        std::str::from_utf8(key).ok()?;
         Some(Command::Report {
+            key: std::str::from_utf8(key).ok()?.to_string(),
             from_hour: whole_hour(from)?,
             to_hour: whole_hour(to)?,
         })
@@ -65,15 +71,19 @@ fn read_lines(input: &mut impl BufRead, count: usize, text: &mut Vec<u8>) -> io:
     Ok(count)
 }
 
-impl fmt::Display for Report {
-    fn fmt(&self, out: &mut fmt::Formatter<'_>) -> fmt::Result {
-        out.write_str("Group,BilledCost,EffectiveCost,ChargedCost\n")?;
-        if let Some(sums) = &self.sums {
-            let (billed, effective) = (Nanos(sums.billed), Nanos(sums.effective));
-            writeln!(out, ",{billed},{effective},{effective}")?;
-        }
-        Ok(())
+/// The text of a report.
+fn report_text(report: &BTreeMap<&str, Sums>) -> String {
+    let mut text = String::from("Group,BilledCost,EffectiveCost,ChargedCost\n");
+    for (group, sums) in report {
+        let (billed, effective) = (Nanos(sums.billed), Nanos(sums.effective));
+        let quoted = if group.contains([',', '"', '\r', '\n']) {
+            format!("\"{}\"", group.replace('"', "\"\""))
+        } else {
+            group.to_string()
+        };
+        text += &format!("{quoted},{billed},{effective},{effective}\n");
     }
+    text
 }
 
 struct Nanos(i128);
@@ -110,15 +120,18 @@ fn main() -> io::Result<()> {
                     Err(fault) => writeln!(output, "refused {fault}")?,
                 }
             }
-            Some(Command::Report { from_hour, to_hour }) => {
-                match warehouse.report(from_hour, to_hour) {
-                    Some(report) => {
-                        let text = report.to_string();
-                        write!(output, "bytes {}\n{text}", text.len())?;
-                    }
-                    None => writeln!(output, "refused Q1 Range")?,
+            Some(Command::Report {
+                key,
+                from_hour,
+                to_hour,
+            }) => match warehouse.report(&key, from_hour, to_hour) {
+                Ok(report) => {
+                    let text = report_text(&report);
+                    write!(output, "bytes {}\n{text}", text.len())?;
                 }
-            }
+                Err(NoReport::Range) => writeln!(output, "refused Q1 Range")?,
+                Err(NoReport::TotalTooLarge) => writeln!(output, "refused Q2 TotalTooLarge")?,
+            },
         }
     }
     output.flush()
