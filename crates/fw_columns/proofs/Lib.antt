@@ -1,0 +1,6 @@
+mod NameFacts
+mod TextFacts
+mod TableFacts
+mod RowFacts
+mod JoinFacts
+mod GroupFacts

@@ -1,0 +1,62 @@
+use Rattle.std.proofs.Common.{◌≤◌, ◌*◌, ◌^◌, ◌∙◌, ap, subst, ℕ, List, length, arith}
+use Rattle.std.proofs.lemmas.List.Elements.{All-same}
+use Rattle.fw_columns.specs.Joining.{AreCodedOf, AreTagsOf}
+use Rattle.std.proofs.lemmas.List.{length-map}
+use Rattle.fw_columns.specs.Names.{place_of}
+use Rattle.fw_columns.specs.Table.{rows_of}
+use Rattle.fw_columns.proofs.JoinFacts.{codes_below, tags_below, joined_columns}
+use Rattle.fw_columns.proofs.joining.joined.Goals as goal
+
+pub joined_names-requires : goal.joined_names-requires
+joined_names-requires c =
+    let a : length c.args.first.now.names ≤ 516 * length (rows_of c.args.first.now) = c.requires.first.names_few in
+    let b : length c.args.second.now.names ≤ 516 * length (rows_of c.args.second.now) = c.requires.second.names_few in
+    omega (arith, a, b, c.requires.few)
+
+pub joined_coded-requires-clause-first : goal.joined_coded-requires-clause-first
+joined_coded-requires-clause-first c =
+    let t = c.args.first.now in
+    codes_below t (rows_of t) c.requires.first (length c.as_slice.result.now)
+    (ap length c.as_slice.ensures.value ∙ (ap length c.in_ok-one.ensures.places ∙ length-map t.names (place_of c.in_ok-names.names)))
+
+pub joined_coded-requires-clause-second : goal.joined_coded-requires-clause-second
+joined_coded-requires-clause-second c =
+    let t = c.args.second.now in
+    codes_below t (rows_of t) c.requires.second (length c.as_slice-2.result.now)
+    (ap length c.as_slice-2.ensures.value ∙ (ap length c.in_ok-two.ensures.places ∙ length-map t.names (place_of c.in_ok-names.names)))
+
+pub joined_coded-requires-clause-one : goal.joined_coded-requires-clause-one
+joined_coded-requires-clause-one c = All-same (λ place. place ≤ 2 ^ 30) c.as_slice.result.now c.in_ok-one.one.items c.as_slice.ensures.value c.in_ok-one.ensures.within
+
+pub joined_coded-requires-clause-two : goal.joined_coded-requires-clause-two
+joined_coded-requires-clause-two c = All-same (λ place. place ≤ 2 ^ 30) c.as_slice-2.result.now c.in_ok-two.two.items c.as_slice-2.ensures.value c.in_ok-two.ensures.within
+
+pub joined_tagged-requires-clause-first : goal.joined_tagged-requires-clause-first
+joined_tagged-requires-clause-first c =
+    let t = c.args.first.now in
+    tags_below t (rows_of t) c.requires.first (length c.as_slice-3.result.now)
+    (ap length c.as_slice-3.ensures.value ∙ (ap length c.in_ok-one.ensures.places ∙ length-map t.names (place_of c.in_ok-names.names)))
+
+pub joined_tagged-requires-clause-second : goal.joined_tagged-requires-clause-second
+joined_tagged-requires-clause-second c =
+    let t = c.args.second.now in
+    tags_below t (rows_of t) c.requires.second (length c.as_slice-4.result.now)
+    (ap length c.as_slice-4.ensures.value ∙ (ap length c.in_ok-two.ensures.places ∙ length-map t.names (place_of c.in_ok-names.names)))
+
+pub returns : goal.returns
+returns c =
+    let a = c.args.first.now in
+    let b = c.args.second.now in
+    let k = c.in_ok-coded.coded in
+    let g = c.in_ok-tagged.tagged in
+    let one = c.in_ok-one.one.items in
+    let two = c.in_ok-two.two.items in
+    let CodedFrom : List ℕ → Type 0 = λ x. AreCodedOf k a b x c.as_slice-2.result.now in
+    let CodedTo : List ℕ → Type 0 = λ x. AreCodedOf k a b one x in
+    let TaggedFrom : List ℕ → Type 0 = λ x. AreTagsOf g a b x c.as_slice-4.result.now in
+    let TaggedTo : List ℕ → Type 0 = λ x. AreTagsOf g a b one x in
+    joined_columns a b (rows_of a) (rows_of b) c.requires.first c.requires.second c.requires.few c.in_ok-names.names c.in_ok-plain.plain k g one two
+    c.in_ok-names.ensures.names c.in_ok-names.ensures.few c.in_ok-one.ensures.places c.in_ok-two.ensures.places
+    c.in_ok-plain.ensures
+    (subst CodedTo c.as_slice-2.ensures.value (subst CodedFrom c.as_slice.ensures.value c.in_ok-coded.ensures))
+    (subst TaggedTo c.as_slice-4.ensures.value (subst TaggedFrom c.as_slice-3.ensures.value c.in_ok-tagged.ensures))

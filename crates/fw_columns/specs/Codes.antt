@@ -1,0 +1,40 @@
+-- What columns hold in place of a text, a category and a class.
+use Rattle.std.specs.Prelude.{◌≡◌, ◌↔◌, ℕ, ◌+◌, Bool, true, false, List, [], ◌∷◌, slice_get, slice_index_or, Option, Some, None}
+use Rattle.fw_charge.specs.Charge.{Charge}
+use Rattle.fw_charge.specs.Tags.{group_of}
+use Rattle.fw_charge.specs.declared.category.Category.{Category}
+use Rattle.fw_charge.specs.declared.category.Category.TheVariants as category
+use Rattle.fw_columns.specs.Names.{Text, place_of}
+
+-- the code of a category
+unfoldable pub category_code : Category → ℕ
+category_code category.Usage = 1
+category_code category.Purchase = 2
+category_code category.Tax = 3
+category_code category.Credit = 4
+category_code category.Adjustment = 5
+
+-- the code of a class: 1 for a correction, and 0 for none
+unfoldable pub class_code : Bool → ℕ
+class_code false = 0
+class_code true = 1
+
+-- the code of a text that may be null: 0 for null, else 1 more than its place in the names
+unfoldable pub text_code : List Text → Option Text → ℕ
+text_code names None = 0
+text_code names (Some text) = 1 + place_of names text
+
+-- the code of a group: 0 for the empty text, else 1 more than its place in the names
+unfoldable pub group_code : List Text → Text → ℕ
+group_code names [] = 0
+group_code names (byte ∷ rest) = 1 + place_of names (byte ∷ rest)
+
+-- the code of a row's group under a key
+unfoldable pub tag_code : Text → List Text → Charge → ℕ
+tag_code key names c = group_code names (group_of key c.tags)
+
+-- two rows have one code exactly where they have one group
+unfoldable pub AgreeWithGroups : Text → List Charge → List ℕ → Type 0
+AgreeWithGroups key rows codes =
+    (i j : ℕ) (c d : Charge) → slice_get rows i ≡ Some c → slice_get rows j ≡ Some d
+    → (slice_index_or codes i 0 ≡ slice_index_or codes j 0) ↔ (group_of key c.tags ≡ group_of key d.tags)

@@ -1,0 +1,7 @@
+pub mod Names
+pub mod Texts
+pub mod Codes
+pub mod Table
+pub mod Joining
+pub mod Reading
+pub mod Grouping

@@ -1,0 +1,127 @@
+//! Rows kept by column.
+ghost use Rattle.std.specs.Prelude.{◌≡◌, ◌<◌, ◌≤◌, ◌+◌, ◌++◌, Some, length, map, pos, slice_get, IfOk};
+ghost use Rattle.fw_charge.specs.Charge.{Charge};
+ghost use Rattle.fw_columns.specs.Texts.{names_of};
+ghost use Rattle.fw_columns.specs.Codes.{category_code, class_code, tag_code, AgreeWithGroups};
+
+use crate::grouping::group_codes;
+use crate::joining::joined;
+use crate::making::table_of;
+use crate::names::Names;
+use crate::reading::fields_at;
+use crate::table::Table;
+use fw_charge::Row;
+use std::alloc::{AllocError, Global};
+use std::marker::Model;
+
+/// 1 to 65,536 charge rows kept by column, each of their texts once. A contract sees the list of the rows.
+#[derive(Drop)]
+pub struct Columns {
+    table: Table,
+}
+
+impl Model for Columns {
+    ghost use Rattle.std.specs.Prelude.{List};
+    ghost use Rattle.fw_charge.specs.Charge.{Charge};
+    ghost use Rattle.fw_columns.specs.Table.{rows_of, AreColumns};
+
+    ghost Value = { List Charge };
+
+    ghost view = { λ c. rows_of c.table };
+
+    ghost invariant = { λ c. AreColumns c.table (rows_of c.table) };
+}
+
+impl Columns {
+    /// The columns of 1 to 65,536 rows.
+    pub fn from_rows(alloc: Global, rows: &[Row]) -> Result<Columns, AllocError>
+        requires some { 0 < length rows.now }
+        requires few { length rows.now ≤ 65536 }
+        ensures { IfOk result (λ columns. columns ≡ rows.now) }
+    {
+        Ok(Columns {
+            table: table_of(alloc, rows)?,
+        })
+    }
+
+    /// How many rows there are: 1 to 65,536.
+    pub fn len(&self) -> usize
+        ensures count { result ≡ length self.now }
+        ensures some { 0 < result }
+        ensures few { result ≤ 65536 }
+    {
+        self.table.billed.len()
+    }
+
+    /// The row at a place, counted from 0.
+    pub fn row(&self, place: usize) -> Result<Row, AllocError>
+        requires { place < length self.now }
+        ensures { IfOk result (λ row. slice_get self.now place ≡ Some row) }
+    {
+        let alloc = *self.table.billed.allocator();
+        Ok(Row::of_fields(fields_at(alloc, &self.table, place)?))
+    }
+
+    /// The texts of the rows, each once, in the order in which it first occurs when the rows are read in turn, and in each row its
+    /// CommitmentDiscountId, its ConsumedUnit, its SkuId, its SubAccountId and then its tags in turn, key before value.
+    pub fn names(&self) -> &Names
+        ensures { result.now ≡ names_of self.now }
+    {
+        &self.table.names
+    }
+
+    /// BilledCost of each row, in nanos.
+    pub fn billed(&self) -> &[i64]
+        ensures { result.now ≡ map (λ c. c.billed) self.now }
+    {
+        self.table.billed.as_slice()
+    }
+
+    /// EffectiveCost of each row, in nanos.
+    pub fn effective(&self) -> &[i64]
+        ensures { result.now ≡ map (λ c. c.effective) self.now }
+    {
+        self.table.effective.as_slice()
+    }
+
+    /// The first second of each row's period, counted from 1970.
+    pub fn starts(&self) -> &[i64]
+        ensures { result.now ≡ map (λ c. pos c.start) self.now }
+    {
+        self.table.starts.as_slice()
+    }
+
+    /// The code of each row's category: 1 for Usage, 2 for Purchase, 3 for Tax, 4 for Credit, 5 for Adjustment.
+    pub fn categories(&self) -> &[u8]
+        ensures { result.now ≡ map (λ c. category_code c.category) self.now }
+    {
+        self.table.categories.as_slice()
+    }
+
+    /// The code of each row's class: 1 for a correction, 0 for none.
+    pub fn classes(&self) -> &[u8]
+        ensures { result.now ≡ map (λ c. class_code c.is_correction) self.now }
+    {
+        self.table.classes.as_slice()
+    }
+
+    /// The rows of one and then those of another, together at most 65,536.
+    pub fn concat(alloc: Global, first: &Columns, second: &Columns) -> Result<Columns, AllocError>
+        requires { length first.now + length second.now ≤ 65536 }
+        ensures { IfOk result (λ columns. columns ≡ first.now ++ second.now) }
+    {
+        Ok(Columns {
+            table: joined(alloc, &first.table, &second.table)?,
+        })
+    }
+
+    /// The code of each row's group under a tag key: 0 where the group is the empty text, else 1 more than the group's place in the
+    /// names. Two rows have one code exactly where they have one group.
+    pub fn tag_codes(&self, key: &str) -> Result<Vec<u32>, AllocError>
+        ensures codes { IfOk result (λ codes. codes.items ≡ map (tag_code key.now (names_of self.now)) self.now) }
+        ensures agree { IfOk result (λ codes. AgreeWithGroups key.now self.now codes.items) }
+    {
+        let codes = group_codes(*self.table.billed.allocator(), &self.table, key)?;
+        Ok(codes)
+    }
+}
