@@ -1,4 +1,4 @@
--- What the groups are charged: each group that a rule names as `from` gives its whole direct cost away.
+-- What the groups are charged: each group that a rule names as `from` gives its whole direct cost away, unless the weights of those that would get it sum to 0.
 use Rattle.std.specs.Prelude.{◌≡◌, ◌↔◌, ℕ, ◌==◌, ◌&&◌, not, Bool, List, [], ◌++◌, map, filter, sum, if◌then◌else◌, ℤ, pos, ◌+ℤ◌, ◌-ℤ◌, int_lt, MatchBool, Contains}
 use Rattle.std.specs.List.{list_any, AllZip}
 use Rattle.std.specs.Str.{bytes_eq}

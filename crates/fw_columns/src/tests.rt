@@ -147,6 +147,13 @@ fn two_teams(rt: HostRuntime) -> Result<(), Fail> {
 }
 
 #[test]
+fn a_tag_that_no_row_has(rt: HostRuntime) -> Result<(), Fail> {
+    let both = joined(rt.alloc())?;
+    assert!(rt; both.tag_codes("x")?.as_slice() == [0, 0].as_slice());
+    Ok(())
+}
+
+#[test]
 fn nulls_and_empty_texts(rt: HostRuntime) -> Result<(), Fail> {
     let alloc = rt.alloc();
     let columns = alone(alloc, bought(alloc)?)?;

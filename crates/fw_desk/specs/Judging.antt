@@ -16,7 +16,7 @@ most_rows = 4194304
 abbrev pub most_commitments : ℕ
 most_commitments = 256
 
--- whether a row carries the id of a commitment, its own or another provider's
+-- whether a row carries this id of a commitment
 abbrev pub has_id : List ℕ → Charge → Bool
 has_id id row = option_map_or (λ d. bytes_eq d.id id) row.discount false
 

@@ -7,3 +7,4 @@ pub mod HourFacts
 pub mod MovedFacts
 pub mod RangeFacts
 mod ListingFacts
+pub mod TotalFacts

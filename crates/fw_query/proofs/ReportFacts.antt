@@ -125,7 +125,7 @@ IsReportOf-under policy key lines entries out are within same under = record {
 }
 
 -- the direct costs of entries are in rising order of their groups
-groups_in_direct : (costs : List Cost) (groups : List (List ℕ)) → groups_in (direct_costs costs groups) ≡ groups
+pub groups_in_direct : (costs : List Cost) (groups : List (List ℕ)) → groups_in (direct_costs costs groups) ≡ groups
 unfolding direct_costs
 groups_in_direct costs [] = refl
 groups_in_direct costs (g ∷ groups) = let rest = groups_in_direct costs groups in ap (λ l. g ∷ l) rest

@@ -9,6 +9,7 @@ mod entries;
 mod fault;
 mod groups;
 mod hours;
+mod laws;
 mod line_text;
 mod listing;
 mod query;
@@ -18,6 +19,7 @@ mod total;
 
 pub use entries::{Entry, Report};
 pub use fault::QueryFault;
+pub use laws::reports_keep_the_total;
 pub use listing::lines_csv;
 pub use query::Query;
 pub use reporting::report;
