@@ -27,7 +27,7 @@ OPTIONAL = (
 ).split()
 CATEGORIES = {"Usage", "Purchase", "Tax", "Credit", "Adjustment"}
 NUMBER = re.compile(r"[+-]?(?:[0-9]+\.?[0-9]*|\.[0-9]+)(?:[eE]([+-]?[0-9]+))?")
-INSTANT = re.compile(r"(\d{4}-\d\d-\d\dT\d\d:\d\d)(:\d\d(?:\.0+)?)?Z", re.ASCII)
+INSTANT = re.compile(r"(\d{4}-\d\d-\d\dT\d\d:\d\d)(:\d\d(?:\.0{1,9})?)?Z", re.ASCII)
 MOST_ROWS = 4_096
 MOST_NANOS = 10**17
 MOST_HOURS = 26_304
