@@ -9,6 +9,8 @@ use fw_money::Nanos;
 ///
 /// It is what is carried up to the end of the hour, rounded down, less what is carried up to its beginning, rounded down. So the hours of a
 /// term together carry the total, to the last nano ([`amounts_are_the_total`]). Takes no memory.
+///
+/// Each product stays within 128 bits: the total is at most 10^17 nanos, which is below 2^57, and a term has fewer than 2^32 hours.
 #[tactic(auto, unfolding(crate::specs::Amount::amount_of))]
 pub fn hour_amount(total: Nanos, hours: u32, hour: u32) -> Nanos
     requires sign { pos 0 ≤ℤ total }

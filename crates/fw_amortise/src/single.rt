@@ -152,7 +152,8 @@ fn quantity_of(row: &Row) -> u64
     }
 }
 
-/// The part of a cost that falls to what is left of a quantity, rounded down.
+/// The part of a cost that falls to what is left of a quantity, rounded down. The product stays within 128 bits: a cost is at most 10^17
+/// nanos, which is below 2^57, and what is left is below 2^64.
 fn part_of(cost: Nanos, left: u64, quantity: u64) -> Nanos
     requires some { 0 < quantity }
     requires left { left ≤ quantity }

@@ -1,4 +1,6 @@
 //! The shares: the floors, and a cut among the remainders that deals out the rest.
+//!
+//! Each product stays within 128 bits: the total and a weight are at most 10^19, so it is at most 10^38, which is below 2^127.
 ghost use Rattle.std.specs.Prelude.{◌≡◌, ℕ, ◌+◌, ◌-◌, ◌*◌, ◌/◌, ◌%◌, ◌^◌, ◌<◌, ◌≤◌, ◌==◌, length, sum, sum_by, count_by, map, All, IfOk, nat_lt, if◌then◌else◌, List, fold, ℤ, pos, ◌≤ℤ◌, ◌+ℤ◌, unsigned_abs};
 ghost use Rattle.std.specs.List.Sorted.{IsNonDecreasing};
 ghost use Rattle.fw_shares.specs.Shares.{IsShares, IsSharesOf, magnitudes, signed_as};
