@@ -5,9 +5,10 @@
 
 It reads the posts by Python's csv and json, commitments and policies by
 tomllib, and rounds each amount by its decimal: to the nearest 10^-9, ties to
-even. Sums, shares and floors are whole numbers and so exact. It knows entries
-that are all acceptable; at anything else it stops with status 1 and says what
-it met, so that it never makes up an answer.
+even. Sums, shares and floors are whole numbers and so exact. It tells entries
+apart that are sent twice, out of turn, or that don't go with those before. It
+knows contents that are all right; at anything else it stops with status 1 and
+says what it met, so that it never makes up an answer.
 """
 import csv
 import datetime
@@ -29,6 +30,10 @@ CATEGORIES = {"Usage", "Purchase", "Tax", "Credit", "Adjustment"}
 NUMBER = re.compile(r"[+-]?(?:[0-9]+\.?[0-9]*|\.[0-9]+)(?:[eE]([+-]?[0-9]+))?")
 INSTANT = re.compile(r"(\d{4}-\d\d-\d\dT\d\d:\d\d)(:\d\d(?:\.0{1,9})?)?Z", re.ASCII)
 MOST_ROWS = 4_096
+MOST_KEPT = 4_194_304
+MOST_COMMITMENTS = 256
+MOST_BYTES = 4_194_304
+ENTRY_BYTES = 4 + 8 + 1
 MOST_NANOS = 10**17
 MOST_HOURS = 26_304
 MOST_LINES = 1_000_000
@@ -151,6 +156,13 @@ class Row:
         except OutOfRange:
             self.quantity = None
         self.tags = tags_of(fields["Tags"])
+
+    def size(self):
+        """How many bytes it is stored in: amounts, codes and times, the discount, the quantity, three texts, and the tags."""
+        discount = 1 + (4 + len(self.id.encode()) if self.id else 0) + 2
+        texts = sum(1 + (4 + len(text.encode()) if text else 0) for text in (self.unit, self.sku, self.account))
+        tags = sum(8 + len(key.encode()) + len(value.encode()) for key, value in self.tags.items())
+        return 8 + 8 + 1 + 1 + 8 + 8 + discount + (1 if self.quantity is None else 9) + texts + 4 + tags
 
     def is_eligible(self):
         """Whether a commitment may cover it."""
@@ -276,20 +288,51 @@ def charged(direct, policy):
     return out
 
 
+def small(text):
+    """A size that is surely not too large: a stored commitment or policy is at most four times its text."""
+    if len(text) > MOST_BYTES // 4 - 100:
+        raise Unknown(f"a commitment or policy of {len(text)} bytes")
+    return len(text) * 4
+
+
 class Warehouse:
     """What was accepted so far."""
 
     def __init__(self, currency="USD"):
         self.currency = currency
         self.entries = 0
+        self.origins = defaultdict(int)
         self.rows = defaultdict(list)
         self.commitments = []
         self.policy = None
         self.times = Times()
 
-    def accepted(self):
+    def enter(self, origin, number, read, text):
+        """Reads an entry's content, and then looks at its origin and number and at what was accepted before."""
+        refusal, size, keep = read(text)
+        if not re.fullmatch(r"[A-Za-z0-9._-]{1,64}", origin):
+            return "refused E1 Origin\n"
+        if not re.fullmatch(r"[0-9]+", number, re.ASCII) or not 1 <= int(number) < 2**64:
+            return "refused E2 Seq\n"
+        if ENTRY_BYTES + len(origin) + size > MOST_BYTES:
+            return "refused E3 TooLarge\n"
+        last = self.origins[origin]
+        if int(number) <= last:
+            return f"already {last}\n"
+        if int(number) > last + 1:
+            return f"gap {last + 1}\n"
+        if refusal:
+            return f"refused {refusal}\n"
+        keep()
+        self.origins[origin] += 1
         self.entries += 1
         return f"accepted {self.entries}\n"
+
+    def row_count(self):
+        return sum(len(rows) for rows in self.rows.values())
+
+    def state(self):
+        return f"state {self.entries} {self.row_count()} {len(self.commitments)} {int(self.policy is not None)}\n"
 
     def post(self, text):
         if text.startswith(b"\xef\xbb\xbf"):
@@ -306,24 +349,39 @@ class Warehouse:
                 raise Unknown(f"a row of {len(fields)} fields under a header of {len(header)}")
             named = {c: fields[places[c]] if c in places else "" for c in REQUIRED + OPTIONAL}
             rows.append(Row(named, self.times, self.currency))
-        if not 1 <= len(rows) <= MOST_ROWS or {row.id for row in rows} & {c.id for c in self.commitments}:
+        if not 1 <= len(rows) <= MOST_ROWS:
             raise Unknown(f"a post of {len(rows)} rows")
-        for row in rows:
-            self.rows[row.hour].append(row)
-        return self.accepted()
+        refusal = None
+        if self.row_count() + len(rows) > MOST_KEPT:
+            refusal = "J1 Full"
+        elif {row.id for row in rows} & {c.id for c in self.commitments}:
+            refusal = "J4 OwnCommitment"
+
+        def keep():
+            for row in rows:
+                self.rows[row.hour].append(row)
+
+        return refusal, 4 + sum(row.size() for row in rows), keep
 
     def commit(self, text):
         commitment = Commitment(tomllib.loads(text.decode()), self.times)
-        ids = {c.id for c in self.commitments} | {row.id for rows in self.rows.values() for row in rows}
-        if commitment.id in ids:
-            raise Unknown(f"a commitment of the id {commitment.id}, which is there")
-        self.commitments.append(commitment)
-        return self.accepted()
+        refusal = None
+        if commitment.id in {c.id for c in self.commitments}:
+            refusal = "J2 DoubleId"
+        elif commitment.id in {row.id for rows in self.rows.values() for row in rows}:
+            refusal = "J3 IdInUse"
+        elif len(self.commitments) >= MOST_COMMITMENTS:
+            refusal = "J5 TooManyCommitments"
+        return refusal, small(text), lambda: self.commitments.append(commitment)
 
     def set_policy(self, text):
         policy = tomllib.loads(text.decode())
-        self.policy = {"key": policy["key"], "rule": policy.get("rule", [])}
-        return self.accepted()
+        policy = {"key": policy["key"], "rule": policy.get("rule", [])}
+
+        def keep():
+            self.policy = policy
+
+        return None, small(text), keep
 
     def lines_between(self, low, high):
         """The lines of a range of hours, or None where it is no range."""
@@ -373,11 +431,13 @@ def answers(script):
             content = [next(script, b"") for _ in range(int(words[3]))]
             if not all(content):
                 raise Unknown("an entry with fewer lines than it names")
-            yield entries[words[0]](b"".join(content))
+            yield warehouse.enter(words[1], words[2], entries[words[0]], b"".join(content))
         elif words[0] == "report" and len(words) >= 4:
             yield warehouse.report(" ".join(words[1:-2]), words[-2], words[-1])
         elif words[0] == "lines" and len(words) == 3:
             yield warehouse.lines(words[1], words[2])
+        elif words == ["state"]:
+            yield warehouse.state()
         else:
             raise Unknown(f"the command {' '.join(words)!r}")
 

@@ -95,7 +95,7 @@ class Example(unittest.TestCase):
         self.assertEqual((ran.returncode, ran.stdout.decode()), (0, f"{answers}bytes {len(wanted)}\n{wanted}"))
 
     def test_the_oracle_makes_up_no_answer(self):
-        for line in ["state", "post a 1 2\nBilledCost\n1"]:
+        for line in ["status", "post a 1 2\nBilledCost\n1"]:
             with self.subTest(line=line):
                 ran = answers_to(line.encode())
                 self.assertEqual((ran.returncode, ran.stdout), (1, b""))

@@ -88,7 +88,7 @@ KEYS = ["team", "", " ", "a b", "x  y ", "t\u00e4g", "\0", "\xff", "report", "20
 ODD_LINES = """
     post post_a post_a_1 post_a_1_1_1 post__1_0 POST_a_1_1 posta_1_1 _post_a_1_1 post_a_1_1_ report report_
     report_team report__ report_team_2024-01-01T00:00Z report_2024-01-01T00:00Z_2024-01-01T01:00Z
-    report_t_2024-01-01T00:00Z_2024-01-01T01:00Z_ checkpoint state state_ lines commit_a policy_a
+    report_t_2024-01-01T00:00Z_2024-01-01T01:00Z_ checkpoint state state state_ _state states STATE lines commit_a policy_a
     withdraw_a_1_1 help quit # --
 """.split()
 ODD_LINES = [line.replace("_", " ").encode() for line in ODD_LINES] + [b"", b" ", b"\r", b"\0", b"\xff", b"post\ta\t1\t1"]
@@ -121,6 +121,7 @@ class Maker:
             return []
         commands = [self.command() for _ in range(self.random.randint(1, MOST_COMMANDS))]
         commands += [b"report team %s-01-01T00:00Z %s-01-01T00:00Z\n" % years for years in REPORTED_YEARS]
+        commands.append(b"state\n")
         if self.chance(10):
             commands.append(self.command())
         if self.chance(15):
@@ -164,9 +165,18 @@ class Maker:
             count = self.pick(COUNTS)
         elif self.chance(3):
             count = "0" * self.pick([1, 5, 40]) + count
-        origin, sequence = self.pick(["a", "a", "", "\u00e9", "a/b"]), self.pick(["1", "2", "x", "", "-1", "0" * 50])
+        origin, sequence = self.sender()
         line = f"post {origin} {sequence} {count}".encode("latin-1" if self.chance(5) else "utf-8", "replace")
         return line + (b"\n" if self.chance(99) else b"\r\n") + content
+
+    def sender(self):
+        """An origin and a number: mostly a new origin's first, else one that may be there already, leave a gap or be none."""
+        if self.chance(70):
+            return f"o{self.random.randrange(10_000)}", self.pick(["1", "1", "1", "01", "0" * 50 + "1"])
+        origins = ["a", "a", "a", "b", "A.b-c_9", "x" * 64, "x" * 65, "", "\u00e9", "a/b", "a\0", "a\t"]
+        numbers = ["1", "1", "2", "2", "3", "4", "x", "", "-1", "+1", "0", "0" * 50, "18446744073709551615"]
+        numbers += ["18446744073709551616", "9" * 60, "1.0", "\u0661"]
+        return self.pick(origins), self.pick(numbers)
 
     def content(self):
         """A CSV that is right at most in part."""

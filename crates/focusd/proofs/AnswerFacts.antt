@@ -4,7 +4,7 @@ use Rattle.std.specs.Io.KnownBytes.{Appends, Keeps}
 use Rattle.std.proofs.KnownBytes.{Appends-nil, Appends-trans, Appends-kept}
 use Rattle.fw_script.specs.Commands.{CommandsOf, FirstCommand}
 use Rattle.fw_script.specs.Plain.{PlainCommand}
-use Rattle.fw_desk.specs.Holdings.{Holdings}
+use Rattle.fw_snapshot.specs.History.{History}
 use Rattle.fw_desk.specs.Answers.{Answer, Answers}
 use Rattle.focusd.specs.Served.{StartsWithCommands, ServesSoFar, Serves}
 
@@ -23,7 +23,7 @@ CommandsOf-whole text [] rest reads none = sym reads ∙ none
 CommandsOf-whole text (c ∷ commands) rest reads none = (reads.0, reads.1, CommandsOf-whole reads.0 commands rest reads.2 none)
 
 -- one more command was answered
-pub Answers-more : (before : Holdings) (commands : List PlainCommand) (answers : List ℕ) (middle : Holdings) (command : PlainCommand) (text : List ℕ) (after : Holdings)
+pub Answers-more : (before : History) (commands : List PlainCommand) (answers : List ℕ) (middle : History) (command : PlainCommand) (text : List ℕ) (after : History)
     → Answers before commands answers middle → Answer middle command text after → Answers before (commands ++ command ∷ []) (answers ++ text) after
 unfolding Answers
 Answers-more before [] answers middle command text after done answer =
@@ -38,12 +38,12 @@ Answers-more before (c ∷ commands) answers middle command text after done answ
 )
 
 -- no command was read
-pub ServesSoFar-none : (script left : List ℕ) (desk : Holdings) (held : Option (List ℕ)) → left ≡ script → ServesSoFar script left desk desk held held
+pub ServesSoFar-none : (script left : List ℕ) (desk : History) (held : Option (List ℕ)) → left ≡ script → ServesSoFar script left desk desk held held
 unfolding StartsWithCommands Answers
 ServesSoFar-none script left desk held same = record { commands = []; reads = same; answers = []; answered = (refl, refl); writes = Appends-nil held }
 
 -- one more command was done, and its answer written
-pub ServesSoFar-more : (script left : List ℕ) (command : PlainCommand) (rest : List ℕ) (before middle after : Holdings) (text : List ℕ) (a b c : Option (List ℕ))
+pub ServesSoFar-more : (script left : List ℕ) (command : PlainCommand) (rest : List ℕ) (before middle after : History) (text : List ℕ) (a b c : Option (List ℕ))
     → ServesSoFar script left before middle a b → FirstCommand left command rest → Answer middle command text after → Appends b c text → ServesSoFar script rest before after a c
 ServesSoFar-more script left command rest before middle after text a b c done first answer wrote = record {
   commands = done.commands ++ command ∷ [];
@@ -54,7 +54,7 @@ ServesSoFar-more script left command rest before middle after text a b c done fi
 }
 
 -- all commands are done, and the writer was flushed
-pub Serves-whole : (script left : List ℕ) (before after : Holdings) (a b c : Option (List ℕ)) → ServesSoFar script left before after a b → left ≡ [] → Keeps b c
+pub Serves-whole : (script left : List ℕ) (before after : History) (a b c : Option (List ℕ)) → ServesSoFar script left before after a b → left ≡ [] → Keeps b c
     → Serves script before after a c
 Serves-whole script left before after a b c done none kept = record {
   commands = done.commands;

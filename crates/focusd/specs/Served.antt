@@ -3,12 +3,12 @@ use Rattle.std.specs.Prelude.{◌≡◌, ℕ, List, [], ◌∷◌, Option, IfSom
 use Rattle.std.specs.Io.KnownBytes.{Appends, Keeps}
 use Rattle.fw_script.specs.Commands.{CommandsOf, FirstCommand}
 use Rattle.fw_script.specs.Plain.{PlainCommand}
-use Rattle.fw_desk.specs.Holdings.{Holdings}
+use Rattle.fw_snapshot.specs.History.{History}
 use Rattle.fw_desk.specs.Answers.{Answer, Answers}
 use Rattle.focusd.specs.Writing.{WritesPart}
 
 -- each command of the script is done, and the writer, where its bytes are known, got their answers and nothing else
-pub record Serves (script : List ℕ) (before after : Holdings) (held holds : Option (List ℕ)) : Type 0 where
+pub record Serves (script : List ℕ) (before after : History) (held holds : Option (List ℕ)) : Type 0 where
   pub commands : List PlainCommand
   pub reads : CommandsOf script commands
   pub answers : List ℕ
@@ -21,7 +21,7 @@ StartsWithCommands text [] rest = rest ≡ text
 StartsWithCommands text (command ∷ commands) rest = (next : List ℕ) × FirstCommand text command next × StartsWithCommands next commands rest
 
 -- the commands that come first in the script are done, `left` is what follows them, and the writer got their answers
-pub record ServesSoFar (script left : List ℕ) (before after : Holdings) (held holds : Option (List ℕ)) : Type 0 where
+pub record ServesSoFar (script left : List ℕ) (before after : History) (held holds : Option (List ℕ)) : Type 0 where
   pub commands : List PlainCommand
   pub reads : StartsWithCommands script commands left
   pub answers : List ℕ
@@ -29,7 +29,7 @@ pub record ServesSoFar (script left : List ℕ) (before after : Holdings) (held 
   pub writes : Appends held holds answers
 
 -- the first command of what is left is done, and the writer got its answer up to some place
-pub record AnswersPart (left : List ℕ) (before after : Holdings) (held holds : Option (List ℕ)) : Type 0 where
+pub record AnswersPart (left : List ℕ) (before after : History) (held holds : Option (List ℕ)) : Type 0 where
   pub command : PlainCommand
   pub rest : List ℕ
   pub reads : FirstCommand left command rest
@@ -39,9 +39,9 @@ pub record AnswersPart (left : List ℕ) (before after : Holdings) (held holds :
 
 -- the commands that come first in the script are done, and no others: those whose answers the writer got whole, and at most one
 -- more, whose answer it got up to some place. Nothing else was written
-pub record ServesInPart (script : List ℕ) (before after : Holdings) (held holds : Option (List ℕ)) : Type 0 where
+pub record ServesInPart (script : List ℕ) (before after : History) (held holds : Option (List ℕ)) : Type 0 where
   pub left : List ℕ
-  pub between : Holdings
+  pub between : History
   pub holds_between : Option (List ℕ)
   pub whole : ServesSoFar script left before between held holds_between
   pub last : ((after ≡ between) × Keeps holds_between holds) ⊎ AnswersPart left between after holds_between holds
@@ -55,13 +55,13 @@ abbrev pub IsScriptOf : Option (List ℕ) → List ℕ → Type 0
 IsScriptOf bytes script = IfSome bytes (λ known. script ≡ known) × (length script ≤ most_bytes)
 
 -- the reader's script is served
-pub record IsServed (bytes : Option (List ℕ)) (before after : Holdings) (held holds : Option (List ℕ)) : Type 0 where
+pub record IsServed (bytes : Option (List ℕ)) (before after : History) (held holds : Option (List ℕ)) : Type 0 where
   pub script : List ℕ
   pub given : IsScriptOf bytes script
   pub serves : Serves script before after held holds
 
 -- the reader's script is served in part
-pub record IsServedInPart (bytes : Option (List ℕ)) (before after : Holdings) (held holds : Option (List ℕ)) : Type 0 where
+pub record IsServedInPart (bytes : Option (List ℕ)) (before after : History) (held holds : Option (List ℕ)) : Type 0 where
   pub script : List ℕ
   pub given : IsScriptOf bytes script
   pub serves : ServesInPart script before after held holds

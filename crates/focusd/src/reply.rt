@@ -1,7 +1,7 @@
 //! Replies, as they are written.
 ghost use Rattle.std.specs.Prelude.{◌≡◌, OnOk, IfErr};
 ghost use Rattle.std.specs.Io.KnownBytes.{Appends};
-ghost use Rattle.fw_desk.specs.Replies.{refused};
+ghost use Rattle.fw_desk.specs.Replies.{counts_line, refused};
 ghost use Rattle.fw_desk.specs.ReplyText.{reply_text, refusal_text};
 ghost use Rattle.focusd.specs.Writing.{WritesPart};
 
@@ -11,7 +11,7 @@ use fw_desk::{Detail, Refusal, Reply};
 use std::io::Write;
 
 // Writes the reply, with the line feed that ends its line.
-#[tactic(auto, unfolding(fw_desk::specs::ReplyText::reply_text, fw_desk::specs::Replies::accepted_line, fw_desk::specs::Replies::counted, fw_desk::specs::Replies::no_memory_line, fw_desk::specs::Replies::bad_command_line, fw_desk::specs::Replies::bad_end_line))]
+#[tactic(auto, unfolding(fw_desk::specs::ReplyText::reply_text, fw_desk::specs::Replies::accepted_line, fw_desk::specs::Replies::already_line, fw_desk::specs::Replies::gap_line, fw_desk::specs::Replies::counted, fw_desk::specs::Replies::no_memory_line, fw_desk::specs::Replies::bad_command_line, fw_desk::specs::Replies::bad_end_line))]
 pub(crate) fn write_reply<W: Write>(writer: &mut W, reply: &Reply) -> Result<(), ServeFault>
     ensures whole { OnOk result (Appends (W.contents writer.old) (W.contents writer.new) (reply_text reply.now)) }
     ensures part { IfErr result (λ why. (why ≡ ServeFault.Write) × WritesPart (W.contents writer.old) (W.contents writer.new) (reply_text reply.now)) }
@@ -22,6 +22,20 @@ pub(crate) fn write_reply<W: Write>(writer: &mut W, reply: &Reply) -> Result<(),
             let parts: [&[u8]; 3] = [b"accepted ", digits.format(*number).as_bytes(), b"\n"];
             write_parts(writer, &parts)
         }
+        Reply::Already(last) => {
+            let parts: [&[u8]; 3] = [b"already ", digits.format(*last).as_bytes(), b"\n"];
+            write_parts(writer, &parts)
+        }
+        Reply::Gap(expected) => {
+            let parts: [&[u8]; 3] = [b"gap ", digits.format(*expected).as_bytes(), b"\n"];
+            write_parts(writer, &parts)
+        }
+        Reply::State {
+            entries,
+            rows,
+            commitments,
+            has_policy,
+        } => write_counts(writer, *entries, *rows, *commitments, u8::from(*has_policy)),
         Reply::Refused(refusal) => write_refusal(writer, *refusal),
         Reply::Text(text) => {
             let parts: [&[u8]; 4] = [
@@ -36,6 +50,36 @@ pub(crate) fn write_reply<W: Write>(writer: &mut W, reply: &Reply) -> Result<(),
         Reply::BadCommand => write_parts(writer, &[b"bad command\n"]),
         Reply::BadEnd => write_parts(writer, &[b"bad end\n"]),
     }
+}
+
+// Writes how many entries, rows, commitments and policies there are.
+#[tactic(auto, unfolding(fw_desk::specs::Replies::counts_line))]
+fn write_counts<W: Write>(
+    writer: &mut W,
+    entries: u64,
+    rows: u64,
+    commitments: u64,
+    policies: u8,
+) -> Result<(), ServeFault>
+    ensures whole { OnOk result (Appends (W.contents writer.old) (W.contents writer.new) (counts_line entries rows commitments policies)) }
+    ensures part { IfErr result (λ why. (why ≡ ServeFault.Write) × WritesPart (W.contents writer.old) (W.contents writer.new) (counts_line entries rows commitments policies)) }
+{
+    let mut entry_digits = itoa::Buffer::new();
+    let mut row_digits = itoa::Buffer::new();
+    let mut commitment_digits = itoa::Buffer::new();
+    let mut policy_digits = itoa::Buffer::new();
+    let parts: [&[u8]; 9] = [
+        b"state ",
+        entry_digits.format(entries).as_bytes(),
+        b" ",
+        row_digits.format(rows).as_bytes(),
+        b" ",
+        commitment_digits.format(commitments).as_bytes(),
+        b" ",
+        policy_digits.format(policies).as_bytes(),
+        b"\n",
+    ];
+    write_parts(writer, &parts)
 }
 
 // Writes why a command was refused.

@@ -102,9 +102,9 @@ fn two_rows_and_a_report(rt: HostRuntime) -> Result<(), Fail> {
     let wanted =
         "accepted 1\nbytes 80\nGroup,BilledCost,EffectiveCost,ChargedCost\n,0.050000000,0.250000001,0.250000001\n";
     check(&rt, alloc, &mut desk, script.as_str(), wanted)?;
-    assert_eq!(rt; desk.accepted(), 1);
-    assert_eq!(rt; desk.rows().len(), 2);
-    assert_eq!(rt; desk.currency().code(), b"USD".as_slice());
+    assert_eq!(rt; desk.state().entries(), 1);
+    assert_eq!(rt; desk.state().rows(), 2);
+    assert_eq!(rt; desk.state().currency().code(), b"USD".as_slice());
     Ok(())
 }
 
@@ -138,7 +138,7 @@ fn rows_at_the_ends_of_a_range(rt: HostRuntime) -> Result<(), Fail> {
             "post a 1 2\n",
             HEADER,
             ONE_ROW,
-            "post a 1 2\n",
+            "post a 2 2\n",
             HEADER,
             late,
             "report  2024-01-01T00:00Z 2024-01-01T01:00Z\n",
@@ -200,7 +200,7 @@ refused V8 PeriodOrder 1
 accepted 1
 ";
     check(&rt, alloc, &mut desk, script.as_str(), wanted)?;
-    assert_eq!(rt; desk.rows().len(), 1);
+    assert_eq!(rt; desk.state().rows(), 1);
     Ok(())
 }
 
@@ -228,7 +228,7 @@ bad command
 bad end
 ";
     check(&rt, alloc, &mut desk, script.as_str(), wanted)?;
-    assert_eq!(rt; desk.accepted(), 0);
+    assert_eq!(rt; desk.state().entries(), 0);
     Ok(())
 }
 
@@ -269,7 +269,7 @@ fn a_reader_that_fails_runs_no_command(rt: HostRuntime) -> Result<(), Fail> {
             answer => assert_eq!(rt; answer, Err(ServeFault::Read)),
         }
         assert!(rt; output.is_empty());
-        assert_eq!(rt; desk.accepted(), 0);
+        assert_eq!(rt; desk.state().entries(), 0);
     }
     Ok(())
 }
@@ -307,7 +307,11 @@ fn a_writer_that_fails_leaves_what_is_done(rt: HostRuntime) -> Result<(), Fail> 
             return Err(Fail::from(ServeFault::NoMemory));
         }
         assert_eq!(rt; answer, Err(ServeFault::Write));
-        assert_eq!(rt; desk.accepted(), accepted, "with room for {room} bytes");
+        assert_eq!(rt;
+            desk.state().entries(),
+            accepted,
+            "with room for {room} bytes"
+        );
         assert_eq!(rt; told.as_bytes(), &answers[..room.min(answers.len())]);
     }
     Ok(())
@@ -327,8 +331,7 @@ fn a_writer_that_takes_all(rt: HostRuntime) -> Result<(), Fail> {
     Ok(())
 }
 
-const COMMITMENT: &str = "commit billing 1 12
-id = \"cd-1\"
+const COMMITMENT: &str = "id = \"cd-1\"
 category = \"Usage\"
 start = \"2024-01-01T00:00Z\"
 hours = 3
@@ -363,7 +366,16 @@ fn a_commitment_that_is_shared(rt: HostRuntime) -> Result<(), Fail> {
 lines 2024-01-01T00:00Z 2024-01-01T01:00Z
 lines 2024-01-01T00:00Z 2024-01-01T00:00Z
 ";
-    let script = text_of(alloc, &[COMMITMENT, USAGE, POLICY, questions])?;
+    let script = text_of(
+        alloc,
+        &[
+            "commit billing 1 12\n",
+            COMMITMENT,
+            USAGE,
+            POLICY,
+            questions,
+        ],
+    )?;
     let wanted = "accepted 1
 accepted 2
 accepted 3
@@ -381,26 +393,31 @@ Hour,ChargeCategory,CommitmentDiscountId,CommitmentDiscountCategory,CommitmentDi
 refused Q1 Range
 ";
     check(&rt, alloc, &mut desk, script.as_str(), wanted)?;
-    assert_eq!(rt; desk.commitments().len(), 1);
-    assert!(rt; desk.policy().is_some());
+    assert_eq!(rt; desk.state().commitments(), 1);
+    assert!(rt; desk.state().policy().is_some());
     Ok(())
 }
+
+const OWN_ROW: &str =
+    "BilledCost,EffectiveCost,BillingCurrency,ChargeCategory,ChargePeriodStart,ChargePeriodEnd,CommitmentDiscountId,CommitmentDiscountCategory,CommitmentDiscountStatus
+0,0.7,USD,Usage,2024-01-01T00:00Z,2024-01-01T01:00Z,cd-1,Usage,Used
+";
 
 #[test]
 fn entries_that_do_not_go_together(rt: HostRuntime) -> Result<(), Fail> {
     let alloc = rt.alloc();
     let mut desk = dollar_desk(alloc)?;
-    let own = "post a 1 2
-BilledCost,EffectiveCost,BillingCurrency,ChargeCategory,ChargePeriodStart,ChargePeriodEnd,CommitmentDiscountId,CommitmentDiscountCategory,CommitmentDiscountStatus
-0,0.7,USD,Usage,2024-01-01T00:00Z,2024-01-01T01:00Z,cd-1,Usage,Used
-";
     let script = text_of(
         alloc,
         &[
+            "commit billing 1 12\n",
             COMMITMENT,
+            "commit billing 2 12\n",
             COMMITMENT,
-            own,
-            "commit a 1 1\nid = \"\"\npolicy a 1 1\nkey = 1\n",
+            "post billing 2 2\n",
+            OWN_ROW,
+            "commit billing 2 1\nid = \"\"\npolicy billing 2 1\nkey = 1\n",
+            "policy billing 2 1\nkey = \"team\"\nstate\n",
         ],
     )?;
     let wanted = "accepted 1
@@ -408,15 +425,56 @@ refused J2 DoubleId
 refused J4 OwnCommitment
 refused C3 Limit id
 refused P2 Field key
+accepted 2
+state 2 0 1 1
 ";
     check(&rt, alloc, &mut desk, script.as_str(), wanted)?;
     let mut desk = dollar_desk(alloc)?;
-    let script = text_of(alloc, &[own, COMMITMENT])?;
-    check(
-        &rt,
+    let script = text_of(
         alloc,
-        &mut desk,
-        script.as_str(),
-        "accepted 1\nrefused J3 IdInUse\n",
-    )
+        &[
+            "post a 1 2\n",
+            OWN_ROW,
+            "commit billing 1 12\n",
+            COMMITMENT,
+            "state\n",
+        ],
+    )?;
+    let wanted = "accepted 1\nrefused J3 IdInUse\nstate 1 1 0 0\n";
+    check(&rt, alloc, &mut desk, script.as_str(), wanted)
+}
+
+#[test]
+fn entries_that_are_sent_twice_or_out_of_turn(rt: HostRuntime) -> Result<(), Fail> {
+    let alloc = rt.alloc();
+    let mut desk = dollar_desk(alloc)?;
+    let script = text_of(
+        alloc,
+        &[
+            "post a 1 2\n",
+            HEADER,
+            ONE_ROW,
+            "post a 1 2\n",
+            HEADER,
+            ONE_ROW,
+            "post a 3 2\n",
+            HEADER,
+            ONE_ROW,
+            "post a/b 0 2\n",
+            HEADER,
+            ONE_ROW,
+            "post a 0 2\n",
+            HEADER,
+            ONE_ROW,
+            "state\n",
+        ],
+    )?;
+    let wanted = "accepted 1
+already 1
+gap 2
+refused E1 Origin
+refused E2 Seq
+state 1 1 0 0
+";
+    check(&rt, alloc, &mut desk, script.as_str(), wanted)
 }

@@ -2,3 +2,4 @@ pub mod Currencies
 pub mod Tags
 pub mod Charge
 pub mod ChargeView
+pub mod Codes

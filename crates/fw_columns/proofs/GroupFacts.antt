@@ -13,8 +13,8 @@ use Rattle.fw_columns.specs.declared.codes.TagCode.{TagCode}
 use Rattle.fw_columns.specs.Names.{Text, place_of}
 use Rattle.fw_columns.specs.Texts.{texts_of_tags}
 use Rattle.fw_columns.specs.Codes.{group_code, tag_code, AgreeWithGroups}
-use Rattle.fw_columns.specs.Table.{AreColumns, tag_places, tags_start, tags_end}
-use Rattle.fw_columns.specs.Grouping.{value_code, found_code}
+use Rattle.fw_columns.specs.Table.{AreColumns, tag_places, tags_start, tags_end, text_at}
+use Rattle.fw_columns.specs.Grouping.{value_code, value_text, found_code, found_text}
 use Rattle.fw_columns.proofs.NameFacts.{text_at_place}
 use Rattle.fw_columns.proofs.TextFacts.{IsKnown, AreKnown, IsRowKnown}
 use Rattle.fw_columns.proofs.TableFacts.{part-shown, texts_known}
@@ -109,3 +109,35 @@ found_nowhere key empty tags i h = rw (drop_all i tags h) refl
 -- columns are as long as their rows are many
 pub column_within : (t : Table) (rows : List Charge) → AreColumns t rows → (i : ℕ) → i < vec_len t.billed → i < length rows
 column_within t rows columns i h = let n : length t.billed.items ≡ length rows = rw columns.billed (length-map rows (λ c. c.billed)) in let m : vec_len t.billed ≡ length t.billed.items = t.billed.ok.0 in omega (arith, n, m)
+
+-- ---- the text of a group
+
+-- the text that is found among the tags of a row is its group
+found_group : (names : List Text) (key : Text) (tags : List TagText) → AreKnown names (texts_of_tags tags)
+    → found_text names (place_of names key) (map (tag_places names) tags) ≡ group_of key tags
+unfolding found_text value_text text_at tag_places texts_of_tags group_of value_under tag_under
+found_group names key [] h = refl
+found_group names key (t ∷ ts) h = by (bytes_eq t.key key) refl (found_group names key ts h.1.1)
+  where
+    by : (b : Bool) → bytes_eq t.key key ≡ b → found_text names (place_of names key) (map (tag_places names) ts) ≡ group_of key ts
+        → found_text names (place_of names key) (map (tag_places names) (t ∷ ts)) ≡ group_of key (t ∷ ts)
+    by true e rest = rw (same_place names t.key key h.0, e) (text_at_place names t.value [] h.1.0.below)
+    by false e rest = rw (same_place names t.key key h.0, e) rest
+
+pub text_shown : (t : Table) (rows : List Charge) → AreColumns t rows → (key : Text) (i : ℕ) (d : Charge) → i < length rows
+    → found_text t.names (place_of t.names key) (slice_range t.tags.items (tags_start t.tag_ends.items i) (tags_end t.tag_ends.items i)) ≡ group_of key (get_or rows i d).tags
+text_shown t rows columns key i d h = rw (part-shown t rows columns i d h) (found_group t.names key (get_or rows i d).tags (texts_known t rows columns i d h).tags)
+
+-- where the search through tags stands
+module _ (names : List Text) (key : ℕ) (tags : List TagCode) (i : ℕ) (d : TagCode) (h : i < length tags) where
+  pub text_here : (get_or tags i d).key ≡ key → text_at names (get_or tags i d).value ≡ found_text names key (drop i tags)
+  unfolding found_text value_text
+  text_here e = rw (drop_more tags i d h, eq-eqb (get_or tags i d).key key e) refl
+
+  pub text_later : ((get_or tags i d).key ≡ key → ⊥) → found_text names key (drop i tags) ≡ found_text names key (drop (i + 1) tags)
+  unfolding found_text value_text
+  text_later e = rw (drop_more tags i d h, ne_eqb (get_or tags i d).key key e) refl
+
+pub text_nowhere : (names : List Text) (key : ℕ) (tags : List TagCode) (i : ℕ) → length tags ≤ i → [] ≡ found_text names key (drop i tags)
+unfolding found_text value_text
+text_nowhere names key tags i h = rw (drop_all i tags h) refl

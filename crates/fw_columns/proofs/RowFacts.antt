@@ -10,7 +10,8 @@ use Rattle.fw_charge.specs.Charge.{Charge, DiscountText, IsCharge}
 use Rattle.fw_columns.specs.declared.table.Table.{Table}
 use Rattle.fw_columns.specs.Names.{Text, place_of}
 use Rattle.fw_columns.specs.Texts.{texts_of_tags}
-use Rattle.fw_columns.specs.Codes.{category_code, class_code, text_code}
+use Rattle.fw_charge.specs.Codes.{category_code, class_code}
+use Rattle.fw_columns.specs.Codes.{text_code}
 use Rattle.fw_columns.specs.Table.{AreColumns, discount_code, tag_places, ends_from, tags_start, tags_end, charge_at}
 use Rattle.fw_columns.specs.Joining.{IsTagBelow}
 use Rattle.fw_columns.specs.Reading.{HasRow}

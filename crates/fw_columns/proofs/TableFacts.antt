@@ -11,7 +11,8 @@ use Rattle.fw_charge.specs.declared.category.Category.TheVariants as category
 use Rattle.fw_columns.specs.declared.table.Table.{Table}
 use Rattle.fw_columns.specs.Names.{Text, place_of}
 use Rattle.fw_columns.specs.Texts.{texts_of_tags}
-use Rattle.fw_columns.specs.Codes.{category_code, class_code, text_code}
+use Rattle.fw_charge.specs.Codes.{category_code, class_code}
+use Rattle.fw_columns.specs.Codes.{text_code}
 use Rattle.fw_columns.specs.Table.{AreColumns, discount_code, tag_places, ends_from, category_of, text_at, text_of, discount_of, tag_of, tags_start, tags_end, charge_at, rows_of}
 use Rattle.fw_columns.proofs.NameFacts.{text_at_place}
 use Rattle.fw_columns.proofs.TextFacts.{IsKnown, AreKnown, IsRowKnown, rows-known}

@@ -2,22 +2,7 @@
 use Rattle.std.specs.Prelude.{◌≡◌, ◌↔◌, ℕ, ◌+◌, Bool, true, false, List, [], ◌∷◌, slice_get, slice_index_or, Option, Some, None}
 use Rattle.fw_charge.specs.Charge.{Charge}
 use Rattle.fw_charge.specs.Tags.{group_of}
-use Rattle.fw_charge.specs.declared.category.Category.{Category}
-use Rattle.fw_charge.specs.declared.category.Category.TheVariants as category
 use Rattle.fw_columns.specs.Names.{Text, place_of}
-
--- the code of a category
-unfoldable pub category_code : Category → ℕ
-category_code category.Usage = 1
-category_code category.Purchase = 2
-category_code category.Tax = 3
-category_code category.Credit = 4
-category_code category.Adjustment = 5
-
--- the code of a class: 1 for a correction, and 0 for none
-unfoldable pub class_code : Bool → ℕ
-class_code false = 0
-class_code true = 1
 
 -- the code of a text that may be null: 0 for null, else 1 more than its place in the names
 unfoldable pub text_code : List Text → Option Text → ℕ

@@ -8,7 +8,8 @@ use Rattle.fw_charge.specs.declared.category.Category.{Category}
 use Rattle.fw_charge.specs.declared.category.Category.TheVariants as category
 use Rattle.fw_columns.specs.Names.{Text, place_of}
 use Rattle.fw_columns.specs.Texts.{names_of}
-use Rattle.fw_columns.specs.Codes.{text_code, category_code, class_code}
+use Rattle.fw_charge.specs.Codes.{category_code, class_code}
+use Rattle.fw_columns.specs.Codes.{text_code}
 use Rattle.fw_columns.specs.declared.table.Table.{Table}
 use Rattle.fw_columns.specs.declared.codes.DiscountCode.{DiscountCode}
 use Rattle.fw_columns.specs.declared.codes.TagCode.{TagCode}

@@ -1,6 +1,7 @@
 //! What columns hold in place of texts and words, and what it stands for.
 ghost use Rattle.std.specs.Prelude.{◌≡◌, ◌<◌, ◌≤◌, length, option_copied, option_map, string_bytes, IfOk};
-ghost use Rattle.fw_columns.specs.Codes.{category_code, class_code, text_code};
+ghost use Rattle.fw_charge.specs.Codes.{category_code, class_code};
+ghost use Rattle.fw_columns.specs.Codes.{text_code};
 ghost use Rattle.fw_columns.specs.Table.{category_of, text_of, text_at, discount_code, discount_of, tag_places, tag_of};
 
 use crate::names::Names;
@@ -23,7 +24,7 @@ pub struct TagCode {
 }
 
 /// The code of a category, from 1 on.
-#[tactic(auto, unfolding(crate::specs::Codes::category_code))]
+#[tactic(auto, unfolding(fw_charge::specs::Codes::category_code))]
 pub fn category_code(category: Category) -> u8
     ensures { result ≡ category_code category }
 {

@@ -1,10 +1,13 @@
 //! Rows kept by column.
-ghost use Rattle.std.specs.Prelude.{◌≡◌, ◌<◌, ◌≤◌, ◌+◌, ◌++◌, Some, length, map, pos, slice_get, IfOk};
+ghost use Rattle.std.specs.Prelude.{◌≡◌, ◌<◌, ◌≤◌, ◌+◌, ◌++◌, Some, length, map, nat_abs, pos, slice_get, All, IfOk};
 ghost use Rattle.fw_charge.specs.Charge.{Charge};
+ghost use Rattle.fw_charge.specs.Tags.{group_of};
+ghost use Rattle.fw_money.specs.Amount.{most_nanos};
 ghost use Rattle.fw_columns.specs.Texts.{names_of};
-ghost use Rattle.fw_columns.specs.Codes.{category_code, class_code, tag_code, AgreeWithGroups};
+ghost use Rattle.fw_charge.specs.Codes.{category_code, class_code};
+ghost use Rattle.fw_columns.specs.Codes.{tag_code, AgreeWithGroups};
 
-use crate::grouping::group_codes;
+use crate::grouping::{group_codes, group_texts};
 use crate::joining::joined;
 use crate::making::table_of;
 use crate::names::Names;
@@ -72,14 +75,16 @@ impl Columns {
 
     /// BilledCost of each row, in nanos.
     pub fn billed(&self) -> &[i64]
-        ensures { result.now ≡ map (λ c. c.billed) self.now }
+        ensures costs { result.now ≡ map (λ c. c.billed) self.now }
+        ensures amounts { All (λ n. nat_abs n ≤ most_nanos) result.now }
     {
         self.table.billed.as_slice()
     }
 
     /// EffectiveCost of each row, in nanos.
     pub fn effective(&self) -> &[i64]
-        ensures { result.now ≡ map (λ c. c.effective) self.now }
+        ensures costs { result.now ≡ map (λ c. c.effective) self.now }
+        ensures amounts { All (λ n. nat_abs n ≤ most_nanos) result.now }
     {
         self.table.effective.as_slice()
     }
@@ -123,5 +128,12 @@ impl Columns {
     {
         let codes = group_codes(*self.table.billed.allocator(), &self.table, key)?;
         Ok(codes)
+    }
+    /// The group of each row under a tag key, as its text.
+    pub fn groups(&self, key: &str) -> Result<Vec<&str>, AllocError>
+        ensures { IfOk result (λ groups. map (λ g. g.now) groups.items ≡ map (λ c. group_of key.now c.tags) self.now) }
+    {
+        let groups = group_texts(*self.table.billed.allocator(), &self.table, key)?;
+        Ok(groups)
     }
 }

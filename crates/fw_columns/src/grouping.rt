@@ -1,10 +1,13 @@
 //! The groups of rows under a tag key.
-ghost use Rattle.std.specs.Prelude.{◌≡◌, ◌≤◌, ◌^◌, map, All, IfOk};
+ghost use Rattle.std.specs.Prelude.{◌≡◌, ◌≤◌, ◌^◌, length, map, All, IfOk};
+ghost use Rattle.fw_charge.specs.Tags.{group_of};
 ghost use Rattle.fw_columns.specs.Codes.{tag_code};
+ghost use Rattle.fw_columns.specs.Joining.{IsTagBelow};
 ghost use Rattle.fw_columns.specs.Table.{AreColumns, rows_of};
-ghost use Rattle.fw_columns.specs.Grouping.{found_code};
+ghost use Rattle.fw_columns.specs.Grouping.{found_code, found_text};
 
 use crate::codes::TagCode;
+use crate::names::Names;
 use crate::reading::tags_at;
 use crate::table::Table;
 use std::alloc::{AllocError, Global};
@@ -34,4 +37,34 @@ fn group_code(tags: &[TagCode], key: u32, empty: u32) -> u32
         }
     }
     0
+}
+
+/// The text of each row's group under a key.
+pub fn group_texts<'a>(
+    alloc: Global,
+    table: &'a Table,
+    key: &str,
+) -> Result<Vec<&'a str>, AllocError>
+    requires { AreColumns table.now (rows_of table.now) }
+    ensures { IfOk result (λ texts. map (λ t. t.now) texts.items ≡ map (λ c. group_of key.now c.tags) (rows_of table.now)) }
+{
+    let key = table.names.place(key);
+    let mut texts = Vec::with_capacity(alloc, table.billed.len())?;
+    for place in 0..table.billed.len() {
+        texts.push(group_text(&table.names, tags_at(table, place), key))?;
+    }
+    Ok(texts)
+}
+
+/// The text of the group of tags: the value under the key of a place, or the empty text where there is none.
+fn group_text<'a>(names: &'a Names, tags: &[TagCode], key: u32) -> &'a str
+    requires { All (IsTagBelow (length names.now)) tags.now }
+    ensures { result.now ≡ found_text names.now key tags.now }
+{
+    for tag in tags {
+        if tag.key == key {
+            return names.text(tag.value);
+        }
+    }
+    ""
 }

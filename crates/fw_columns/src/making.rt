@@ -3,7 +3,8 @@ ghost use Rattle.std.specs.Prelude.{◌≡◌, ◌≤◌, ◌<◌, ◌+◌, ◌+
 ghost use Rattle.std.specs.List.{flat_map};
 ghost use Rattle.fw_money.specs.Amount.{most_nanos};
 ghost use Rattle.fw_charge.specs.Charge.{IsCharge};
-ghost use Rattle.fw_columns.specs.Codes.{category_code, class_code, text_code};
+ghost use Rattle.fw_charge.specs.Codes.{category_code, class_code};
+ghost use Rattle.fw_columns.specs.Codes.{text_code};
 ghost use Rattle.fw_columns.specs.Table.{AreColumns, discount_code, tag_places, ends_from};
 
 use crate::codes::{DiscountCode, TagCode, category_code, discount_code, tag_places, text_code};
@@ -75,7 +76,7 @@ fn categories_of(alloc: Global, rows: &[Row]) -> Result<Vec<u8>, AllocError>
 }
 
 /// The codes of the classes.
-#[tactic(auto, unfolding(crate::specs::Codes::class_code))]
+#[tactic(auto, unfolding(fw_charge::specs::Codes::class_code))]
 fn classes_of(alloc: Global, rows: &[Row]) -> Result<Vec<u8>, AllocError>
     ensures { IfOk result (λ column. column.items ≡ map (λ c. class_code c.is_correction) rows.now) }
 {

@@ -143,6 +143,7 @@ fn one_team(rt: HostRuntime) -> Result<(), Fail> {
 fn two_teams(rt: HostRuntime) -> Result<(), Fail> {
     let both = joined(rt.alloc())?;
     assert!(rt; shows(&both, &["Hours", "vm", "team", "web", "data"], &[4, 5])?);
+    assert!(rt; both.groups("team")?.as_slice() == ["web", "data"].as_slice());
     Ok(())
 }
 
@@ -150,6 +151,7 @@ fn two_teams(rt: HostRuntime) -> Result<(), Fail> {
 fn a_tag_that_no_row_has(rt: HostRuntime) -> Result<(), Fail> {
     let both = joined(rt.alloc())?;
     assert!(rt; both.tag_codes("x")?.as_slice() == [0, 0].as_slice());
+    assert!(rt; both.groups("x")?.as_slice() == ["", ""].as_slice());
     Ok(())
 }
 

@@ -1,5 +1,14 @@
 -- Lemmas on what single commands are answered.
-use Rattle.std.proofs.Common.{◌≡◌, ◌∙◌, ◌+◌, ℕ, List, Some, None, Ok, Err, refl, sym, ap, inl, inr}
+use Rattle.std.proofs.Common.{◌≡◌, ◌∙◌, ◌+◌, ◌++◌, ◌∷◌, [], ◌<◌, ℕ, zero, suc, true, false, List, length, Some, None, Ok, Err, refl, sym, ap, subst, inl, inr, arith}
+use Rattle.std.proofs.lemmas.List.{length-append}
+use Rattle.std.proofs.Math.Dec.{eqb-suc-zero}
+use Rattle.std.proofs.lemmas.Bool.{le-ltb, lt-ltb}
+use Rattle.std.specs.Borrow.{Bor}
+use Rattle.std.specs.Option.{is_some, option_copied}
+use Rattle.fw_terms.specs.Policy.{PolicyValue}
+use Rattle.fw_query.specs.Limits.{IsRange}
+use Rattle.fw_query.specs.RangeLines.{AreRangeLines}
+use Rattle.fw_query.specs.Refusals.{AreRefused}
 use Rattle.fw_rows.specs.Rows.{RowsRead}
 use Rattle.fw_rows.specs.declared.fault.RowFault.TheVariants as row_fault
 use Rattle.fw_commitment.specs.Reading.{CommitmentReads}
@@ -8,50 +17,141 @@ use Rattle.fw_policy.specs.Policy.{PolicyReads}
 use Rattle.fw_policy.specs.declared.fault.PolicyFault.TheVariants as policy_fault
 use Rattle.fw_script.specs.declared.commands.EntryKind.{EntryKind}
 use Rattle.fw_script.specs.declared.commands.EntryKind.TheVariants as kind
+use Rattle.fw_entry.specs.Entry.{CommandValue, EntryValue, is_origin}
+use Rattle.fw_entry.specs.Refusals.{IsRefused}
+use Rattle.fw_entry.specs.Spelling as spelling
+use Rattle.fw_entry.specs.Spelling.{most_entry_bytes, IsEntry, IsRowCount}
+use Rattle.fw_entry.specs.declared.fault.EntryFault.{EntryFault}
+use Rattle.fw_entry.specs.declared.fault.EntryFault.TheVariants as entry_fault
+use Rattle.fw_snapshot.specs.History.{History, rows_of, commitments_of, policy_of}
+use Rattle.fw_snapshot.specs.Judging.{judged}
+use Rattle.fw_snapshot.specs.declared.verdict.Verdict.{Verdict}
+use Rattle.fw_snapshot.specs.declared.verdict.Verdict.TheVariants as verdict
+use Rattle.fw_snapshot.specs.declared.verdict.Conflict.{Conflict}
 use Rattle.fw_desk.specs.Contents.{ContentReads}
-use Rattle.fw_desk.specs.Answers.{Entered, judged, after_judging, judged_line, after_reading, reading_line}
-use Rattle.fw_desk.specs.Outcomes.{Takes}
-use Rattle.fw_desk.specs.declared.judging.EntryFault.{EntryFault}
-use Rattle.std.specs.Prelude.{Vec}
+use Rattle.fw_desk.specs.Answers.{Entered, SequenceReads, parts_entry, entry_made, after_judging, judged_line, after_making, made_line, after_reading, reading_line}
+use Rattle.fw_desk.specs.Outcomes.{Takes, Judges, Wants}
+use Rattle.std.specs.Prelude.{Vec, Option, Result, MatchOption, IfOk, IfErr, unwrap_or, ◌==◌, if◌then◌else◌}
+use Rattle.std.proofs.lemmas.Slice.Zip.{AllZip-long}
+use Rattle.fw_charge.specs.Charge.{Charge}
+use Rattle.fw_script.specs.Words.{IsSequence}
 use Rattle.std.specs.declared.alloc.Global.{Global}
 use Rattle.fw_amortise.specs.LineValue.{LineValue}
-use Rattle.fw_query.specs.Limits.{IsRange}
-use Rattle.fw_query.specs.RangeLines.{AreRangeLines}
-use Rattle.fw_query.specs.Refusals.{AreRefused}
 use Rattle.fw_query.specs.Texts.{lines_text}
 use Rattle.fw_query.specs.declared.fault.QueryFault.{QueryFault}
-use Rattle.fw_desk.specs.Holdings.{Holdings, Brought, held_after}
-use Rattle.fw_desk.specs.Replies.{query_fault_line, counted, accepted_line, entry_fault_line, no_memory_line, row_fault_line, commitment_fault_line, policy_fault_line}
-use Rattle.fw_desk.specs.Questions.{ReportAnswer, LinesAnswer, IsReportText, AreOutcome, report_answer, lines_answer}
+use Rattle.fw_desk.specs.Replies.{query_fault_line, counted, policy_count, accepted_line, already_line, gap_line, conflict_line, entry_fault_line, no_memory_line, row_fault_line, commitment_fault_line, policy_fault_line}
+use Rattle.fw_desk.specs.Questions.{ReportAnswer, LinesAnswer, IsReportText, IsLinesText, AreOutcome, report_answer, lines_answer}
 
 -- a report that was written
-pub ReportAnswer-text : (held : Holdings) (key : List ℕ) (from to : ℕ) (text : Vec ℕ Global) → IsReportText held key from to (Ok text)
+pub ReportAnswer-text : (held : History) (key : List ℕ) (from to : ℕ) (text : Vec ℕ Global) → IsReportText held key from to (Ok text)
     → ReportAnswer held key from to (counted text.items)
 unfolding IsReportText report_answer
 ReportAnswer-text held key from to text told = record { outcome = Ok told.0; is_outcome = told.1; says = ap counted told.2 }
 
 -- a report that wasn't
-pub ReportAnswer-none : (held : Holdings) (key : List ℕ) (from to : ℕ) (why : QueryFault) → IsReportText held key from to (Err why)
+pub ReportAnswer-none : (held : History) (key : List ℕ) (from to : ℕ) (why : QueryFault) → IsReportText held key from to (Err why)
     → ReportAnswer held key from to (query_fault_line why)
 unfolding IsReportText report_answer
 ReportAnswer-none held key from to why told = record { outcome = Err why; is_outcome = told; says = refl }
 
--- what was judged and can't be accepted
-pub Takes-refused : (before : Holdings) (brought : Brought) (fault : EntryFault) → judged before brought ≡ Some fault → Takes before brought (entry_fault_line fault) before
-unfolding Takes after_reading reading_line
-Takes-refused before brought fault j = inl (sym (ap (after_judging before brought) j), sym (ap (judged_line before) j))
+-- lines that were written
+pub LinesAnswer-text : (held : History) (from to : ℕ) (text : Vec ℕ Global) → IsLinesText held from to (Ok text) → LinesAnswer held from to (counted text.items)
+unfolding IsLinesText lines_answer
+LinesAnswer-text held from to text told = record { outcome = Ok told.0; are_outcome = told.1; says = ap counted told.2 }
 
--- what was judged and accepted under this number
-pub Takes-accepted : (before : Holdings) (brought : Brought) (number : ℕ) (after : Holdings) → judged before brought ≡ None → after ≡ held_after before brought
-    → number ≡ before.accepted + 1 → Takes before brought (accepted_line number) after
-unfolding Takes after_reading reading_line
-Takes-accepted before brought number after j same n =
-    inl (same ∙ sym (ap (after_judging before brought) j), ap accepted_line n ∙ sym (ap (judged_line before) j))
+-- lines that weren't
+pub LinesAnswer-none : (held : History) (from to : ℕ) (why : QueryFault) → IsLinesText held from to (Err why) → LinesAnswer held from to (query_fault_line why)
+unfolding IsLinesText lines_answer
+LinesAnswer-none held from to why told = record { outcome = Err why; are_outcome = told; says = refl }
 
--- what there is no memory for
-pub Takes-none : (before : Holdings) (brought : Brought) (after : Holdings) → after ≡ before → Takes before brought no_memory_line after
-unfolding Takes
-Takes-none before brought after same = inr (same, refl)
+-- what lines came to
+pub IsLinesText-of : (held : History) (from to : ℕ) (r : Result (Vec ℕ Global) QueryFault) → IfOk r (λ _. IsRange from to)
+    → IfOk r (λ text. (lines : List LineValue) × AreRangeLines (commitments_of held.entries) (rows_of held.entries) from to lines × (text.items ≡ lines_text lines))
+    → IfErr r (AreRefused from to) → IsLinesText held from to r
+unfolding IsLinesText AreOutcome
+IsLinesText-of held from to (Ok text) range told refused = (told.0, (range, told.1), told.2)
+IsLinesText-of held from to (Err why) range told refused = refused
+
+-- whether there is a policy, as a number
+pub policy_counted : (policy : Option (Bor PolicyValue)) → (if is_some policy then 1 else 0) ≡ policy_count (option_copied policy)
+policy_counted None = refl
+policy_counted (Some policy) = refl
+
+-- ---- an entry that was judged
+
+pub Judges-accepted : (before : History) (e : EntryValue) (text : List ℕ) (after state : History) → judged before.entries e ≡ verdict.Accept → after ≡ state
+    → state ≡ record { currency = before.currency; entries = before.entries ++ e ∷ [] } → text ≡ accepted_line (length state.entries) → Judges before e text after
+unfolding Judges
+Judges-accepted before e text after state j held same told =
+    let count : length state.entries ≡ length before.entries + 1 = ap (λ (h : History). length h.entries) same ∙ length-append before.entries (e ∷ []) in
+    inl (held ∙ same ∙ sym (ap (after_judging before e) j), told ∙ ap accepted_line count ∙ sym (ap (judged_line before) j))
+
+pub Judges-already : (before : History) (e : EntryValue) (last : ℕ) → judged before.entries e ≡ verdict.Already last → Judges before e (already_line last) before
+unfolding Judges
+Judges-already before e last j = inl (sym (ap (after_judging before e) j), sym (ap (judged_line before) j))
+
+pub Judges-gap : (before : History) (e : EntryValue) (expected : ℕ) → judged before.entries e ≡ verdict.Gap expected → Judges before e (gap_line expected) before
+unfolding Judges
+Judges-gap before e expected j = inl (sym (ap (after_judging before e) j), sym (ap (judged_line before) j))
+
+pub Judges-refused : (before : History) (e : EntryValue) (why : Conflict) → judged before.entries e ≡ verdict.Refused why → Judges before e (conflict_line why) before
+unfolding Judges
+Judges-refused before e why j = inl (sym (ap (after_judging before e) j), sym (ap (judged_line before) j))
+
+pub Judges-none : (before : History) (e : EntryValue) → Judges before e no_memory_line before
+unfolding Judges
+Judges-none before e = inr (refl, refl)
+
+-- ---- the number of an entry
+
+-- a word that is no number is taken as 0
+pub reads_number : (word : List ℕ) (read : Option ℕ) → MatchOption read ((number : ℕ) → ¬ IsSequence word number) (IsSequence word) → SequenceReads word (unwrap_or read 0)
+reads_number word None h = h
+reads_number word (Some zero) h = absurd (omega (arith, h.positive))
+reads_number word (Some (suc n)) h = h
+
+-- a post that reads as rows has as many as a post may have
+pub IsRowCount-read : (currency text : List ℕ) (rows : List Charge) → RowsRead currency text (Ok rows) → IsRowCount rows
+unfolding RowsRead
+IsRowCount-read currency text rows read =
+    let long = AllZip-long _ _ rows read.3 in
+    record { some = rw long read.1; few = rw long read.2 }
+
+-- ---- parts that make an entry, or none
+
+-- a number that isn't 0
+is_some_number : (n : ℕ) → 0 < n → (n == 0) ≡ false
+is_some_number zero h = absurd (omega (arith, h))
+is_some_number (suc n) h = eqb-suc-zero n
+
+-- an entry keeps its limits, so its parts make it
+pub made_is : (e : EntryValue) → IsEntry e → entry_made e.origin e.seq e.command ≡ Ok e
+unfolding entry_made
+made_is e keeps =
+    let named : is_origin e.origin ≡ true = keeps.origin in
+    rw (named, is_some_number e.seq keeps.some_seq, le-ltb most_entry_bytes (length (spelling.entry e)) keeps.size) refl
+
+pub Takes-judged : (before : History) (e : EntryValue) (text : List ℕ) (after : History) → IsEntry e → Judges before e text after → Takes before e.origin e.seq e.command text after
+unfolding Takes Judges after_reading reading_line
+Takes-judged before e text after keeps (inl told) =
+    inl (told.0 ∙ sym (ap (after_making before) (made_is e keeps)), told.1 ∙ sym (ap (made_line before) (made_is e keeps)))
+Takes-judged before e text after keeps (inr told) = inr told
+
+-- there is no entry for a reason
+pub Takes-refused : (before : History) (origin : List ℕ) (seq : ℕ) (command : CommandValue) (why : EntryFault) → IsRefused origin seq command why
+    → Takes before origin seq command (entry_fault_line why) before
+unfolding Takes after_reading reading_line entry_made entry_fault_line
+Takes-refused before origin seq command entry_fault.Origin refused =
+    let made : entry_made origin seq command ≡ Err entry_fault.Origin = rw refused refl in
+    inl (sym (ap (after_making before) made), sym (ap (made_line before) made))
+Takes-refused before origin seq command entry_fault.Seq refused =
+    let made : entry_made origin seq command ≡ Err entry_fault.Seq = rw (refused.0, refused.1) refl in
+    inl (sym (ap (after_making before) made), sym (ap (made_line before) made))
+Takes-refused before origin seq command entry_fault.TooLarge refused =
+    let made : entry_made origin seq command ≡ Err entry_fault.TooLarge =
+    rw (refused.0, is_some_number seq refused.1, lt-ltb most_entry_bytes (length (spelling.entry (parts_entry origin seq command))) refused.2) refl in
+    inl (sym (ap (after_making before) made), sym (ap (made_line before) made))
+Takes-refused before origin seq command entry_fault.NoMemory refused = inr (refl, refl)
 
 -- want of memory may come in place of any reading
 reads_none : (k : EntryKind) (currency content : List ℕ) → ContentReads k currency content (Err no_memory_line)
@@ -60,27 +160,19 @@ reads_none kind.Post currency content = (row_fault.NoMemory, refl, tt)
 reads_none kind.Commit currency content = (commitment_fault.NoMemory, refl, tt)
 reads_none kind.Policy currency content = (policy_fault.NoMemory, refl, tt)
 
--- a content that was read, and then accepted or refused
-pub Entered-taken : (before : Holdings) (k : EntryKind) (content : List ℕ) (brought : Brought) (text : List ℕ) (after : Holdings)
-    → ContentReads k before.currency content (Ok brought) → Takes before brought text after → Entered before k content text after
+-- a content that was read, and whose entry was then accepted or refused
+pub Entered-taken : (before : History) (k : EntryKind) (origin sequence content : List ℕ) (number : ℕ) (command : CommandValue) (text : List ℕ) (after : History)
+    → SequenceReads sequence number → ContentReads k before.currency content (Ok command) → Takes before origin number command text after
+    → Entered before k origin sequence content text after
 unfolding Takes after_reading reading_line
-Entered-taken before k content brought text after reads (inl told) = record { reading = Ok brought; reads = reads; leaves = told.0; says = told.1 }
-Entered-taken before k content brought text after reads (inr told) =
-    record { reading = Err no_memory_line; reads = reads_none k before.currency content; leaves = told.0; says = told.1 }
+Entered-taken before k origin sequence content number command text after numbers reads (inl told) =
+    record { reading = Ok command; reads = reads; number = number; numbers = numbers; leaves = told.0; says = told.1 }
+Entered-taken before k origin sequence content number command text after numbers reads (inr told) =
+    record { reading = Err no_memory_line; reads = reads_none k before.currency content; number = number; numbers = numbers; leaves = told.0; says = told.1 }
 
 -- a content that can't be read
-pub Entered-refused : (before : Holdings) (k : EntryKind) (content line : List ℕ) → ContentReads k before.currency content (Err line)
-    → Entered before k content line before
+pub Entered-refused : (before : History) (k : EntryKind) (origin sequence content : List ℕ) (number : ℕ) (line : List ℕ)
+    → SequenceReads sequence number → ContentReads k before.currency content (Err line) → Entered before k origin sequence content line before
 unfolding after_reading reading_line
-Entered-refused before k content line reads = record { reading = Err line; reads = reads; leaves = refl; says = refl }
-
--- lines that were written
-pub LinesAnswer-text : (held : Holdings) (from to : ℕ) (lines : List LineValue) (text : List ℕ) → IsRange from to
-    → AreRangeLines held.commitments held.rows from to lines → text ≡ lines_text lines → LinesAnswer held from to (counted text)
-unfolding AreOutcome lines_answer
-LinesAnswer-text held from to lines text range are same = record { outcome = Ok lines; are_outcome = (range, are); says = ap counted same }
-
--- lines that weren't
-pub LinesAnswer-none : (held : Holdings) (from to : ℕ) (why : QueryFault) → AreRefused from to why → LinesAnswer held from to (query_fault_line why)
-unfolding AreOutcome lines_answer
-LinesAnswer-none held from to why refused = record { outcome = Err why; are_outcome = refused; says = refl }
+Entered-refused before k origin sequence content number line numbers reads =
+    record { reading = Err line; reads = reads; number = number; numbers = numbers; leaves = refl; says = refl }

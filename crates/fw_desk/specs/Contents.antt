@@ -11,15 +11,16 @@ use Rattle.fw_policy.specs.Policy.{PolicyReads}
 use Rattle.fw_policy.specs.declared.fault.PolicyFault.{PolicyFault}
 use Rattle.fw_script.specs.declared.commands.EntryKind.{EntryKind}
 use Rattle.fw_script.specs.declared.commands.EntryKind.TheVariants as kind
-use Rattle.fw_desk.specs.Holdings.{Brought, rows, commitment, policy}
+use Rattle.fw_entry.specs.Entry.{CommandValue}
+use Rattle.fw_entry.specs.Entry.CommandValue.{post, commit, set_policy}
 use Rattle.fw_desk.specs.Replies.{row_fault_line, commitment_fault_line, policy_fault_line}
 
--- the content of an entry of a kind reads, under a currency, as what it brings, or as the line that refuses it: the line of its first
+-- the content of an entry of a kind reads, under a currency, as this command, or as the line that refuses it: the line of its first
 -- fault, or of want of memory, which may come in place of either
-unfoldable pub ContentReads : EntryKind → List ℕ → List ℕ → Result Brought (List ℕ) → Type 0
-ContentReads kind.Post currency content (Ok brought) = (these : List Charge) × (brought ≡ rows these) × RowsRead currency content (Ok these)
+unfoldable pub ContentReads : EntryKind → List ℕ → List ℕ → Result CommandValue (List ℕ) → Type 0
+ContentReads kind.Post currency content (Ok command) = (rows : List Charge) × (command ≡ post rows) × RowsRead currency content (Ok rows)
 ContentReads kind.Post currency content (Err line) = (fault : RowFault) × (line ≡ row_fault_line fault) × RowsRead currency content (Err fault)
-ContentReads kind.Commit currency content (Ok brought) = (this : CommitmentValue) × (brought ≡ commitment this) × CommitmentReads content (Ok this)
+ContentReads kind.Commit currency content (Ok command) = (this : CommitmentValue) × (command ≡ commit this) × CommitmentReads content (Ok this)
 ContentReads kind.Commit currency content (Err line) = (fault : CommitmentFault) × (line ≡ commitment_fault_line fault) × CommitmentReads content (Err fault)
-ContentReads kind.Policy currency content (Ok brought) = (this : PolicyValue) × (brought ≡ policy this) × PolicyReads content (Ok this)
+ContentReads kind.Policy currency content (Ok command) = (this : PolicyValue) × (command ≡ set_policy this) × PolicyReads content (Ok this)
 ContentReads kind.Policy currency content (Err line) = (fault : PolicyFault) × (line ≡ policy_fault_line fault) × PolicyReads content (Err fault)

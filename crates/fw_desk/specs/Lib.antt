@@ -1,9 +1,6 @@
-pub mod Holdings
-pub mod Judging
 pub mod Replies
 pub mod ReplyText
 pub mod Contents
-pub mod ContentView
 pub mod Questions
 pub mod Answers
 pub mod Outcomes

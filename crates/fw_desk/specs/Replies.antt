@@ -1,5 +1,6 @@
 -- The lines that answer commands.
-use Rattle.std.specs.Prelude.{ℕ, List, [], ◌∷◌, ◌++◌, length, codes, decimal}
+use Rattle.std.specs.Prelude.{ℕ, List, [], ◌∷◌, ◌++◌, length, codes, decimal, Option, Some, None}
+use Rattle.fw_terms.specs.Policy.{PolicyValue}
 use Rattle.fw_script.specs.Lines.{line_feed}
 use Rattle.fw_rows.specs.Columns.{name_of}
 use Rattle.fw_rows.specs.declared.fault.RecordFault.{RecordFault}
@@ -12,8 +13,11 @@ use Rattle.fw_commitment.specs.declared.fault.CommitmentFault.TheVariants as com
 use Rattle.fw_policy.specs.FieldNames as policy_field
 use Rattle.fw_policy.specs.declared.fault.PolicyFault.{PolicyFault}
 use Rattle.fw_policy.specs.declared.fault.PolicyFault.TheVariants as policy_fault
-use Rattle.fw_desk.specs.declared.judging.EntryFault.{EntryFault}
-use Rattle.fw_desk.specs.declared.judging.EntryFault.TheVariants as entry_fault
+use Rattle.fw_entry.specs.declared.fault.EntryFault.{EntryFault}
+use Rattle.fw_entry.specs.declared.fault.EntryFault.TheVariants as entry_fault
+use Rattle.fw_snapshot.specs.History.{History, rows_of, commitments_of, policy_of}
+use Rattle.fw_snapshot.specs.declared.verdict.Conflict.{Conflict}
+use Rattle.fw_snapshot.specs.declared.verdict.Conflict.TheVariants as conflict
 use Rattle.fw_query.specs.declared.fault.QueryFault.{QueryFault}
 use Rattle.fw_query.specs.declared.fault.QueryFault.TheVariants as query_fault
 
@@ -73,13 +77,20 @@ policy_fault_line policy_fault.DoubleFrom = refused (codes "P4 DoubleFrom")
 policy_fault_line policy_fault.TargetIsFrom = refused (codes "P5 TargetIsFrom")
 policy_fault_line policy_fault.NoMemory = no_memory_line
 
--- why an entry doesn't go with what was accepted before
+-- why there is no such entry
 unfoldable pub entry_fault_line : EntryFault → List ℕ
-entry_fault_line entry_fault.Full = refused (codes "J1 Full")
-entry_fault_line entry_fault.DoubleId = refused (codes "J2 DoubleId")
-entry_fault_line entry_fault.IdInUse = refused (codes "J3 IdInUse")
-entry_fault_line entry_fault.OwnCommitment = refused (codes "J4 OwnCommitment")
-entry_fault_line entry_fault.TooManyCommitments = refused (codes "J5 TooManyCommitments")
+entry_fault_line entry_fault.Origin = refused (codes "E1 Origin")
+entry_fault_line entry_fault.Seq = refused (codes "E2 Seq")
+entry_fault_line entry_fault.TooLarge = refused (codes "E3 TooLarge")
+entry_fault_line entry_fault.NoMemory = no_memory_line
+
+-- why what an entry brings doesn't go with what was accepted before
+unfoldable pub conflict_line : Conflict → List ℕ
+conflict_line conflict.Full = refused (codes "J1 Full")
+conflict_line conflict.DoubleId = refused (codes "J2 DoubleId")
+conflict_line conflict.IdInUse = refused (codes "J3 IdInUse")
+conflict_line conflict.OwnCommitment = refused (codes "J4 OwnCommitment")
+conflict_line conflict.TooManyCommitments = refused (codes "J5 TooManyCommitments")
 
 -- why there is no report and there are no lines
 unfoldable pub query_fault_line : QueryFault → List ℕ
@@ -90,6 +101,28 @@ query_fault_line query_fault.NoMemory = no_memory_line
 -- the entry was accepted as number n
 unfoldable pub accepted_line : ℕ → List ℕ
 accepted_line n = line (codes "accepted " ++ decimal n)
+
+-- the origin has had an entry of this number, and its last one has the number n
+unfoldable pub already_line : ℕ → List ℕ
+already_line n = line (codes "already " ++ decimal n)
+
+-- the next number of the origin would be n
+unfoldable pub gap_line : ℕ → List ℕ
+gap_line n = line (codes "gap " ++ decimal n)
+
+-- 1 where a policy holds, else 0
+abbrev pub policy_count : Option PolicyValue → ℕ
+policy_count None = 0
+policy_count (Some policy) = 1
+
+-- four numbers parted by spaces
+unfoldable pub counts_line : ℕ → ℕ → ℕ → ℕ → List ℕ
+counts_line entries rows commitments policies =
+    line (codes "state " ++ (decimal entries ++ (codes " " ++ (decimal rows ++ (codes " " ++ (decimal commitments ++ (codes " " ++ decimal policies)))))))
+
+-- how many entries, rows and commitments there are, and whether a policy holds
+unfoldable pub state_line : History → List ℕ
+state_line h = counts_line (length h.entries) (length (rows_of h.entries)) (length (commitments_of h.entries)) (policy_count (policy_of h.entries))
 
 -- a text behind a line that says how many bytes it has
 unfoldable pub counted : List ℕ → List ℕ

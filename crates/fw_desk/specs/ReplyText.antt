@@ -1,6 +1,6 @@
 -- The text of a reply.
-use Rattle.std.specs.Prelude.{ℕ, List, [], ◌++◌, decimal}
-use Rattle.fw_desk.specs.Replies.{refused, detail, accepted_line, counted, no_memory_line, bad_command_line, bad_end_line}
+use Rattle.std.specs.Prelude.{ℕ, List, [], ◌++◌, decimal, if◌then◌else◌}
+use Rattle.fw_desk.specs.Replies.{refused, detail, accepted_line, already_line, gap_line, counts_line, counted, no_memory_line, bad_command_line, bad_end_line}
 use Rattle.fw_desk.specs.declared.reply.Detail.{Detail}
 use Rattle.fw_desk.specs.declared.reply.Detail.TheVariants as of
 use Rattle.fw_desk.specs.declared.reply.Refusal.{Refusal}
@@ -20,8 +20,11 @@ refusal_text refusal = refusal.name.now ++ detail_text refusal.detail
 -- the whole text of a reply, with the line feed that ends its first line
 unfoldable pub reply_text : Reply → List ℕ
 reply_text (reply.Accepted number) = accepted_line number
+reply_text (reply.Already last) = already_line last
+reply_text (reply.Gap expected) = gap_line expected
 reply_text (reply.Refused refusal) = refused (refusal_text refusal)
 reply_text (reply.Text text) = counted text.items
+reply_text (reply.State entries rows commitments has_policy) = counts_line entries rows commitments (if has_policy then 1 else 0)
 reply_text reply.NoMemory = no_memory_line
 reply_text reply.BadCommand = bad_command_line
 reply_text reply.BadEnd = bad_end_line

@@ -1,171 +1,139 @@
-//! What was accepted so far, as plain lists.
-ghost use Rattle.std.specs.Prelude.{◌≡◌, ◌+◌, OnOk, IfOk, IsErr};
+//! The history so far, and what becomes of it.
+ghost use Rattle.std.specs.Prelude.{◌≡◌, [], length, IfOk};
+ghost use Rattle.fw_entry.specs.Spelling.{HasRowCount, IsEntry};
+ghost use Rattle.fw_entry.specs.View.{command_view};
 ghost use Rattle.fw_script.specs.Plain.{plain_command};
 
-use crate::content::{Content, read_content};
-use crate::judging::{EntryFault, judge_commitment, judge_rows};
-use crate::refusals::{entry_reply, query_reply};
+use crate::content::read_content;
+use crate::refusals::{conflict_reply, entry_reply, query_reply};
 use crate::reply::Reply;
+use fw_entry::{Command as EntryCommand, Entry};
 use fw_query::{Query, QueryFault, lines_csv, report, report_csv};
-use fw_rows::{Currency, Row};
-use fw_script::{Command, EntryKind};
-use fw_terms::{Commitment, Policy};
+use fw_rows::Currency;
+use fw_script::{Command, EntryKind, sequence_number};
+use fw_snapshot::{Snapshot, State, Verdict, judge};
 use std::alloc::{AllocError, Global};
 use std::marker::Model;
 
-/// What was accepted so far: the currency, how many entries, and what they brought, in the order in which they were accepted.
+/// The desk of a warehouse in memory: it holds the state of the warehouse, and answers commands from it.
 ///
-/// The rows are kept in one list, which grows at its end, so a post costs what it brings, however much is there.
+/// Each accepted entry makes a new state, which shares all that was there before, so an entry costs what it brings.
 #[derive(Drop)]
 pub struct Desk {
     alloc: Global,
-    currency: Currency,
-    accepted: u64,
-    rows: Vec<Row>,
-    commitments: Vec<Commitment>,
-    policy: Option<Policy>,
+    state: State,
 }
 
 impl Model for Desk {
-    ghost use Rattle.fw_desk.specs.Holdings.{Holdings};
+    ghost use Rattle.fw_snapshot.specs.History.{History};
 
-    ghost Value = { Holdings };
+    ghost Value = { History };
 
-    ghost view = { λ d. record { currency = d.currency; accepted = d.accepted; rows = d.rows.items; commitments = d.commitments.items; policy = d.policy } };
+    ghost view = { λ d. d.state };
 }
 
 impl Desk {
-    ghost use Rattle.std.specs.Prelude.{option_copied};
-    ghost use Rattle.fw_desk.specs.Answers.{Answer, Entered, judged};
-    ghost use Rattle.fw_desk.specs.ContentView.{brought_by};
-    ghost use Rattle.fw_desk.specs.Holdings.{empty, held_after};
-    ghost use Rattle.fw_desk.specs.Outcomes.{Takes};
-    ghost use Rattle.fw_desk.specs.Questions.{IsReportText, ReportAnswer, LinesAnswer};
+    ghost use Rattle.fw_desk.specs.Answers.{Answer, Entered};
+    ghost use Rattle.fw_desk.specs.Outcomes.{Judges, Takes};
+    ghost use Rattle.fw_desk.specs.Questions.{IsReportText, IsLinesText, ReportAnswer, LinesAnswer};
+    ghost use Rattle.fw_desk.specs.Replies.{accepted_line, state_line};
     ghost use Rattle.fw_desk.specs.ReplyText.{reply_text};
 
     /// A desk in this currency at which nothing was accepted.
-    #[tactic(auto, unfolding(crate::specs::Holdings::empty))]
     pub fn new(alloc: Global, currency: Currency) -> Self
-        ensures { result ≡ empty currency }
+        ensures { result ≡ record { currency = currency; entries = [] } }
     {
         Desk {
             alloc,
-            currency,
-            accepted: 0,
-            rows: Vec::new(alloc),
-            commitments: Vec::new(alloc),
-            policy: None,
+            state: State::empty(alloc, currency),
         }
     }
 
-    /// The currency of all costs.
-    pub fn currency(&self) -> Currency
-        ensures { result ≡ self.now.currency }
+    /// The state of the warehouse.
+    pub fn state(&self) -> &State
+        ensures { result.now ≡ self.now }
     {
-        self.currency
+        &self.state
     }
 
-    /// How many entries were accepted.
-    pub fn accepted(&self) -> u64
-        ensures { result ≡ self.now.accepted }
-    {
-        self.accepted
-    }
-
-    /// The rows of the accepted posts, in order.
-    pub fn rows(&self) -> &[Row]
-        ensures { result.now ≡ self.now.rows }
-    {
-        self.rows.as_slice()
-    }
-
-    /// The accepted commitments, in order.
-    pub fn commitments(&self) -> &[Commitment]
-        ensures { result.now ≡ self.now.commitments }
-    {
-        self.commitments.as_slice()
-    }
-
-    /// The policy that was accepted last.
-    pub fn policy(&self) -> Option<&Policy>
-        ensures { option_copied result ≡ self.now.policy }
-    {
-        self.policy.as_ref()
-    }
-
-    /// Does a command, and tells the reply. Where the content of an entry is refused, or memory is wanting, the desk stays as it was; reports
-    /// and lines change nothing.
+    /// Does a command, and tells the reply. Only an entry that is accepted changes the state. Where the content of an entry is refused, where it
+    /// was accepted before, leaves a gap or is refused, or where memory is wanting, the desk stays as it was.
     pub fn answer(&mut self, command: Command<'_>) -> Reply
         ensures { Answer self.old (plain_command command.entry) (reply_text result) self.new }
     {
         match command {
             Command::Entry {
                 kind,
-                origin: _,
-                sequence: _,
+                origin,
+                sequence,
                 content,
-            } => self.enter(kind, content),
+            } => self.enter(kind, origin, sequence, content),
             Command::Report { key, from, to } => self.tell_report(key, from, to),
             Command::Lines { from, to } => self.tell_lines(from, to),
+            Command::State => self.tell_state(),
             Command::BadCommand => Reply::BadCommand,
             Command::BadEnd => Reply::BadEnd,
         }
     }
 
-    // Reads the content of an entry, and accepts what it brings, or tells why not.
-    fn enter(&mut self, kind: EntryKind, content: &[u8]) -> Reply
-        ensures { Entered self.old kind content.now (reply_text result) self.new }
+    // Reads the content of an entry, and then sees to the entry.
+    fn enter(&mut self, kind: EntryKind, origin: &[u8], sequence: &[u8], content: &[u8]) -> Reply
+        ensures { Entered self.old kind origin.now sequence.now content.now (reply_text result) self.new }
     {
-        match read_content(self.alloc, kind, content, self.currency) {
-            Ok(content) => self.take(content),
+        let number = sequence_number(sequence).unwrap_or(0);
+        match read_content(self.alloc, kind, content, self.state.currency()) {
+            Ok(command) => self.take(origin, number, command),
             Err(reply) => reply,
         }
     }
 
-    // Accepts what an entry brings, or tells why not.
-    fn take(&mut self, content: Content) -> Reply
-        ensures { Takes self.old (brought_by content) (reply_text result) self.new }
+    // Makes the entry, and accepts it, or tells why not. A number 0 is that of no entry.
+    fn take(&mut self, origin: &[u8], number: u64, command: EntryCommand) -> Reply
+        requires { HasRowCount (command_view command) }
+        ensures { Takes self.old origin.now number (command_view command) (reply_text result) self.new }
     {
-        if let Some(fault) = self.judge(&content) {
-            return entry_reply(fault);
-        }
-        match self.accept(content) {
-            Ok(number) => Reply::Accepted(number),
-            Err(AllocError) => Reply::NoMemory,
+        match Entry::new(self.alloc, origin, number, command) {
+            Ok(entry) => self.submit(&entry),
+            Err(fault) => entry_reply(fault),
         }
     }
 
-    // Why what an entry brings can't be accepted, if it can't.
-    #[tactic(auto, unfolding(crate::specs::Answers::judged))]
-    fn judge(&self, content: &Content) -> Option<EntryFault>
-        ensures { result ≡ judged self.now (brought_by content.now) }
+    // Accepts an entry, or tells why not. An entry keeps its limits.
+    fn submit(&mut self, entry: &Entry) -> Reply
+        ensures judges { Judges self.old entry.now (reply_text result) self.new }
+        ensures valid { IsEntry entry.now }
     {
-        let rows = self.rows.as_slice();
-        let commitments = self.commitments.as_slice();
-        match content {
-            Content::Rows(more) => judge_rows(rows, commitments, more.as_slice()),
-            Content::Commitment(more) => judge_commitment(rows, commitments, more),
-            Content::Policy(_) => None,
+        let _seq = entry.seq();
+        match judge(&self.state, entry) {
+            Verdict::Accept => match self.state.apply(entry) {
+                Ok(state) => self.hold(state),
+                Err(AllocError) => Reply::NoMemory,
+            },
+            Verdict::Already { last } => Reply::Already(last),
+            Verdict::Gap { expected } => Reply::Gap(expected),
+            Verdict::Refused(conflict) => conflict_reply(conflict),
         }
     }
 
-    // Keeps what an entry brings, and tells the entry's number. Where memory is wanting, the desk stays as it was; so it does after 2^64 - 1
-    // entries, which no memory holds.
-    fn accept(&mut self, content: Content) -> Result<u64, AllocError>
-        ensures accepted { OnOk result (self.new ≡ held_after self.old (brought_by content)) }
-        ensures number { IfOk result (λ number. number ≡ self.old.accepted + 1) }
-        ensures unchanged { IsErr result → self.new ≡ self.old }
+    // Holds another state from now on, and tells the number of its last entry.
+    fn hold(&mut self, state: State) -> Reply
+        ensures held { self.new ≡ state }
+        ensures told { reply_text result ≡ accepted_line (length state.entries) }
     {
-        let Some(number) = self.accepted.checked_add(1) else {
-            return Err(AllocError);
-        };
-        match content {
-            Content::Rows(mut rows) => self.rows.append(&mut rows)?,
-            Content::Commitment(commitment) => self.commitments.push(commitment)?,
-            Content::Policy(policy) => self.policy = Some(policy),
+        self.state = state;
+        Reply::Accepted(self.state.entries() as u64)
+    }
+
+    // The counts of the state.
+    fn tell_state(&self) -> Reply
+        ensures { reply_text result ≡ state_line self.now }
+    {
+        Reply::State {
+            entries: self.state.entries() as u64,
+            rows: self.state.rows() as u64,
+            commitments: self.state.commitments() as u64,
+            has_policy: self.state.policy().is_some(),
         }
-        self.accepted = number;
-        Ok(number)
     }
 
     // The report under a key over the hours from `from` up to, and not including, `to`.
@@ -187,10 +155,8 @@ impl Desk {
             from_hour: from,
             to_hour: to,
         };
-        let rows = self.rows.as_slice();
-        let commitments = self.commitments.as_slice();
-        let policy = self.policy.as_ref();
-        let report = report(self.alloc, rows, commitments, policy, &query, 1)?;
+        let snapshot = self.snapshot()?;
+        let report = report(self.alloc, &snapshot, &query, 1)?;
         Ok(report_csv(self.alloc, &report)?)
     }
 
@@ -198,11 +164,27 @@ impl Desk {
     fn tell_lines(&self, from: u64, to: u64) -> Reply
         ensures { LinesAnswer self.now from to (reply_text result) }
     {
-        let rows = self.rows.as_slice();
-        let commitments = self.commitments.as_slice();
-        match lines_csv(self.alloc, rows, commitments, from, to) {
+        match self.lines_text(from, to) {
             Ok(text) => Reply::Text(text),
             Err(fault) => query_reply(&fault),
+        }
+    }
+
+    // The text of the lines.
+    fn lines_text(&self, from: u64, to: u64) -> Result<Vec<u8>, QueryFault>
+        ensures { IsLinesText self.now from to result }
+    {
+        let snapshot = self.snapshot()?;
+        lines_csv(self.alloc, &snapshot, from, to)
+    }
+
+    // A snapshot of the state, which shares it.
+    fn snapshot(&self) -> Result<Snapshot, AllocError>
+        ensures { IfOk result (λ snapshot. snapshot ≡ self.now) }
+    {
+        match Snapshot::new(self.state.copy()?) {
+            Ok(snapshot) => Ok(snapshot),
+            Err(_) => Err(AllocError),
         }
     }
 }

@@ -1,4 +1,4 @@
-//! The desk: what was accepted so far, and the answer to each command.
+//! The desk: the state of a warehouse in memory, and the answer to each command.
 //!
 //! A [`Desk`] takes the commands of a script one by one and tells a [`Reply`] to each. Nothing is read or written here: the program hands
 //! commands in and writes the replies out.
@@ -6,7 +6,6 @@
 
 mod content;
 mod desk;
-mod judging;
 mod refusals;
 mod reply;
 

@@ -1,14 +1,15 @@
 //! Faults as replies.
 ghost use Rattle.std.specs.Prelude.{◌≡◌, ◌++◌};
-ghost use Rattle.fw_desk.specs.Replies.{row_fault_line, record_fault_name, commitment_fault_line, policy_fault_line, entry_fault_line, query_fault_line, refused};
+ghost use Rattle.fw_desk.specs.Replies.{row_fault_line, record_fault_name, commitment_fault_line, policy_fault_line, entry_fault_line, conflict_line, query_fault_line, refused};
 ghost use Rattle.fw_desk.specs.ReplyText.{reply_text, detail_text};
 
-use crate::judging::EntryFault;
 use crate::reply::{Detail, Refusal, Reply};
 use fw_commitment::CommitmentFault;
+use fw_entry::EntryFault;
 use fw_policy::PolicyFault;
 use fw_query::QueryFault;
 use fw_rows::{RecordFault, RowFault};
+use fw_snapshot::Conflict;
 
 /// The reply to rows that have a fault.
 #[tactic(auto, unfolding(crate::specs::Replies::row_fault_line, crate::specs::ReplyText::reply_text))]
@@ -78,17 +79,30 @@ pub(crate) fn policy_reply(fault: PolicyFault) -> Reply
     }
 }
 
-/// The reply to an entry that doesn't go with what was accepted before.
+/// The reply to parts that make no entry.
 #[tactic(auto, unfolding(crate::specs::Replies::entry_fault_line, crate::specs::ReplyText::reply_text))]
 pub(crate) fn entry_reply(fault: EntryFault) -> Reply
     ensures { reply_text result ≡ entry_fault_line fault }
 {
     match fault {
-        EntryFault::Full => refused("J1 Full", Detail::None),
-        EntryFault::DoubleId => refused("J2 DoubleId", Detail::None),
-        EntryFault::IdInUse => refused("J3 IdInUse", Detail::None),
-        EntryFault::OwnCommitment => refused("J4 OwnCommitment", Detail::None),
-        EntryFault::TooManyCommitments => refused("J5 TooManyCommitments", Detail::None),
+        EntryFault::Origin => refused("E1 Origin", Detail::None),
+        EntryFault::Seq => refused("E2 Seq", Detail::None),
+        EntryFault::TooLarge => refused("E3 TooLarge", Detail::None),
+        EntryFault::NoMemory => Reply::NoMemory,
+    }
+}
+
+/// The reply to an entry that doesn't go with what was accepted before.
+#[tactic(auto, unfolding(crate::specs::Replies::conflict_line, crate::specs::ReplyText::reply_text))]
+pub(crate) fn conflict_reply(conflict: Conflict) -> Reply
+    ensures { reply_text result ≡ conflict_line conflict }
+{
+    match conflict {
+        Conflict::Full => refused("J1 Full", Detail::None),
+        Conflict::DoubleId => refused("J2 DoubleId", Detail::None),
+        Conflict::IdInUse => refused("J3 IdInUse", Detail::None),
+        Conflict::OwnCommitment => refused("J4 OwnCommitment", Detail::None),
+        Conflict::TooManyCommitments => refused("J5 TooManyCommitments", Detail::None),
     }
 }
 

@@ -24,10 +24,21 @@ pub struct Refusal {
 pub enum Reply {
     /// The content is the entry of this number, counted from 1.
     Accepted(u64),
+    /// The origin has had an entry of this number accepted: nothing is done again. Its last entry has the number told.
+    Already(u64),
+    /// The number isn't the next one of its origin, which is told.
+    Gap(u64),
     /// The command was refused.
     Refused(Refusal),
     /// The text that was asked for.
     Text(Vec<u8>),
+    /// How many entries, rows and commitments there are, and whether a policy holds.
+    State {
+        entries: u64,
+        rows: u64,
+        commitments: u64,
+        has_policy: bool,
+    },
     /// Memory was wanting.
     NoMemory,
     /// The line was no command.

@@ -4,6 +4,8 @@ pub mod SumFacts
 pub mod EntryFacts
 pub mod ReportFacts
 pub mod HourFacts
+mod SegmentFacts
+mod FindFacts
 pub mod MovedFacts
 pub mod RangeFacts
 mod ListingFacts

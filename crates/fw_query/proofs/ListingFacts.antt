@@ -1,14 +1,14 @@
 -- Lemmas on the text of lines, hour by hour.
-use Rattle.std.proofs.Common.{◌≡◌, ◌∙◌, ℕ, ◌+◌, ◌<◌, ◌-◌, ◌==◌, Some, true, false, All, List, [], ◌∷◌, ◌++◌, length, map, filter, get_or, subst, sym, ap, refl, arith, append-nil, append_assoc, Vec, Bor}
+use Rattle.std.proofs.Common.{◌≡◌, ◌∙◌, ℕ, ◌+◌, ◌<◌, ◌-◌, ◌==◌, Some, true, false, All, List, [], ◌∷◌, ◌++◌, length, map, filter, get_or, subst, sym, ap, refl, arith, append-nil, append_assoc, Vec}
 use Rattle.std.specs.declared.alloc.Global.{Global}
 use Rattle.std.specs.List.{concat, range_with_len}
 use Rattle.std.specs.Io.KnownBytes.{Keeps}
 use Rattle.csv.specs.Writing.{text_written}
 use Rattle.std.proofs.lemmas.Grind.{flat_map-append}
 use Rattle.std.proofs.lemmas.Bool.Decides.{nat_tests}
-use Rattle.std.proofs.lemmas.List.{get_or-map, length-map, map-append}
+use Rattle.std.proofs.lemmas.List.{get_or-map, map-append}
 use Rattle.std.proofs.lemmas.List.Elements.{filter_passes}
-use Rattle.std.proofs.lemmas.List.FromFn.{get_or-map-range_with_len, length-map-range_with_len}
+use Rattle.std.proofs.lemmas.List.FromFn.{get_or-map-range_with_len}
 use Rattle.std.proofs.lemmas.List.Folds.{concat-append}
 use Rattle.csv.specs.declared.writer.Writer.{Writer}
 use Rattle.fw_charge.specs.Charge.{Charge, hour_of}
@@ -16,7 +16,8 @@ use Rattle.fw_cover.specs.Eligible.{is_of_hour}
 use Rattle.fw_amortise.specs.Lines.{AreHourLines, given_lines, rest_lines, rows_in}
 use Rattle.fw_terms.specs.Commitment.{CommitmentValue}
 use Rattle.fw_amortise.specs.LineValue.{LineValue}
-use Rattle.fw_query.specs.Hours.{AreByHour, is_touched, lent}
+use Rattle.fw_query.specs.Hours.{AreByHour, is_touched, rows_of_list}
+use Rattle.fw_query.specs.declared.hours.RowPlace.{RowPlace}
 use Rattle.fw_query.specs.Listing.{IsListing, WritesHour, WritesHours, records}
 use Rattle.fw_query.specs.RangeLines.{joined}
 use Rattle.fw_query.specs.Texts.{line_fields, line_header, lines_text, record_line}
@@ -44,18 +45,14 @@ of_this_hour h rows = λ k d below.
     let test : (hour_of (get_or (filter (is_of_hour h) rows) k d).start == h) ≡ true = filter_passes (is_of_hour h) rows k d below in
     grind (arith, nat_tests)
 
--- the rows that the list at a place lends are of its hour
-pub of_hour : (rows : List Charge) (by_hour : List (Vec (Bor Charge) Global)) (from i : ℕ) (v : Vec (Bor Charge) Global) → AreByHour rows from (length by_hour) by_hour → i < length by_hour
-    → v ≡ get_or by_hour i v → All (λ (r : Bor Charge). hour_of r.now.start ≡ from + i) v.items
-of_hour rows by_hour from i v by below is =
-    let here : lent v ≡ rows_in (from + i) rows =
-    ap lent is ∙ sym (get_or-map lent by_hour i v (lent v) below) ∙ ap (λ l. get_or l i (lent v)) by.each
-    ∙ get_or-map-range_with_len (λ h. rows_in h rows) from (length by_hour) i (from + i) (lent v) below refl in
-    let passes : All (λ (r : Charge). hour_of r.start ≡ from + i) (lent v) = rw here (of_this_hour (from + i) rows) in
-    λ k d inside.
-    let long : length (lent v) ≡ length v.items = length-map v.items (λ (r : Bor Charge). r.now) in
-    let same : get_or (lent v) k d.now ≡ (get_or v.items k d).now = get_or-map (λ (r : Bor Charge). r.now) v.items k d d.now inside in
-    ap (λ (r : Charge). hour_of r.start) (sym same) ∙ passes k d.now (omega arith)
+-- the rows at the places of a list are of its hour
+pub of_hour : (segments : List (List Charge)) (rows : List Charge) (by_hour : List (Vec RowPlace Global)) (from i : ℕ) (v : Vec RowPlace Global) → AreByHour segments rows from (length by_hour) by_hour → i < length by_hour
+    → v ≡ get_or by_hour i v → All (λ (r : Charge). hour_of r.start ≡ from + i) (rows_of_list segments v)
+of_hour segments rows by_hour from i v by below is =
+    let here : rows_of_list segments v ≡ rows_in (from + i) rows =
+    ap (rows_of_list segments) is ∙ sym (get_or-map (rows_of_list segments) by_hour i v (rows_of_list segments v) below) ∙ ap (λ l. get_or l i (rows_of_list segments v)) by.each
+    ∙ get_or-map-range_with_len (λ h. rows_in h rows) from (length by_hour) i (from + i) (rows_of_list segments v) below refl in
+    rw here (of_this_hour (from + i) rows)
 
 -- the records of lines after those of others
 pub records-append : (xs ys : List LineValue) → records (xs ++ ys) ≡ records xs ++ records ys
@@ -79,11 +76,6 @@ WritesHours-more old new text cs by_hour rows from hour before at more =
       are_hourly = hourly-more cs from by_hour before.hourly rows more.lines before.are_hourly (rw at at more.are_lines);
       wrote = rw (← written) more.wrote;
     }
-
--- there are as many lists as hours
-pub by_hour_long : (rows : List Charge) (by_hour : List (Vec (Bor Charge) Global)) (from hours : ℕ) → AreByHour rows from hours by_hour → length by_hour ≡ hours
-by_hour_long rows by_hour from hours by =
-    sym (length-map by_hour lent) ∙ ap length by.each ∙ length-map-range_with_len (λ h. rows_in h rows) from hours
 
 -- the text that the writer gives back
 pub listing_of : (writer : Writer (Vec ℕ Global)) (v : Vec ℕ Global) (cs : List CommitmentValue) (rows : List Charge) (by_hour : List (List Charge)) (from hours : ℕ)

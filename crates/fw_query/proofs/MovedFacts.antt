@@ -3,11 +3,9 @@ use Rattle.std.proofs.Common.{◌≡◌, ◌∙◌, ℕ, suc, ◌+◌, ℤ, pos,
 use Rattle.std.proofs.lemmas.Int.{ints}
 use Rattle.std.proofs.lemmas.List.Sorted.{IsPermutation-append_right, IsPermutation-map, list_any-IsPermutation, sum_by-IsPermutation}
 use Rattle.std.proofs.lemmas.List.Sums.{sum_by-cons}
-use Rattle.std.specs.Borrow.{Bor}
 use Rattle.std.specs.List.Sorted.{IsPermutation}
 use Rattle.std.specs.Prelude.{◌-ℤ◌}
 use Rattle.std.specs.Str.{bytes_eq}
-use Rattle.fw_charge.specs.Charge.{Charge}
 use Rattle.fw_query.specs.Costs.{Cost, groups_of, lines_in, sum_in}
 use Rattle.fw_query.specs.Sums.{Counts, sums_of}
 use Rattle.fw_query.specs.declared.groups.Groups.{Groups}
@@ -86,8 +84,3 @@ Counts-moved groups before xs ys moved counts =
         effective = λ g. rw (sum_in-IsPermutation (λ c. c.effective) (before ++ xs) (before ++ ys) g both) (counts.small.effective g);
       };
     }
-
--- what lent rows bring
-pub map_lent : (f : Charge → Cost) (rows : List (Bor Charge)) → map (λ (r : Bor Charge). f r.now) rows ≡ map f (map (λ (r : Bor Charge). r.now) rows)
-map_lent f [] = refl
-map_lent f (r ∷ rows) = let rest = map_lent f rows in ap (λ l. f r.now ∷ l) rest

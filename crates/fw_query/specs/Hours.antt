@@ -1,22 +1,60 @@
 -- Rows by hour, and the hours in which commitments have lines. The private functions of the reports cite it.
-use Rattle.std.specs.Prelude.{◌≡◌, ◌≢◌, ◌<◌, ◌+◌, ℕ, ◌==◌, ◌||◌, Bool, List, map, Option, Some, None, Vec}
+use Rattle.std.specs.Prelude.{◌≡◌, ◌≢◌, ◌<◌, ◌+◌, ℕ, ◌==◌, ◌||◌, Bool, List, [], length, map, slice_get, slice_index_or, Option, Some, None, All, Vec}
 use Rattle.std.specs.Borrow.{Bor}
 use Rattle.std.specs.declared.alloc.Global.{Global}
-use Rattle.std.specs.List.{list_any, range_with_len}
+use Rattle.std.specs.List.{filter_map, flat_map, list_any, range_with_len}
 use Rattle.fw_charge.specs.Charge.{Charge, hour_of}
 use Rattle.fw_charge.specs.Tags.{group_of}
 use Rattle.fw_terms.specs.Commitment.{CommitmentValue}
 use Rattle.fw_cover.specs.Applies.{is_in_term}
 use Rattle.fw_amortise.specs.Lines.{rows_in}
 use Rattle.fw_query.specs.Costs.{Cost}
+use Rattle.fw_query.specs.declared.hours.RowPlace.{RowPlace}
+use Rattle.fw_query.specs.declared.segments.Grouped.{Grouped}
 
--- the rows that a list of references lends
-abbrev pub lent : Vec (Bor Charge) Global → List Charge
-lent rows = map (λ r. r.now) rows.items
+-- the segments that references lend
+abbrev pub lent : List (Bor (List Charge)) → List (List Charge)
+lent segments = map (λ s. s.now) segments
 
--- the lists lend the rows of so many hours from this one on, hour by hour
-pub record AreByHour (rows : List Charge) (from hours : ℕ) (by_hour : List (Vec (Bor Charge) Global)) : Type 0 where
-  pub each : map lent by_hour ≡ map (λ h. rows_in h rows) (range_with_len from hours)
+-- the rows of segments in turn
+abbrev pub all_rows : List (List Charge) → List Charge
+all_rows segments = flat_map (λ rows. rows) segments
+
+-- the row at a place, where there is one
+abbrev pub row_at : List (List Charge) → RowPlace → Option Charge
+row_at segments p = slice_get (slice_index_or segments p.segment []) p.place
+
+-- there is a row at the place
+pub record IsThere (segments : List (List Charge)) (p : RowPlace) : Type 0 where
+  pub segment : p.segment < length segments
+  pub place : p.place < length (slice_index_or segments p.segment [])
+
+-- the rows at places, in their order
+abbrev pub rows_at : List (List Charge) → List RowPlace → List Charge
+rows_at segments places = filter_map (row_at segments) places
+
+-- the rows at the places of a list
+abbrev pub rows_of_list : List (List Charge) → Vec RowPlace Global → List Charge
+rows_of_list segments list = rows_at segments list.items
+
+-- there is a row at each place of a list
+abbrev pub AreThere : List (List Charge) → Vec RowPlace Global → Type 0
+AreThere segments list = All (IsThere segments) list.items
+
+-- the lists have the places of the rows of so many hours from this one on, hour by hour
+pub record AreByHour (segments : List (List Charge)) (rows : List Charge) (from hours : ℕ) (by_hour : List (Vec RowPlace Global)) : Type 0 where
+  pub there : All (AreThere segments) by_hour
+  pub each : map (rows_of_list segments) by_hour ≡ map (λ h. rows_in h rows) (range_with_len from hours)
+
+-- beside each row of the segments stands its group
+abbrev pub groups_in : List ℕ → List (List Charge) → List (List (List ℕ))
+groups_in key segments = map (map (λ c. group_of key c.tags)) segments
+
+abbrev pub lent_groups : List (Vec (Bor (List ℕ)) Global) → List (List (List ℕ))
+lent_groups groups = map (λ g. map (λ t. t.now) g.items) groups
+
+pub record IsGrouped (g : Grouped) : Type 0 where
+  pub groups : lent_groups g.groups.items ≡ groups_in g.key.now (lent g.segments.now)
 
 -- whether a commitment has a line in an hour: it runs then, or was paid for then
 abbrev pub has_line : ℕ → CommitmentValue → Bool
@@ -30,7 +68,7 @@ is_touched cs hour = list_any (has_line hour) cs
 abbrev pub row_cost : List ℕ → Charge → Cost
 row_cost key row = record { group = group_of key row.tags; billed = row.billed; effective = row.effective }
 
--- the place of the row's hour among so many hours from this one on, or none where it is none of them
-abbrev pub IsPlaceOf : Charge → ℕ → ℕ → Option ℕ → Type 0
-IsPlaceOf row from hours None = (k : ℕ) → k < hours → hour_of row.start ≢ from + k
-IsPlaceOf row from hours (Some k) = (k < hours) × (hour_of row.start ≡ from + k)
+-- the place of a second's hour among so many hours from this one on, or none where it is none of them
+abbrev pub IsPlaceOf : ℕ → ℕ → ℕ → Option ℕ → Type 0
+IsPlaceOf second from hours None = (k : ℕ) → k < hours → hour_of second ≢ from + k
+IsPlaceOf second from hours (Some k) = (k < hours) × (hour_of second ≡ from + k)

@@ -1,6 +1,8 @@
 //! Entries under a policy.
 ghost use Rattle.std.specs.Prelude.{◌≡◌, ◌≤◌, map, IfOk};
+ghost use Rattle.std.specs.Cmp.Lexicographic.{slice_cmp};
 ghost use Rattle.std.specs.Option.{option_copied};
+ghost use Rattle.std.specs.Ordering.{nat_cmp};
 ghost use Rattle.fw_allocate.specs.Costs.{groups_in};
 ghost use Rattle.fw_terms.specs.Texts.{IsRising};
 ghost use Rattle.fw_query.specs.Limits.{most_total};
@@ -10,6 +12,7 @@ use crate::entries::Entry;
 use fw_allocate::{Cost, charge};
 use fw_terms::Policy;
 use std::alloc::{AllocError, Global};
+use std::cmp::Ordering;
 
 // The entries of the groups that are charged under a policy, for entries in rising byte order of their groups.
 
@@ -45,6 +48,7 @@ fn charged_entries(
     entries: &[Entry],
     charged: &[Cost],
 ) -> Result<Vec<Entry>, AllocError>
+    requires { IsRising (groups_in (directs_of entries.now)) }
     ensures { IfOk result (λ all. all.items ≡ map (charged_entry entries.now) charged.now) }
 {
     let mut all = Vec::new(alloc);
@@ -56,6 +60,7 @@ fn charged_entries(
 
 // The entry of a charged group. One without lines has no costs of its own.
 fn charged_entry(alloc: Global, entries: &[Entry], cost: &Cost) -> Result<Entry, AllocError>
+    requires { IsRising (groups_in (directs_of entries.now)) }
     ensures { IfOk result (λ entry. entry ≡ charged_entry entries.now cost.now) }
 {
     let name = cost.group();
@@ -68,7 +73,14 @@ fn charged_entry(alloc: Global, entries: &[Entry], cost: &Cost) -> Result<Entry,
 
 // The entry of a group.
 fn own_entry<'a>(entries: &'a [Entry], group: &str) -> Option<&'a Entry>
+    requires { IsRising (groups_in (directs_of entries.now)) }
     ensures { option_copied result ≡ entry_at entries.now group.now }
 {
-    entries.iter().find(|entry| entry.group() == group)
+    let order = |entry: &Entry| -> Ordering
+        ensures { result ≡ slice_cmp nat_cmp entry.now.group group.entry.now }
+    { entry.group().cmp(group) };
+    match entries.binary_search_by(order) {
+        Ok(place) => Some(&entries[place]),
+        Err(_) => None,
+    }
 }

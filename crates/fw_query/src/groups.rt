@@ -1,12 +1,13 @@
 //! Sums by group, as they grow line by line.
-ghost use Rattle.std.specs.Prelude.{◌≡◌, ◌+ℤ◌, ◌+◌, ◌<◌, ◌^◌, length, ◌++◌, ◌∷◌, List, [], map, IfOk, IfSome, OnOk};
+ghost use Rattle.std.specs.Prelude.{◌≡◌, ◌+ℤ◌, ◌+◌, ◌<◌, ◌^◌, length, ◌++◌, ◌∷◌, List, [], map, All, IfOk, IfSome, OnOk};
 ghost use Rattle.fw_query.specs.Costs.{Cost};
-ghost use Rattle.fw_query.specs.Hours.{lent, row_cost};
+ghost use Rattle.fw_query.specs.Hours.{AreThere, IsGrouped, IsThere, lent, row_cost, rows_at, rows_of_list};
 ghost use Rattle.fw_query.specs.Reports.{costs_of};
 ghost use Rattle.fw_query.specs.Sums.{AddsLine, AreAmounts, AreEntries, AreSums, Counts, CountsHour, CountsHours, HasRoom, IsInOrder, kept_entry, sums_at};
 
 use crate::entries::Entry;
-use crate::hours::is_touched;
+use crate::hours::{RowPlace, is_touched};
+use crate::segments::{Grouped, lend, rows_at};
 use fw_amortise::{Line, lines_of_hour};
 use fw_charge::Row;
 use fw_money::Nanos;
@@ -65,51 +66,78 @@ impl Groups {
         }
     }
 
-    // The sums of the lines of some hours from this one on, whose rows are these.
+    // The sums of the lines of some hours from this one on, whose rows are at these places.
     pub(crate) fn of_hours(
         alloc: Global,
-        key: &str,
+        grouped: &Grouped<'_, '_>,
         commitments: &[Commitment],
-        by_hour: &[Vec<&Row>],
+        by_hour: &[Vec<RowPlace>],
         from: u64,
     ) -> Result<Groups, AllocError>
-        requires { from + length by_hour.now < 2 ^ 64 }
-        ensures { IfOk result (λ groups. CountsHours groups key.now commitments.now (map lent by_hour.now) from) }
+        requires fits { from + length by_hour.now < 2 ^ 64 }
+        requires grouped { IsGrouped grouped.now }
+        requires there { All (AreThere (lent grouped.now.segments.now)) by_hour.now }
+        ensures { IfOk result (λ groups. CountsHours groups grouped.now.key.now commitments.now (map (rows_of_list (lent grouped.now.segments.now)) by_hour.now) from) }
     {
         let mut groups = Groups::new(alloc);
         let mut hour = from;
-        for rows in by_hour {
-            groups.add_hour(key, commitments, rows.as_slice(), hour)?;
+        for places in by_hour {
+            groups.add_hour(grouped, commitments, places.as_slice(), hour)?;
             hour += 1;
         }
         Ok(groups)
     }
 
-    // Counts the lines of an hour whose rows are these. Where no commitment has a line in it, the lines bring what the rows do.
+    // Counts the lines of an hour whose rows are at these places. Where no commitment has a line in it, the lines bring what the rows do, and
+    // no row is made.
     fn add_hour(
+        &mut self,
+        grouped: &Grouped<'_, '_>,
+        commitments: &[Commitment],
+        places: &[RowPlace],
+        hour: u64,
+    ) -> Result<(), AllocError>
+        requires counts { (costs : List Cost) × Counts self.old costs }
+        requires grouped { IsGrouped grouped.now }
+        requires there { All (IsThere (lent grouped.now.segments.now)) places.now }
+        ensures { OnOk result ((costs : List Cost) → Counts self.old costs → CountsHour self.new costs grouped.now.key.now commitments.now (rows_at (lent grouped.now.segments.now) places.now) hour) }
+    {
+        if !is_touched(commitments, hour) {
+            return self.add_rows(grouped, places);
+        }
+        let rows = rows_at(self.alloc, grouped.segments, places)?;
+        self.add_touched(grouped.key, commitments, rows.as_slice(), hour as u32)
+    }
+
+    // Counts the lines of an hour whose rows are these.
+    fn add_touched(
         &mut self,
         key: &str,
         commitments: &[Commitment],
-        rows: &[&Row],
-        hour: u64,
+        rows: &[Row],
+        hour: u32,
     ) -> Result<(), AllocError>
         requires { (costs : List Cost) × Counts self.old costs }
-        ensures { OnOk result ((costs : List Cost) → Counts self.old costs → CountsHour self.new costs key.now commitments.now (map (λ r. r.now) rows.now) hour) }
+        ensures { OnOk result ((costs : List Cost) → Counts self.old costs → CountsHour self.new costs key.now commitments.now rows.now hour) }
     {
-        if !is_touched(commitments, hour) {
-            return self.add_rows(key, rows);
-        }
-        let lines = lines_of_hour(self.alloc, commitments, rows, hour as u32)?;
+        let rows = lend(self.alloc, rows)?;
+        let lines = lines_of_hour(self.alloc, commitments, rows.as_slice(), hour)?;
         self.add_lines(key, lines.as_slice())
     }
 
-    // Counts the rows of an hour in which no commitment has a line.
-    fn add_rows(&mut self, key: &str, rows: &[&Row]) -> Result<(), AllocError>
-        requires { (costs : List Cost) × Counts self.old costs }
-        ensures { OnOk result ((costs : List Cost) → Counts self.old costs → Counts self.new (costs ++ map (λ r. row_cost key.now r.now) rows.now)) }
+    // Counts the rows at places of an hour in which no commitment has a line.
+    fn add_rows(&mut self, grouped: &Grouped<'_, '_>, places: &[RowPlace]) -> Result<(), AllocError>
+        requires counts { (costs : List Cost) × Counts self.old costs }
+        requires grouped { IsGrouped grouped.now }
+        requires there { All (IsThere (lent grouped.now.segments.now)) places.now }
+        ensures { OnOk result ((costs : List Cost) → Counts self.old costs → Counts self.new (costs ++ map (row_cost grouped.now.key.now) (rows_at (lent grouped.now.segments.now) places.now))) }
     {
-        for row in rows {
-            self.add(row.tags().group(key), row.billed(), row.effective())?;
+        for row in places {
+            self.add(
+                grouped.group(*row),
+                grouped.billed(*row),
+                grouped.effective(*row),
+            )?;
         }
         Ok(())
     }

@@ -14,6 +14,7 @@ mod line_text;
 mod listing;
 mod query;
 mod reporting;
+mod segments;
 mod text;
 mod total;
 

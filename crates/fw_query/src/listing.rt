@@ -2,81 +2,109 @@
 ghost use Rattle.std.specs.Prelude.{◌≡◌, ◌+◌, ◌<◌, ◌^◌, false, All, IfErr, IfOk, List, MatchOption, OnOk, ℕ, [], length, map};
 ghost use Rattle.fw_amortise.specs.LineValue.{LineValue};
 ghost use Rattle.fw_charge.specs.Charge.{Charge, hour_of};
-ghost use Rattle.fw_query.specs.Hours.{AreByHour, is_touched, lent};
+ghost use Rattle.fw_query.specs.Hours.{AreByHour, IsThere, all_rows, is_touched, lent, rows_at, rows_of_list};
 ghost use Rattle.fw_query.specs.Limits.{IsRange};
 ghost use Rattle.fw_query.specs.Listing.{IsListing, WritesHour, WritesHours};
 ghost use Rattle.fw_query.specs.RangeLines.{AreRangeLines};
 ghost use Rattle.fw_query.specs.Refusals.{AreRefused};
 ghost use Rattle.fw_query.specs.Texts.{lines_text};
 ghost use Rattle.fw_query.specs.Writers.{HasWritten};
+ghost use Rattle.fw_snapshot.specs.History.{commitments_of, rows_of};
 
 use crate::fault::QueryFault;
-use crate::hours::{is_touched, rows_by_hour};
+use crate::hours::{RowPlace, is_touched, rows_by_hour};
 use crate::line_text::{write_lines, write_names};
 use crate::query::MOST_HOURS;
+use crate::segments::{lend, rows_at, segments_of};
 use csv::{Writer, WriterBuilder};
 use fw_amortise::lines_of_hour;
 use fw_charge::Row;
+use fw_columns::Columns;
+use fw_snapshot::{Snapshot, State};
 use fw_terms::Commitment;
 use std::alloc::{AllocError, Global};
 
-/// The text of the lines of the hours from `from` up to, and not including, `to`, counted from 1970, as CSV: a line of names, and a record
-/// for each line, hour by hour. What is null is an empty field; costs and quantities have nine digits after the point.
+/// The text of the lines that the commitments and the rows of a snapshot have in the hours from `from` up to, and not including, `to`, counted
+/// from 1970, as CSV: a line of names, and a record for each line, hour by hour. What is null is an empty field; costs and quantities have nine
+/// digits after the point.
 pub fn lines_csv(
     alloc: Global,
-    rows: &[Row],
-    commitments: &[Commitment],
+    snapshot: &Snapshot,
     from: u64,
     to: u64,
 ) -> Result<Vec<u8>, QueryFault>
     ensures range { IfOk result (λ _. IsRange from to) }
-    ensures text { IfOk result (λ text. (lines : List LineValue) × AreRangeLines commitments.now rows.now from to lines × (text.items ≡ lines_text lines)) }
+    ensures text { IfOk result (λ text. (lines : List LineValue) × AreRangeLines (commitments_of snapshot.now.entries) (rows_of snapshot.now.entries) from to lines × (text.items ≡ lines_text lines)) }
     ensures fault { IfErr result (AreRefused from to) }
 {
     if from >= to || to - from > MOST_HOURS {
         return Err(QueryFault::Range);
     }
-    match listed(alloc, rows, commitments, from, (to - from) as usize) {
+    match listed_on(alloc, snapshot.state(), from, (to - from) as usize) {
         Ok(text) => Ok(text),
         Err(AllocError) => Err(QueryFault::NoMemory),
     }
 }
 
+// The text of the lines of a state in so many hours from this one on.
+fn listed_on(alloc: Global, state: &State, from: u64, hours: usize) -> Result<Vec<u8>, AllocError>
+    requires { from + hours < 2 ^ 64 }
+    ensures { IfOk result (λ text. IsListing (commitments_of state.now.entries) (rows_of state.now.entries) from hours text.items) }
+{
+    let segments = segments_of(alloc, state.segments())?;
+    listed(
+        alloc,
+        segments.as_slice(),
+        state.commitment_list(),
+        from,
+        hours,
+    )
+}
+
 // The text of the lines of so many hours from this one on.
 fn listed(
     alloc: Global,
-    rows: &[Row],
+    segments: &[&Columns],
     commitments: &[Commitment],
     from: u64,
     hours: usize,
 ) -> Result<Vec<u8>, AllocError>
     requires { from + hours < 2 ^ 64 }
-    ensures { IfOk result (λ text. IsListing commitments.now rows.now from hours text.items) }
+    ensures { IfOk result (λ text. IsListing commitments.now (all_rows (lent segments.now)) from hours text.items) }
 {
-    let by_hour = rows_by_hour(alloc, rows, from, hours)?;
+    let by_hour = rows_by_hour(alloc, segments, from, hours)?;
     let mut writer = WriterBuilder::new().from_writer(Vec::new(alloc));
     write_names(&mut writer)?;
-    write_hours(alloc, &mut writer, commitments, by_hour.as_slice(), from)?;
+    write_hours(
+        alloc,
+        &mut writer,
+        segments,
+        commitments,
+        by_hour.as_slice(),
+        from,
+    )?;
     match writer.into_inner() {
         Ok(text) => Ok(text),
         Err(_) => Err(AllocError),
     }
 }
 
-// Writes the lines of hours in turn, from this one on, whose rows are these.
+// Writes the lines of hours in turn, from this one on, whose rows are at these places.
 fn write_hours(
     alloc: Global,
     writer: &mut Writer<Vec<u8>>,
+    segments: &[&Columns],
     commitments: &[Commitment],
-    by_hour: &[Vec<&Row>],
+    by_hour: &[Vec<RowPlace>],
     from: u64,
 ) -> Result<(), AllocError>
     requires fits { from + length by_hour.now < 2 ^ 64 }
-    requires by_hour { (rows : List Charge) × AreByHour rows from (length by_hour.now) by_hour.now }
-    ensures { OnOk result ((text : List ℕ) → HasWritten writer.old text → WritesHours writer.new text commitments.now (map lent by_hour.now) from) }
+    requires by_hour { (rows : List Charge) × AreByHour (lent segments.now) rows from (length by_hour.now) by_hour.now }
+    ensures { OnOk result ((text : List ℕ) → HasWritten writer.old text → WritesHours writer.new text commitments.now (map (rows_of_list (lent segments.now)) by_hour.now) from) }
 {
     let mut hour = from;
-    for rows in by_hour {
+    for places in by_hour {
+        let rows = rows_at(alloc, segments, places.as_slice())?;
         write_hour(alloc, writer, commitments, rows.as_slice(), hour)?;
         hour += 1;
     }
@@ -88,22 +116,23 @@ fn write_hour(
     alloc: Global,
     writer: &mut Writer<Vec<u8>>,
     commitments: &[Commitment],
-    rows: &[&Row],
+    rows: &[Row],
     hour: u64,
 ) -> Result<(), AllocError>
-    requires { All (λ r. hour_of r.now.start ≡ hour) rows.now }
-    ensures { OnOk result ((text : List ℕ) → HasWritten writer.old text → WritesHour writer.new text commitments.now (map (λ r. r.now) rows.now) hour) }
+    requires { All (λ r. hour_of r.start ≡ hour) rows.now }
+    ensures { OnOk result ((text : List ℕ) → HasWritten writer.old text → WritesHour writer.new text commitments.now rows.now hour) }
 {
     let Some(hour) = line_hour(commitments, rows, hour) else {
         return Ok(());
     };
-    let lines = lines_of_hour(alloc, commitments, rows, hour)?;
+    let rows = lend(alloc, rows)?;
+    let lines = lines_of_hour(alloc, commitments, rows.as_slice(), hour)?;
     write_lines(alloc, writer, lines.as_slice())
 }
 
 // The hour, if it has rows or a commitment has a line in it; no later hour does.
-fn line_hour(commitments: &[Commitment], rows: &[&Row], hour: u64) -> Option<u32>
-    requires { All (λ r. hour_of r.now.start ≡ hour) rows.now }
+fn line_hour(commitments: &[Commitment], rows: &[Row], hour: u64) -> Option<u32>
+    requires { All (λ r. hour_of r.start ≡ hour) rows.now }
     ensures { MatchOption result ((rows.now ≡ []) × (is_touched commitments.now hour ≡ false)) (λ h. h ≡ hour) }
 {
     if let Some(row) = rows.first() {

@@ -6,7 +6,7 @@ use Rattle.fw_script.specs.Commands.{IsEntryLine, IsReportLine, IsLinesLine, IsE
 use Rattle.fw_script.specs.declared.commands.EntryKind.{EntryKind}
 use Rattle.fw_script.specs.declared.commands.EntryKind.TheVariants as kind
 use Rattle.fw_script.specs.Hours.{IsHourText}
-use Rattle.fw_script.specs.Plain.{PlainCommand, entry, report, lines, bad_command, bad_end}
+use Rattle.fw_script.specs.Plain.{PlainCommand, entry, report, lines, state, bad_command, bad_end}
 use Rattle.fw_script.specs.Splits.{FirstSplit, LastSplit}
 use Rattle.fw_script.specs.Words.{IsLineCount, space}
 use Rattle.fw_script.specs.Lines.{StartsWithLines, FollowsLines}
@@ -113,7 +113,7 @@ lines_words line rest last word first from to f g e =
     }
 
 IsLineCount-one : (word word' : List ℕ) (n m : ℕ) → word ≡ word' → IsLineCount word n → IsLineCount word' m → n ≡ m
-IsLineCount-one word word' n m e h k = sym h.value ∙ ap (λ w. digits_value 10 w) e ∙ k.value
+IsLineCount-one word word' n m e h k = sym h.decimal.value ∙ ap (λ w. digits_value 10 w) e ∙ k.decimal.value
 
 pub IsEntryLine-one : (word line o s o' s' : List ℕ) (n m : ℕ) → IsEntryLine word line o s n → IsEntryLine word line o' s' m → (o ≡ o') × (s ≡ s') × (n ≡ m)
 IsEntryLine-one word line o s o' s' n m h k =
@@ -171,6 +171,12 @@ not_lines kind.Post xs ys e = apart 108 112 (lit< tt) (sym (heads _ _ _ _ e))
 not_lines kind.Commit xs ys e = apart 99 108 (lit< tt) (heads _ _ _ _ e)
 not_lines kind.Policy xs ys e = apart 108 112 (lit< tt) (sym (heads _ _ _ _ e))
 
+not_state : (k : EntryKind) (xs : List ℕ) → entry_word k ++ xs ≡ codes "state" → ⊥
+unfolding entry_word
+not_state kind.Post xs e = apart 112 115 (lit< tt) (heads _ _ _ _ e)
+not_state kind.Commit xs e = apart 99 115 (lit< tt) (heads _ _ _ _ e)
+not_state kind.Policy xs e = apart 112 115 (lit< tt) (heads _ _ _ _ e)
+
 -- a line is of one command
 entry_no_report : (k : EntryKind) (line o s key : List ℕ) (n from to : ℕ) → IsEntryLine (entry_word k) line o s n → IsReportLine line key from to → ⊥
 entry_no_report k line o s key n from to e r = not_report k _ _ (sym e.in_turn ∙ r.in_turn)
@@ -180,6 +186,15 @@ entry_no_lines k line o s n from to e r = not_lines k _ _ (sym e.in_turn ∙ r.i
 
 report_no_lines : (line key : List ℕ) (from to from' to' : ℕ) → IsReportLine line key from to → IsLinesLine line from' to' → ⊥
 report_no_lines line key from to from' to' r l = apart 108 114 (lit< tt) (sym (heads _ _ _ _ (sym r.in_turn ∙ l.in_turn)))
+
+entry_no_state : (k : EntryKind) (line o s : List ℕ) (n : ℕ) → IsEntryLine (entry_word k) line o s n → line ≡ codes "state" → ⊥
+entry_no_state k line o s n e is = not_state k _ (sym e.in_turn ∙ is)
+
+report_no_state : (line key : List ℕ) (from to : ℕ) → IsReportLine line key from to → line ≡ codes "state" → ⊥
+report_no_state line key from to r is = apart 114 115 (lit< tt) (heads _ _ _ _ (sym r.in_turn ∙ is))
+
+lines_no_state : (line : List ℕ) (from to : ℕ) → IsLinesLine line from to → line ≡ codes "state" → ⊥
+lines_no_state line from to l is = apart 108 115 (lit< tt) (heads _ _ _ _ (sym l.in_turn ∙ is))
 
 -- an entry's line is of one kind, with one list of arguments
 pub record AreSame (k j : EntryKind) (o s o' s' : List ℕ) (n m : ℕ) : Type 0 where
@@ -213,6 +228,7 @@ unfolding IsCommand
 IsCommand-one line following (entry k o s c) (entry j o' s' c') rest rest' h g = let same = IsEntry-one _ _ _ _ _ _ _ _ _ _ _ _ h g in (cc, same.4)
 IsCommand-one line following (report key from to) (report key' from' to') rest rest' h g = let same = IsReportLine-one _ _ _ _ _ _ _ h.0 g.0 in (cc, h.1 ∙ sym g.1)
 IsCommand-one line following (lines from to) (lines from' to') rest rest' h g = let same = IsLinesLine-one _ _ _ _ _ h.0 g.0 in (cc, h.1 ∙ sym g.1)
+IsCommand-one line following state state rest rest' h g = (refl, h.1 ∙ sym g.1)
 IsCommand-one line following bad_command bad_command rest rest' h g = (refl, h.1 ∙ sym g.1)
 IsCommand-one line following bad_end bad_end rest rest' h g = (refl, h.1 ∙ sym g.1)
 IsCommand-one line following (entry k o s c) (report key from to) rest rest' h g = absurd (entry_no_report _ _ _ _ _ _ _ _ h.asked g.0)
@@ -225,6 +241,16 @@ IsCommand-one line following (entry k o s c) bad_end rest rest' h g = absurd (en
 IsCommand-one line following bad_end (entry k o s c) rest rest' h g = absurd (entry_not_short _ _ _ _ _ _ _ g h.0)
 IsCommand-one line following (report key from to) (lines from' to') rest rest' h g = absurd (report_no_lines _ _ _ _ _ _ h.0 g.0)
 IsCommand-one line following (lines from' to') (report key from to) rest rest' h g = absurd (report_no_lines _ _ _ _ _ _ g.0 h.0)
+IsCommand-one line following (entry k o s c) state rest rest' h g = absurd (entry_no_state _ _ _ _ _ h.asked g.0)
+IsCommand-one line following state (entry k o s c) rest rest' h g = absurd (entry_no_state _ _ _ _ _ g.asked h.0)
+IsCommand-one line following (report key from to) state rest rest' h g = absurd (report_no_state _ _ _ _ h.0 g.0)
+IsCommand-one line following state (report key from to) rest rest' h g = absurd (report_no_state _ _ _ _ g.0 h.0)
+IsCommand-one line following (lines from to) state rest rest' h g = absurd (lines_no_state _ _ _ h.0 g.0)
+IsCommand-one line following state (lines from to) rest rest' h g = absurd (lines_no_state _ _ _ g.0 h.0)
+IsCommand-one line following state bad_command rest rest' h g = absurd (g.0.no_state h.0)
+IsCommand-one line following bad_command state rest rest' h g = absurd (h.0.no_state g.0)
+IsCommand-one line following state bad_end rest rest' h g = absurd (entry_no_state _ _ _ _ _ g.0.asked h.0)
+IsCommand-one line following bad_end state rest rest' h g = absurd (entry_no_state _ _ _ _ _ h.0.asked g.0)
 IsCommand-one line following (report key from to) bad_command rest rest' h g = absurd (g.0.no_report _ _ _ h.0)
 IsCommand-one line following bad_command (report key from to) rest rest' h g = absurd (h.0.no_report _ _ _ g.0)
 IsCommand-one line following (lines from to) bad_command rest rest' h g = absurd (g.0.no_lines _ _ h.0)
@@ -258,6 +284,7 @@ unfolding IsCommand
 command_length line following (entry k o s c) rest h = StartsWithLines-shorter h.count following c rest h.given
 command_length line following (report key from to) rest h = omega (arith, ap (λ t. length t) h.1)
 command_length line following (lines from to) rest h = omega (arith, ap (λ t. length t) h.1)
+command_length line following state rest h = omega (arith, ap (λ t. length t) h.1)
 command_length line following bad_command rest h = omega (arith, ap (λ t. length t) h.1)
 command_length line following bad_end rest h = rw h.1 (omega arith)
 

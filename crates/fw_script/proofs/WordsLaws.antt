@@ -1,4 +1,4 @@
--- A text splits at the first and at the last such byte in one way; a line count is ASCII.
+-- A text splits at the first and at the last such byte in one way; digits are ASCII.
 use Rattle.std.proofs.Common.{◌≡◌, ◌≢◌, ℕ, ◌<◌, List, [], ◌∷◌, ◌++◌, get_or, refl, sym, ap, subst, ◌∙◌, arith, zero, suc, Option, Some, None, Result, Ok, Err}
 use Rattle.std.proofs.lemmas.List.{append_cancel_left}
 use Rattle.std.specs.List.{Contains}

@@ -36,7 +36,7 @@ pub enum Command<'a> {
         kind: EntryKind,
         /// The origin, as it stands: nothing is checked of it here.
         origin: &'a [u8],
-        /// The sequence number, as it stands: nothing is checked of it here.
+        /// The sequence number, as it stands: nothing is checked of it here, and `sequence_number` reads it.
         sequence: &'a [u8],
         /// The lines that follow, each with the line feed that ends it. The last line of a script may have none.
         content: &'a [u8],
@@ -57,6 +57,8 @@ pub enum Command<'a> {
         /// The hour after the last one, in hours since 1970.
         to: u64,
     },
+    /// `state`.
+    State,
     /// A line that is none of the commands.
     BadCommand,
     /// A command that asks for more lines than follow it. The script ends with it.

@@ -7,10 +7,13 @@
 //!   lines of content, at most a million;
 //! - `report KEY FROM TO`, where KEY is the UTF-8 text between the first word and the last two, and FROM and TO are instants on
 //!   whole hours, not before 1970;
-//! - `lines FROM TO`, with the same kind of instants.
+//! - `lines FROM TO`, with the same kind of instants;
+//! - `state`, and nothing after it.
 //!
 //! Any other line is a bad command, and the next line is read as a command. Where fewer lines follow an entry than it asks for,
 //! the script ends.
+//!
+//! An entry's origin and sequence number are taken as they stand. `sequence_number` says which number such a word writes.
 #![tactic(auto)]
 
 mod commands;
@@ -23,6 +26,7 @@ mod words;
 pub use commands::{Command, EntryKind};
 pub use laws::{commands_are_one, first_command_is_one};
 pub use reader::Script;
+pub use words::sequence_number;
 
 #[cfg(test)]
 mod tests;

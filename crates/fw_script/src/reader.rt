@@ -1,5 +1,5 @@
 //! A script that is read command by command.
-ghost use Rattle.std.specs.Prelude.{◌≡◌, ◌<◌, ◌↔◌, ℕ, List, [], length, MatchOption, OnSome, IsTrue, codes};
+ghost use Rattle.std.specs.Prelude.{◌≡◌, ◌<◌, ◌↔◌, ℕ, List, [], length, MatchOption, OnSome, IsTrue};
 ghost use Rattle.fw_script.specs.Commands.{FirstCommand, IsCommand, IsEntryLine, IsReportLine, IsLinesLine, entry_word};
 ghost use Rattle.fw_script.specs.declared.commands.EntryKind.{EntryKind};
 ghost use Rattle.fw_script.specs.Plain.{plain_command};
@@ -92,6 +92,7 @@ fn read_question(line: &[u8]) -> Command<'_>
     }
     match lines_line(line) {
         Some((from, to)) => Command::Lines { from, to },
+        None if is_word(line, "state") => Command::State,
         None => Command::BadCommand,
     }
 }
@@ -172,7 +173,7 @@ fn lines_line(line: &[u8]) -> Option<(u64, u64)>
 {
     let (rest, to) = split_at_last(b' ', line)?;
     let (word, from) = split_at_last(b' ', rest)?;
-    if !is_lines(word) {
+    if !is_word(word, "lines") {
         return None;
     }
     let from = hour_of(from)?;
@@ -180,9 +181,9 @@ fn lines_line(line: &[u8]) -> Option<(u64, u64)>
     Some((from, to))
 }
 
-/// Whether a word is `lines`.
-fn is_lines(word: &[u8]) -> bool
-    ensures { IsTrue result ↔ (word.now ≡ codes "lines") }
+/// Whether a word is this one.
+fn is_word(word: &[u8], this: &str) -> bool
+    ensures { IsTrue result ↔ (word.now ≡ this.now) }
 {
-    word == b"lines".as_slice()
+    word == this.as_bytes()
 }

@@ -45,9 +45,9 @@ const SCRIPTS: &[Case] = &[
         "lines that are no commands",
         b"\nfoo\npost a 1\npost a 1 x\npost a 1 1000001\nreport t x y\n\
             report t 2024-01-01T00:30Z 2024-01-01T01:00Z\nreport t 1969-12-31T23:00Z 2024-01-01T01:00Z\n\
-            report\n post a 1 0\nstate \nlines\nlines 2024-01-01T00:00Z\nlines a 2024-01-01T00:00Z 2024-01-01T01:00Z\n",
+            report\n post a 1 0\nlines\nlines 2024-01-01T00:00Z\nlines a 2024-01-01T00:00Z 2024-01-01T01:00Z\n",
         &[
-            BAD, BAD, BAD, BAD, BAD, BAD, BAD, BAD, BAD, BAD, BAD, BAD, BAD, BAD,
+            BAD, BAD, BAD, BAD, BAD, BAD, BAD, BAD, BAD, BAD, BAD, BAD, BAD,
         ],
     ),
     (
@@ -197,9 +197,56 @@ const LINES: &[Case] = &[
     ),
     (
         "words that begin no command",
-        b"checkpoint\nstate\nlines  2024-01-01T00:00Z\n",
-        &[BAD, BAD, BAD],
+        b"checkpoint\nlines  2024-01-01T00:00Z\n",
+        &[BAD, BAD],
     ),
+    (
+        "the state",
+        b"state\npost a 1 1\nstate\nstate\nstate",
+        &[
+            Command::State,
+            post!(b"a", b"1", b"state\n"),
+            Command::State,
+            Command::State,
+        ],
+    ),
+    (
+        "lines that only look like `state`",
+        b"state \n state\nstates\nState\nstat\nstate state\nstate\r\nstate\t\nstate 2024-01-01T00:00Z\n",
+        &[BAD, BAD, BAD, BAD, BAD, BAD, BAD, BAD, BAD],
+    ),
+];
+
+const SEQUENCES: &[(&[u8], Option<u64>)] = &[
+    (b"1", Some(1)),
+    (b"9", Some(9)),
+    (b"10", Some(10)),
+    (b"007", Some(7)),
+    (b"0000000000000000000000000000002", Some(2)),
+    (b"18446744073709551614", Some(18_446_744_073_709_551_614)),
+    (b"18446744073709551615", Some(18_446_744_073_709_551_615)),
+    (b"00018446744073709551615", Some(18_446_744_073_709_551_615)),
+    (b"18446744073709551616", None),
+    (b"18446744073709551617", None),
+    (b"99999999999999999999999999", None),
+    (b"0", None),
+    (b"000", None),
+    (b"", None),
+    (b"+1", None),
+    (b"-1", None),
+    (b"+", None),
+    (b" 1", None),
+    (b"1 ", None),
+    (b"1 2", None),
+    (b"1\r", None),
+    (b"1.0", None),
+    (b"1_000", None),
+    (b"0x1", None),
+    (b"1a", None),
+    (b"/", None),
+    (b":", None),
+    (b"\xff", None),
+    (b"\xd9\xa1", None),
 ];
 
 #[test]
@@ -210,4 +257,11 @@ fn reads_whole_scripts(rt: HostRuntime) {
 #[test]
 fn reads_lines(rt: HostRuntime) {
     reads(&rt, LINES);
+}
+
+#[test]
+fn reads_sequence_numbers(rt: HostRuntime) {
+    for (word, number) in SEQUENCES {
+        assert_eq!(&rt; sequence_number(word), *number, "{word:?}");
+    }
 }

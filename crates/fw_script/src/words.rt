@@ -1,7 +1,7 @@
 //! The words of a line.
-ghost use Rattle.std.specs.Prelude.{◌≡◌, ◌≢◌, ℕ, List, ◌∷◌, ◌++◌, Contains, MatchOption};
+ghost use Rattle.std.specs.Prelude.{◌≡◌, ◌≢◌, ◌^◌, ◌<◌, ℕ, List, ◌∷◌, ◌++◌, Contains, MatchOption};
 ghost use Rattle.fw_script.specs.Splits.{FirstSplit, LastSplit};
-ghost use Rattle.fw_script.specs.Words.{IsLineCount, space};
+ghost use Rattle.fw_script.specs.Words.{IsDecimal, IsLineCount, IsSequence, space};
 
 use memchr::{memchr, memrchr};
 
@@ -33,15 +33,33 @@ pub fn arguments_of<'a>(word: &[u8], line: &'a [u8]) -> Option<&'a [u8]>
     line.strip_prefix(word)?.strip_prefix(b" ".as_slice())
 }
 
-/// The number of lines that a word of decimal digits gives, at most a million, or `None`. Zeros may stand first, and a sign is
-/// no digit.
-pub fn line_count(word: &[u8]) -> Option<u32>
-    ensures { MatchOption result ((count : ℕ) → ¬ IsLineCount word.now count) (IsLineCount word.now) }
+/// The whole number that a word of decimal digits writes, at most 2^64 - 1, or `None`. Any number of zeros may stand first, and a
+/// sign is no digit.
+fn decimal(word: &[u8]) -> Option<u64>
+    ensures { MatchOption result ((number : ℕ) → number < 2 ^ 64 → ¬ IsDecimal word.now number) (IsDecimal word.now) }
 {
     if word.first() == Some(&b'+') {
         return None;
     }
     let digits = str::from_utf8(word).ok()?;
-    let count = digits.parse::<u32>().ok()?;
+    digits.parse::<u64>().ok()
+}
+
+/// The number of lines that a word of decimal digits gives, at most a million, or `None`. Zeros may stand first, and a sign is
+/// no digit.
+pub fn line_count(word: &[u8]) -> Option<u32>
+    ensures { MatchOption result ((count : ℕ) → ¬ IsLineCount word.now count) (IsLineCount word.now) }
+{
+    let count = u32::try_from(decimal(word)?).ok()?;
     (count <= MOST_LINES).then_some(count)
+}
+
+/// The sequence number that a word writes: a whole number from 1 to 2^64 - 1 in decimal digits, before which any number of zeros
+/// may stand. `None` for every other word: an empty one, 0, a larger number, and one that holds anything but digits, such as a sign
+/// or a blank.
+pub fn sequence_number(word: &[u8]) -> Option<u64>
+    ensures { MatchOption result ((number : ℕ) → ¬ IsSequence word.now number) (IsSequence word.now) }
+{
+    let number = decimal(word)?;
+    (number > 0).then_some(number)
 }

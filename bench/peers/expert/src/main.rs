@@ -1,8 +1,8 @@
 //! The yardstick of the bench: the job of `focusd run` as a plain Rust program, without proofs.
 //!
 //! It reads the same script from standard input, checks the same rules of each
-//! row, keeps every accepted row in memory, and answers posts and reports in the
-//! same words. Rows are kept as an expert would keep them: amounts as whole nanos
+//! row, tells posts apart that are sent twice or out of turn, keeps every accepted row
+//! in memory, and answers posts and reports in the same words. Rows are kept as an expert would keep them: amounts as whole nanos
 //! (10^-9 of the currency unit), times as seconds since 1970.
 mod fields;
 mod names;
@@ -12,13 +12,18 @@ mod warehouse;
 use std::fmt;
 use std::io::{self, BufRead, BufReader, BufWriter, Write};
 use std::collections::BTreeMap;
-use warehouse::{NoReport, Sums, Warehouse};
+use warehouse::{NoReport, Sums, Verdict, Warehouse};
 
 const BUFFER: usize = 1 << 18;
 const MOST_LINES: usize = 1_000_000;
 
 enum Command {
-    Post { lines: usize },
+    Post {
+        origin: Vec<u8>,
+        number: Option<u64>,
+        lines: usize,
+    },
+    State,
     Report {
         key: String,
         from_hour: i64,
@@ -30,7 +35,7 @@ impl Command {
     fn read(line: &[u8]) -> Option<Command> {
         if let Some(rest) = line.strip_prefix(b"post ") {
             let mut words = rest.split(|&byte| byte == b' ');
-            let (_origin, _seq, lines) = (words.next()?, words.next()?, words.next()?);
+            let (origin, number, lines) = (words.next()?, words.next()?, words.next()?);
             if words.next().is_some() || lines.is_empty() {
                 return None;
             }
@@ -41,7 +46,14 @@ impl Command {
                 }
                 count = (count * 10 + usize::from(byte - b'0')).min(MOST_LINES + 1);
             }
-            return (count <= MOST_LINES).then_some(Command::Post { lines: count });
+            return (count <= MOST_LINES).then_some(Command::Post {
+                origin: origin.to_vec(),
+                number: entry_number(number),
+                lines: count,
+            });
+        }
+        if line == b"state" {
+            return Some(Command::State);
         }
         let mut words = line
             .strip_prefix(b"report ")?
@@ -53,6 +65,14 @@ impl Command {
             to_hour: whole_hour(to)?,
         })
     }
+}
+
+/// The number of an entry: digits alone, from 1 to 2^64 - 1.
+fn entry_number(word: &[u8]) -> Option<u64> {
+    if !word.iter().all(u8::is_ascii_digit) {
+        return None;
+    }
+    std::str::from_utf8(word).ok()?.parse().ok().filter(|&number| number > 0)
 }
 
 fn whole_hour(text: &[u8]) -> Option<i64> {
@@ -110,13 +130,21 @@ fn main() -> io::Result<()> {
     while read_lines(&mut input, 1, &mut line)? == 1 {
         match Command::read(line.strip_suffix(b"\n").unwrap_or(&line)) {
             None => writeln!(output, "bad command")?,
-            Some(Command::Post { lines }) => {
+            Some(Command::State) => writeln!(output, "state {} {} 0 0", warehouse.posts(), warehouse.rows())?,
+            Some(Command::Post {
+                origin,
+                number,
+                lines,
+            }) => {
                 if read_lines(&mut input, lines, &mut text)? < lines {
                     writeln!(output, "bad end")?;
                     break;
                 }
-                match warehouse.post(&text) {
-                    Ok(number) => writeln!(output, "accepted {number}")?,
+                match warehouse.post(&origin, number, &text) {
+                    Ok(Verdict::Accepted(number)) => writeln!(output, "accepted {number}")?,
+                    Ok(Verdict::Already(last)) => writeln!(output, "already {last}")?,
+                    Ok(Verdict::Gap(expected)) => writeln!(output, "gap {expected}")?,
+                    Ok(Verdict::Refused(why)) => writeln!(output, "refused {why}")?,
                     Err(fault) => writeln!(output, "refused {fault}")?,
                 }
             }

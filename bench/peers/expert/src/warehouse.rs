@@ -6,14 +6,26 @@ use std::collections::{BTreeMap, HashMap};
 /// The most hours of a report: three years.
 const MOST_HOURS: i64 = 26_304;
 
+/// The most rows that are kept.
+const MOST_ROWS: usize = 4_194_304;
+
 /// The most nanos that the absolute costs of a report's groups may sum to.
 const MOST_TOTAL: u128 = 10_000_000_000_000_000_000;
 
 pub struct Warehouse {
     currency: [u8; 3],
     posts: usize,
+    origins: HashMap<Vec<u8>, u64>,
     rows: Vec<Row>,
     names: Names,
+}
+
+/// What becomes of a post.
+pub enum Verdict {
+    Accepted(usize),
+    Already(u64),
+    Gap(u64),
+    Refused(&'static str),
 }
 
 #[derive(Default)]
@@ -33,20 +45,56 @@ impl Warehouse {
         Warehouse {
             currency,
             posts: 0,
+            origins: HashMap::new(),
             rows: Vec::new(),
             names: Names::new(),
         }
     }
 
-    /// Keeps the rows of a CSV text and answers the number of the post, or keeps none of them.
-    pub fn post(&mut self, text: &[u8]) -> Result<usize, Fault> {
+    pub fn posts(&self) -> usize {
+        self.posts
+    }
+
+    pub fn rows(&self) -> usize {
+        self.rows.len()
+    }
+
+    /// Keeps the rows of a CSV text where the post is the next of its origin, or keeps none of them. The rows are read first.
+    pub fn post(&mut self, origin: &[u8], number: Option<u64>, text: &[u8]) -> Result<Verdict, Fault> {
         let before = self.rows.len();
         if let Err(fault) = rows::read(text, &self.currency, &mut self.names, &mut self.rows) {
             self.rows.truncate(before);
             return Err(fault);
         }
-        self.posts += 1;
-        Ok(self.posts)
+        let verdict = self.judge(origin, number);
+        if let Verdict::Accepted(posts) = verdict {
+            self.posts = posts;
+            *self.origins.entry(origin.to_vec()).or_default() += 1;
+        } else {
+            self.rows.truncate(before);
+        }
+        Ok(verdict)
+    }
+
+    /// What becomes of a post whose rows are right, and are at the end of the rows.
+    fn judge(&self, origin: &[u8], number: Option<u64>) -> Verdict {
+        let may_stand = |byte: &u8| byte.is_ascii_alphanumeric() || b"-_.".contains(byte);
+        if origin.is_empty() || origin.len() > 64 || !origin.iter().all(may_stand) {
+            return Verdict::Refused("E1 Origin");
+        }
+        let Some(number) = number else {
+            return Verdict::Refused("E2 Seq");
+        };
+        let last = self.origins.get(origin).copied().unwrap_or(0);
+        if number <= last {
+            Verdict::Already(last)
+        } else if number > last + 1 {
+            Verdict::Gap(last + 1)
+        } else if self.rows.len() > MOST_ROWS {
+            Verdict::Refused("J1 Full")
+        } else {
+            Verdict::Accepted(self.posts + 1)
+        }
     }
 
     /// The sums over the rows of `from_hour <= hour < to_hour`, by their groups under a tag key.

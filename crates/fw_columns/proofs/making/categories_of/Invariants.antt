@@ -1,5 +1,5 @@
 use Rattle.std.proofs.Common.{◌≡◌, map, take}
-use Rattle.fw_columns.specs.Codes.{category_code}
+use Rattle.fw_charge.specs.Codes.{category_code}
 use Rattle.fw_columns.proofs.making.categories_of.Given as goal
 
 abbrev pub invariant-loop-row : goal.invariant-loop-row

@@ -1,4 +1,4 @@
-use Rattle.std.proofs.Common.{◌++◌, List, ℕ, map, ap, Bor}
+use Rattle.std.proofs.Common.{◌≡◌, ◌∙◌, ◌++◌, Bor, List, ℕ, ap, map}
 use Rattle.std.proofs.lemmas.Result.{IfOk-weaker}
 use Rattle.fw_charge.specs.Charge.{Charge}
 use Rattle.fw_query.specs.Listing.{WritesHour, records}
@@ -7,17 +7,17 @@ use Rattle.fw_query.proofs.ListingFacts.{no_lines}
 use Rattle.fw_query.proofs.listing.write_hour.Goals as goal
 
 pub returns-in_default : goal.returns-in_default
-returns-in_default c = λ text has.
-    no_lines c.args.writer.now text c.args.commitments.now _ c.args.hour (ap (map (λ (r : Bor Charge). r.now)) c.in_default.ensures.0) c.in_default.ensures.1 has
+returns-in_default c = λ text has. no_lines c.args.writer.now text c.args.commitments.now c.args.rows.now c.args.hour c.in_default.ensures.0 c.in_default.ensures.1 has
 
 pub returns : goal.returns
 returns c =
+    let rows : map (λ (r : Bor Charge). r.now) c.as_slice.result.now ≡ c.args.rows.now = ap (map (λ (r : Bor Charge). r.now)) c.as_slice.ensures.value ∙ c.in_ok-rows.ensures in
     IfOk-weaker c.write_lines.result
-    (λ _. (text : List ℕ) → HasWritten c.args.writer.now text → HasWritten c.write_lines.new.writer (text ++ records c.as_slice.result.now))
-    (λ _. (text : List ℕ) → HasWritten c.args.writer.now text → WritesHour c.write_lines.new.writer text c.args.commitments.now (map (λ (r : Bor Charge). r.now) c.args.rows.now) c.args.hour)
+    (λ _. (text : List ℕ) → HasWritten c.args.writer.now text → HasWritten c.write_lines.new.writer (text ++ records c.as_slice-2.result.now))
+    (λ _. (text : List ℕ) → HasWritten c.args.writer.now text → WritesHour c.write_lines.new.writer text c.args.commitments.now c.args.rows.now c.args.hour)
     (λ _ wrote text has. record {
       lines = c.in_ok-lines.lines.items;
-      are_lines = rw c.in-Some.ensures at c.in_ok-lines.ensures;
-      wrote = rw c.as_slice.ensures.value at (wrote text has);
+      are_lines = rw (rows, c.in-Some.ensures) at c.in_ok-lines.ensures;
+      wrote = rw c.as_slice-2.ensures.value at (wrote text has);
     })
     c.write_lines.ensures

@@ -15,10 +15,10 @@ returns-in_err-word c =
     rw c.from_residual-in_err-word.ensures (λ from to e.
     unparted space c.in_ok-rest.rest.now (codes "lines") e.from_text c.in_err-word.ensures (lines_rest c.args.line.now _ _ from to c.in_ok-rest.ensures e).in_turn)
 
-pub returns-then-not-is_lines : goal.returns-then-not-is_lines
-returns-then-not-is_lines c = λ from to e.
+pub returns-then-not-is_word : goal.returns-then-not-is_word
+returns-then-not-is_word c = λ from to e.
     let w = lines_words c.args.line.now _ _ _ _ from to c.in_ok-rest.ensures c.in_ok-word.ensures e in
-    never_both _ (c.is_lines.ensures.1 w.same_word) c.if-not-is_lines.true
+    never_both _ (c.is_word.ensures.1 w.same_word) c.if-not-is_word.true
 
 pub returns-in_err-from : goal.returns-in_err-from
 returns-in_err-from c =

@@ -15,6 +15,10 @@ pub returns-in-Lines : goal.returns-in-Lines
 unfolding Answer
 returns-in-Lines c = rw c.in-Lines.is (c.tell_lines.ensures, refl)
 
+pub returns-in-State : goal.returns-in-State
+unfolding Answer
+returns-in-State c = rw c.in-State.is (c.tell_state.ensures, refl)
+
 pub returns-in-BadCommand : goal.returns-in-BadCommand
 unfolding Answer reply_text
 returns-in-BadCommand c = rw c.in-BadCommand.is (refl, refl)

@@ -1,22 +1,31 @@
 use Rattle.std.proofs.Common.{◌≡◌, ◌∙◌, ◌+◌, ◌++◌, ◌∷◌, [], ap, length, map, sym, take, arith}
 use Rattle.std.proofs.lemmas.List.{length-map, length-take-le, map_more}
-use Rattle.fw_query.specs.Hours.{lent}
+use Rattle.fw_query.specs.Hours.{AreThere, lent, rows_of_list}
 use Rattle.fw_query.specs.RangeLines.{joined}
 use Rattle.fw_query.specs.Reports.{costs_of}
 use Rattle.fw_query.specs.Sums.{CountsHour}
 use Rattle.fw_query.proofs.RangeFacts.{CountsHours-more}
 use Rattle.fw_query.proofs.groups.Groups.of_hours.Goals as goal
 
-pub loop-rows-preserved : goal.loop-rows-preserved
-loop-rows-preserved c =
-    let kept = c.loop-rows.invariant in
-    let long : length (map lent (take c.loop-rows.rows-index c.args.by_hour.now)) ≡ c.loop-rows.rows-index =
-    length-map (take c.loop-rows.rows-index c.args.by_hour.now) lent ∙ length-take-le c.loop-rows.rows-index c.args.by_hour.now (omega arith) in
-    let more : map lent (take (c.loop-rows.rows-index + 1) c.args.by_hour.now) ≡ map lent (take c.loop-rows.rows-index c.args.by_hour.now) ++ lent c.rows-item.result ∷ [] =
-    map_more lent c.args.by_hour.now c.loop-rows.rows-index c.rows-item.result c.loop-rows-test.true ∙ ap (λ r. map lent (take c.loop-rows.rows-index c.args.by_hour.now) ++ lent r ∷ []) (sym c.rows-item.is) in
-    let added : CountsHour c.add_hour.new.self (costs_of c.args.key.now (joined kept.counted.hourly)) c.args.key.now c.args.commitments.now (lent c.rows-item.result) c.loop-rows.hour =
+pub add_hour-requires-clause-there : goal.add_hour-requires-clause-there
+add_hour-requires-clause-there c =
+    let there : AreThere (lent c.args.grouped.now.segments.now) c.places-item.result =
+    rw c.places-item.is (c.requires.there c.loop-places.places-index c.places-item.result c.loop-places-test.true) in
+    rw c.as_slice.ensures.value there
+
+pub loop-places-preserved : goal.loop-places-preserved
+loop-places-preserved c =
+    let kept = c.loop-places.invariant in
+    let key = c.args.grouped.now.key.now in
+    let found = rows_of_list (lent c.args.grouped.now.segments.now) in
+    let long : length (map found (take c.loop-places.places-index c.args.by_hour.now)) ≡ c.loop-places.places-index =
+    length-map (take c.loop-places.places-index c.args.by_hour.now) found ∙ length-take-le c.loop-places.places-index c.args.by_hour.now (omega arith) in
+    let more : map found (take (c.loop-places.places-index + 1) c.args.by_hour.now) ≡ map found (take c.loop-places.places-index c.args.by_hour.now) ++ found c.places-item.result ∷ [] =
+    map_more found c.args.by_hour.now c.loop-places.places-index c.places-item.result c.loop-places-test.true
+    ∙ ap (λ v. map found (take c.loop-places.places-index c.args.by_hour.now) ++ found v ∷ []) (sym c.places-item.is) in
+    let added : CountsHour c.add_hour.new.self (costs_of key (joined kept.counted.hourly)) key c.args.commitments.now (found c.places-item.result) c.loop-places.hour =
     rw c.as_slice.ensures.value at (c.in_ok-add_hour.ensures _ kept.counted.counts) in
     record {
-      counted = rw more (CountsHours-more _ c.add_hour.new.self c.args.key.now c.args.commitments.now _ (lent c.rows-item.result) c.args.from c.loop-rows.hour kept.counted (kept.at ∙ ap (λ n. c.args.from + n) (sym long)) added);
+      counted = rw more (CountsHours-more _ c.add_hour.new.self key c.args.commitments.now _ (found c.places-item.result) c.args.from c.loop-places.hour kept.counted (kept.at ∙ ap (λ n. c.args.from + n) (sym long)) added);
       at = let h = kept.at in omega arith;
     }

@@ -1,0 +1,4 @@
+pub mod Utf8
+pub mod Laws
+pub mod Loop
+pub mod Rising

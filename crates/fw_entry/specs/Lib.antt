@@ -1,0 +1,4 @@
+pub mod Entry
+pub mod Spelling
+pub mod View
+pub mod Refusals

@@ -1,0 +1,241 @@
+//! Entries and their commands.
+ghost use Rattle.std.specs.Prelude.{◌≡◌, ◌≤◌, ◌<◌, ◌^◌, ◌-◌, length, All, IfOk, IfErr, string_bytes};
+ghost use Rattle.fw_bytes.specs.Spelling.{listed};
+ghost use Rattle.std.specs.List.{list_all};
+ghost use Rattle.fw_row_bytes.specs.Spelling.{row, IsRow};
+ghost use Rattle.fw_entry.specs.Entry.{is_origin, is_origin_byte, most_post_rows};
+ghost use Rattle.fw_entry.specs.Refusals.{IsRefused};
+ghost use Rattle.fw_entry.specs.Spelling.{HasRowCount, IsEntry};
+ghost use Rattle.fw_entry.specs.View.{command_view};
+
+use crate::fault::EntryFault;
+use fw_charge::Row;
+use fw_row_bytes::{row_has_spelling, row_len};
+use fw_terms::{Commitment, Policy};
+use fw_terms_bytes::{commitment_has_spelling, commitment_len, policy_has_spelling, policy_len};
+use std::alloc::{AllocError, Global};
+use std::marker::Model;
+
+/// The most bytes that an entry is written in.
+const MOST_BYTES: usize = 4_194_304;
+
+/// What an entry asks for.
+#[derive(Debug, Drop)]
+pub enum Command {
+    /// These charge rows count from now on: 1 to 4,096 of them.
+    Post(Vec<Row>),
+    /// This is committed to.
+    Commit(Commitment),
+    /// This policy holds from now on.
+    SetPolicy(Policy),
+}
+
+impl Command {
+    ghost use Rattle.fw_entry.specs.Spelling.{command, HasRowCount, IsCommand};
+    ghost use Rattle.fw_entry.specs.View.{command_view};
+
+    /// An equal command.
+    pub fn copy(&self, alloc: Global) -> Result<Command, AllocError>
+        ensures { IfOk result (λ copy. command_view copy ≡ command_view self.now) }
+    {
+        match self {
+            Command::Post(rows) => Ok(Command::Post(copy_rows(alloc, rows)?)),
+            Command::Commit(commitment) => Ok(Command::Commit(commitment.copy(alloc)?)),
+            Command::SetPolicy(policy) => Ok(Command::SetPolicy(policy.copy(alloc)?)),
+        }
+    }
+
+    // How many bytes the command is written in.
+    #[tactic(auto, unfolding(crate::specs::Spelling::command))]
+    fn encoded_len(&self) -> usize
+        requires { HasRowCount (command_view self.now) }
+        ensures length { result ≡ length (command (command_view self.now)) }
+        ensures short { result < 2 ^ 32 }
+        ensures valid { IsCommand (command_view self.now) }
+    {
+        match self {
+            Command::Post(rows) => 1 + rows_len(rows),
+            Command::Commit(commitment) => {
+                commitment_has_spelling(commitment);
+                1 + commitment_len(commitment)
+            }
+            Command::SetPolicy(policy) => {
+                policy_has_spelling(policy);
+                1 + policy_len(policy)
+            }
+        }
+    }
+}
+
+/// Equal rows.
+fn copy_rows(alloc: Global, rows: &[Row]) -> Result<Vec<Row>, AllocError>
+    ensures { IfOk result (λ copies. copies.items ≡ rows.now) }
+{
+    let mut copies = Vec::with_capacity(alloc, rows.len())?;
+    for row in rows {
+        copies.push(row.copy(alloc)?)?;
+    }
+    Ok(copies)
+}
+
+// How many bytes rows are written in, their number included.
+fn rows_len(rows: &[Row]) -> usize
+    requires { length rows.now ≤ most_post_rows }
+    ensures length { result ≡ length (listed row rows.now) }
+    ensures short { result < 2 ^ 32 - 1 }
+    ensures valid { All IsRow rows.now }
+{
+    let mut len = 4;
+    for one in rows {
+        row_has_spelling(one);
+        len += row_len(one);
+    }
+    len
+}
+
+// Whether a byte may stand in the name of an origin.
+fn is_origin_byte(byte: u8) -> bool
+    ensures { result ≡ is_origin_byte byte }
+{
+    byte.is_ascii_alphanumeric() || byte == b'-' || byte == b'_' || byte == b'.'
+}
+
+// Whether each byte may stand in the name of an origin.
+fn are_origin_bytes(bytes: &[u8]) -> bool
+    ensures { result ≡ list_all is_origin_byte bytes.now }
+{
+    bytes.iter().all(|byte| is_origin_byte(*byte))
+}
+
+/// Whether bytes are the name of an origin: 1 to 64 ASCII letters, digits, `-`, `_` and `.`.
+#[tactic(auto, unfolding(crate::specs::Entry::is_origin))]
+pub fn is_origin(bytes: &[u8]) -> bool
+    ensures { result ≡ is_origin bytes.now }
+{
+    !bytes.is_empty() && bytes.len() <= 64 && are_origin_bytes(bytes)
+}
+
+// The name of the origin, where the parts make an entry.
+#[tactic(auto, unfolding(crate::specs::Spelling::entry))]
+fn checked<'a>(origin: &'a [u8], seq: u64, command: &Command) -> Result<&'a str, EntryFault>
+    requires { HasRowCount (command_view command.now) }
+    ensures name { IfOk result (λ name. name.now ≡ origin.now) }
+    ensures entry { IfOk result (λ _. IsEntry (record { origin = origin.now; seq = seq; command = command_view command.now })) }
+    ensures fault { IfErr result (IsRefused origin.now seq (command_view command.now)) }
+{
+    if !is_origin(origin) {
+        return Err(EntryFault::Origin);
+    }
+    if seq == 0 {
+        return Err(EntryFault::Seq);
+    }
+    if 12 + origin.len() + command.encoded_len() > MOST_BYTES {
+        return Err(EntryFault::TooLarge);
+    }
+    match str::from_utf8(origin) {
+        Ok(name) => Ok(name),
+        Err(_) => Err(EntryFault::Origin),
+    }
+}
+
+/// A command, the name of who sent it, and its number among the commands of this sender, counted from 1.
+#[derive(Debug, Drop)]
+pub struct Entry {
+    origin: String,
+    seq: u64,
+    command: Command,
+}
+
+impl Model for Entry {
+    ghost use Rattle.fw_entry.specs.Entry.{EntryValue};
+
+    ghost Value = { EntryValue };
+
+    ghost use Rattle.fw_entry.specs.Spelling.{IsEntry};
+    ghost use Rattle.fw_entry.specs.View.{entry_view};
+
+    ghost view = { entry_view };
+
+    ghost invariant = { λ e. IsEntry (entry_view e) };
+}
+
+impl Entry {
+    ghost use Rattle.fw_entry.specs.Refusals.{IsRefused};
+    ghost use Rattle.fw_entry.specs.Spelling.{entry, HasRowCount, IsEntry};
+    ghost use Rattle.fw_entry.specs.View.{command_view};
+
+    /// The entry of this origin, number and command; a post has 1 to 4,096 rows. Where the parts break several limits, the fault is the first in the order of
+    /// [`EntryFault`]; the command is dropped then.
+    pub fn new(
+        alloc: Global,
+        origin: &[u8],
+        seq: u64,
+        command: Command,
+    ) -> Result<Entry, EntryFault>
+        requires { HasRowCount (command_view command) }
+        ensures entry { IfOk result (λ e. e ≡ record { origin = origin.now; seq = seq; command = command_view command }) }
+        ensures fault { IfErr result (IsRefused origin.now seq (command_view command)) }
+    {
+        let name = checked(origin, seq, &command)?;
+        Ok(Entry {
+            origin: String::from_str(alloc, name)?,
+            seq,
+            command,
+        })
+    }
+
+    /// The entry of a name, a number and a command that keep the limits of an entry.
+    pub fn of_fields(origin: String, seq: u64, command: Command) -> Entry
+        requires { IsEntry (record { origin = string_bytes origin; seq = seq; command = command_view command }) }
+        ensures { result ≡ record { origin = string_bytes origin; seq = seq; command = command_view command } }
+    {
+        Entry {
+            origin,
+            seq,
+            command,
+        }
+    }
+
+    /// The name of who sent the entry: 1 to 64 ASCII letters, digits, `-`, `_` and `.`.
+    pub fn origin(&self) -> &str
+        ensures name { result.now ≡ self.now.origin }
+        ensures valid { IsEntry self.now }
+    {
+        &self.origin
+    }
+
+    /// The entry's number among those of its origin, counted from 1.
+    pub fn seq(&self) -> u64
+        ensures number { result ≡ self.now.seq }
+        ensures valid { IsEntry self.now }
+    {
+        self.seq
+    }
+
+    /// What the entry asks for.
+    pub fn command(&self) -> &Command
+        ensures command { command_view result.now ≡ self.now.command }
+        ensures valid { IsEntry self.now }
+    {
+        &self.command
+    }
+
+    /// How many bytes the entry is written in: at most 4,194,304. It reads the lengths of all texts, and takes no memory.
+    #[tactic(auto, unfolding(crate::specs::Spelling::entry))]
+    pub fn encoded_len(&self) -> usize
+        ensures { result ≡ length (entry self.now) }
+    {
+        12 + self.origin.len() + self.command.encoded_len()
+    }
+
+    /// An equal entry.
+    pub fn copy(&self, alloc: Global) -> Result<Entry, AllocError>
+        ensures { IfOk result (λ copy. copy ≡ self.now) }
+    {
+        Ok(Entry {
+            origin: String::from_str(alloc, &self.origin)?,
+            seq: self.seq,
+            command: self.command.copy(alloc)?,
+        })
+    }
+}

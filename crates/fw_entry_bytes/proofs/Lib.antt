@@ -1,0 +1,4 @@
+pub mod Facts
+pub mod EntryFormat
+pub mod WholeFormat
+pub mod EntrySteps

@@ -1,0 +1,65 @@
+-- Reading entries.
+use Rattle.std.specs.Prelude.{◌<◌, ◌^◌, ℕ, zero, suc, Bool, List, [], ◌∷◌, length, Err, nat_lt, nat_le, IsTrue}
+use Rattle.std.specs.Int.{w64}
+use Rattle.fw_bytes.specs.Reading.{Reading, number_at, text_at, checked, both, seen, list_at}
+use Rattle.fw_charge.specs.Charge.{Charge}
+use Rattle.fw_row_bytes.specs.Reading.{row_at}
+use Rattle.fw_terms_bytes.specs.Reading.{commitment_at, policy_at}
+use Rattle.fw_entry.specs.Entry.{CommandValue, EntryValue, is_origin, most_post_rows}
+use Rattle.fw_entry.specs.Entry.CommandValue.{post, commit, set_policy}
+use Rattle.fw_entry.specs.Spelling.{entry, most_entry_bytes}
+use Rattle.fw_entry_bytes.specs.declared.form.Form.{Form}
+
+-- ---- who sent an entry, and its number
+
+-- a name: 1 to 64 ASCII letters, digits, `-`, `_` and `.`
+unfoldable pub origin_at : Reading (List ℕ)
+origin_at = checked is_origin text_at
+
+abbrev pub IsOrigin : List ℕ → Type 0
+IsOrigin bytes = IsTrue (is_origin bytes)
+
+-- numbers count from 1
+abbrev pub is_seq : ℕ → Bool
+is_seq n = nat_lt 0 n
+
+unfoldable pub seq_at : Reading ℕ
+seq_at = checked is_seq (number_at w64)
+
+abbrev pub IsSeq : ℕ → Type 0
+IsSeq n = (0 < n) × (n < 2 ^ 64)
+
+-- ---- what an entry asks for
+
+-- the rows of a post: 1 to 4,096 of them
+unfoldable pub rows_at : Reading (List Charge)
+rows_at = list_at 1 most_post_rows row_at
+
+-- a byte for the kind, and what a command of this kind brings; a kind that the form doesn't have is a fault at its byte
+unfoldable pub command_at : Form → Reading CommandValue
+command_at form [] = Err 0
+command_at form (zero ∷ rest) = Err (suc (length rest))
+command_at form (suc zero ∷ rest) = seen post rows_at rest
+command_at form (suc (suc zero) ∷ rest) = seen commit commitment_at rest
+command_at form (suc (suc (suc zero)) ∷ rest) = seen set_policy policy_at rest
+command_at form (suc (suc (suc (suc kind))) ∷ rest) = Err (suc (length rest))
+
+-- ---- an entry
+
+abbrev pub Fields : Type 0
+Fields = List ℕ × (ℕ × CommandValue)
+
+-- the fields, in order, each in its range
+unfoldable pub fields_at : Form → Reading Fields
+fields_at form = both origin_at (both seq_at (command_at form))
+
+abbrev pub entry_from : Fields → EntryValue
+entry_from f = record { origin = f.0; seq = f.1.0; command = f.1.1 }
+
+-- it is written in at most 4,194,304 bytes
+abbrev pub is_small : EntryValue → Bool
+is_small e = nat_le (length (entry e)) most_entry_bytes
+
+-- an entry; one that is too large is a fault at its first byte, after the faults of its fields
+unfoldable pub entry_at : Form → Reading EntryValue
+entry_at form = checked is_small (seen entry_from (fields_at form))

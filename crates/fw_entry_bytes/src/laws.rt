@@ -1,0 +1,12 @@
+//! What holds of all entries: a law, the contract of a function that does nothing.
+ghost use Rattle.std.specs.Prelude.{◌≡◌, ◌<◌, ◌++◌, ℕ, List, slice_index};
+ghost use Rattle.fw_entry.specs.Entry.{EntryValue};
+ghost use Rattle.fw_entry.specs.Spelling.{entry, IsEntry};
+ghost use Rattle.fw_entry_bytes.specs.declared.form.Form.{Form};
+ghost use Rattle.fw_entry_bytes.specs.Reading.{entry_at};
+
+/// An entry that is read is spelled by the bytes that were taken, and the spelling of an entry is read as that entry, whatever follows it.
+pub fn entries_have_one_spelling()
+    ensures taken { (form : Form) (bytes rest : List ℕ) (e : EntryValue) → ((i : ℕ) → slice_index bytes i < 256) → entry_at form bytes ≡ Ok (e, rest) → IsEntry e × (bytes ≡ entry e ++ rest) }
+    ensures again { (form : Form) (rest : List ℕ) (e : EntryValue) → IsEntry e → entry_at form (entry e ++ rest) ≡ Ok (e, rest) }
+{}

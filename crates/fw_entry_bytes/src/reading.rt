@@ -1,0 +1,127 @@
+//! The reader of an entry.
+ghost use Rattle.std.specs.Prelude.{string_bytes};
+ghost use Rattle.fw_bytes.specs.Reading.{Gives, times};
+ghost use Rattle.fw_row_bytes.specs.Reading.{row_at};
+ghost use Rattle.fw_entry.specs.View.{command_view};
+ghost use Rattle.fw_entry_bytes.specs.Reading.{rows_at, command_at, fields_at, entry_at};
+
+use crate::fields::{origin_of, seq_of};
+use crate::form::Form;
+use fw_bytes::{ReadError, u32_at};
+use fw_charge::Row;
+use fw_entry::{Command, Entry};
+use fw_row_bytes::row_of;
+use fw_terms_bytes::{commitment_of, policy_of};
+use std::alloc::Global;
+
+/// The most rows that a post has.
+const MOST_ROWS: u32 = 4096;
+
+/// The most bytes that an entry is written in.
+const MOST_BYTES: usize = 4_194_304;
+
+/// So many rows. Memory is taken as each row is read, not for the count.
+fn rows_after(alloc: Global, count: u32, bytes: &[u8]) -> Result<(Vec<Row>, &[u8]), ReadError>
+    ensures { Gives (λ x. (x.0.items, x.1.now)) result (times row_at count bytes.now) }
+{
+    let mut rows = Vec::new(alloc);
+    let mut rest = bytes;
+    for _ in 0..count {
+        match row_of(alloc, rest) {
+            Ok((row, after)) => {
+                rows.push(row)?;
+                rest = after;
+            }
+            Err(e) => return Err(e),
+        }
+    }
+    Ok((rows, rest))
+}
+
+/// The rows of a post.
+#[tactic(auto, unfolding(crate::specs::Reading::rows_at, fw_bytes::specs::Reading::list_at))]
+fn rows_of(alloc: Global, bytes: &[u8]) -> Result<(Vec<Row>, &[u8]), ReadError>
+    ensures { Gives (λ x. (x.0.items, x.1.now)) result (rows_at bytes.now) }
+{
+    let (count, rest) = u32_at(bytes)?;
+    if count < 1 || count > MOST_ROWS {
+        return Err(ReadError::Corrupt(bytes.len()));
+    }
+    rows_after(alloc, count, rest)
+}
+
+/// What an entry asks for: its kind, and what a command of this kind brings.
+#[tactic(auto, unfolding(crate::specs::Reading::command_at, fw_bytes::specs::Reading::seen))]
+fn command_of(alloc: Global, form: Form, bytes: &[u8]) -> Result<(Command, &[u8]), ReadError>
+    ensures { Gives (λ x. (command_view x.0, x.1.now)) result (command_at form bytes.now) }
+{
+    match bytes {
+        [1, rest @ ..] => match rows_of(alloc, rest) {
+            Ok((rows, rest)) => Ok((Command::Post(rows), rest)),
+            Err(e) => Err(e),
+        },
+        [2, rest @ ..] => match commitment_of(alloc, rest) {
+            Ok((commitment, rest)) => Ok((Command::Commit(commitment), rest)),
+            Err(e) => Err(e),
+        },
+        [3, rest @ ..] => match policy_of(alloc, rest) {
+            Ok((policy, rest)) => Ok((Command::SetPolicy(policy), rest)),
+            Err(e) => Err(e),
+        },
+        _ => Err(ReadError::Corrupt(bytes.len())),
+    }
+}
+
+/// The fields of an entry, each in its range.
+#[derive(Drop)]
+struct Fields {
+    origin: String,
+    seq: u64,
+    command: Command,
+}
+
+/// The fields of an entry, in order.
+#[tactic(auto, unfolding(crate::specs::Reading::fields_at, fw_bytes::specs::Reading::both))]
+fn fields_of(alloc: Global, form: Form, bytes: &[u8]) -> Result<(Fields, &[u8]), ReadError>
+    ensures { Gives (λ x. ((string_bytes x.0.origin, (x.0.seq, command_view x.0.command)), x.1.now)) result (fields_at form bytes.now) }
+{
+    let (origin, rest) = origin_of(alloc, bytes)?;
+    let (seq, rest) = seq_of(rest)?;
+    match command_of(alloc, form, rest) {
+        Ok((command, rest)) => Ok((
+            Fields {
+                origin,
+                seq,
+                command,
+            },
+            rest,
+        )),
+        Err(e) => Err(e),
+    }
+}
+
+/// An entry of the form, and the bytes after it.
+///
+/// Memory is taken as texts and items are read, never for a length or a count that they don't bear out.
+///
+/// # Errors
+/// [`ReadError::Corrupt`] at the first fault. A field that is cut off or out of its range is a fault where the field starts, a kind that the
+/// form doesn't have is one at its byte, and the rules over several fields of a row, of a commitment or of a policy are kept or broken where
+/// it starts; where there is no such fault, an entry of more than 4,194,304 bytes is one at its own first byte. [`ReadError::NoMemory`]
+/// where there is no memory for what is kept of the bytes, told where it runs out: a fault of a later field isn't looked for.
+pub fn entry_of(alloc: Global, form: Form, bytes: &[u8]) -> Result<(Entry, &[u8]), ReadError>
+    ensures { Gives (λ x. (x.0, x.1.now)) result (entry_at form bytes.now) }
+{
+    match fields_of(alloc, form, bytes) {
+        Ok((fields, rest)) => {
+            if bytes.len() - rest.len() > MOST_BYTES {
+                return Err(ReadError::Corrupt(bytes.len()));
+            }
+            Ok((
+                Entry::of_fields(fields.origin, fields.seq, fields.command),
+                rest,
+            ))
+        }
+        Err(e) => Err(e),
+    }
+}

@@ -1,0 +1,80 @@
+//! A list that is added to at its end, and never changed.
+ghost use Rattle.std.specs.Prelude.{◌≡◌, ◌<◌, ◌∷◌, ◌++◌, [], length, IfOk, Some, slice_get};
+
+use crate::items::Row;
+use std::alloc::{AllocError, Global};
+use std::marker::Model;
+
+/// A list of items, oldest first. It is never changed: a push makes another, which shares the older items.
+#[derive(Drop)]
+pub struct Sequence<T> {
+    len: usize,
+    row: Row<T>,
+}
+
+impl<T> Model for Sequence<T> {
+    ghost use Rattle.std.specs.Prelude.{List};
+
+    ghost Value = { List T };
+
+    ghost use Rattle.fw_persistent.specs.SequenceView.{sequence_items, KeepsSequence};
+
+    ghost view = { sequence_items };
+
+    ghost invariant = { KeepsSequence };
+}
+
+impl<T> Sequence<T> {
+    /// The sequence of no item. It takes no memory.
+    pub fn new() -> Sequence<T>
+        ensures { result ≡ [] }
+    {
+        Sequence {
+            len: 0,
+            row: Row::Empty,
+        }
+    }
+
+    /// The number of items.
+    pub fn len(&self) -> usize
+        ensures { result ≡ length self.now }
+    {
+        self.len
+    }
+
+    /// The item at a place, the oldest of all at 0. The time grows with the logarithm of the number of items.
+    pub fn get(&self, place: usize) -> &T
+        requires { place < length self.now }
+        ensures { slice_get self.now place ≡ Some result.now }
+    {
+        self.row.item(self.len, place)
+    }
+}
+
+impl<T: Drop> Sequence<T> {
+    /// The sequence with one more item at its end. It takes two blocks of memory at most, however long the sequence is.
+    /// The error comes where memory ran out, where what is shared has as many owners as can be counted, and where there
+    /// are `usize::MAX` items. Then the item is dropped. The old sequence stays as it was in any case.
+    pub fn push(&self, alloc: Global, item: T) -> Result<Sequence<T>, AllocError>
+        ensures { IfOk result (λ sequence. sequence ≡ self.now ++ item ∷ []) }
+    {
+        let Some(len) = self.len.checked_add(1) else {
+            return Err(AllocError);
+        };
+        Ok(Sequence {
+            len,
+            row: self.row.with(alloc, item)?,
+        })
+    }
+
+    /// The same sequence, which shares all items. It takes no memory.
+    /// The error comes only where a tree of items has as many owners as can be counted.
+    pub fn copy(&self) -> Result<Sequence<T>, AllocError>
+        ensures { IfOk result (λ sequence. sequence ≡ self.now) }
+    {
+        Ok(Sequence {
+            len: self.len,
+            row: self.row.copy()?,
+        })
+    }
+}

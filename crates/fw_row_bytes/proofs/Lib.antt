@@ -1,0 +1,4 @@
+pub mod FieldFormats
+pub mod Fitting
+pub mod RowFacts
+pub mod RowFormat

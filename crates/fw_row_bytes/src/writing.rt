@@ -1,0 +1,180 @@
+//! The writers of a row and of its fields, at the end of a buffer.
+//!
+//! Each has one error, [`AllocError`] where the buffer can't grow; then nothing is promised of what the buffer holds.
+ghost use Rattle.std.specs.Prelude.{◌≡◌, ◌++◌, ◌∷◌, [], OnOk, IfSome, option_copied};
+ghost use Rattle.fw_bytes.specs.Spelling.{text, optional};
+ghost use Rattle.fw_charge.specs.Charge.{IsShortText};
+ghost use Rattle.fw_charge.specs.Codes.{category_code, kind_code, status_code};
+ghost use Rattle.fw_charge.specs.Tags.{IsTagSized};
+ghost use Rattle.fw_row_bytes.specs.Spelling.{nanos, tag, tags, amounts, period, discount, consumed, row};
+
+use fw_bytes::{put_byte, put_i64, put_text, put_u32, put_u64};
+use fw_charge::{Category, DiscountKind, DiscountStatus, Row, Tag, Tags};
+use fw_money::Nanos;
+use std::alloc::AllocError;
+
+/// The code of a category.
+#[tactic(auto, unfolding(fw_charge::specs::Codes::category_code))]
+fn category_code(category: Category) -> u8
+    ensures { result ≡ category_code category }
+{
+    match category {
+        Category::Usage => 1,
+        Category::Purchase => 2,
+        Category::Tax => 3,
+        Category::Credit => 4,
+        Category::Adjustment => 5,
+    }
+}
+
+/// The code of a discount's kind, and 0 for none.
+#[tactic(auto, unfolding(fw_charge::specs::Codes::kind_code))]
+fn kind_code(kind: Option<DiscountKind>) -> u8
+    ensures { result ≡ kind_code kind }
+{
+    match kind {
+        None => 0,
+        Some(DiscountKind::Usage) => 1,
+        Some(DiscountKind::Spend) => 2,
+    }
+}
+
+/// The code of a discount's status, and 0 for none.
+#[tactic(auto, unfolding(fw_charge::specs::Codes::status_code))]
+fn status_code(status: Option<DiscountStatus>) -> u8
+    ensures { result ≡ status_code status }
+{
+    match status {
+        None => 0,
+        Some(DiscountStatus::Used) => 1,
+        Some(DiscountStatus::Unused) => 2,
+    }
+}
+
+/// Writes an amount.
+pub fn put_nanos(out: &mut Vec<u8>, amount: Nanos) -> Result<(), AllocError>
+    ensures { OnOk result (out.new.items ≡ out.old.items ++ nanos amount) }
+{
+    put_i64(out, amount.count())
+}
+
+/// Writes an amount that may be null.
+pub fn put_optional_nanos(out: &mut Vec<u8>, amount: Option<Nanos>) -> Result<(), AllocError>
+    ensures { OnOk result (out.new.items ≡ out.old.items ++ optional nanos amount) }
+{
+    match amount {
+        None => put_byte(out, 0),
+        Some(amount) => {
+            put_byte(out, 1)?;
+            put_nanos(out, amount)
+        }
+    }
+}
+
+/// Writes a text of 1 to 256 bytes that may be null.
+pub fn put_optional_text(out: &mut Vec<u8>, words: Option<&str>) -> Result<(), AllocError>
+    requires { IfSome (option_copied words) IsShortText }
+    ensures { OnOk result (out.new.items ≡ out.old.items ++ optional text (option_copied words.entry)) }
+{
+    match words {
+        None => put_byte(out, 0),
+        Some(words) => {
+            put_byte(out, 1)?;
+            put_text(out, words)
+        }
+    }
+}
+
+/// Writes a tag.
+fn put_tag(out: &mut Vec<u8>, one: &Tag) -> Result<(), AllocError>
+    requires { IsTagSized one.now }
+    ensures { OnOk result (out.new.items ≡ out.old.items ++ tag one.now) }
+{
+    put_text(out, one.key())?;
+    put_text(out, one.value())
+}
+
+/// Writes tags: their number, and each in turn.
+pub fn put_tags(out: &mut Vec<u8>, all: &Tags) -> Result<(), AllocError>
+    ensures { OnOk result (out.new.items ≡ out.old.items ++ tags all.now) }
+{
+    let tags = all.as_slice();
+    put_u32(out, tags.len() as u32)?;
+    for one in tags {
+        put_tag(out, one)?;
+    }
+    Ok(())
+}
+
+/// Writes costs, category and class.
+#[tactic(auto, unfolding(crate::specs::Spelling::amounts, fw_charge::specs::Codes::class_code))]
+fn put_amounts(out: &mut Vec<u8>, one: &Row) -> Result<(), AllocError>
+    ensures { OnOk result (out.new.items ≡ out.old.items ++ amounts one.now) }
+{
+    put_nanos(out, one.billed())?;
+    put_nanos(out, one.effective())?;
+    put_byte(out, category_code(one.category()))?;
+    put_byte(out, u8::from(one.is_correction()))?;
+    Ok(())
+}
+
+/// Writes the period.
+#[tactic(auto, unfolding(crate::specs::Spelling::period))]
+fn put_period(out: &mut Vec<u8>, one: &Row) -> Result<(), AllocError>
+    ensures { OnOk result (out.new.items ≡ out.old.items ++ period one.now) }
+{
+    put_u64(out, one.start())?;
+    put_u64(out, one.end())?;
+    Ok(())
+}
+
+/// Writes the discount: id, kind and status, all three null where there is none.
+#[tactic(auto, unfolding(crate::specs::Spelling::discount))]
+fn put_discount(out: &mut Vec<u8>, one: &Row) -> Result<(), AllocError>
+    ensures { OnOk result (out.new.items ≡ out.old.items ++ discount one.now.discount) }
+{
+    match one.discount() {
+        None => {
+            put_optional_text(out, None)?;
+            put_byte(out, kind_code(None))?;
+            put_byte(out, status_code(None))?;
+            Ok(())
+        }
+        Some(discount) => {
+            put_optional_text(out, Some(discount.id()))?;
+            put_byte(out, kind_code(Some(discount.kind())))?;
+            put_byte(out, status_code(discount.status()))?;
+            Ok(())
+        }
+    }
+}
+
+/// Writes quantity, unit, SKU and sub-account.
+#[tactic(auto, unfolding(crate::specs::Spelling::consumed))]
+fn put_consumed(out: &mut Vec<u8>, one: &Row) -> Result<(), AllocError>
+    ensures { OnOk result (out.new.items ≡ out.old.items ++ consumed one.now) }
+{
+    // Tells that the texts are short.
+    let _start = one.start();
+    put_optional_nanos(out, one.quantity())?;
+    put_optional_text(out, one.unit())?;
+    put_optional_text(out, one.sku())?;
+    put_optional_text(out, one.sub_account())?;
+    Ok(())
+}
+
+/// Writes a row at the end of the buffer.
+///
+/// # Errors
+/// [`AllocError`] where the buffer can't grow. Then nothing is promised of what the buffer holds.
+#[tactic(auto, unfolding(crate::specs::Spelling::row))]
+pub fn put_row(out: &mut Vec<u8>, one: &Row) -> Result<(), AllocError>
+    ensures { OnOk result (out.new.items ≡ out.old.items ++ row one.now) }
+{
+    put_amounts(out, one)?;
+    put_period(out, one)?;
+    put_discount(out, one)?;
+    put_consumed(out, one)?;
+    put_tags(out, one.tags())?;
+    Ok(())
+}

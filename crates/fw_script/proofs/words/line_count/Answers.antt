@@ -1,6 +1,0 @@
-use Rattle.fw_script.proofs.WordsLaws.{digits-IsUtf8, refused}
-use Rattle.std.proofs.Common.{sym}
-use Rattle.fw_script.proofs.words.line_count.Goals as goal
-
-pub returns-in_err-digits : goal.returns-in_err-digits
-returns-in_err-digits c = rw c.from_residual.ensures (λ count h. refused _ _ c.from_utf8.result c.from_utf8.ensures.cases (sym c.in_err-digits.ensures.value) (digits-IsUtf8 c.args.word.now h.digits))

@@ -1,0 +1,166 @@
+-- The state that follows another by one entry.
+use Rattle.std.proofs.Common.{◌≡◌, ◌+◌, ◌≤◌, ◌||◌, ℕ, List, [], ◌∷◌, ◌++◌, All, nat_lt, if◌then◌else◌, length, map, refl, sym, ap, subst, ◌∙◌, arith, length-append, Option, None}
+use Rattle.std.specs.Str.{bytes_eq}
+use Rattle.std.proofs.lemmas.List.Elements.{All-push, All-nil}
+use Rattle.fw_charge.specs.Charge.{Charge}
+use Rattle.fw_entry.specs.Entry.{CommandValue, EntryValue}
+use Rattle.fw_entry.specs.Entry.CommandValue.{post, commit, set_policy}
+use Rattle.fw_terms.specs.Policy.{PolicyValue}
+use Rattle.fw_entry.specs.Spelling.{IsEntry}
+use Rattle.fw_persistent.specs.Counts.{count_of}
+use Rattle.fw_snapshot.specs.History.{History, posted, committed, policy_after, rows_of, commitments_of, policy_of, entries_from}
+use Rattle.fw_snapshot.specs.Judging.{judged, IsLegal, IsLegalAfter, carries, is_registered, most_rows, most_commitments}
+use Rattle.fw_snapshot.specs.Heads.{ContentValue, HeadValue, head_of, content_of, command_of, row_count, row_counts, segment_rows, entries_of}
+use Rattle.fw_snapshot.specs.Held.{held_commitments, held_policy}
+use Rattle.fw_snapshot.specs.StateView.{state_entries, state_view, KeepsState}
+use Rattle.fw_snapshot.specs.declared.state.State.TheInside.{Inside}
+use Rattle.fw_snapshot.specs.declared.verdict.Verdict.TheVariants as verdict
+use Rattle.fw_snapshot.proofs.EntryFacts.{rows_of_more, commitments_of_more, policy_of_more, entries_from_more, carries_append, is_registered_append}
+use Rattle.fw_snapshot.proofs.HeadFacts.{row_counts_cons, rows_of_entries, heads_of_entries, length_entries, entries_of_more, entry_back, row_count_back}
+use Rattle.fw_snapshot.proofs.LegalFacts.{legal_more, accepted_rows, few_rows, few_commitments}
+
+-- each part of t is that of s with what an entry brings
+pub record Follows (s t : Inside) (e : EntryValue) : Type 0 where
+  pub heads : t.heads ≡ s.heads ++ head_of e ∷ []
+  pub segments : segment_rows t.segments ≡ segment_rows s.segments ++ posted e.command
+  pub filled : length t.segments ≤ length (segment_rows t.segments)
+  pub row_count : t.rows ≡ s.rows + length (posted e.command)
+  pub commitments : held_commitments t.commitments ≡ held_commitments s.commitments ++ committed e.command
+  pub policy : held_policy t.policy ≡ policy_after (held_policy s.policy) e.command
+  pub origins : (origin : List ℕ) → count_of origin t.origins ≡ count_of origin s.origins + (if bytes_eq origin e.origin then 1 else 0)
+  pub registered : (id : List ℕ) → nat_lt 0 (count_of id t.registered) ≡ (nat_lt 0 (count_of id s.registered) || is_registered id (committed e.command))
+  pub carried : (id : List ℕ) → nat_lt 0 (count_of id t.carried) ≡ (nat_lt 0 (count_of id s.carried) || carries id (posted e.command))
+
+-- then its entries are those of s and this one
+pub follows_entries : (s t : Inside) (e : EntryValue) → KeepsState s → Follows s t e → state_entries t ≡ state_entries s ++ e ∷ []
+follows_entries s t e keeps follows =
+    let count : row_count (content_of e.command) ≡ length (posted e.command) = row_count_back e.command in
+    ap (λ heads. entries_of heads (segment_rows t.segments)) follows.heads
+    ∙ ap (λ rows. entries_of (s.heads ++ head_of e ∷ []) rows) follows.segments
+    ∙ entries_of_more s.heads (segment_rows s.segments) (head_of e) (posted e.command) keeps.rows count
+    ∙ ap (λ x. state_entries s ++ x ∷ []) (entry_back e)
+
+row_counts_more : (heads : List _) (e : EntryValue) → row_counts (heads ++ head_of e ∷ []) ≡ row_counts heads + length (posted e.command)
+unfolding row_counts
+row_counts_more [] e = row_counts_cons (head_of e) [] ∙ ap (λ n. n + row_counts []) (row_count_back e.command) ∙ omega arith
+row_counts_more (h ∷ heads) e =
+    let first = row_counts_cons h (heads ++ head_of e ∷ []) in
+    let rest = row_counts_more heads e in
+    let whole = row_counts_cons h heads in
+    omega arith
+
+-- and it keeps what a state keeps, if the entry is accepted
+pub follows_keeps : (s t : Inside) (e : EntryValue) → KeepsState s → judged (state_entries s) e ≡ verdict.Accept → IsEntry e → Follows s t e → KeepsState t
+follows_keeps s t e keeps accepted entry follows =
+    let es = state_entries s in
+    let same : state_entries t ≡ es ++ e ∷ [] = follows_entries s t e keeps follows in
+    let lengths : length (segment_rows t.segments) ≡ length (segment_rows s.segments) + length (posted e.command) = ap length follows.segments ∙ length-append (segment_rows s.segments) (posted e.command) in
+    record {
+      legal = subst IsLegal (sym same) (legal_more [] es e keeps.legal accepted);
+      each = subst (All IsEntry) (sym same) (All-push IsEntry es e keeps.each entry);
+      rows = lengths ∙ ap (λ n. n + length (posted e.command)) keeps.rows ∙ sym (row_counts_more s.heads e) ∙ ap row_counts (sym follows.heads);
+      filled = follows.filled;
+      row_count = follows.row_count ∙ ap (λ n. n + length (posted e.command)) keeps.row_count ∙ sym lengths;
+      commitments = follows.commitments ∙ ap (λ list. list ++ committed e.command) keeps.commitments ∙ sym (commitments_of_more es e) ∙ ap commitments_of (sym same);
+      policy = follows.policy ∙ ap (λ before. policy_after before e.command) keeps.policy ∙ sym (policy_of_more es e) ∙ ap policy_of (sym same);
+      origins = λ origin. follows.origins origin ∙ ap (λ n. n + (if bytes_eq origin e.origin then 1 else 0)) (keeps.origins origin) ∙ sym (entries_from_more origin es e) ∙ ap (entries_from origin) (sym same);
+      registered = λ id. follows.registered id ∙ ap (λ b. b || is_registered id (committed e.command)) (keeps.registered id) ∙ sym (is_registered_append id (commitments_of es) (committed e.command)) ∙ ap (is_registered id) (sym (commitments_of_more es e) ∙ ap commitments_of (sym same));
+      carried = λ id. follows.carried id ∙ ap (λ b. b || carries id (posted e.command)) (keeps.carried id) ∙ sym (carries_append id (rows_of es) (posted e.command)) ∙ ap (carries id) (sym (rows_of_more es e) ∙ ap rows_of (sym same));
+    }
+
+-- and it is seen as the history with the entry behind the others
+pub follows_view : (s t : Inside) (now : History) (e : EntryValue) → state_view s ≡ now → KeepsState s → t.currency ≡ s.currency → Follows s t e → state_view t ≡ record { currency = now.currency; entries = now.entries ++ e ∷ [] }
+follows_view s t now e seen keeps currency follows =
+    ap (λ letters. let made : History = record { currency = letters; entries = state_entries t } in made) currency
+    ∙ ap (λ es. let made : History = record { currency = s.currency; entries = es } in made) (follows_entries s t e keeps follows)
+    ∙ ap (λ (h : History). let made : History = record { currency = h.currency; entries = h.entries ++ e ∷ [] } in made) seen
+
+-- the head that is made of an entry's parts
+pub head_made : (origin : List ℕ) (seq : ℕ) (content : ContentValue) (head : HeadValue) (e : EntryValue) → head ≡ record { origin = origin; seq = seq; content = content } → origin ≡ e.origin → seq ≡ e.seq → content ≡ content_of e.command → head ≡ head_of e
+head_made origin seq content head e made same_origin same_seq same_content =
+    made
+    ∙ ap (λ o. let h : HeadValue = record { origin = o; seq = seq; content = content } in h) same_origin
+    ∙ ap (λ n. let h : HeadValue = record { origin = e.origin; seq = n; content = content } in h) same_seq
+    ∙ ap (λ c. let h : HeadValue = record { origin = e.origin; seq = e.seq; content = c } in h) same_content
+
+-- the policy after a command doesn't hang on its rows
+by_content : (before : Option PolicyValue) (c : CommandValue) → policy_after before (command_of (content_of c) []) ≡ policy_after before c
+by_content before (post rows) = refl
+by_content before (commit c) = refl
+by_content before (set_policy p) = refl
+
+pub policy_by_content : (before : Option PolicyValue) (content : ContentValue) (c : CommandValue) → content ≡ content_of c → policy_after before (command_of content []) ≡ policy_after before c
+policy_by_content before content c same = ap (λ x. policy_after before (command_of x [])) same ∙ by_content before c
+
+-- what a state keeps, as its readers want it
+pub kept_rows : (s : Inside) → KeepsState s → segment_rows s.segments ≡ rows_of (state_entries s)
+kept_rows s keeps = sym (rows_of_entries s.heads (segment_rows s.segments) keeps.rows)
+
+pub kept_heads : (s : Inside) → KeepsState s → s.heads ≡ map head_of (state_entries s)
+kept_heads s keeps = sym (heads_of_entries s.heads (segment_rows s.segments) keeps.rows)
+
+pub kept_length : (s : Inside) → KeepsState s → length s.heads ≡ length (state_entries s)
+kept_length s keeps = sym (length_entries s.heads (segment_rows s.segments) keeps.rows)
+
+pub kept_row_count : (s : Inside) → KeepsState s → s.rows ≡ length (rows_of (state_entries s))
+kept_row_count s keeps = keeps.row_count ∙ ap length (kept_rows s keeps)
+
+pub kept_few : (s : Inside) → KeepsState s → s.rows ≤ most_rows
+kept_few s keeps =
+    let few = few_rows (state_entries s) keeps.legal in
+    let count = kept_row_count s keeps in
+    omega arith
+
+pub kept_few_segments : (s : Inside) → KeepsState s → length s.segments ≤ most_rows
+kept_few_segments s keeps =
+    let few = kept_few s keeps in
+    let count = keeps.row_count in
+    let filled = keeps.filled in
+    omega arith
+
+pub kept_few_commitments : (s : Inside) → KeepsState s → length (held_commitments s.commitments) ≤ most_commitments
+kept_few_commitments s keeps =
+    let few = few_commitments (state_entries s) keeps.legal in
+    let same = ap length keeps.commitments in
+    omega arith
+
+-- the rows of an accepted entry are counted within the limit
+pub follows_fits : (s : Inside) (e : EntryValue) (rows : List Charge) → KeepsState s → judged (state_entries s) e ≡ verdict.Accept → rows ≡ posted e.command → s.rows + length rows ≤ most_rows
+follows_fits s e rows keeps accepted same =
+    let count = kept_row_count s keeps in
+    let few = accepted_rows (state_entries s) e accepted (few_rows (state_entries s) keeps.legal) in
+    let length_same = ap length same in
+    omega arith
+
+-- nothing was accepted where there is nothing
+pub record IsBlank (t : Inside) : Type 0 where
+  pub heads : t.heads ≡ []
+  pub segments : t.segments ≡ []
+  pub row_count : t.rows ≡ 0
+  pub commitments : held_commitments t.commitments ≡ []
+  pub policy : held_policy t.policy ≡ None
+  pub origins : t.origins ≡ []
+  pub registered : t.registered ≡ []
+  pub carried : t.carried ≡ []
+
+pub blank_entries : (t : Inside) → IsBlank t → state_entries t ≡ []
+unfolding entries_of
+blank_entries t blank = ap (λ heads. entries_of heads (segment_rows t.segments)) blank.heads
+
+pub blank_keeps : (t : Inside) → IsBlank t → KeepsState t
+unfolding IsLegalAfter row_counts rows_of commitments_of policy_of entries_from is_registered carries
+blank_keeps t blank =
+    let none = blank_entries t blank in
+    let rows : segment_rows t.segments ≡ [] = ap segment_rows blank.segments in
+    record {
+      legal = subst IsLegal (sym none) tt;
+      each = subst (All IsEntry) (sym none) (All-nil IsEntry);
+      rows = ap length rows ∙ ap row_counts (sym blank.heads);
+      filled = rw blank.segments (omega arith);
+      row_count = blank.row_count ∙ ap length (sym rows);
+      commitments = blank.commitments ∙ ap commitments_of (sym none);
+      policy = blank.policy ∙ ap policy_of (sym none);
+      origins = λ origin. ap (count_of origin) blank.origins ∙ ap (entries_from origin) (sym none);
+      registered = λ id. ap (λ counts. nat_lt 0 (count_of id counts)) blank.registered ∙ ap (λ es. is_registered id (commitments_of es)) (sym none);
+      carried = λ id. ap (λ counts. nat_lt 0 (count_of id counts)) blank.carried ∙ ap (λ es. carries id (rows_of es)) (sym none);
+    }

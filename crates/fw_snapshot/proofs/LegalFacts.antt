@@ -1,0 +1,164 @@
+-- What is known of an entry that is accepted, and of legal lists of entries.
+use Rattle.std.proofs.Common.{◌≡◌, ◌+◌, ◌≤◌, ◌<◌, ◌⊎◌, ℕ, zero, suc, List, [], ◌∷◌, ◌++◌, Option, Some, None, Bool, true, false, nat_lt, nat_le, if◌then◌else◌, length, take, drop, slice_get, refl, sym, ap, ◌∙◌, arith, length-append}
+use Rattle.std.specs.Str.{bytes_eq}
+use Rattle.std.proofs.lemmas.List.{append-nil, append_assoc, take-append-drop, take_more}
+use Rattle.std.proofs.Math.Seq.{take-nil}
+use Rattle.std.proofs.lemmas.Option.{slice_get_within, get_or_from_slice_get}
+use Rattle.std.proofs.lemmas.Slice.Eq.{bytes_eq-Decides}
+use Rattle.std.proofs.lemmas.Bool.Decides.{nat_tests}
+use Rattle.fw_charge.specs.Charge.{Charge}
+use Rattle.fw_terms.specs.Commitment.{CommitmentValue}
+use Rattle.fw_entry.specs.Entry.{CommandValue, EntryValue}
+use Rattle.fw_entry.specs.Entry.CommandValue.{post, commit, set_policy}
+use Rattle.fw_snapshot.specs.History.{posted, committed, rows_of, commitments_of, entries_from}
+use Rattle.fw_snapshot.specs.Judging.{judged, IsLegal, IsLegalAfter, command_conflict, rows_conflict, commitment_conflict, most_rows, most_commitments, verdict_on, carries, is_registered}
+use Rattle.fw_snapshot.specs.declared.verdict.Conflict.{Conflict}
+use Rattle.fw_snapshot.specs.declared.verdict.Conflict.TheVariants as conflict
+use Rattle.fw_snapshot.specs.declared.verdict.Verdict.TheVariants as verdict
+use Rattle.fw_snapshot.proofs.EntryFacts.{rows_of_more, commitments_of_more, entries_from_more, entries_from_grows}
+
+-- an entry is accepted where neither test of its number holds, and nothing stands against its command
+accepted_parts : (low high : Bool) (m n : ℕ) (why : Option Conflict) → (if low then verdict.Already m else (if high then verdict.Gap n else verdict_on why)) ≡ verdict.Accept → (low ≡ false) × (high ≡ false) × (why ≡ None)
+accepted_parts true high m n why h = absurd (cc)
+accepted_parts false true m n why h = absurd (cc)
+accepted_parts false false m n None h = (refl, refl, refl)
+accepted_parts false false m n (Some found) h = absurd (cc)
+
+next_number : (last seq : ℕ) → nat_le seq last ≡ false → nat_lt (last + 1) seq ≡ false → seq ≡ last + 1
+next_number last seq low high = grind (arith, nat_tests)
+
+-- an accepted entry has the next number of its origin
+pub accepted_number : (es : List EntryValue) (e : EntryValue) → judged es e ≡ verdict.Accept → e.seq ≡ entries_from e.origin es + 1
+unfolding judged
+accepted_number es e h =
+    let parts = accepted_parts (nat_le e.seq (entries_from e.origin es)) (nat_lt (entries_from e.origin es + 1) e.seq) _ _ _ h in
+    next_number (entries_from e.origin es) e.seq parts.0 parts.1
+
+accepted_command : (es : List EntryValue) (e : EntryValue) → judged es e ≡ verdict.Accept → command_conflict (rows_of es) (commitments_of es) e.command ≡ None
+unfolding judged
+accepted_command es e h =
+    (accepted_parts (nat_le e.seq (entries_from e.origin es)) (nat_lt (entries_from e.origin es + 1) e.seq) _ _ _ h).2
+
+-- where nothing is found, no test holds
+first_none : (b : Bool) (why : Conflict) (rest : Option Conflict) → (if b then Some why else rest) ≡ None → (b ≡ false) × (rest ≡ None)
+first_none true why rest h = absurd (cc)
+first_none false why rest h = (refl, h)
+
+third_none : (a b c : Bool) → (if a then Some conflict.DoubleId else (if b then Some conflict.IdInUse else (if c then Some conflict.TooManyCommitments else None))) ≡ None → c ≡ false
+third_none true b c h = absurd (cc)
+third_none false true c h = absurd (cc)
+third_none false false true h = absurd (cc)
+third_none false false false h = refl
+
+at_most : (n m : ℕ) → nat_lt n m ≡ false → m ≤ n
+at_most n m h = grind (arith, nat_tests)
+
+below : (n m : ℕ) → nat_le n m ≡ false → m < n
+below n m h = grind (arith, nat_tests)
+
+rows_room : (rows : List Charge) (list : List CommitmentValue) (c : CommandValue) → command_conflict rows list c ≡ None → length rows ≤ most_rows → length rows + length (posted c) ≤ most_rows
+unfolding command_conflict rows_conflict
+rows_room rows list (post more) h few = at_most _ _ (first_none (nat_lt most_rows (length rows + length more)) _ _ h).0
+rows_room rows list (commit c) h few = omega arith
+rows_room rows list (set_policy p) h few = omega arith
+
+commitments_room : (rows : List Charge) (list : List CommitmentValue) (c : CommandValue) → command_conflict rows list c ≡ None → length list ≤ most_commitments → length list + length (committed c) ≤ most_commitments
+unfolding command_conflict commitment_conflict
+commitments_room rows list (post more) h few = omega arith
+commitments_room rows list (commit c) h few =
+    let room = third_none (is_registered c.id list) (carries c.id rows) (nat_le most_commitments (length list)) h in
+    let full = below most_commitments (length list) room in
+    omega arith
+commitments_room rows list (set_policy p) h few = omega arith
+
+-- the rows of an accepted entry fit behind the others
+pub accepted_rows : (es : List EntryValue) (e : EntryValue) → judged es e ≡ verdict.Accept → length (rows_of es) ≤ most_rows → length (rows_of es) + length (posted e.command) ≤ most_rows
+accepted_rows es e h few = rows_room (rows_of es) (commitments_of es) e.command (accepted_command es e h) few
+
+accepted_commitments : (es : List EntryValue) (e : EntryValue) → judged es e ≡ verdict.Accept → length (commitments_of es) ≤ most_commitments → length (commitments_of es) + length (committed e.command) ≤ most_commitments
+accepted_commitments es e h few = commitments_room (rows_of es) (commitments_of es) e.command (accepted_command es e h) few
+
+-- an accepted entry goes behind a legal list
+pub legal_more : (first es : List EntryValue) (e : EntryValue) → IsLegalAfter first es → judged (first ++ es) e ≡ verdict.Accept → IsLegalAfter first (es ++ e ∷ [])
+unfolding IsLegalAfter
+legal_more first [] e legal h = (rw append-nil at h, tt)
+legal_more first (x ∷ es) e legal h = (legal.0, legal_more (first ++ x ∷ []) es e legal.1 (rw append_assoc h))
+
+-- each entry of a legal list is accepted after those before it
+legal_at : (first es : List EntryValue) → IsLegalAfter first es → (place : ℕ) (e : EntryValue) → slice_get es place ≡ Some e → judged (first ++ take place es) e ≡ verdict.Accept
+unfolding IsLegalAfter
+legal_at first [] legal place e h = absurd (cc)
+legal_at first (x ∷ es) legal zero e h =
+    let same : x ≡ e = cc in
+    rw append-nil (rw (← same) legal.0)
+legal_at first (x ∷ es) legal (suc place) e h = rw append_assoc at (legal_at (first ++ x ∷ []) es legal.1 place e h)
+
+-- a legal list has few rows and commitments
+legal_rows : (first es : List EntryValue) → length (rows_of first) ≤ most_rows → IsLegalAfter first es → length (rows_of (first ++ es)) ≤ most_rows
+unfolding IsLegalAfter
+legal_rows first [] few legal = rw append-nil few
+legal_rows first (x ∷ es) few legal =
+    let more : length (rows_of (first ++ x ∷ [])) ≤ most_rows = rw rows_of_more (rw length-append (accepted_rows first x legal.0 few)) in
+    rw append_assoc at (legal_rows (first ++ x ∷ []) es more legal.1)
+
+legal_commitments : (first es : List EntryValue) → length (commitments_of first) ≤ most_commitments → IsLegalAfter first es → length (commitments_of (first ++ es)) ≤ most_commitments
+unfolding IsLegalAfter
+legal_commitments first [] few legal = rw append-nil few
+legal_commitments first (x ∷ es) few legal =
+    let more : length (commitments_of (first ++ x ∷ [])) ≤ most_commitments = rw commitments_of_more (rw length-append (accepted_commitments first x legal.0 few)) in
+    rw append_assoc at (legal_commitments (first ++ x ∷ []) es more legal.1)
+
+pub few_rows : (es : List EntryValue) → IsLegal es → length (rows_of es) ≤ most_rows
+unfolding rows_of
+few_rows es legal = legal_rows [] es (omega arith) legal
+
+pub few_commitments : (es : List EntryValue) → IsLegal es → length (commitments_of es) ≤ most_commitments
+unfolding commitments_of
+few_commitments es legal = legal_commitments [] es (omega arith) legal
+
+-- each entry has the number that follows those of its origin before it
+pub in_turn : (es : List EntryValue) → IsLegal es → (place : ℕ) (e : EntryValue) → slice_get es place ≡ Some e → e.seq ≡ entries_from e.origin (take place es) + 1
+in_turn es legal place e h = accepted_number (take place es) e (legal_at [] es legal place e h)
+
+same_origin : (origin : List ℕ) → bytes_eq origin origin ≡ true
+same_origin origin = (bytes_eq-Decides origin origin).1 refl
+
+take_within : (es : List EntryValue) (i j : ℕ) → i ≤ j → take i (take j es) ≡ take i es
+take_within [] i j h = ap (take i) (take-nil j)
+take_within (x ∷ es) zero j h = refl
+take_within (x ∷ es) (suc i) zero h = absurd (omega arith)
+take_within (x ∷ es) (suc i) (suc j) h = ap (λ xs. x ∷ xs) (take_within es i j (omega arith))
+
+-- an entry counts among those of its origin before any later one
+counts_before : (es : List EntryValue) (i j : ℕ) (a : EntryValue) → slice_get es i ≡ Some a → i < j → entries_from a.origin (take i es) + 1 ≤ entries_from a.origin (take j es)
+counts_before es i j a h before =
+    let within : i < length es = slice_get_within es i a h in
+    let step = take_more es i a within in
+    let read = get_or_from_slice_get es i a a h in
+    let next : take (i + 1) es ≡ take i es ++ a ∷ [] = cc in
+    let counted = entries_from_more a.origin (take i es) a in
+    let one : entries_from a.origin (take i es ++ a ∷ []) ≡ entries_from a.origin (take i es) + 1 = rw same_origin at counted in
+    let nested = take_within es (i + 1) j (omega arith) in
+    let split = take-append-drop (i + 1) (take j es) in
+    let grown = entries_from_grows a.origin (take (i + 1) (take j es)) (drop (i + 1) (take j es)) in
+    let all : entries_from a.origin (take (i + 1) (take j es) ++ drop (i + 1) (take j es)) ≡ entries_from a.origin (take j es) = ap (entries_from a.origin) split in
+    let front : entries_from a.origin (take (i + 1) (take j es)) ≡ entries_from a.origin (take i es) + 1 = ap (entries_from a.origin) (nested ∙ next) ∙ one in
+    omega arith
+
+one_origin_apart : (es : List EntryValue) → IsLegal es → (i j : ℕ) (a b : EntryValue) → slice_get es i ≡ Some a → slice_get es j ≡ Some b → a.origin ≡ b.origin → a.seq ≡ b.seq → i < j → ⊥
+one_origin_apart es legal i j a b ha hb origin seq before =
+    let first = in_turn es legal i a ha in
+    let second = in_turn es legal j b hb in
+    let counted = counts_before es i j a ha before in
+    let same : entries_from b.origin (take j es) ≡ entries_from a.origin (take j es) = ap (λ o. entries_from o (take j es)) (sym origin) in
+    omega arith
+
+which_first : (i j : ℕ) → (i ≡ j) ⊎ ((i < j) ⊎ (j < i))
+which_first i j = grind arith
+
+-- a legal list has each entry once
+pub once : (es : List EntryValue) → IsLegal es → (i j : ℕ) (a b : EntryValue) → slice_get es i ≡ Some a → slice_get es j ≡ Some b → a.origin ≡ b.origin → a.seq ≡ b.seq → i ≡ j
+once es legal i j a b ha hb origin seq =
+    let later = one_origin_apart es legal i j a b ha hb origin seq in
+    let sooner = one_origin_apart es legal j i b a hb ha (sym origin) (sym seq) in
+    grind arith

@@ -1,0 +1,4 @@
+pub mod EntryFacts
+pub mod HeadFacts
+pub mod LegalFacts
+pub mod Following

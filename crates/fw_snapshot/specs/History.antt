@@ -1,0 +1,46 @@
+-- What the entries that were accepted come to.
+use Rattle.std.specs.Prelude.{ℕ, List, [], ◌∷◌, Option, Some, None, length, filter}
+use Rattle.std.specs.List.{fold, flat_map}
+use Rattle.std.specs.Str.{bytes_eq}
+use Rattle.fw_charge.specs.Charge.{Charge}
+use Rattle.fw_terms.specs.Commitment.{CommitmentValue}
+use Rattle.fw_terms.specs.Policy.{PolicyValue}
+use Rattle.fw_entry.specs.Entry.{CommandValue, EntryValue}
+use Rattle.fw_entry.specs.Entry.CommandValue.{post, commit, set_policy}
+
+-- the currency of a warehouse, and the entries that it accepted, in order
+pub record History : Type 0 where
+  pub currency : List ℕ
+  pub entries : List EntryValue
+
+-- what a single command brings
+abbrev pub posted : CommandValue → List Charge
+posted (post rows) = rows
+posted (commit c) = []
+posted (set_policy p) = []
+
+abbrev pub committed : CommandValue → List CommitmentValue
+committed (post rows) = []
+committed (commit c) = c ∷ []
+committed (set_policy p) = []
+
+abbrev pub policy_after : Option PolicyValue → CommandValue → Option PolicyValue
+policy_after before (post rows) = before
+policy_after before (commit c) = before
+policy_after before (set_policy p) = Some p
+
+-- the rows that count: those of the posts, in order
+unfoldable pub rows_of : List EntryValue → List Charge
+rows_of entries = flat_map (λ e. posted e.command) entries
+
+-- the commitments that count: those that were committed to, in order
+unfoldable pub commitments_of : List EntryValue → List CommitmentValue
+commitments_of entries = flat_map (λ e. committed e.command) entries
+
+-- the policy that holds: the one that was set last
+unfoldable pub policy_of : List EntryValue → Option PolicyValue
+policy_of entries = fold (λ before e. policy_after before e.command) None entries
+
+-- how many entries came from an origin
+unfoldable pub entries_from : List ℕ → List EntryValue → ℕ
+entries_from origin entries = length (filter (λ e. bytes_eq origin e.origin) entries)

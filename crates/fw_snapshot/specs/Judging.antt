@@ -1,0 +1,82 @@
+-- Whether an entry goes with those that were accepted before it.
+use Rattle.std.specs.Prelude.{◌≡◌, ◌+◌, ⊤, ℕ, Bool, false, List, [], ◌∷◌, ◌++◌, length, nat_lt, nat_le, Option, Some, None, if◌then◌else◌}
+use Rattle.std.specs.Str.{bytes_eq}
+use Rattle.std.specs.List.{list_any}
+use Rattle.std.specs.Option.{option_map_or}
+use Rattle.fw_charge.specs.Charge.{Charge}
+use Rattle.fw_terms.specs.Commitment.{CommitmentValue}
+use Rattle.fw_entry.specs.Entry.{CommandValue, EntryValue}
+use Rattle.fw_entry.specs.Entry.CommandValue.{post, commit, set_policy}
+use Rattle.fw_snapshot.specs.History.{rows_of, commitments_of, entries_from}
+use Rattle.fw_snapshot.specs.declared.verdict.Conflict.{Conflict}
+use Rattle.fw_snapshot.specs.declared.verdict.Conflict.TheVariants as conflict
+use Rattle.fw_snapshot.specs.declared.verdict.Verdict.{Verdict}
+use Rattle.fw_snapshot.specs.declared.verdict.Verdict.TheVariants as verdict
+
+-- the most rows of a warehouse
+abbrev pub most_rows : ℕ
+most_rows = 4194304
+
+-- the most commitments of a warehouse
+abbrev pub most_commitments : ℕ
+most_commitments = 256
+
+-- whether a row carries this id of a commitment
+abbrev pub has_id : List ℕ → Charge → Bool
+has_id id row = option_map_or (λ d. bytes_eq id d.id) row.discount false
+
+-- whether one of the rows carries the id
+unfoldable pub carries : List ℕ → List Charge → Bool
+carries id rows = list_any (has_id id) rows
+
+-- whether a commitment has the id
+unfoldable pub is_registered : List ℕ → List CommitmentValue → Bool
+is_registered id commitments = list_any (λ c. bytes_eq id c.id) commitments
+
+-- whether a row carries the id of one of the commitments
+abbrev pub has_registered_id : List CommitmentValue → Charge → Bool
+has_registered_id commitments row = option_map_or (λ d. is_registered d.id commitments) row.discount false
+
+-- whether one of the rows carries the id of one of the commitments
+unfoldable pub carries_any : List Charge → List CommitmentValue → Bool
+carries_any rows commitments = list_any (has_registered_id commitments) rows
+
+-- why rows can't follow these rows and commitments: there would be too many, or one carries the id of a commitment
+unfoldable pub rows_conflict : List Charge → List CommitmentValue → List Charge → Option Conflict
+rows_conflict rows commitments more =
+    if nat_lt most_rows (length rows + length more) then Some conflict.Full
+    else (if carries_any more commitments then Some conflict.OwnCommitment else None)
+
+-- why a commitment can't follow these rows and commitments: its id is registered, or carried by a row, or there would be too many
+unfoldable pub commitment_conflict : List Charge → List CommitmentValue → CommitmentValue → Option Conflict
+commitment_conflict rows commitments more =
+    if is_registered more.id commitments then Some conflict.DoubleId
+    else (if carries more.id rows then Some conflict.IdInUse
+    else (if nat_le most_commitments (length commitments) then Some conflict.TooManyCommitments else None))
+
+-- why what a command brings can't follow, if it can't; a policy always can
+unfoldable pub command_conflict : List Charge → List CommitmentValue → CommandValue → Option Conflict
+command_conflict rows commitments (post more) = rows_conflict rows commitments more
+command_conflict rows commitments (commit more) = commitment_conflict rows commitments more
+command_conflict rows commitments (set_policy p) = None
+
+abbrev pub verdict_on : Option Conflict → Verdict
+verdict_on None = verdict.Accept
+verdict_on (Some why) = verdict.Refused why
+
+-- the verdict on an entry after these: its number is looked at first. It is the next of its origin, or one that was accepted before, or it leaves
+-- a gap
+unfoldable pub judged : List EntryValue → EntryValue → Verdict
+judged entries e =
+    if nat_le e.seq (entries_from e.origin entries) then verdict.Already (entries_from e.origin entries)
+    else (if nat_lt (entries_from e.origin entries + 1) e.seq then verdict.Gap (entries_from e.origin entries + 1)
+    else verdict_on (command_conflict (rows_of entries) (commitments_of entries) e.command))
+
+-- each of these entries was accepted after those before it, and all of them after the ones that came first
+unfoldable pub IsLegalAfter : List EntryValue → List EntryValue → Type 0
+IsLegalAfter first [] = ⊤
+IsLegalAfter first (e ∷ entries) = (judged first e ≡ verdict.Accept) × IsLegalAfter (first ++ e ∷ []) entries
+
+-- each entry was accepted after those before it
+abbrev pub IsLegal : List EntryValue → Type 0
+IsLegal entries = IsLegalAfter [] entries

@@ -1,0 +1,31 @@
+-- The history that a state stands for, and what its parts keep.
+use Rattle.std.specs.Prelude.{◌≡◌, ◌≤◌, ℕ, List, length, All, nat_lt}
+use Rattle.fw_entry.specs.Entry.{EntryValue}
+use Rattle.fw_entry.specs.Spelling.{IsEntry}
+use Rattle.fw_persistent.specs.Counts.{count_of}
+use Rattle.fw_snapshot.specs.History.{History, rows_of, commitments_of, policy_of, entries_from}
+use Rattle.fw_snapshot.specs.Judging.{IsLegal, carries, is_registered}
+use Rattle.fw_snapshot.specs.Heads.{entries_of, row_counts, segment_rows}
+use Rattle.fw_snapshot.specs.Held.{held_commitments, held_policy}
+use Rattle.fw_snapshot.specs.declared.state.State.TheInside.{Inside}
+
+-- the entries: their heads, and the rows of the posts among them
+abbrev pub state_entries : Inside → List EntryValue
+state_entries s = entries_of s.heads (segment_rows s.segments)
+
+abbrev pub state_view : Inside → History
+state_view s = record { currency = s.currency; entries = state_entries s }
+
+-- each entry is a whole one that was accepted, and each segment has a row. What is kept beside the entries is what they come to, so that an entry is
+-- judged without reading one of them
+pub record KeepsState (s : Inside) : Type 0 where
+  pub legal : IsLegal (state_entries s)
+  pub each : All IsEntry (state_entries s)
+  pub rows : length (segment_rows s.segments) ≡ row_counts s.heads
+  pub filled : length s.segments ≤ length (segment_rows s.segments)
+  pub row_count : s.rows ≡ length (segment_rows s.segments)
+  pub commitments : held_commitments s.commitments ≡ commitments_of (state_entries s)
+  pub policy : held_policy s.policy ≡ policy_of (state_entries s)
+  pub origins : (origin : List ℕ) → count_of origin s.origins ≡ entries_from origin (state_entries s)
+  pub registered : (id : List ℕ) → nat_lt 0 (count_of id s.registered) ≡ is_registered id (commitments_of (state_entries s))
+  pub carried : (id : List ℕ) → nat_lt 0 (count_of id s.carried) ≡ carries id (rows_of (state_entries s))

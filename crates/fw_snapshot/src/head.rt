@@ -1,0 +1,70 @@
+//! The head of an accepted entry.
+ghost use Rattle.std.specs.Prelude.{◌≡◌, string_bytes};
+ghost use Rattle.fw_snapshot.specs.HeadView.{content_view};
+
+use fw_terms::{Commitment, Policy};
+use std::marker::Model;
+use std::sync::Arc;
+
+/// What an accepted entry brought.
+#[derive(Drop)]
+pub enum Content {
+    /// So many rows, which stand in the segments of the state.
+    Post { rows: u32 },
+    /// A commitment.
+    Commit(Commitment),
+    /// A policy, which the state shares where it is the one that holds.
+    SetPolicy(Arc<Policy>),
+}
+
+/// An accepted entry without its rows.
+#[derive(Drop)]
+pub struct Head {
+    origin: Arc<String>,
+    seq: u64,
+    content: Content,
+}
+
+impl Model for Head {
+    ghost use Rattle.fw_snapshot.specs.Heads.{HeadValue};
+
+    ghost Value = { HeadValue };
+
+    ghost use Rattle.fw_snapshot.specs.HeadView.{head_view};
+
+    ghost view = { head_view };
+}
+
+impl Head {
+    /// The head of an entry of this origin and number.
+    pub(crate) fn new(origin: Arc<String>, seq: u64, content: Content) -> Head
+        ensures { result ≡ record { origin = string_bytes origin.value; seq = seq; content = content_view content } }
+    {
+        Head {
+            origin,
+            seq,
+            content,
+        }
+    }
+
+    /// Who sent the entry.
+    pub fn origin(&self) -> &str
+        ensures { result.now ≡ self.now.origin }
+    {
+        self.origin.as_str()
+    }
+
+    /// The entry's number among those of its origin, counted from 1.
+    pub fn seq(&self) -> u64
+        ensures { result ≡ self.now.seq }
+    {
+        self.seq
+    }
+
+    /// What the entry brought.
+    pub fn content(&self) -> &Content
+        ensures { content_view result.now ≡ self.now.content }
+    {
+        &self.content
+    }
+}

@@ -1,0 +1,241 @@
+//! The state of a warehouse.
+ghost use Rattle.std.specs.Prelude.{◌≡◌, ◌<◌, ◌≤◌, ◌++◌, ◌∷◌, [], length, map, slice_get, All, Some, IfOk};
+ghost use Rattle.std.specs.Option.{option_copied};
+ghost use Rattle.fw_entry.specs.Spelling.{IsEntry};
+ghost use Rattle.fw_snapshot.specs.Heads.{head_of, segment_rows};
+ghost use Rattle.fw_snapshot.specs.History.{rows_of, commitments_of, policy_of, entries_from};
+ghost use Rattle.fw_snapshot.specs.Judging.{judged, IsLegal, carries, is_registered, most_rows, most_commitments};
+ghost use Rattle.fw_snapshot.specs.declared.verdict.Verdict.TheVariants as verdict;
+
+use crate::after::{
+    carried_after, commitments_after, committed, content_of, listed, policy_after, posted,
+    registered_after, segments_after, share_list, share_policy, shared_origin,
+};
+use crate::head::Head;
+use fw_charge::Currency;
+use fw_columns::Columns;
+use fw_entry::Entry;
+use fw_persistent::{Counters, Sequence};
+use fw_terms::{Commitment, Policy};
+use std::alloc::{AllocError, Global};
+use std::marker::Model;
+use std::sync::Arc;
+
+/// The state of a warehouse: its currency, and the entries that it accepted, in order.
+///
+/// A state is never changed. [`State::apply`] makes another, which shares the entries and rows of the first, so it costs what the entry brings,
+/// however much was accepted before.
+#[derive(Drop)]
+pub struct State {
+    alloc: Global,
+    currency: Currency,
+    heads: Sequence<Head>,
+    segments: Sequence<Columns>,
+    rows: usize,
+    commitments: Option<Arc<Vec<Commitment>>>,
+    policy: Option<Arc<Policy>>,
+    // how many entries of each origin were accepted
+    origins: Counters,
+    // the ids of the commitments
+    registered: Counters,
+    // the ids of commitments that rows carry
+    carried: Counters,
+}
+
+impl Model for State {
+    ghost use Rattle.fw_snapshot.specs.History.{History};
+
+    ghost Value = { History };
+
+    ghost use Rattle.fw_snapshot.specs.StateView.{state_view, KeepsState};
+
+    ghost view = { state_view };
+
+    ghost invariant = { KeepsState };
+}
+
+impl State {
+    /// The state of a warehouse of this currency that has accepted nothing. It takes no memory.
+    pub fn empty(alloc: Global, currency: Currency) -> State
+        ensures { result ≡ record { currency = currency; entries = [] } }
+    {
+        State {
+            alloc,
+            currency,
+            heads: Sequence::new(),
+            segments: Sequence::new(),
+            rows: 0,
+            commitments: None,
+            policy: None,
+            origins: Counters::new(),
+            registered: Counters::new(),
+            carried: Counters::new(),
+        }
+    }
+
+    /// The state after an entry that is accepted. The old one stays as it is, and the two share what was accepted before.
+    /// The error comes where memory ran out.
+    pub fn apply(&self, entry: &Entry) -> Result<State, AllocError>
+        requires { judged self.now.entries entry.now ≡ verdict.Accept }
+        ensures { IfOk result (λ state. state ≡ record { currency = self.now.currency; entries = self.now.entries ++ entry.now ∷ [] }) }
+    {
+        let alloc = self.alloc;
+        let command = entry.command();
+        let rows = posted(command);
+        let commitment = committed(command);
+        let origin = shared_origin(alloc, &self.origins, entry.origin())?;
+        let content = content_of(alloc, command)?;
+        let policy = policy_after(&self.policy, &content)?;
+        let commitments = commitments_after(alloc, &self.commitments, commitment)?;
+        let segments = segments_after(alloc, &self.segments, rows)?;
+        let origins = self.origins.raised(alloc, &origin)?;
+        let registered = registered_after(alloc, &self.registered, commitment)?;
+        let carried = carried_after(alloc, &self.carried, rows)?;
+        let heads = self
+            .heads
+            .push(alloc, Head::new(origin, entry.seq(), content))?;
+        Ok(State {
+            alloc,
+            currency: self.currency,
+            heads,
+            segments,
+            rows: self.rows + rows.len(),
+            commitments,
+            policy,
+            origins,
+            registered,
+            carried,
+        })
+    }
+
+    /// The same state, which shares everything. It takes no memory. The error comes only where something has as many owners as can be counted.
+    pub fn copy(&self) -> Result<State, AllocError>
+        ensures { IfOk result (λ copy. copy ≡ self.now) }
+    {
+        let heads = self.heads.copy()?;
+        let segments = self.segments.copy()?;
+        let commitments = share_list(&self.commitments)?;
+        let policy = share_policy(&self.policy)?;
+        let origins = self.origins.copy()?;
+        let registered = self.registered.copy()?;
+        let carried = self.carried.copy()?;
+        Ok(State {
+            alloc: self.alloc,
+            currency: self.currency,
+            heads,
+            segments,
+            rows: self.rows,
+            commitments,
+            policy,
+            origins,
+            registered,
+            carried,
+        })
+    }
+
+    /// What the state takes its memory from.
+    pub(crate) fn allocator(&self) -> Global {
+        self.alloc
+    }
+
+    /// The currency of the warehouse.
+    pub fn currency(&self) -> Currency
+        ensures { result ≡ self.now.currency }
+    {
+        self.currency
+    }
+
+    /// How many entries were accepted. Each was the next of its origin, and went with those before it.
+    pub fn entries(&self) -> usize
+        ensures count { result ≡ length self.now.entries }
+        ensures valid { IsLegal self.now.entries }
+        ensures each { All IsEntry self.now.entries }
+    {
+        self.heads.len()
+    }
+
+    /// How many rows count: at most 4,194,304.
+    pub fn rows(&self) -> usize
+        ensures count { result ≡ length (rows_of self.now.entries) }
+        ensures few { result ≤ most_rows }
+    {
+        self.rows
+    }
+
+    /// How many commitments there are: at most 256.
+    pub fn commitments(&self) -> usize
+        ensures count { result ≡ length (commitments_of self.now.entries) }
+        ensures few { result ≤ most_commitments }
+    {
+        listed(&self.commitments).len()
+    }
+
+    /// The head of the entry at a place, counted from 0.
+    pub fn head(&self, place: usize) -> &Head
+        requires { place < length self.now.entries }
+        ensures { slice_get (map head_of self.now.entries) place ≡ Some result.now }
+    {
+        self.heads.get(place)
+    }
+
+    /// The heads of the entries, in order.
+    pub fn heads(&self) -> &Sequence<Head>
+        ensures { result.now ≡ map head_of self.now.entries }
+    {
+        &self.heads
+    }
+
+    /// The rows of the posts, in order, in segments of 1 to 65,536 rows each, and so in at most 4,194,304 segments.
+    pub fn segments(&self) -> &Sequence<Columns>
+        ensures rows { segment_rows result.now ≡ rows_of self.now.entries }
+        ensures few { length result.now ≤ most_rows }
+    {
+        &self.segments
+    }
+
+    /// The commitment at a place, counted from 0.
+    pub fn commitment(&self, place: usize) -> &Commitment
+        requires { place < length (commitments_of self.now.entries) }
+        ensures { slice_get (commitments_of self.now.entries) place ≡ Some result.now }
+    {
+        &self.commitment_list()[place]
+    }
+
+    /// The commitments, in the order in which they were accepted.
+    pub fn commitment_list(&self) -> &[Commitment]
+        ensures { result.now ≡ commitments_of self.now.entries }
+    {
+        listed(&self.commitments)
+    }
+
+    /// The policy that was set last, if one was.
+    pub fn policy(&self) -> Option<&Policy>
+        ensures { option_copied result ≡ policy_of self.now.entries }
+    {
+        match &self.policy {
+            Some(policy) => Some(policy),
+            None => None,
+        }
+    }
+
+    /// How many entries of an origin were accepted, which is the number of its last one.
+    pub(crate) fn accepted_from(&self, origin: &str) -> u64
+        ensures { result ≡ entries_from origin.now self.now.entries }
+    {
+        self.origins.count(origin)
+    }
+
+    /// Whether a commitment of this id was accepted.
+    pub(crate) fn is_registered(&self, id: &str) -> bool
+        ensures { result ≡ is_registered id.now (commitments_of self.now.entries) }
+    {
+        self.registered.count(id) > 0
+    }
+
+    /// Whether a row that was accepted carries this id.
+    pub(crate) fn is_carried(&self, id: &str) -> bool
+        ensures { result ≡ carries id.now (rows_of self.now.entries) }
+    {
+        self.carried.count(id) > 0
+    }
+}

@@ -1,0 +1,30 @@
+//! The verdict on an entry.
+
+/// Why what an entry brings doesn't go with what was accepted before.
+#[derive(Clone, Copy, Debug, Drop, PartialEq, Eq)]
+pub enum Conflict {
+    /// The warehouse would have more than 4,194,304 rows.
+    Full,
+    /// A commitment of this id was accepted before.
+    DoubleId,
+    /// A row that was accepted before carries the id of the commitment.
+    IdInUse,
+    /// A row carries the id of a commitment that was accepted before.
+    OwnCommitment,
+    /// The warehouse would have more than 256 commitments.
+    TooManyCommitments,
+}
+
+/// What becomes of an entry. The number is looked at first, so an entry that is sent once more is told apart from one that is refused. Only an
+/// accepted entry uses its number up.
+#[derive(Clone, Copy, Debug, Drop, PartialEq, Eq)]
+pub enum Verdict {
+    /// The entry is the next of its origin, and goes with what was accepted before.
+    Accept,
+    /// The origin has had an entry of this number accepted: its last one has the number `last`. What it holds isn't compared.
+    Already { last: u64 },
+    /// The number isn't the next one of its origin, which would be `expected`.
+    Gap { expected: u64 },
+    /// The number is the next one, but what the entry brings doesn't go with what was accepted before.
+    Refused(Conflict),
+}

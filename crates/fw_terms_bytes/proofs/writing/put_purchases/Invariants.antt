@@ -1,0 +1,8 @@
+use Rattle.std.proofs.Common.{◌≡◌, ◌++◌, length, take}
+use Rattle.std.specs.List.{flat_map}
+use Rattle.fw_bytes.specs.Spelling.{number32}
+use Rattle.fw_terms_bytes.specs.Spelling.{purchase}
+use Rattle.fw_terms_bytes.proofs.writing.put_purchases.Given as goal
+
+abbrev pub invariant-loop-one : goal.invariant-loop-one
+invariant-loop-one l = l.out.items ≡ l.fn.out.items ++ (number32 (length l.purchases) ++ flat_map purchase (take l.one-index l.purchases))

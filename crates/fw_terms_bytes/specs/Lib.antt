@@ -1,0 +1,4 @@
+pub mod Groups
+pub mod Spelling
+pub mod Reading
+pub mod FieldView
