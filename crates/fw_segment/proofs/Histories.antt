@@ -1,0 +1,130 @@
+-- States: what is read is spelled so, and what is spelled so is read.
+use Rattle.std.proofs.Common.{◌≡◌, ◌<◌, ◌^◌, ◌-◌, ℕ, eqb, length-append, List, [], ◌∷◌, ◌++◌, length, map, slice_get, All, Some, Ok, refl, sym, ap, subst, ◌∙◌, append_assoc, arith}
+use Rattle.std.specs.List.{AllByRecursion}
+use Rattle.std.proofs.lemmas.Bool.{eqb-true, eq-eqb, ltb-true}
+use Rattle.std.proofs.lemmas.List.{length-map}
+use Rattle.std.proofs.lemmas.List.Elements.{All-from_recursion, All-get_or, All-nil, All-head, All-tail, All-append}
+use Rattle.std.proofs.lemmas.Option.{slice_get_within, get_or_from_slice_get}
+use Rattle.fw_bytes.specs.Spelling.{text, listed, Fits64}
+use Rattle.fw_bytes.proofs.Laws.{IsBytes, bind_ok, ok_is, passed}
+use Rattle.fw_charge.specs.Charge.{Charge}
+use Rattle.fw_row_bytes.specs.Spelling.{IsRow}
+use Rattle.fw_entry.specs.Entry.{EntryValue, CommandValue}
+use Rattle.fw_entry.specs.Entry.CommandValue.{post, commit, set_policy}
+use Rattle.fw_entry.specs.Spelling.{IsCommand, IsEntry}
+use Rattle.fw_entry_bytes.specs.declared.form.Form.{Form}
+use Rattle.fw_entry_bytes.specs.declared.form.Form.TheVariants.{One}
+use Rattle.fw_entry_bytes.specs.Whole.{whole}
+use Rattle.fw_entry_bytes.proofs.Facts.{name_fits}
+use Rattle.fw_snapshot.specs.Heads.{HeadValue, head_of, content_of, entries_of, row_counts, segment_rows}
+use Rattle.fw_snapshot.specs.History.{History, rows_of, posted}
+use Rattle.fw_snapshot.proofs.HeadFacts.{row_counts_cons, row_count_back, rows_of_entries, heads_of_entries, length_entries}
+use Rattle.fw_segment.specs.declared.kind.Kind.TheVariants.{Rows}
+use Rattle.fw_segment.specs.Segments.{segment, IsSegment}
+use Rattle.fw_segment.specs.Heads.{heads, IsContent, IsHead}
+use Rattle.fw_segment.specs.States.{state, Spells, most_segments, Parts, parts_at, bytes_before_heads, replayed, replayed_state, state_from, state_at}
+use Rattle.fw_segment.proofs.Counted.{counted_parts, counted_fits}
+use Rattle.fw_segment.proofs.HeadFormat.{AreHeads}
+use Rattle.fw_segment.proofs.StateFormat.{FitsCut, parts_taken, parts_again}
+use Rattle.fw_segment.proofs.Replay.{no_row_counts, replay_taken, replay_again}
+
+-- ---- heads of entries, rows of segments
+
+content_is : (c : CommandValue) → IsCommand c → IsContent (content_of c)
+content_is (post rows) h = (h.count.some, h.count.few)
+content_is (commit c) h = h
+content_is (set_policy p) h = h
+
+head_is : (e : EntryValue) → IsEntry e → IsHead (head_of e)
+head_is e h = record { origin = h.origin; seq = (h.some_seq, h.seq); content = content_is e.command h.command }
+
+heads_are : (es : List EntryValue) → All IsEntry es → AllByRecursion IsHead (map head_of es)
+heads_are [] each = tt
+heads_are (e ∷ es) each = (head_is e (All-head IsEntry e es each), heads_are es (All-tail IsEntry e es each))
+
+-- each head of an entry has a name that can be written
+pub head_short : (es : List EntryValue) → All IsEntry es → (place : ℕ) (h : HeadValue) → slice_get (map head_of es) place ≡ Some h → length h.origin < 2 ^ 32
+head_short es each place h e =
+    let is = All-get_or IsHead (map head_of es) place h (slice_get_within (map head_of es) place h e) (All-from_recursion IsHead (map head_of es) (heads_are es each)) in
+    let one : IsHead h = subst IsHead (get_or_from_slice_get (map head_of es) place h h e) is in
+    ltb-true _ _ (name_fits h.origin one.origin).0
+
+are_heads : (es : List EntryValue) → Fits64 (length es) → All IsEntry es → AreHeads (map head_of es)
+are_heads es count each = (rw (length-map es head_of) count, heads_are es each)
+
+pub rows_each : (cut : List (List Charge)) → All IsSegment cut → All IsRow (segment_rows cut)
+rows_each [] each = All-nil IsRow
+rows_each (rows ∷ cut) each = All-append IsRow rows (segment_rows cut) (All-head IsSegment rows cut each).each (rows_each cut (All-tail IsSegment rows cut each))
+
+-- ---- a state
+
+-- the state of parts, where there is one
+parts_state : (total : ℕ) (p : Parts) (h : History) → state_from total p ≡ Ok h
+    → (length p.1.1 ≡ row_counts p.1.0) × (es : List EntryValue) × (replayed (total - bytes_before_heads) [] p.1.0 p.1.1 ≡ Ok es) × (h ≡ record { currency = p.0; entries = es })
+unfolding state_from replayed_state
+parts_state total p h e =
+    let q = passed (eqb (length p.1.1) (row_counts p.1.0)) total (replayed_state (total - bytes_before_heads) p.0 p.1.0 p.1.1) h e in
+    let r = bind_ok (replayed (total - bytes_before_heads) [] p.1.0 p.1.1) (λ es. Ok (record { currency = p.0; entries = es })) h q.1 in
+    let made : History = record { currency = p.0; entries = r.0 } in
+    (eqb-true _ _ q.0, r.0, r.1, sym (ok_is made h r.2))
+
+pub state_taken : (form : Form) (bytes : List ℕ) (h : History) → IsBytes bytes → state_at form bytes ≡ Ok h → Spells bytes h
+unfolding state_at
+state_taken form bytes h is e =
+    let b = bind_ok (whole (parts_at form) bytes) (state_from (length bytes)) h e in
+    let p = b.0 in
+    let c = parts_taken form bytes p is b.1 in
+    let s = parts_state (length bytes) p h b.2 in
+    let fits = counted_parts IsSegment 0 most_segments c.cut c.segments in
+    let heads = All-from_recursion IsHead p.1.0 c.heads.1 in
+    let rows = subst (All IsRow) c.rows (rows_each c.cut fits.2) in
+    let g = replay_taken (length bytes - bytes_before_heads) [] p.1.0 p.1.1 s.1 s.0 heads rows s.2 in
+    let es = entries_of p.1.0 p.1.1 in
+    let made : History = record { currency = p.0; entries = es } in
+    let same : made ≡ h = sym (s.3 ∙ ap (λ (xs : List EntryValue). let one : History = record { currency = p.0; entries = xs } in one) g.is) in
+    let spelled : bytes ≡ state p.0 (map head_of es) c.cut = c.is ∙ ap (λ (hs : List HeadValue). state p.0 hs c.cut) (sym (heads_of_entries p.1.0 p.1.1 s.0)) in
+    let count : Fits64 (length es) = rw (length_entries p.1.0 p.1.1 s.0) c.heads.0 in
+    subst (λ (k : History). Spells bytes k) same (record {
+      cut = c.cut;
+      count = c.segments.0;
+      segments = fits.2;
+      rows = c.rows ∙ sym (rows_of_entries p.1.0 p.1.1 s.0);
+      history = record { currency = c.code; count = count; each = g.each; legal = g.legal };
+      spelled = spelled;
+    })
+
+-- as many rows as the heads of the entries say
+as_many : (es : List EntryValue) → length (rows_of es) ≡ row_counts (map head_of es)
+unfolding rows_of
+as_many [] = sym no_row_counts
+as_many (e ∷ es) =
+    let rows = length-append (posted e.command) (rows_of es) in
+    let own = row_count_back e.command in
+    let said = row_counts_cons (head_of e) (map head_of es) in
+    let others = as_many es in
+    omega arith
+
+from_parts : (total : ℕ) (currency : List ℕ) (hs : List HeadValue) (rows : List Charge) (es : List EntryValue) → length rows ≡ row_counts hs → replayed (total - bytes_before_heads) [] hs rows ≡ Ok es → state_from total (currency, (hs, rows)) ≡ Ok (record { currency = currency; entries = es })
+unfolding state_from replayed_state
+from_parts total currency hs rows es many read = rw (many, eq-eqb _ _ refl, read) refl
+
+pub state_again : (form : Form) (bytes : List ℕ) (h : History) → Spells bytes h → state_at form bytes ≡ Ok h
+unfolding state_at
+state_again form bytes h s =
+    let fits : FitsCut s.cut = counted_fits IsSegment 0 most_segments s.cut (omega arith) (omega (arith, ltb-true _ _ s.count)) (omega arith) s.segments in
+    let read = ap (whole (parts_at form)) s.spelled ∙ parts_again form h.currency (map head_of h.entries) s.cut s.history.currency (are_heads h.entries s.history.count s.history.each) fits in
+    let entries = replay_again (length bytes - bytes_before_heads) [] h.entries s.history.each s.history.legal in
+    let rows : replayed (length bytes - bytes_before_heads) [] (map head_of h.entries) (segment_rows s.cut) ≡ Ok h.entries = rw s.rows entries in
+    let many : length (segment_rows s.cut) ≡ row_counts (map head_of h.entries) = rw s.rows (as_many h.entries) in
+    rw read (from_parts (length bytes) h.currency (map head_of h.entries) (segment_rows s.cut) h.entries many rows)
+
+pub states_one : (bytes : List ℕ) (a b : History) → Spells bytes a → Spells bytes b → a ≡ b
+states_one bytes a b s t = ok_is a b (sym (state_again One bytes a s) ∙ state_again One bytes b t)
+
+-- ---- writing
+
+-- the three parts, written one behind the other
+pub spelled_in_turn : (currency : List ℕ) (hs : List HeadValue) (cut : List (List Charge)) (none one two three : List ℕ) → none ≡ [] → one ≡ none ++ text currency → two ≡ one ++ heads hs → three ≡ two ++ listed (segment Rows) cut → three ≡ state currency hs cut
+unfolding state
+spelled_in_turn currency hs cut none one two three e a b c =
+    c ∙ (ap (λ (w : List ℕ). w ++ listed (segment Rows) cut) (b ∙ ap (λ (w : List ℕ). w ++ heads hs) (a ∙ ap (λ (w : List ℕ). w ++ text currency) e)) ∙ append_assoc (text currency) (heads hs) (listed (segment Rows) cut))

@@ -1,0 +1,10 @@
+pub mod Counted
+pub mod Items
+pub mod Joining
+pub mod Writing
+pub mod SegmentFormat
+pub mod HeadFormat
+pub mod StateFormat
+pub mod Replay
+pub mod Histories
+pub mod Decoded

@@ -1,0 +1,11 @@
+use Rattle.std.proofs.Common.{arith}
+use Rattle.fw_segment.specs.declared.kind.Kind.TheVariants.{Rows}
+use Rattle.fw_entry_bytes.proofs.WholeFormat.{whole_takes}
+use Rattle.fw_segment.proofs.SegmentFormat.{segment_format}
+use Rattle.fw_segment.proofs.decoding.whole_columns.Goals as goal
+
+pub from_rows-requires-clause-some : goal.from_rows-requires-clause-some
+from_rows-requires-clause-some c = rw c.deref.ensures.value (whole_takes (segment_format Rows) c.args.bytes.now c.in-Ok.rows.items (λ i. omega (arith, c.type_inv.bytes i)) c.in-Ok.ensures).0.some
+
+pub from_rows-requires-clause-few : goal.from_rows-requires-clause-few
+from_rows-requires-clause-few c = rw c.deref.ensures.value (whole_takes (segment_format Rows) c.args.bytes.now c.in-Ok.rows.items (λ i. omega (arith, c.type_inv.bytes i)) c.in-Ok.ensures).0.few

@@ -1,0 +1,72 @@
+-- The heads of a state's entries: the entries without their rows.
+use Rattle.std.specs.Prelude.{◌<◌, ◌≤◌, ℕ, zero, suc, Bool, ◌&&◌, List, [], ◌∷◌, ◌++◌, length, Err, nat_lt, nat_le}
+use Rattle.std.specs.Int.{w32, w64}
+use Rattle.std.specs.List.{flat_map}
+use Rattle.fw_bytes.specs.Spelling.{number32, number64, text}
+use Rattle.fw_bytes.specs.Reading.{Reading, ◌>>=◌, number_at, checked, both, seen, times}
+use Rattle.fw_terms_bytes.specs.Spelling.{commitment, policy, IsSpelledCommitment, IsSpelledPolicy}
+use Rattle.fw_terms_bytes.specs.Reading.{commitment_at, policy_at}
+use Rattle.fw_entry.specs.Entry.{most_post_rows}
+use Rattle.fw_entry_bytes.specs.declared.form.Form.{Form}
+use Rattle.fw_entry_bytes.specs.Reading.{origin_at, seq_at, IsOrigin, IsSeq}
+use Rattle.fw_snapshot.specs.Heads.{ContentValue, HeadValue}
+use Rattle.fw_snapshot.specs.Heads.ContentValue.{posted_rows, committed_to, policy_set}
+
+-- ---- how a head is written
+
+-- a byte for the kind, and the number of rows of a post, or what else the entry brought
+unfoldable pub content : ContentValue → List ℕ
+content (posted_rows n) = 1 ∷ number32 n
+content (committed_to c) = 2 ∷ commitment c
+content (policy_set p) = 3 ∷ policy p
+
+unfoldable pub head : HeadValue → List ℕ
+head h = text h.origin ++ (number64 h.seq ++ content h.content)
+
+-- their number, in eight bytes, and each in turn
+unfoldable pub heads : List HeadValue → List ℕ
+heads hs = number64 (length hs) ++ flat_map head hs
+
+-- ---- which heads there are
+
+-- a post has 1 to 4,096 rows
+abbrev pub is_post_count : ℕ → Bool
+is_post_count n = nat_lt 0 n && nat_le n most_post_rows
+
+abbrev pub IsContent : ContentValue → Type 0
+IsContent (posted_rows n) = (0 < n) × (n ≤ most_post_rows)
+IsContent (committed_to c) = IsSpelledCommitment c
+IsContent (policy_set p) = IsSpelledPolicy p
+
+pub record IsHead (h : HeadValue) : Type 0 where
+  pub origin : IsOrigin h.origin
+  pub seq : IsSeq h.seq
+  pub content : IsContent h.content
+
+-- ---- how a head is read
+
+unfoldable pub post_count_at : Reading ℕ
+post_count_at = checked is_post_count (number_at w32)
+
+-- a kind that the form doesn't have is a fault at its byte
+unfoldable pub content_at : Form → Reading ContentValue
+content_at form [] = Err 0
+content_at form (zero ∷ rest) = Err (suc (length rest))
+content_at form (suc zero ∷ rest) = seen posted_rows post_count_at rest
+content_at form (suc (suc zero) ∷ rest) = seen committed_to commitment_at rest
+content_at form (suc (suc (suc zero)) ∷ rest) = seen policy_set policy_at rest
+content_at form (suc (suc (suc (suc kind))) ∷ rest) = Err (suc (length rest))
+
+abbrev pub head_from : List ℕ × (ℕ × ContentValue) → HeadValue
+head_from f = record { origin = f.0; seq = f.1.0; content = f.1.1 }
+
+unfoldable pub head_fields_at : Form → Reading (List ℕ × (ℕ × ContentValue))
+head_fields_at form = both origin_at (both seq_at (content_at form))
+
+unfoldable pub head_at : Form → Reading HeadValue
+head_at form = seen head_from (head_fields_at form)
+
+unfoldable pub heads_at : Form → Reading (List HeadValue)
+heads_at form bytes = do
+  n ← number_at w64 bytes
+  times (head_at form) n.0 n.1

@@ -1,0 +1,108 @@
+-- States: a currency, the heads of the entries, and their rows, cut into segments in any way.
+use Rattle.std.specs.Prelude.{◌≡◌, ◌-◌, ℕ, Bool, true, false, ◌&&◌, List, [], ◌∷◌, ◌++◌, length, take, drop, map, All, Option, Some, None, Result, Ok, Err, nat_le, ◌==◌, if◌then◌else◌}
+use Rattle.std.specs.List.{list_all}
+use Rattle.std.specs.Char.{is_ascii_uppercase}
+use Rattle.fw_bytes.specs.Spelling.{text, listed, Fits32, Fits64}
+use Rattle.fw_bytes.specs.Reading.{Reading, ◌>>=◌, text_at, checked, both, seen, list_at}
+use Rattle.fw_charge.specs.Charge.{Charge}
+use Rattle.fw_charge.specs.Currencies.{IsCode}
+use Rattle.fw_entry.specs.Entry.{EntryValue}
+use Rattle.fw_entry.specs.Spelling.{entry, IsEntry, most_entry_bytes}
+use Rattle.fw_entry_bytes.specs.declared.form.Form.{Form}
+use Rattle.fw_entry_bytes.specs.Whole.{whole}
+use Rattle.fw_snapshot.specs.Heads.{HeadValue, head_of, entry_of, row_count, row_counts, segment_rows}
+use Rattle.fw_snapshot.specs.History.{History, rows_of}
+use Rattle.fw_snapshot.specs.Judging.{judged, IsLegal}
+use Rattle.fw_snapshot.specs.declared.verdict.Verdict.{Verdict}
+use Rattle.fw_snapshot.specs.declared.verdict.Verdict.TheVariants as verdict
+use Rattle.fw_segment.specs.declared.kind.Kind.TheVariants.{Rows}
+use Rattle.fw_segment.specs.Segments.{segment, segment_at, IsSegment}
+use Rattle.fw_segment.specs.Heads.{head, heads, heads_at}
+
+-- ---- how a state is written
+
+-- the currency, the heads, and the segments of this cut: their number, and each in turn
+unfoldable pub state : List ℕ → List HeadValue → List (List Charge) → List ℕ
+state currency hs cut = text currency ++ (heads hs ++ listed (segment Rows) cut)
+
+-- the states that there are: each entry is one, and was accepted after those before it
+pub record IsHistory (h : History) : Type 0 where
+  pub currency : IsCode h.currency
+  pub count : Fits64 (length h.entries)
+  pub each : All IsEntry h.entries
+  pub legal : IsLegal h.entries
+
+-- the bytes spell the state: they are what some cut of its rows gives
+pub record Spells (bytes : List ℕ) (h : History) : Type 0 where
+  pub cut : List (List Charge)
+  pub count : Fits32 (length cut)
+  pub segments : All IsSegment cut
+  pub rows : segment_rows cut ≡ rows_of h.entries
+  pub history : IsHistory h
+  pub spelled : bytes ≡ state h.currency (map head_of h.entries) cut
+
+-- ---- how a state is read
+
+-- three capital letters of ASCII
+abbrev pub is_currency : List ℕ → Bool
+is_currency letters = (length letters == 3) && list_all is_ascii_uppercase letters
+
+unfoldable pub currency_at : Reading (List ℕ)
+currency_at = checked is_currency text_at
+
+abbrev pub most_segments : ℕ
+most_segments = 4294967295
+
+-- the rows of segments, of any number of them
+unfoldable pub rows_at : Reading (List Charge)
+rows_at = seen segment_rows (list_at 0 most_segments segment_at)
+
+-- the currency, the heads and the rows
+abbrev pub Parts : Type 0
+Parts = List ℕ × (List HeadValue × List Charge)
+
+unfoldable pub parts_at : Form → Reading Parts
+parts_at form = both currency_at (both (heads_at form) rows_at)
+
+abbrev pub is_accept : Verdict → Bool
+is_accept verdict.Accept = true
+is_accept (verdict.Already n) = false
+is_accept (verdict.Gap n) = false
+is_accept (verdict.Refused why) = false
+
+-- an entry is written in at most 4,194,304 bytes, and is accepted after the others
+unfoldable pub goes_behind : List EntryValue → EntryValue → Bool
+goes_behind entries e = nat_le (length (entry e)) most_entry_bytes && is_accept (judged entries e)
+
+-- the warehouse after an entry that goes behind the others
+abbrev pub followed : History → EntryValue → Option History
+followed h e = if goes_behind h.entries e then Some (record { currency = h.currency; entries = h.entries ++ e ∷ [] }) else None
+
+-- the entries of heads behind others: each post takes its rows from the front of what the posts before it left. The first that doesn't go behind
+-- those before it is a fault at its head; so many bytes are left from the first head on
+unfoldable pub replayed : ℕ → List EntryValue → List HeadValue → List Charge → Result (List EntryValue) ℕ
+replayed left entries [] rows = Ok entries
+replayed left entries (h ∷ hs) rows =
+    if goes_behind entries (entry_of h (take (row_count h.content) rows))
+    then replayed (left - length (head h)) (entries ++ entry_of h (take (row_count h.content) rows) ∷ []) hs (drop (row_count h.content) rows)
+    else Err left
+
+-- the first head stands behind the currency's length and its three letters, and the number of heads
+abbrev pub bytes_before_heads : ℕ
+bytes_before_heads = 15
+
+-- the warehouse of this currency after the entries of heads, each judged after those before it
+unfoldable pub replayed_state : ℕ → List ℕ → List HeadValue → List Charge → Result History ℕ
+replayed_state left currency hs rows = do
+  entries ← replayed left [] hs rows
+  Ok (record { currency = currency; entries = entries })
+
+-- what parts stand for: there must be as many rows as the heads say, else the fault is at the first byte of all
+unfoldable pub state_from : ℕ → Parts → Result History ℕ
+state_from total p = if length p.1.1 == row_counts p.1.0 then replayed_state (total - bytes_before_heads) p.0 p.1.0 p.1.1 else Err total
+
+-- the state that all of the bytes spell
+unfoldable pub state_at : Form → List ℕ → Result History ℕ
+state_at form bytes = do
+  p ← whole (parts_at form) bytes
+  state_from (length bytes) p

@@ -1,0 +1,54 @@
+//! Values to bytes.
+ghost use Rattle.std.specs.Prelude.{◌≡◌, IfOk};
+ghost use Rattle.fw_entry.specs.Spelling.{entry};
+ghost use Rattle.fw_segment.specs.Groups.{group, IsGroup};
+ghost use Rattle.fw_segment.specs.Segments.{segment, IsSegment};
+ghost use Rattle.fw_segment.specs.States.{Spells};
+
+use crate::groups::put_group;
+use crate::kind::Kind;
+use crate::segments::put_segment;
+use crate::states::put_state;
+use fw_columns::Columns;
+use fw_entry::Entry;
+use fw_entry_bytes::put_entry;
+use fw_snapshot::State;
+use std::alloc::{AllocError, Global};
+
+/// The bytes of an entry: its one spelling. The error comes where memory ran out.
+pub fn encode_entry(alloc: Global, one: &Entry) -> Result<Vec<u8>, AllocError>
+    ensures { IfOk result (λ bytes. bytes.items ≡ entry one.now) }
+{
+    let mut out = Vec::with_capacity(alloc, one.encoded_len())?;
+    put_entry(&mut out, one)?;
+    Ok(out)
+}
+
+/// The bytes of a group of 1 to 64 entries: its one spelling. The error comes where memory ran out.
+pub fn encode_group(alloc: Global, entries: &[Entry]) -> Result<Vec<u8>, AllocError>
+    requires { IsGroup entries.now }
+    ensures { IfOk result (λ bytes. bytes.items ≡ group entries.now) }
+{
+    let mut out = Vec::new(alloc);
+    put_group(&mut out, entries)?;
+    Ok(out)
+}
+
+/// The bytes of a segment of these rows in this layout: its one spelling. The error comes where memory ran out.
+pub fn encode_segment(alloc: Global, columns: &Columns, kind: Kind) -> Result<Vec<u8>, AllocError>
+    ensures spelled { IfOk result (λ bytes. bytes.items ≡ segment kind columns.now) }
+    ensures valid { IfOk result (λ _. IsSegment columns.now) }
+{
+    let mut out = Vec::new(alloc);
+    put_segment(&mut out, columns, kind)?;
+    Ok(out)
+}
+
+/// The bytes of a state, each of its segments as one: a spelling of it. The error comes where memory ran out.
+pub fn encode_state(alloc: Global, one: &State) -> Result<Vec<u8>, AllocError>
+    ensures { IfOk result (λ bytes. Spells bytes.items one.now) }
+{
+    let mut out = Vec::new(alloc);
+    put_state(&mut out, one)?;
+    Ok(out)
+}

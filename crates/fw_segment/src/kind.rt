@@ -1,0 +1,8 @@
+//! Layouts of segments.
+
+/// How the rows of a segment are laid out.
+#[derive(Clone, Copy, Debug, Drop, PartialEq, Eq)]
+pub enum Kind {
+    /// One row after the other.
+    Rows,
+}

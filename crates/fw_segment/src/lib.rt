@@ -1,0 +1,21 @@
+//! What the warehouse stores, as bytes: entries, groups of entries, segments of rows, and states.
+//!
+//! An entry, a group and a segment each have one spelling. A state has one for each way to cut its rows into segments. A decoder gives a value
+//! exactly for its spellings; for all other bytes it tells where the first fault is, in the order in which they are read.
+#![tactic(auto)]
+
+mod decoding;
+mod encoding;
+mod fault;
+mod groups;
+mod heads;
+mod kind;
+mod laws;
+mod segments;
+mod states;
+
+pub use decoding::{decode_entry, decode_group, decode_segment, decode_state};
+pub use encoding::{encode_entry, encode_group, encode_segment, encode_state};
+pub use fault::DecodeFault;
+pub use kind::Kind;
+pub use laws::{spellings_are_one, states_are_one};
