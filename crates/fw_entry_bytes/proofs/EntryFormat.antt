@@ -1,10 +1,9 @@
 -- What is read of an entry is spelled so, and what is spelled so is read.
-use Rattle.std.proofs.Common.{◌≡◌, ℕ, zero, suc, Bool, true, false, cond, ltb, List, [], ◌∷◌, ◌++◌, length, Ok, refl, ap, subst, arith}
-use Rattle.std.proofs.lemmas.Bool.{ltb-false, lt-ltb, le-ltb, leb-true, le-leb}
-use Rattle.std.proofs.lemmas.List.Elements.{All-from_recursion, recursion_from_All}
+use Rattle.std.proofs.Common.{◌≡◌, ℕ, zero, suc, List, [], ◌∷◌, ◌++◌, Ok, refl, subst, arith}
+use Rattle.std.proofs.lemmas.Bool.{leb-true, le-leb}
 use Rattle.fw_bytes.specs.Spelling.{number64, text, listed, pair, FitsPair, FitsChecked, FitsList}
 use Rattle.fw_bytes.specs.Reading.{checked, seen}
-use Rattle.fw_bytes.proofs.Laws.{IsBytes, IsFormat, Takes, bind_ok, ok_is, checked_format, seen_format, both_format, list_format}
+use Rattle.fw_bytes.proofs.Laws.{IsBytes, IsBytes-rest, IsFormat, Takes, Takes-behind, bind_ok, ok_is, checked_format, seen_format, both_format, list_format, list_parts, list_fits}
 use Rattle.fw_charge.specs.Charge.{Charge}
 use Rattle.fw_row_bytes.specs.Spelling.{row, IsRow}
 use Rattle.fw_row_bytes.proofs.RowFormat.{row_format}
@@ -21,22 +20,11 @@ use Rattle.fw_entry_bytes.proofs.Facts.{origin_format, seq_format}
 
 -- ---- the rows of a post
 
-within_parts : (low high : Bool) → cond low false (cond high false true) ≡ true → (low ≡ false) × (high ≡ false)
-within_parts true high e = absurd cc
-within_parts false true e = absurd cc
-within_parts false false e = (refl, refl)
-
-within_from : (low high : Bool) → low ≡ false → high ≡ false → cond low false (cond high false true) ≡ true
-within_from low high l h = rw (l, h) refl
-
 is_post : (rows : List Charge) → FitsList 1 most_post_rows IsRow rows → IsPost rows
-is_post rows h =
-    let p = within_parts (ltb (length rows) 1) (ltb most_post_rows (length rows)) h.1 in
-    record { count = record { some = ltb-false _ _ p.0; few = ltb-false _ _ p.1 }; each = All-from_recursion IsRow rows h.2 }
+is_post rows h = let p = list_parts IsRow 1 most_post_rows rows h in record { count = record { some = p.0; few = p.1 }; each = p.2 }
 
 post_fits : (rows : List Charge) → IsPost rows → FitsList 1 most_post_rows IsRow rows
-post_fits rows h =
-    (lt-ltb _ _ (omega (arith, h.count.few)), within_from _ _ (le-ltb _ _ h.count.some) (le-ltb _ _ h.count.few), recursion_from_All IsRow rows h.each)
+post_fits rows h = list_fits IsRow 1 most_post_rows rows h.count.some h.count.few (omega arith) h.each
 
 pub rows_format : IsFormat rows_at (listed row) IsPost
 unfolding rows_at
@@ -47,19 +35,13 @@ rows_format = record {
 
 -- ---- what an entry asks for
 
-IsBytes-rest : (b : ℕ) (bytes : List ℕ) → IsBytes (b ∷ bytes) → IsBytes bytes
-IsBytes-rest b bytes h i = h (suc i)
-
-behind : (b : ℕ) (rest spelled after : List ℕ) → Takes rest spelled after → Takes (b ∷ rest) (b ∷ spelled) after
-behind b rest spelled after t = record { parts = ap (λ (w : List ℕ). b ∷ w) t.parts; rest_fits = t.rest_fits }
-
 post_takes : (rest : List ℕ) (x : CommandValue × List ℕ) → IsBytes rest → seen post rows_at rest ≡ Ok x → Takes (1 ∷ rest) (command x.0) x.1 × IsCommand x.0
 unfolding seen command
 post_takes rest x is e =
     let b = bind_ok (rows_at rest) (λ y. Ok (post y.0, y.1)) x e in
     let t = rows_format.takes rest b.0 is b.1 in
     let made : CommandValue × List ℕ = (post b.0.0, b.0.1) in
-    subst (λ (z : CommandValue × List ℕ). Takes (1 ∷ rest) (command z.0) z.1 × IsCommand z.0) (ok_is made x b.2) (behind 1 rest (listed row b.0.0) b.0.1 t.0, t.1)
+    subst (λ (z : CommandValue × List ℕ). Takes (1 ∷ rest) (command z.0) z.1 × IsCommand z.0) (ok_is made x b.2) (Takes-behind 1 rest (listed row b.0.0) b.0.1 t.0, t.1)
 
 commit_takes : (rest : List ℕ) (x : CommandValue × List ℕ) → IsBytes rest → seen commit commitment_at rest ≡ Ok x → Takes (2 ∷ rest) (command x.0) x.1 × IsCommand x.0
 unfolding seen command
@@ -67,7 +49,7 @@ commit_takes rest x is e =
     let b = bind_ok (commitment_at rest) (λ y. Ok (commit y.0, y.1)) x e in
     let t = commitment_format.takes rest b.0 is b.1 in
     let made : CommandValue × List ℕ = (commit b.0.0, b.0.1) in
-    subst (λ (z : CommandValue × List ℕ). Takes (2 ∷ rest) (command z.0) z.1 × IsCommand z.0) (ok_is made x b.2) (behind 2 rest (commitment b.0.0) b.0.1 t.0, t.1)
+    subst (λ (z : CommandValue × List ℕ). Takes (2 ∷ rest) (command z.0) z.1 × IsCommand z.0) (ok_is made x b.2) (Takes-behind 2 rest (commitment b.0.0) b.0.1 t.0, t.1)
 
 set_policy_takes : (rest : List ℕ) (x : CommandValue × List ℕ) → IsBytes rest → seen set_policy policy_at rest ≡ Ok x → Takes (3 ∷ rest) (command x.0) x.1 × IsCommand x.0
 unfolding seen command
@@ -75,7 +57,7 @@ set_policy_takes rest x is e =
     let b = bind_ok (policy_at rest) (λ y. Ok (set_policy y.0, y.1)) x e in
     let t = policy_format.takes rest b.0 is b.1 in
     let made : CommandValue × List ℕ = (set_policy b.0.0, b.0.1) in
-    subst (λ (z : CommandValue × List ℕ). Takes (3 ∷ rest) (command z.0) z.1 × IsCommand z.0) (ok_is made x b.2) (behind 3 rest (policy b.0.0) b.0.1 t.0, t.1)
+    subst (λ (z : CommandValue × List ℕ). Takes (3 ∷ rest) (command z.0) z.1 × IsCommand z.0) (ok_is made x b.2) (Takes-behind 3 rest (policy b.0.0) b.0.1 t.0, t.1)
 
 command_takes : (form : Form) (bytes : List ℕ) (x : CommandValue × List ℕ) → IsBytes bytes → command_at form bytes ≡ Ok x → Takes bytes (command x.0) x.1 × IsCommand x.0
 unfolding command_at

@@ -1,16 +1,14 @@
 //! The reader of an entry.
 ghost use Rattle.std.specs.Prelude.{string_bytes};
-ghost use Rattle.fw_bytes.specs.Reading.{Gives, times};
-ghost use Rattle.fw_row_bytes.specs.Reading.{row_at};
+ghost use Rattle.fw_bytes.specs.Reading.{Gives};
 ghost use Rattle.fw_entry.specs.View.{command_view};
-ghost use Rattle.fw_entry_bytes.specs.Reading.{rows_at, command_at, fields_at, entry_at};
+ghost use Rattle.fw_entry_bytes.specs.Reading.{command_at, fields_at, entry_at};
 
 use crate::fields::{origin_of, seq_of};
 use crate::form::Form;
-use fw_bytes::{ReadError, u32_at};
-use fw_charge::Row;
+use fw_bytes::ReadError;
 use fw_entry::{Command, Entry};
-use fw_row_bytes::row_of;
+use fw_row_bytes::rows_of;
 use fw_terms_bytes::{commitment_of, policy_of};
 use std::alloc::Global;
 
@@ -20,43 +18,13 @@ const MOST_ROWS: u32 = 4096;
 /// The most bytes that an entry is written in.
 const MOST_BYTES: usize = 4_194_304;
 
-/// So many rows. Memory is taken as each row is read, not for the count.
-fn rows_after(alloc: Global, count: u32, bytes: &[u8]) -> Result<(Vec<Row>, &[u8]), ReadError>
-    ensures { Gives (λ x. (x.0.items, x.1.now)) result (times row_at count bytes.now) }
-{
-    let mut rows = Vec::new(alloc);
-    let mut rest = bytes;
-    for _ in 0..count {
-        match row_of(alloc, rest) {
-            Ok((row, after)) => {
-                rows.push(row)?;
-                rest = after;
-            }
-            Err(e) => return Err(e),
-        }
-    }
-    Ok((rows, rest))
-}
-
-/// The rows of a post.
-#[tactic(auto, unfolding(crate::specs::Reading::rows_at, fw_bytes::specs::Reading::list_at))]
-fn rows_of(alloc: Global, bytes: &[u8]) -> Result<(Vec<Row>, &[u8]), ReadError>
-    ensures { Gives (λ x. (x.0.items, x.1.now)) result (rows_at bytes.now) }
-{
-    let (count, rest) = u32_at(bytes)?;
-    if count < 1 || count > MOST_ROWS {
-        return Err(ReadError::Corrupt(bytes.len()));
-    }
-    rows_after(alloc, count, rest)
-}
-
 /// What an entry asks for: its kind, and what a command of this kind brings.
-#[tactic(auto, unfolding(crate::specs::Reading::command_at, fw_bytes::specs::Reading::seen))]
+#[tactic(auto, unfolding(crate::specs::Reading::command_at, crate::specs::Reading::rows_at, fw_bytes::specs::Reading::seen))]
 fn command_of(alloc: Global, form: Form, bytes: &[u8]) -> Result<(Command, &[u8]), ReadError>
     ensures { Gives (λ x. (command_view x.0, x.1.now)) result (command_at form bytes.now) }
 {
     match bytes {
-        [1, rest @ ..] => match rows_of(alloc, rest) {
+        [1, rest @ ..] => match rows_of(alloc, MOST_ROWS, rest) {
             Ok((rows, rest)) => Ok((Command::Post(rows), rest)),
             Err(e) => Err(e),
         },

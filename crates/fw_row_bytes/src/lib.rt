@@ -8,6 +8,7 @@
 mod fields;
 mod lengths;
 mod row;
+mod rows;
 mod spelled;
 mod writing;
 
@@ -17,6 +18,7 @@ pub use fields::{
 };
 pub use lengths::{optional_text_len, row_len, tags_len};
 pub use row::row_of;
+pub use rows::rows_of;
 pub use spelled::{
     nanos_has_spelling, optional_nanos_has_spelling, optional_text_has_spelling, row_has_spelling,
     short_text_has_spelling, tags_have_spelling,

@@ -6,7 +6,7 @@ use Rattle.std.specs.List.{flat_map, AllByRecursion}
 use Rattle.std.proofs.lemmas.Bool.{and_parts, ltb-true, lt-ltb, leb-true, le-leb}
 use Rattle.fw_bytes.specs.Spelling.{number32, number64, text, pair, FitsPair, Fits64}
 use Rattle.fw_bytes.specs.Reading.{number_at, seen, times}
-use Rattle.fw_bytes.proofs.Laws.{IsBytes, IsFormat, Takes, Takes-then, bind_ok, ok_is, checked_format, seen_format, both_format, number_format, wide32, wide64}
+use Rattle.fw_bytes.proofs.Laws.{IsBytes, IsBytes-rest, IsFormat, Takes, Takes-behind, Takes-then, times_takes, times_again, bind_ok, ok_is, checked_format, seen_format, both_format, number_format, wide32, wide64}
 use Rattle.fw_entry.specs.Entry.{most_post_rows}
 use Rattle.fw_entry_bytes.specs.declared.form.Form.{Form}
 use Rattle.fw_entry_bytes.specs.Reading.{IsOrigin, IsSeq}
@@ -18,7 +18,6 @@ use Rattle.fw_terms_bytes.proofs.PolicyFormat.{policy_format}
 use Rattle.fw_snapshot.specs.Heads.{ContentValue, HeadValue}
 use Rattle.fw_snapshot.specs.Heads.ContentValue.{posted_rows, committed_to, policy_set}
 use Rattle.fw_segment.specs.Heads.{content, head, heads, is_post_count, IsContent, IsHead, post_count_at, content_at, head_from, head_fields_at, head_at, heads_at}
-use Rattle.fw_segment.proofs.Items.{times_takes, times_again}
 
 -- ---- what an entry brought
 
@@ -40,19 +39,13 @@ count_format =
       again = λ n rest h. f.again n rest (lt-ltb _ _ (omega (arith, h.1)), count_is n h);
     }
 
-IsBytes-rest : (b : ℕ) (bytes : List ℕ) → IsBytes (b ∷ bytes) → IsBytes bytes
-IsBytes-rest b bytes h i = h (suc i)
-
-behind : (b : ℕ) (rest spelled after : List ℕ) → Takes rest spelled after → Takes (b ∷ rest) (b ∷ spelled) after
-behind b rest spelled after t = record { parts = ap (λ (w : List ℕ). b ∷ w) t.parts; rest_fits = t.rest_fits }
-
 post_takes : (rest : List ℕ) (x : ContentValue × List ℕ) → IsBytes rest → seen posted_rows post_count_at rest ≡ Ok x → Takes (1 ∷ rest) (content x.0) x.1 × IsContent x.0
 unfolding seen content
 post_takes rest x is e =
     let b = bind_ok (post_count_at rest) (λ y. Ok (posted_rows y.0, y.1)) x e in
     let t = count_format.takes rest b.0 is b.1 in
     let made : ContentValue × List ℕ = (posted_rows b.0.0, b.0.1) in
-    subst (λ (z : ContentValue × List ℕ). Takes (1 ∷ rest) (content z.0) z.1 × IsContent z.0) (ok_is made x b.2) (behind 1 rest (number32 b.0.0) b.0.1 t.0, t.1)
+    subst (λ (z : ContentValue × List ℕ). Takes (1 ∷ rest) (content z.0) z.1 × IsContent z.0) (ok_is made x b.2) (Takes-behind 1 rest (number32 b.0.0) b.0.1 t.0, t.1)
 
 commit_takes : (rest : List ℕ) (x : ContentValue × List ℕ) → IsBytes rest → seen committed_to commitment_at rest ≡ Ok x → Takes (2 ∷ rest) (content x.0) x.1 × IsContent x.0
 unfolding seen content
@@ -60,7 +53,7 @@ commit_takes rest x is e =
     let b = bind_ok (commitment_at rest) (λ y. Ok (committed_to y.0, y.1)) x e in
     let t = commitment_format.takes rest b.0 is b.1 in
     let made : ContentValue × List ℕ = (committed_to b.0.0, b.0.1) in
-    subst (λ (z : ContentValue × List ℕ). Takes (2 ∷ rest) (content z.0) z.1 × IsContent z.0) (ok_is made x b.2) (behind 2 rest (commitment b.0.0) b.0.1 t.0, t.1)
+    subst (λ (z : ContentValue × List ℕ). Takes (2 ∷ rest) (content z.0) z.1 × IsContent z.0) (ok_is made x b.2) (Takes-behind 2 rest (commitment b.0.0) b.0.1 t.0, t.1)
 
 set_policy_takes : (rest : List ℕ) (x : ContentValue × List ℕ) → IsBytes rest → seen policy_set policy_at rest ≡ Ok x → Takes (3 ∷ rest) (content x.0) x.1 × IsContent x.0
 unfolding seen content
@@ -68,7 +61,7 @@ set_policy_takes rest x is e =
     let b = bind_ok (policy_at rest) (λ y. Ok (policy_set y.0, y.1)) x e in
     let t = policy_format.takes rest b.0 is b.1 in
     let made : ContentValue × List ℕ = (policy_set b.0.0, b.0.1) in
-    subst (λ (z : ContentValue × List ℕ). Takes (3 ∷ rest) (content z.0) z.1 × IsContent z.0) (ok_is made x b.2) (behind 3 rest (policy b.0.0) b.0.1 t.0, t.1)
+    subst (λ (z : ContentValue × List ℕ). Takes (3 ∷ rest) (content z.0) z.1 × IsContent z.0) (ok_is made x b.2) (Takes-behind 3 rest (policy b.0.0) b.0.1 t.0, t.1)
 
 content_takes : (form : Form) (bytes : List ℕ) (x : ContentValue × List ℕ) → IsBytes bytes → content_at form bytes ≡ Ok x → Takes bytes (content x.0) x.1 × IsContent x.0
 unfolding content_at

@@ -6,7 +6,7 @@ use Rattle.std.proofs.lemmas.List.{length-map}
 use Rattle.std.proofs.lemmas.List.Elements.{All-from_recursion, All-get_or, All-nil, All-head, All-tail, All-append}
 use Rattle.std.proofs.lemmas.Option.{slice_get_within, get_or_from_slice_get}
 use Rattle.fw_bytes.specs.Spelling.{text, listed, Fits64}
-use Rattle.fw_bytes.proofs.Laws.{IsBytes, bind_ok, ok_is, passed}
+use Rattle.fw_bytes.proofs.Laws.{IsBytes, bind_ok, ok_is, passed, list_parts, list_fits}
 use Rattle.fw_charge.specs.Charge.{Charge}
 use Rattle.fw_row_bytes.specs.Spelling.{IsRow}
 use Rattle.fw_entry.specs.Entry.{EntryValue, CommandValue}
@@ -23,7 +23,6 @@ use Rattle.fw_segment.specs.declared.kind.Kind.TheVariants.{Rows}
 use Rattle.fw_segment.specs.Segments.{segment, IsSegment}
 use Rattle.fw_segment.specs.Heads.{heads, IsContent, IsHead}
 use Rattle.fw_segment.specs.States.{state, Spells, most_segments, Parts, parts_at, bytes_before_heads, replayed, replayed_state, state_from, state_at}
-use Rattle.fw_segment.proofs.Counted.{counted_parts, counted_fits}
 use Rattle.fw_segment.proofs.HeadFormat.{AreHeads}
 use Rattle.fw_segment.proofs.StateFormat.{FitsCut, parts_taken, parts_again}
 use Rattle.fw_segment.proofs.Replay.{no_row_counts, replay_taken, replay_again}
@@ -75,7 +74,7 @@ state_taken form bytes h is e =
     let p = b.0 in
     let c = parts_taken form bytes p is b.1 in
     let s = parts_state (length bytes) p h b.2 in
-    let fits = counted_parts IsSegment 0 most_segments c.cut c.segments in
+    let fits = list_parts IsSegment 0 most_segments c.cut c.segments in
     let heads = All-from_recursion IsHead p.1.0 c.heads.1 in
     let rows = subst (All IsRow) c.rows (rows_each c.cut fits.2) in
     let g = replay_taken (length bytes - bytes_before_heads) [] p.1.0 p.1.1 s.1 s.0 heads rows s.2 in
@@ -111,7 +110,7 @@ from_parts total currency hs rows es many read = rw (many, eq-eqb _ _ refl, read
 pub state_again : (form : Form) (bytes : List ℕ) (h : History) → Spells bytes h → state_at form bytes ≡ Ok h
 unfolding state_at
 state_again form bytes h s =
-    let fits : FitsCut s.cut = counted_fits IsSegment 0 most_segments s.cut (omega arith) (omega (arith, ltb-true _ _ s.count)) (omega arith) s.segments in
+    let fits : FitsCut s.cut = list_fits IsSegment 0 most_segments s.cut (omega arith) (omega (arith, ltb-true _ _ s.count)) (omega arith) s.segments in
     let read = ap (whole (parts_at form)) s.spelled ∙ parts_again form h.currency (map head_of h.entries) s.cut s.history.currency (are_heads h.entries s.history.count s.history.each) fits in
     let entries = replay_again (length bytes - bytes_before_heads) [] h.entries s.history.each s.history.legal in
     let rows : replayed (length bytes - bytes_before_heads) [] (map head_of h.entries) (segment_rows s.cut) ≡ Ok h.entries = rw s.rows entries in

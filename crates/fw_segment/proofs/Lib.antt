@@ -1,5 +1,3 @@
-pub mod Counted
-pub mod Items
 pub mod Joining
 pub mod Writing
 pub mod SegmentFormat

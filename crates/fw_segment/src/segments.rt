@@ -1,9 +1,8 @@
 //! The readers and the writer of segments.
 ghost use Rattle.std.specs.Prelude.{◌≡◌, ◌++◌, OnOk};
-ghost use Rattle.fw_bytes.specs.Reading.{Gives, seen, times, list_at};
+ghost use Rattle.fw_bytes.specs.Reading.{Gives, seen, times};
 ghost use Rattle.fw_bytes.specs.Spelling.{listed};
 ghost use Rattle.fw_row_bytes.specs.Spelling.{row};
-ghost use Rattle.fw_row_bytes.specs.Reading.{row_at};
 ghost use Rattle.fw_snapshot.specs.Heads.{segment_rows};
 ghost use Rattle.fw_segment.specs.Segments.{segment, segment_at, IsSegment};
 ghost use Rattle.fw_segment.specs.States.{rows_at};
@@ -12,41 +11,11 @@ use crate::kind::Kind;
 use fw_bytes::{ReadError, put_byte, put_u32, u32_at};
 use fw_charge::Row;
 use fw_columns::Columns;
-use fw_row_bytes::{put_row, row_has_spelling, row_of};
+use fw_row_bytes::{put_row, row_has_spelling, rows_of};
 use std::alloc::{AllocError, Global};
 
 /// The most rows of a segment.
 const MOST_ROWS: u32 = 65_536;
-
-/// So many rows. Memory is taken as each row is read, not for the count.
-fn rows_after(alloc: Global, count: u32, bytes: &[u8]) -> Result<(Vec<Row>, &[u8]), ReadError>
-    ensures { Gives (λ x. (x.0.items, x.1.now)) result (times row_at count bytes.now) }
-{
-    let mut rows = Vec::new(alloc);
-    let mut rest = bytes;
-    for _ in 0..count {
-        match row_of(alloc, rest) {
-            Ok((row, after)) => {
-                rows.push(row)?;
-                rest = after;
-            }
-            Err(e) => return Err(e),
-        }
-    }
-    Ok((rows, rest))
-}
-
-/// The rows behind their number.
-#[tactic(auto, unfolding(fw_bytes::specs::Reading::list_at))]
-fn listed_rows_of(alloc: Global, bytes: &[u8]) -> Result<(Vec<Row>, &[u8]), ReadError>
-    ensures { Gives (λ x. (x.0.items, x.1.now)) result (list_at 1 65536 row_at bytes.now) }
-{
-    let (count, rest) = u32_at(bytes)?;
-    if count < 1 || count > MOST_ROWS {
-        return Err(ReadError::Corrupt(bytes.len()));
-    }
-    rows_after(alloc, count, rest)
-}
 
 /// The rows of a segment, and the bytes after it.
 #[tactic(auto, unfolding(crate::specs::Segments::segment_at))]
@@ -54,7 +23,7 @@ pub fn segment_of(alloc: Global, bytes: &[u8]) -> Result<(Vec<Row>, &[u8]), Read
     ensures { Gives (λ x. (x.0.items, x.1.now)) result (segment_at bytes.now) }
 {
     match bytes {
-        [1, rest @ ..] => listed_rows_of(alloc, rest),
+        [1, rest @ ..] => rows_of(alloc, MOST_ROWS, rest),
         _ => Err(ReadError::Corrupt(bytes.len())),
     }
 }
@@ -79,7 +48,7 @@ fn segments_after(alloc: Global, count: u32, bytes: &[u8]) -> Result<(Vec<Row>, 
 
 /// The rows of segments behind their number.
 #[tactic(auto, unfolding(crate::specs::States::rows_at, fw_bytes::specs::Reading::list_at, fw_bytes::specs::Reading::seen))]
-pub fn rows_of(alloc: Global, bytes: &[u8]) -> Result<(Vec<Row>, &[u8]), ReadError>
+pub fn segment_rows_of(alloc: Global, bytes: &[u8]) -> Result<(Vec<Row>, &[u8]), ReadError>
     ensures { Gives (λ x. (x.0.items, x.1.now)) result (rows_at bytes.now) }
 {
     let (count, rest) = u32_at(bytes)?;

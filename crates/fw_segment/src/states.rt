@@ -17,7 +17,7 @@ ghost use Rattle.fw_segment.specs.declared.kind.Kind.TheVariants.{Rows};
 
 use crate::heads::{ReadContent, ReadHead, heads_of, put_head};
 use crate::kind::Kind;
-use crate::segments::{put_segment, rows_of};
+use crate::segments::{put_segment, segment_rows_of};
 use fw_bytes::{ReadError, put_u32, put_u64, str_at};
 use fw_charge::{Currency, Row};
 use fw_columns::Columns;
@@ -59,7 +59,7 @@ fn parts_of(alloc: Global, form: Form, bytes: &[u8]) -> Result<(Parts, &[u8]), R
     match currency_of(bytes) {
         Ok((currency, rest)) => {
             let (heads, rest) = heads_of(alloc, form, rest)?;
-            match rows_of(alloc, rest) {
+            match segment_rows_of(alloc, rest) {
                 Ok((rows, rest)) => Ok((
                     Parts {
                         currency,

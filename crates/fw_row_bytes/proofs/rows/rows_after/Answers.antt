@@ -1,7 +1,7 @@
 use Rattle.fw_bytes.specs.Reading.{times}
 use Rattle.fw_bytes.proofs.Loop.{goes_on, ends, is_done}
 use Rattle.fw_row_bytes.specs.Reading.{row_at}
-use Rattle.fw_segment.proofs.segments.rows_after.Goals as goal
+use Rattle.fw_row_bytes.proofs.rows.rows_after.Goals as goal
 
 pub returns-in-Err : goal.returns-in-Err
 returns-in-Err c = ends row_at c.in-Err.e c.loop.rows.items c.args.count c.loop.counter c.loop.rest.now (times row_at c.args.count c.args.bytes.now) c.loop-test.true c.in-Err.ensures c.loop.invariant
