@@ -16,6 +16,3 @@ pub use cost::Cost;
 pub use fw_shares::share;
 pub use fw_terms::{Give, Policy, Rule, Target};
 pub use laws::{charges_are_one, charges_keep_the_total};
-
-#[cfg(test)]
-mod tests;

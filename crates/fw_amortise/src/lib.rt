@@ -18,6 +18,3 @@ pub use laws::{
     lines_are_one, lines_carry_the_amount, lines_carry_the_purchases, purchases_cost_nothing,
 };
 pub use line::{Line, LineDiscount, LineFields, LineKind};
-
-#[cfg(test)]
-mod tests;

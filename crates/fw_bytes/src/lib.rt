@@ -16,6 +16,3 @@ pub use fault::ReadError;
 pub use lengths::text_len;
 pub use reading::{i64_at, str_at, u32_at, u64_at};
 pub use writing::{put_byte, put_i64, put_text, put_u32, put_u64};
-
-#[cfg(test)]
-mod tests;

@@ -15,6 +15,3 @@ pub use currency::Currency;
 pub use discount::{Discount, DiscountKind, DiscountStatus};
 pub use row::{Row, RowFields};
 pub use tags::{Tag, Tags};
-
-#[cfg(test)]
-mod tests;

@@ -13,6 +13,3 @@ mod table;
 
 pub use columns::Columns;
 pub use names::Names;
-
-#[cfg(test)]
-mod tests;

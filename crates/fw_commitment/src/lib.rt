@@ -13,6 +13,3 @@ pub use fault::{CommitmentFault, CommitmentField};
 pub use fw_terms::{Commitment, Purchase, Rate, Terms};
 pub use laws::commitment_reads_as_one;
 pub use reading::read_commitment;
-
-#[cfg(test)]
-mod tests;

@@ -29,6 +29,3 @@ pub use laws::takes_stand_by_commitment;
 pub use order::{in_order, is_in_term};
 pub use roster::Roster;
 pub use taken::Taken;
-
-#[cfg(test)]
-mod tests;

@@ -13,6 +13,3 @@ pub use fault::{FaultVolume, Mode};
 pub use memory::{Choice, MemVolume};
 pub use synced::write_synced;
 pub use volume::{Side, Stoppable, Volume, VolumeFault};
-
-#[cfg(test)]
-mod tests;

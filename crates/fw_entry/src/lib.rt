@@ -8,6 +8,3 @@ mod fault;
 
 pub use entry::{Command, Entry, is_origin};
 pub use fault::EntryFault;
-
-#[cfg(test)]
-mod tests;

@@ -15,6 +15,3 @@ pub use form::Form;
 pub use laws::entries_have_one_spelling;
 pub use reading::entry_of;
 pub use writing::put_entry;
-
-#[cfg(test)]
-mod tests;

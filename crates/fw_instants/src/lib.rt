@@ -4,6 +4,3 @@
 mod text;
 
 pub use text::second_of;
-
-#[cfg(test)]
-mod tests;

@@ -18,6 +18,3 @@ pub use fault::LogFault;
 pub use laws::one_reading;
 pub use log::Log;
 pub use reading::replay;
-
-#[cfg(test)]
-mod tests;

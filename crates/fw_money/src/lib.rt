@@ -18,6 +18,3 @@ pub use laws::{reads_as_one, reads_back};
 pub use nanos::{MoneyFault, Nanos};
 pub use read::parse;
 pub use write::text;
-
-#[cfg(test)]
-mod tests;

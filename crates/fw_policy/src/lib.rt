@@ -13,6 +13,3 @@ mod target;
 pub use fault::{PolicyFault, PolicyField};
 pub use laws::policy_reads_as_one;
 pub use reading::read_policy;
-
-#[cfg(test)]
-mod tests;

@@ -25,6 +25,3 @@ pub use listing::lines_csv;
 pub use query::Query;
 pub use reporting::report;
 pub use text::report_csv;
-
-#[cfg(test)]
-mod tests;

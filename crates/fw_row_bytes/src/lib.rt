@@ -24,6 +24,3 @@ pub use spelled::{
     short_text_has_spelling, tags_have_spelling,
 };
 pub use writing::{put_nanos, put_optional_nanos, put_optional_text, put_row, put_tags};
-
-#[cfg(test)]
-mod tests;

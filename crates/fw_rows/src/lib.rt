@@ -23,6 +23,3 @@ pub use fw_charge::{
 };
 pub use laws::rows_read_as_one;
 pub use reading::read_rows;
-
-#[cfg(test)]
-mod tests;

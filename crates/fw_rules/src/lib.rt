@@ -7,6 +7,3 @@
 mod table;
 
 pub use table::{Ruled, first_is_one, first_or_none};
-
-#[cfg(test)]
-mod tests;

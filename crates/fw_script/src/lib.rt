@@ -27,6 +27,3 @@ pub use commands::{Command, EntryKind};
 pub use laws::{commands_are_one, first_command_is_one};
 pub use reader::Script;
 pub use words::sequence_number;
-
-#[cfg(test)]
-mod tests;

@@ -19,6 +19,3 @@ pub use encoding::{encode_entry, encode_group, encode_segment, encode_state};
 pub use fault::DecodeFault;
 pub use kind::Kind;
 pub use laws::{spellings_are_one, states_are_one};
-
-#[cfg(test)]
-mod tests;

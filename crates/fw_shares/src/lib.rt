@@ -11,6 +11,3 @@ mod laws;
 
 pub use hamilton::{share, share_counts};
 pub use laws::{counts_are_one, shares_are_one};
-
-#[cfg(test)]
-mod tests;

@@ -22,6 +22,3 @@ pub use laws::{each_entry_once, numbers_are_in_turn};
 pub use snapshot::Snapshot;
 pub use state::State;
 pub use verdict::{Conflict, Verdict};
-
-#[cfg(test)]
-mod tests;

@@ -6,6 +6,3 @@ mod reading;
 
 pub use fault::TagFault;
 pub use reading::read_tags;
-
-#[cfg(test)]
-mod tests;

@@ -17,6 +17,3 @@ pub use lengths::{commitment_len, policy_len};
 pub use policy::policy_of;
 pub use spelled::{commitment_has_spelling, policy_has_spelling};
 pub use writing::{put_commitment, put_policy};
-
-#[cfg(test)]
-mod tests;

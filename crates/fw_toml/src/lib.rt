@@ -14,6 +14,3 @@ pub use kinds::{as_integer, as_text, integer, is_true, member, text};
 pub use lists::{integers, named_texts, tables, texts};
 pub use names::has_only;
 pub use toml::{Table, Value};
-
-#[cfg(test)]
-mod tests;

@@ -1,0 +1,9 @@
+//! Tests of the disk and the journal, over their public calls.
+//!
+//! They stand in a crate of their own so that the crates which they test are proved once.
+#![tactic(auto)]
+
+#[cfg(test)]
+mod disk;
+#[cfg(test)]
+mod journal;

@@ -1,0 +1,55 @@
+//! A table of two rules, held against a few values.
+ghost use Rattle.std.specs.Prelude.{◌<◌, ◌∷◌, [], MatchOption};
+ghost use Rattle.fw_rules.specs.Table.{FirstBroken, NoneBroken};
+ghost use Rattle.fw_test_input.specs.declared.rules.SpanFault.TheVariants.{Backwards, Late};
+
+use fw_rules::{Ruled, first_is_one, first_or_none};
+use std::test::Fail;
+
+#[derive(Clone, Copy, Debug, Drop, PartialEq, Eq)]
+enum SpanFault {
+    Backwards,
+    Late,
+}
+
+#[derive(Clone, Copy, Drop)]
+struct Span {
+    start: u32,
+    end: u32,
+}
+
+impl Ruled for Span {
+    type Fault = SpanFault;
+
+    ghost rules = { λ s. (Backwards, s.end < s.start) ∷ (Late, 24 < s.end) ∷ [] };
+}
+
+#[tactic(auto, unfolding(crate::specs::Table::FirstBroken, crate::specs::Table::NoneBroken))]
+fn first_fault(span: &Span) -> Option<SpanFault>
+    ensures { let rules = ⟦<Span as Ruled>⟧.rules span.now in MatchOption result (NoneBroken rules) (λ f. FirstBroken rules f) }
+{
+    first_is_one(span);
+    first_or_none(span);
+    if span.end < span.start {
+        Some(SpanFault::Backwards)
+    } else if span.end > 24 {
+        Some(SpanFault::Late)
+    } else {
+        None
+    }
+}
+
+#[test]
+fn faults_of_spans(rt: HostRuntime) -> Result<(), Fail> {
+    let cases = [
+        (3, 2, Some(SpanFault::Backwards)),
+        (40, 30, Some(SpanFault::Backwards)),
+        (2, 25, Some(SpanFault::Late)),
+        (2, 24, None),
+        (2, 2, None),
+    ];
+    for (start, end, fault) in cases {
+        assert_eq!(rt; first_fault(&Span { start, end }), fault);
+    }
+    Ok(())
+}

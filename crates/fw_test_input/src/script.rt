@@ -1,0 +1,267 @@
+//! Scripts and the commands that they hold. Hour 473,352 since 1970 begins at 2024-01-01T00:00Z.
+use fw_script::*;
+use std::process::Abort;
+
+type Case = (&'static str, &'static [u8], &'static [Command<'static>]);
+
+const BAD: Command<'static> = Command::BadCommand;
+
+macro_rules! post {
+    ($origin:expr, $sequence:expr, $content:expr) => {
+        Command::Entry {
+            kind: EntryKind::Post,
+            origin: $origin,
+            sequence: $sequence,
+            content: $content,
+        }
+    };
+}
+
+macro_rules! report {
+    ($key:expr, $from:expr, $to:expr) => {
+        Command::Report {
+            key: $key,
+            from: $from,
+            to: $to,
+        }
+    };
+}
+
+// Each script holds its commands and no others.
+fn reads(rt: &impl Abort, cases: &[Case]) {
+    for (name, text, commands) in cases {
+        let mut script = Script::new(text);
+        for command in *commands {
+            assert_eq!(rt; script.next_command(), Some(*command), "{name}");
+        }
+        assert_eq!(rt; script.next_command(), None, "after {name}");
+    }
+}
+
+const SCRIPTS: &[Case] = &[
+    ("nothing", b"", &[]),
+    ("a lone line feed", b"\n", &[BAD]),
+    (
+        "lines that are no commands",
+        b"\nfoo\npost a 1\npost a 1 x\npost a 1 1000001\nreport t x y\n\
+            report t 2024-01-01T00:30Z 2024-01-01T01:00Z\nreport t 1969-12-31T23:00Z 2024-01-01T01:00Z\n\
+            report\n post a 1 0\nlines\nlines 2024-01-01T00:00Z\nlines a 2024-01-01T00:00Z 2024-01-01T01:00Z\n",
+        &[
+            BAD, BAD, BAD, BAD, BAD, BAD, BAD, BAD, BAD, BAD, BAD, BAD, BAD,
+        ],
+    ),
+    (
+        "fewer lines than asked for",
+        b"post a 1 3\nx\n",
+        &[Command::BadEnd],
+    ),
+    (
+        "keys",
+        b"report two words 2024-01-01T00:00Z 2024-01-01T01:00Z\nreport team  2024-01-01T00:00Z 2024-01-01T01:00Z\n\
+            report \xc3\xa9 2024-01-01T00:00Z 2024-01-02T00:00Z\nreport  2024-01-01T00:00Z 2024-01-01T01:00Z\n\
+            report 2024-01-01T00:00Z 2024-01-01T01:00Z\nreport \xc3 2024-01-01T00:00Z 2024-01-01T01:00Z\n",
+        &[
+            report!("two words", 473_352, 473_353),
+            report!("team ", 473_352, 473_353),
+            report!("é", 473_352, 473_376),
+            report!("", 473_352, 473_353),
+            BAD,
+            BAD,
+        ],
+    ),
+    (
+        "a stored run",
+        b"post a 1 3\nBilledCost,EffectiveCost\n0.1,0.25\n-0.05,1e-9\nreport team 2024-01-01T00:00Z 2024-01-01T01:00Z\n",
+        &[
+            post!(
+                b"a",
+                b"1",
+                b"BilledCost,EffectiveCost\n0.1,0.25\n-0.05,1e-9\n"
+            ),
+            report!("team", 473_352, 473_353),
+        ],
+    ),
+    (
+        "content without a last line feed",
+        b"post a 1 2\nx\ny",
+        &[post!(b"a", b"1", b"x\ny")],
+    ),
+    (
+        "content with a last line feed",
+        b"post a 1 2\nx\ny\n",
+        &[post!(b"a", b"1", b"x\ny\n")],
+    ),
+    (
+        "content of empty lines",
+        b"post a 1 2\n\n\nfoo",
+        &[post!(b"a", b"1", b"\n\n"), BAD],
+    ),
+    (
+        "content that reads as commands",
+        b"post a 1 1\npost b 1 1\n",
+        &[post!(b"a", b"1", b"post b 1 1\n")],
+    ),
+];
+
+const LINES: &[Case] = &[
+    (
+        "no lines",
+        b"post a 1 0\npost a 2 0",
+        &[post!(b"a", b"1", b""), post!(b"a", b"2", b"")],
+    ),
+    (
+        "leading zeros",
+        b"post a 1 0000000000000000000000000002\nx\ny\nz\n",
+        &[post!(b"a", b"1", b"x\ny\n"), BAD],
+    ),
+    ("signs", b"post a 1 +1\npost a 1 -1\n", &[BAD, BAD]),
+    (
+        "the most lines",
+        b"post a 1 1000000\nx\n",
+        &[Command::BadEnd],
+    ),
+    (
+        "a line too many",
+        b"post a 1 1000001\npost a 1 0\n",
+        &[BAD, post!(b"a", b"1", b"")],
+    ),
+    (
+        "a number past any type",
+        b"post a 1 99999999999999999999999999\npost a 1 0\n",
+        &[BAD, post!(b"a", b"1", b"")],
+    ),
+    (
+        "empty words",
+        b"post  1 1\nx\npost   1\ny\npost a 1 \n",
+        &[post!(b"", b"1", b"x\n"), post!(b"", b"", b"y\n"), BAD],
+    ),
+    (
+        "words that are judged later",
+        b"post \xff x 1\ny\n",
+        &[post!(b"\xff", b"x", b"y\n")],
+    ),
+    ("a word too many", b"post a 1 1 1\nx\n", &[BAD, BAD]),
+    (
+        "carriage returns",
+        b"post a 1 0\r\nreport t 2024-01-01T00:00Z 2024-01-01T01:00Z\r\n",
+        &[BAD, BAD],
+    ),
+    (
+        "times",
+        b"report t 2024-01-01T02:00:00+02:00 2024-01-01T01:00:00.000Z\n",
+        &[report!("t", 473_352, 473_353)],
+    ),
+    (
+        "the first hour",
+        b"report t 1970-01-01T00:00Z 1970-01-01T00:00Z\n",
+        &[report!("t", 0, 0)],
+    ),
+    (
+        "hours backwards",
+        b"report t 2024-01-01T01:00Z 2024-01-01T00:00Z\n",
+        &[report!("t", 473_353, 473_352)],
+    ),
+    (
+        "times that are no whole hours",
+        b"report t 2024-01-01T00:00Z 2024-01-01T23:59:60Z\nreport t 2024-01-01T00:00:00.5Z 2024-01-01T01:00Z\n\
+            report t 2024-01-01T00:00Z 2024-01-01T01:00:01Z\nreport t 2024-01-01 00:00Z 2024-01-01T01:00Z\n\
+            report t 2024-01-01T00:00 2024-01-01T01:00Z\n",
+        &[BAD, BAD, BAD, BAD, BAD],
+    ),
+    (
+        "entries of other kinds",
+        b"commit a 1 1\nid = 1\npolicy b 2 0\nPolicy b 2 0\n",
+        &[
+            Command::Entry {
+                kind: EntryKind::Commit,
+                origin: b"a",
+                sequence: b"1",
+                content: b"id = 1\n",
+            },
+            Command::Entry {
+                kind: EntryKind::Policy,
+                origin: b"b",
+                sequence: b"2",
+                content: b"",
+            },
+            BAD,
+        ],
+    ),
+    (
+        "lines",
+        b"lines 2024-01-01T00:00Z 2024-01-01T01:00Z\n",
+        &[Command::Lines {
+            from: 473_352,
+            to: 473_353,
+        }],
+    ),
+    (
+        "words that begin no command",
+        b"checkpoint\nlines  2024-01-01T00:00Z\n",
+        &[BAD, BAD],
+    ),
+    (
+        "the state",
+        b"state\npost a 1 1\nstate\nstate\nstate",
+        &[
+            Command::State,
+            post!(b"a", b"1", b"state\n"),
+            Command::State,
+            Command::State,
+        ],
+    ),
+    (
+        "lines that only look like `state`",
+        b"state \n state\nstates\nState\nstat\nstate state\nstate\r\nstate\t\nstate 2024-01-01T00:00Z\n",
+        &[BAD, BAD, BAD, BAD, BAD, BAD, BAD, BAD, BAD],
+    ),
+];
+
+const SEQUENCES: &[(&[u8], Option<u64>)] = &[
+    (b"1", Some(1)),
+    (b"9", Some(9)),
+    (b"10", Some(10)),
+    (b"007", Some(7)),
+    (b"0000000000000000000000000000002", Some(2)),
+    (b"18446744073709551614", Some(18_446_744_073_709_551_614)),
+    (b"18446744073709551615", Some(18_446_744_073_709_551_615)),
+    (b"00018446744073709551615", Some(18_446_744_073_709_551_615)),
+    (b"18446744073709551616", None),
+    (b"18446744073709551617", None),
+    (b"99999999999999999999999999", None),
+    (b"0", None),
+    (b"000", None),
+    (b"", None),
+    (b"+1", None),
+    (b"-1", None),
+    (b"+", None),
+    (b" 1", None),
+    (b"1 ", None),
+    (b"1 2", None),
+    (b"1\r", None),
+    (b"1.0", None),
+    (b"1_000", None),
+    (b"0x1", None),
+    (b"1a", None),
+    (b"/", None),
+    (b":", None),
+    (b"\xff", None),
+    (b"\xd9\xa1", None),
+];
+
+#[test]
+fn reads_whole_scripts(rt: HostRuntime) {
+    reads(&rt, SCRIPTS);
+}
+
+#[test]
+fn reads_lines(rt: HostRuntime) {
+    reads(&rt, LINES);
+}
+
+#[test]
+fn reads_sequence_numbers(rt: HostRuntime) {
+    for (word, number) in SEQUENCES {
+        assert_eq!(&rt; sequence_number(word), *number, "{word:?}");
+    }
+}
