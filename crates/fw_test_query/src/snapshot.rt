@@ -11,13 +11,25 @@ use fw_money::Nanos;
 use fw_snapshot::{Conflict, Snapshot, State, Verdict, judge};
 use fw_terms::{Commitment, CommitmentFields, Policy, Purchase, Terms};
 use std::alloc::{AllocError, Global};
-use std::test::Fail;
+
+/// What an entry brings.
+#[derive(Clone, Copy, Drop)]
+enum Brings<'a> {
+    /// A use in the first hour that carries this id of a commitment.
+    Use(&'a str),
+    /// A commitment of this id.
+    Commitment(&'a str),
+    /// A policy.
+    Policy,
+}
 
 /// A text of 1 to 256 bytes.
 fn text(alloc: Global, text: &str) -> Result<String, AllocError>
-    requires { IsShortText text.now }
     ensures { IfOk result (λ copy. IsShortText (string_bytes copy)) }
 {
+    if text.is_empty() || text.len() > 256 {
+        return Err(AllocError);
+    }
     String::from_str(alloc, text)
 }
 
@@ -31,11 +43,8 @@ fn no_tags(alloc: Global) -> Tags
 }
 
 /// A use in the first hour that carries this id of a commitment.
-fn row(alloc: Global, id: &str) -> Result<Row, AllocError>
-    requires { IsShortText id.now }
-{
+fn row(alloc: Global, id: &str) -> Result<Row, AllocError> {
     let id = text(alloc, id)?;
-    let tags = no_tags(alloc);
     Ok(Row::of_fields(RowFields {
         billed: Nanos::of_fields(5),
         effective: Nanos::of_fields(7),
@@ -48,8 +57,17 @@ fn row(alloc: Global, id: &str) -> Result<Row, AllocError>
         unit: None,
         sku: None,
         sub_account: None,
-        tags,
+        tags: no_tags(alloc),
     }))
+}
+
+/// That row alone.
+fn rows(alloc: Global, id: &str) -> Result<Vec<Row>, AllocError>
+    ensures { IfOk result (λ rows. length rows.items ≡ 1) }
+{
+    let mut rows = Vec::new(alloc);
+    rows.push(row(alloc, id)?)?;
+    Ok(rows)
 }
 
 /// A payment of 24 nanos in the first second.
@@ -72,22 +90,18 @@ fn terms(alloc: Global) -> Result<Terms, AllocError>
 }
 
 /// A commitment of this id, of the first hour.
-fn commitment(alloc: Global, id: &str) -> Result<Commitment, AllocError>
-    requires { IsShortText id.now }
-{
+fn commitment(alloc: Global, id: &str) -> Result<Commitment, AllocError> {
+    let id = text(alloc, id)?;
     let purchases = purchases(alloc)?;
     let terms = terms(alloc)?;
-    let id = text(alloc, id)?;
-    let tags = no_tags(alloc);
-    let capacity = Nanos::of_fields(1_000_000_000);
     Ok(Commitment::of_fields(CommitmentFields {
         id,
         terms,
         sub_account: None,
-        tags,
+        tags: no_tags(alloc),
         start: 0,
         hours: 1,
-        capacity,
+        capacity: Nanos::of_fields(1_000_000_000),
         purchases,
     }))
 }
@@ -98,163 +112,195 @@ fn policy(alloc: Global) -> Result<Policy, AllocError> {
     Ok(Policy::of_fields(key, Vec::new(alloc)))
 }
 
-/// One row.
-fn one(alloc: Global, row: Row) -> Result<Vec<Row>, AllocError>
-    ensures { IfOk result (λ rows. length rows.items ≡ 1) }
-{
-    let mut rows = Vec::new(alloc);
-    rows.push(row)?;
-    Ok(rows)
-}
-
-/// A post of a row that carries this id.
-fn post(alloc: Global, origin: &[u8], seq: u64, id: &str) -> Result<Entry, EntryFault>
-    requires { IsShortText id.now }
-{
-    let rows = one(alloc, row(alloc, id)?)?;
-    Entry::new(alloc, origin, seq, Command::Post(rows))
-}
-
-/// A commit of this id.
-fn commit(alloc: Global, origin: &[u8], seq: u64, id: &str) -> Result<Entry, EntryFault>
-    requires { IsShortText id.now }
-{
-    Entry::new(alloc, origin, seq, Command::Commit(commitment(alloc, id)?))
-}
-
-/// A policy that is set.
-fn set_policy(alloc: Global, origin: &[u8], seq: u64) -> Result<Entry, EntryFault> {
-    Entry::new(alloc, origin, seq, Command::SetPolicy(policy(alloc)?))
-}
-
-/// The state after an entry if it is accepted, and as it was if it isn't.
-fn after(state: State, entry: &Entry) -> Result<State, AllocError> {
-    match judge(&state, entry) {
-        Verdict::Accept => state.apply(entry),
-        Verdict::Already { .. } | Verdict::Gap { .. } | Verdict::Refused(_) => Ok(state),
+/// An entry that brings this.
+fn entry(alloc: Global, origin: &[u8], seq: u64, brings: Brings<'_>) -> Result<Entry, EntryFault> {
+    match brings {
+        Brings::Use(id) => Entry::new(alloc, origin, seq, Command::Post(rows(alloc, id)?)),
+        Brings::Commitment(id) => {
+            Entry::new(alloc, origin, seq, Command::Commit(commitment(alloc, id)?))
+        }
+        Brings::Policy => Entry::new(alloc, origin, seq, Command::SetPolicy(policy(alloc)?)),
     }
 }
 
+/// A snapshot of a state.
+fn shared(state: State) -> Result<Snapshot, AllocError> {
+    Snapshot::new(state).ok().ok_or(AllocError)
+}
+
 /// The state of a warehouse of dollars that has accepted nothing.
-fn empty(alloc: Global) -> Result<State, AllocError> {
+fn empty(alloc: Global) -> Result<Snapshot, AllocError> {
     match Currency::new(b"USD") {
-        Some(currency) => Ok(State::empty(alloc, currency)),
+        Some(currency) => shared(State::empty(alloc, currency)),
         None => Err(AllocError),
     }
 }
 
-#[test]
-fn an_entry_is_accepted_once(rt: HostRuntime) -> Result<(), Fail> {
-    let alloc = rt.alloc();
-    let first = post(alloc, b"a", 1, "ri")?;
-    let third = post(alloc, b"a", 3, "ri")?;
-    let start = empty(alloc)?;
-    assert!(rt; judge(&start, &first) == Verdict::Accept);
-    assert!(rt; judge(&start, &third) == Verdict::Gap { expected: 1 });
-    let state = after(start, &first)?;
-    assert!(rt; judge(&state, &first) == Verdict::Already { last: 1 });
-    assert!(rt; judge(&state, &third) == Verdict::Gap { expected: 2 });
-    Ok(())
-}
-
-#[test]
-fn ids_are_registered_once(rt: HostRuntime) -> Result<(), Fail> {
-    let alloc = rt.alloc();
-    let state = after(empty(alloc)?, &commit(alloc, b"a", 1, "cd")?)?;
-    let again = commit(alloc, b"b", 1, "cd")?;
-    assert!(rt; judge(&state, &again) == Verdict::Refused(Conflict::DoubleId));
-    let own = post(alloc, b"b", 1, "cd")?;
-    assert!(rt; judge(&state, &own) == Verdict::Refused(Conflict::OwnCommitment));
-    Ok(())
-}
-
-#[test]
-fn a_refused_entry_uses_no_number(rt: HostRuntime) -> Result<(), Fail> {
-    let alloc = rt.alloc();
-    let state = after(empty(alloc)?, &post(alloc, b"a", 1, "ri")?)?;
-    let used = commit(alloc, b"b", 1, "ri")?;
-    assert!(rt; judge(&state, &used) == Verdict::Refused(Conflict::IdInUse));
-    let same = after(state, &used)?;
-    let other = commit(alloc, b"b", 1, "cd")?;
-    assert!(rt; judge(&same, &other) == Verdict::Accept);
-    Ok(())
-}
-
-/// The name of a number.
-fn named(alloc: Global, number: usize) -> Result<String, AllocError>
-    ensures { IfOk result (λ name. IsShortText (string_bytes name)) }
-{
-    let name = format!(in alloc; "c{number}")?;
-    let len = name.len();
-    if len == 0 || len > 256 {
-        return Err(AllocError);
+/// The verdict on an entry. The state is the one after it if it is accepted, and stays as it was if it isn't.
+fn take(state: &mut Snapshot, entry: &Entry) -> Result<Verdict, EntryFault> {
+    let verdict = judge(state.state(), entry);
+    if verdict == Verdict::Accept {
+        *state = shared(state.state().apply(entry)?)?;
     }
-    Ok(name)
+    Ok(verdict)
+}
+
+/// The verdict on an entry that brings this.
+fn send(
+    alloc: Global,
+    state: &mut Snapshot,
+    origin: &str,
+    seq: u64,
+    brings: Brings<'_>,
+) -> Result<Verdict, EntryFault> {
+    let entry = entry(alloc, origin.as_bytes(), seq, brings)?;
+    take(state, &entry)
+}
+
+/// An entry, by its origin, its number and what it brings, and the verdict on it.
+type Case<'a> = (&'a str, u64, Brings<'a>, Verdict);
+
+/// The place of the first of these entries, sent one after the other, on which the verdict is another.
+fn first_wrong(
+    alloc: Global,
+    state: &mut Snapshot,
+    cases: &[Case<'_>],
+) -> Result<Option<usize>, EntryFault> {
+    for (place, (origin, seq, brings, wanted)) in cases.iter().enumerate() {
+        if send(alloc, state, origin, *seq, *brings)? != *wanted {
+            return Ok(Some(place));
+        }
+    }
+    Ok(None)
+}
+
+/// The same in a warehouse that has accepted nothing.
+fn first_wrong_of_all(alloc: Global, cases: &[Case<'_>]) -> Result<Option<usize>, EntryFault> {
+    let mut state = empty(alloc)?;
+    first_wrong(alloc, &mut state, cases)
 }
 
 #[test]
-fn there_are_256_commitments_at_most(rt: HostRuntime) -> Result<(), Fail> {
-    let alloc = rt.alloc();
+fn an_entry_is_judged_by_those_before_it(rt: HostRuntime) {
+    let wrong = first_wrong_of_all(
+        rt.alloc(),
+        &[
+            ("a", 3, Brings::Use("ri"), Verdict::Gap { expected: 1 }),
+            ("a", 1, Brings::Use("ri"), Verdict::Accept),
+            ("a", 1, Brings::Use("ri"), Verdict::Already { last: 1 }),
+            ("a", 3, Brings::Use("ri"), Verdict::Gap { expected: 2 }),
+            (
+                "b",
+                1,
+                Brings::Commitment("ri"),
+                Verdict::Refused(Conflict::IdInUse),
+            ),
+            // a refused entry uses no number
+            ("b", 1, Brings::Commitment("cd"), Verdict::Accept),
+            (
+                "c",
+                1,
+                Brings::Commitment("cd"),
+                Verdict::Refused(Conflict::DoubleId),
+            ),
+            (
+                "c",
+                1,
+                Brings::Use("cd"),
+                Verdict::Refused(Conflict::OwnCommitment),
+            ),
+        ],
+    );
+    assert!(rt; wrong == Ok(None), "{wrong:?}");
+}
+
+/// How many commitments there are when 256 were sent, and the verdict on one more.
+fn one_too_many(alloc: Global) -> Result<(usize, Verdict), EntryFault> {
     let mut state = empty(alloc)?;
     for number in 0..256 {
-        let name = named(alloc, number)?;
-        state = after(
-            state,
-            &commit(alloc, b"a", number as u64 + 1, name.as_str())?,
-        )?;
+        let id = format!(in alloc; "c{number}")?;
+        send(alloc, &mut state, "a", number + 1, Brings::Commitment(&id))?;
     }
-    assert_eq!(rt; state.commitments(), 256);
-    let more = commit(alloc, b"a", 257, "more")?;
-    assert!(rt; judge(&state, &more) == Verdict::Refused(Conflict::TooManyCommitments));
-    Ok(())
+    let count = state.state().commitments();
+    let verdict = send(alloc, &mut state, "a", 257, Brings::Commitment("more"))?;
+    Ok((count, verdict))
+}
+
+#[test]
+fn there_are_256_commitments_at_most(rt: HostRuntime) {
+    let refused = Verdict::Refused(Conflict::TooManyCommitments);
+    assert!(rt; one_too_many(rt.alloc()) == Ok((256, refused)));
 }
 
 /// The state after a post, a commit, a policy and another post.
-fn four(alloc: Global) -> Result<State, EntryFault> {
-    let posted = after(empty(alloc)?, &post(alloc, b"a", 1, "ri")?)?;
-    let committed = after(posted, &commit(alloc, b"b", 1, "cd")?)?;
-    let ruled = after(committed, &set_policy(alloc, b"a", 2)?)?;
-    Ok(after(ruled, &post(alloc, b"a", 3, "sp")?)?)
+fn four(alloc: Global) -> Result<Snapshot, EntryFault> {
+    let mut state = empty(alloc)?;
+    first_wrong(
+        alloc,
+        &mut state,
+        &[
+            ("a", 1, Brings::Use("ri"), Verdict::Accept),
+            ("b", 1, Brings::Commitment("cd"), Verdict::Accept),
+            ("a", 2, Brings::Policy, Verdict::Accept),
+            ("a", 3, Brings::Use("sp"), Verdict::Accept),
+        ],
+    )?;
+    Ok(state)
 }
 
-/// How many entries, rows and commitments a state has, and whether a policy holds.
-fn counts(state: &State) -> (usize, usize, usize, bool) {
+/// How many entries, rows, segments and commitments a state has, and whether a policy holds.
+fn counts(state: &State) -> (usize, usize, usize, usize, bool) {
     (
         state.entries(),
         state.rows(),
+        state.segments().len(),
         state.commitments(),
         state.policy().is_some(),
     )
 }
 
-#[test]
-fn a_state_tells_what_it_holds(rt: HostRuntime) -> Result<(), Fail> {
-    let state = four(rt.alloc())?;
-    assert!(rt; counts(&state) == (4, 2, 1, true));
-    assert_eq!(rt; state.commitments(), 1);
-    assert!(rt; state.currency().code() == b"USD".as_slice());
-    assert!(rt; state.segments().len() == 2 && state.heads().len() == 4);
-    assert!(rt; state.commitment(0).id() == "cd");
-    assert!(rt; state.head(2).origin() == "a" && state.head(2).seq() == 2);
-    Ok(())
+/// Whether a state is in dollars, its first commitment is `cd`, and its third entry is the second of `a`.
+fn tells_the_parts(state: &State) -> bool {
+    if state.commitments() == 0 || state.heads().len() < 3 {
+        return false;
+    }
+    let head = state.head(2);
+    state.currency().code() == b"USD".as_slice()
+        && state.commitment(0).id() == "cd"
+        && head.origin() == "a"
+        && head.seq() == 2
+}
+
+/// Whether the state after four entries tells what they brought.
+fn tells_the_four(alloc: Global) -> Result<bool, EntryFault> {
+    let state = four(alloc)?;
+    Ok(counts(state.state()) == (4, 2, 2, 1, true) && tells_the_parts(state.state()))
 }
 
 #[test]
-fn an_older_state_stays(rt: HostRuntime) -> Result<(), Fail> {
-    let alloc = rt.alloc();
+fn a_state_tells_what_it_holds(rt: HostRuntime) {
+    assert!(rt; tells_the_four(rt.alloc()) == Ok(true));
+}
+
+/// A snapshot of a copy of a state.
+fn copied(state: &State) -> Result<Snapshot, AllocError> {
+    shared(state.copy()?)
+}
+
+/// Whether a state and one that is shared with it stay as they were when an entry is sent to a copy.
+fn older_states_stay(alloc: Global) -> Result<bool, EntryFault> {
     let older = four(alloc)?;
-    let newer = after(older.copy()?, &post(alloc, b"b", 2, "ri")?)?;
-    assert!(rt; counts(&older) == (4, 2, 1, true));
-    assert!(rt; counts(&newer) == (5, 3, 1, true));
-    Ok(())
+    let same = older.copy()?;
+    let mut newer = copied(older.state())?;
+    send(alloc, &mut newer, "b", 2, Brings::Use("ri"))?;
+    Ok(
+        counts(older.state()) == (4, 2, 2, 1, true)
+            && counts(same.state()) == (4, 2, 2, 1, true)
+            && counts(newer.state()) == (5, 3, 3, 1, true),
+    )
 }
 
 #[test]
-fn a_snapshot_is_shared(rt: HostRuntime) -> Result<(), Fail> {
-    let Ok(snapshot) = Snapshot::new(four(rt.alloc())?) else {
-        return Err(Fail::new("out of memory"));
-    };
-    let copy = snapshot.copy()?;
-    assert!(rt; counts(copy.state()) == counts(snapshot.state()));
-    Ok(())
+fn an_older_state_and_a_shared_one_stay(rt: HostRuntime) {
+    assert!(rt; older_states_stay(rt.alloc()) == Ok(true));
 }
