@@ -6,4 +6,3 @@ pub mod ChargeFacts
 pub mod Unique
 pub mod Totals
 pub mod Balance
-mod OneRule

@@ -6,4 +6,3 @@ pub mod Sharing
 pub mod OneList
 pub mod Purchases
 pub mod Carrying
-pub mod Samples

@@ -24,7 +24,7 @@ impl Ruled for Span {
     ghost rules = { λ s. (Backwards, s.end < s.start) ∷ (Late, 24 < s.end) ∷ [] };
 }
 
-#[tactic(auto, unfolding(crate::specs::Table::FirstBroken, crate::specs::Table::NoneBroken))]
+#[tactic(auto, unfolding(fw_rules::specs::Table::FirstBroken, fw_rules::specs::Table::NoneBroken))]
 fn first_fault(span: &Span) -> Option<SpanFault>
     ensures { let rules = ⟦<Span as Ruled>⟧.rules span.now in MatchOption result (NoneBroken rules) (λ f. FirstBroken rules f) }
 {

@@ -1,6 +1,6 @@
 use Rattle.std.proofs.Common.{◌∙◌, ap, arith}
 use Rattle.fw_terms.specs.Policy.{fixed}
-use Rattle.fw_allocate.proofs.OneRule.{halves_rule}
+use Rattle.fw_test_query.proofs.OneRule.{halves_rule}
 use Rattle.fw_test_query.proofs.allocate.halves.Goals as goal
 
 pub of_fields-requires : goal.of_fields-requires

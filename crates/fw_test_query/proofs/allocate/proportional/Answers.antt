@@ -1,5 +1,5 @@
 use Rattle.std.proofs.Common.{◌∙◌, arith}
-use Rattle.fw_allocate.proofs.OneRule.{proportional_rule}
+use Rattle.fw_test_query.proofs.OneRule.{proportional_rule}
 use Rattle.fw_test_query.proofs.allocate.proportional.Goals as goal
 
 pub of_fields-requires : goal.of_fields-requires

@@ -1,5 +1,5 @@
 use Rattle.std.proofs.Common.{length, ap, arith}
-use Rattle.fw_amortise.proofs.Samples.{one_purchase, no_tags}
+use Rattle.fw_test_query.proofs.Samples.{one_purchase, no_tags}
 use Rattle.fw_test_query.proofs.amortise.commitment.Goals as goal
 
 pub of_fields-requires-clause-in_limits : goal.of_fields-requires-clause-in_limits

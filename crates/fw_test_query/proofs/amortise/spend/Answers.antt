@@ -1,5 +1,5 @@
 use Rattle.std.proofs.Common.{◌∙◌, length, ap, arith}
-use Rattle.fw_amortise.proofs.Samples.{one_rate}
+use Rattle.fw_test_query.proofs.Samples.{one_rate}
 use Rattle.fw_test_query.proofs.amortise.spend.Goals as goal
 
 pub returns : goal.returns

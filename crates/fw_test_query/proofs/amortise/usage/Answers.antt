@@ -1,5 +1,5 @@
 use Rattle.std.proofs.Common.{length, ap, arith, string_bytes}
-use Rattle.fw_amortise.proofs.Samples.{one_sku}
+use Rattle.fw_test_query.proofs.Samples.{one_sku}
 use Rattle.fw_test_query.proofs.amortise.usage.Goals as goal
 
 pub returns : goal.returns
