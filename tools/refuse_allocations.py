@@ -21,7 +21,7 @@ from concurrent.futures import ThreadPoolExecutor
 
 # The errors by which a test may end under a refused allocation: want of memory by its names, and a device that failed
 # because a volume in memory could not grow.
-WANT_OF_MEMORY = {"AllocError", "NoMemory", "Io", "Device", "OutOfMemory"}
+WANT_OF_MEMORY = {"AllocError", "AllocFailed", "NoMemory", "Io", "Device", "OutOfMemory"}
 # The last allocation that is refused where the command line doesn't say.
 MOST = 3
 

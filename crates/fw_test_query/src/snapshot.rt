@@ -11,6 +11,7 @@ use fw_money::Nanos;
 use fw_snapshot::{Conflict, Snapshot, State, Verdict, judge};
 use fw_terms::{Commitment, CommitmentFields, Policy, Purchase, Terms};
 use std::alloc::{AllocError, Global};
+use std::test::Fail;
 
 /// What an entry brings.
 #[derive(Clone, Copy, Drop)]
@@ -181,7 +182,7 @@ fn first_wrong_of_all(alloc: Global, cases: &[Case<'_>]) -> Result<Option<usize>
 }
 
 #[test]
-fn an_entry_is_judged_by_those_before_it(rt: HostRuntime) {
+fn an_entry_is_judged_by_those_before_it(rt: HostRuntime) -> Result<(), Fail> {
     let wrong = first_wrong_of_all(
         rt.alloc(),
         &[
@@ -211,7 +212,9 @@ fn an_entry_is_judged_by_those_before_it(rt: HostRuntime) {
             ),
         ],
     );
-    assert!(rt; wrong == Ok(None), "{wrong:?}");
+    let wrong = wrong?;
+    assert!(rt; wrong.is_none(), "{wrong:?}");
+    Ok(())
 }
 
 /// How many commitments there are when 256 were sent, and the verdict on one more.
@@ -227,9 +230,10 @@ fn one_too_many(alloc: Global) -> Result<(usize, Verdict), EntryFault> {
 }
 
 #[test]
-fn there_are_256_commitments_at_most(rt: HostRuntime) {
-    let refused = Verdict::Refused(Conflict::TooManyCommitments);
-    assert!(rt; one_too_many(rt.alloc()) == Ok((256, refused)));
+fn there_are_256_commitments_at_most(rt: HostRuntime) -> Result<(), Fail> {
+    let told = one_too_many(rt.alloc())?;
+    assert!(rt; told == (256, Verdict::Refused(Conflict::TooManyCommitments)));
+    Ok(())
 }
 
 /// The state after a post, a commit, a policy and another post.
@@ -278,8 +282,10 @@ fn tells_the_four(alloc: Global) -> Result<bool, EntryFault> {
 }
 
 #[test]
-fn a_state_tells_what_it_holds(rt: HostRuntime) {
-    assert!(rt; tells_the_four(rt.alloc()) == Ok(true));
+fn a_state_tells_what_it_holds(rt: HostRuntime) -> Result<(), Fail> {
+    let told = tells_the_four(rt.alloc())?;
+    assert!(rt; told);
+    Ok(())
 }
 
 /// A snapshot of a copy of a state.
@@ -301,6 +307,8 @@ fn older_states_stay(alloc: Global) -> Result<bool, EntryFault> {
 }
 
 #[test]
-fn an_older_state_and_a_shared_one_stay(rt: HostRuntime) {
-    assert!(rt; older_states_stay(rt.alloc()) == Ok(true));
+fn an_older_state_and_a_shared_one_stay(rt: HostRuntime) -> Result<(), Fail> {
+    let stayed = older_states_stay(rt.alloc())?;
+    assert!(rt; stayed);
+    Ok(())
 }
