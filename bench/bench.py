@@ -211,7 +211,7 @@ def programs_of(data, options, notes):
     if os.access(options.program, os.X_OK) and os.path.isfile(options.program):
         programs.append(Program(FOCUSD, [os.path.abspath(options.program), "run"], data, reads_script=True))
     else:
-        notes.append(f"{FOCUSD}: {os.path.relpath(options.program)} isn't there: build it by `rt run` in crates/focusd")
+        notes.append(f"{FOCUSD}: {os.path.relpath(options.program)} isn't there: build it by `examples/run --proved`")
     rust = build_rust(options, notes)
     if rust:
         programs.append(Program(RUST, [rust], data, reads_script=True))
@@ -328,8 +328,8 @@ def read_command_line():
     parser = argparse.ArgumentParser(description=__doc__, formatter_class=argparse.RawDescriptionHelpFormatter)
     parser.add_argument(
         "--program",
-        default=os.path.join(ROOT, "crates", "focusd", "out", "focusd"),
-        help="the built focusd (default: crates/focusd/out/focusd)",
+        default=os.path.join(ROOT, "out", "focusd"),
+        help="the built focusd (default: out/focusd)",
     )
     parser.add_argument("--rows", type=whole_number, default=1_000_000, help="default: 1,000,000")
     parser.add_argument("--narrow", action="store_true", help="six columns a row in place of 15")

@@ -129,11 +129,11 @@ def plain_pass(rows, scratch):
 def main():
     parser = argparse.ArgumentParser(description=__doc__, formatter_class=argparse.RawDescriptionHelpFormatter)
     parser.add_argument("--date", default="undated", help="the date that the result carries")
-    parser.add_argument("--program", default=os.path.join(ROOT, "crates", "focusd", "out", "focusd"))
+    parser.add_argument("--program", default=os.path.join(ROOT, "out", "focusd"))
     parser.add_argument("--turns", type=int, default=3)
     options = parser.parse_args()
     if not os.path.exists(options.program):
-        print(f"{options.program} is missing; build it by examples/run", file=sys.stderr)
+        print(f"{options.program} is missing; build it by examples/run --proved", file=sys.stderr)
         return 2
     scratch = tempfile.mkdtemp(prefix="growth-")
     try:

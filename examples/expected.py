@@ -295,6 +295,10 @@ def small(text):
     return len(text) * 4
 
 
+class Refused(Exception):
+    """The fault for which an entry's content is refused."""
+
+
 class Warehouse:
     """What was accepted so far."""
 
@@ -309,7 +313,10 @@ class Warehouse:
 
     def enter(self, origin, number, read, text):
         """Reads an entry's content, and then looks at its origin and number and at what was accepted before."""
-        refusal, size, keep = read(text)
+        try:
+            refusal, size, keep = read(text)
+        except Refused as fault:
+            return f"refused {fault}\n"
         if not re.fullmatch(r"[A-Za-z0-9._-]{1,64}", origin):
             return "refused E1 Origin\n"
         if not re.fullmatch(r"[0-9]+", number, re.ASCII) or not 1 <= int(number) < 2**64:
@@ -345,12 +352,16 @@ class Warehouse:
         places = {c: header.index(c) for c in REQUIRED + OPTIONAL if c in header}
         rows = []
         for fields in records:
+            if len(rows) == MOST_ROWS:
+                raise Refused("V15 TooManyRows")
             if len(fields) != len(header):
                 raise Unknown(f"a row of {len(fields)} fields under a header of {len(header)}")
             named = {c: fields[places[c]] if c in places else "" for c in REQUIRED + OPTIONAL}
+            if named["ChargeCategory"] not in CATEGORIES:
+                raise Refused(f"V3 Category {len(rows) + 1}")
             rows.append(Row(named, self.times, self.currency))
-        if not 1 <= len(rows) <= MOST_ROWS:
-            raise Unknown(f"a post of {len(rows)} rows")
+        if not rows:
+            raise Refused("V14 NoRows")
         refusal = None
         if self.row_count() + len(rows) > MOST_KEPT:
             refusal = "J1 Full"

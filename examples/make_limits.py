@@ -3,13 +3,14 @@
 
     python3 examples/make_limits.py > limits.script
 
-A post that is written in 4,194,304 bytes, which is the most, and one of a byte more; 256 commitments, and one more; and
-entries that are sent twice or out of turn.
+A post that is written in 4,194,304 bytes, which is the most, and one of a byte more; one of 4,096 rows, and one of a row more, which
+is looked at no further, and one whose third row is wrong; 256 commitments, and one more; and entries that are sent twice or out of turn.
 """
 import sys
 
 MOST_BYTES = 4_194_304
 MOST_COMMITMENTS = 256
+MOST_ROWS = 4_096
 ORIGIN = "limits"
 HEADER = "BilledCost,EffectiveCost,BillingCurrency,ChargeCategory,ChargePeriodStart,ChargePeriodEnd,Tags"
 # What an entry has beside its origin and its rows, what a row has that has one tag, and what is put into most tags.
@@ -28,6 +29,17 @@ def post(number, size):
         whole, rest = whole - 1, rest + ROW + LONG
     rows = [row(LONG)] * whole + [row(rest - ROW)]
     return f"post {ORIGIN} {number} {len(rows) + 1}\n{HEADER}\n" + "\n".join(rows) + "\n"
+
+
+def post_of_rows(number, rows):
+    """A post of these rows, after the header."""
+    return f"post rows {number} {len(rows) + 1}\n{HEADER}\n" + "\n".join(rows) + "\n"
+
+
+def posts_of_many_rows():
+    """As many rows as may be; one more, of too few fields; and a wrong third row before as many as may be."""
+    most, wrong = [row(1)] * MOST_ROWS, row(1).replace("Tax", "Taxes")
+    return [post_of_rows(1, most), post_of_rows(2, [*most, "x"]), post_of_rows(2, [row(1), row(1), wrong, *most])]
 
 
 def commitment(number):
@@ -50,6 +62,7 @@ def main():
         print(__doc__)
         return 0 if sys.argv[1] in ("-h", "--help") else 2
     script = [post(1, MOST_BYTES), post(2, MOST_BYTES + 1), post(1, MOST_BYTES), post(3, MOST_BYTES)]
+    script += posts_of_many_rows()
     script += [commitment(number) for number in range(1, MOST_COMMITMENTS + 2)]
     script += [commitment(MOST_COMMITMENTS), commitment(MOST_COMMITMENTS + 2), "state\n"]
     sys.stdout.write("".join(script))

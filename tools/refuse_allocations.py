@@ -1,106 +1,186 @@
 #!/usr/bin/env python3
-"""Runs each crate's tests with the Nth allocation refused, for N from 1 on until no test meets a refusal or N is --most.
+"""Runs the built tests, and the built program on each case, with one allocation refused, each allocation in turn.
 
-A test that meets the refusal has to end in one of two ways: it passes (it looked at the answer and at what stands after it), or it ends
-with an error that names want of memory. An assertion that fails is an answer that changed in place of the error, and so is a crash.
+    tools/refuse_allocations.py [--most N] [--jobs J] [NAME ...]
 
-    tools/refuse_allocations.py [--most N] [--jobs J] [CRATE ...]
+The tests are those that the gate built into out/tests (NAME: a crate, or `program`). A test whose allocation
+is refused has to end in one of two ways: it passes (it looked at the answer, and at what stands after it), or it ends
+with an error that says that memory ran out. An assertion that fails is an answer that changed in place of the error, and
+so is a crash.
 
-Each run builds the tests anew, which takes ten seconds and more, so the default of --most is small: the first allocations of each test,
-which are those of its first calls. `--most 1000` leaves nothing out, and is for a change of what allocates.
+The program, out/focusd, is run on the scripts of examples/cases. It has to end in one of three ways: with the answers
+that stand beside the script; with one answer `no memory`, and all others as if that command did not stand in the
+script; or with `focusd: NoMemory` and status 1, and no answer.
 
-Exit status: 0 where every run was as it has to be, 1 where one wasn't, 2 where the toolchain did not answer.
+Where a run allocates more than --most times, the first --most are refused, and as many as half of that, spread over the rest.
+
+Exit status: 0 where every run was as it has to be, 1 where one wasn't, 2 where nothing could be run.
 """
 
 import argparse
 import os
 import re
+import shutil
+import struct
 import subprocess
 import sys
+import tempfile
 from concurrent.futures import ThreadPoolExecutor
 
-# The errors by which a test may end under a refused allocation: want of memory by its names, and a device that failed
-# because a volume in memory could not grow.
-WANT_OF_MEMORY = {"AllocError", "AllocFailed", "NoMemory", "Io", "Device", "OutOfMemory"}
-# The last allocation that is refused where the command line doesn't say.
-MOST = 3
+TOP = os.path.dirname(os.path.dirname(os.path.abspath(__file__)))
+TESTS = os.path.join(TOP, "out", "tests")
+PROGRAM = os.path.join(TOP, "out", "focusd")
+CASES = os.path.join(TOP, "examples", "cases")
+SHIM = os.path.join(TOP, "tools", "refuse_allocation.c")
+# The errors by which a test may end under a refused allocation: those that say that memory ran out, and a device that
+# failed because a volume in memory could not grow.
+OUT_OF_MEMORY = {"AllocError", "AllocFailed", "NoMemory", "Io", "Device", "OutOfMemory"}
+# How many allocations of a test are refused where the command line doesn't say.
+MOST = 400
+# How long one run of a test may take, in seconds.
+LIMIT = 60
 
 
-def crates_with_tests(top):
-    """The crates of crates.txt, in its order, that have a #[test] function."""
-    for line in open(os.path.join(top, "crates.txt"), encoding="utf-8"):
-        name = line.split("#")[0].split(":")[0].split()[:1]
-        if not name:
+def numbers(allocations, most):
+    """Which allocations of so many are refused."""
+    first = list(range(1, min(allocations, most) + 1))
+    rest, spread = allocations - most, most // 2
+    return first + [most + 1 + place * rest // spread for place in range(min(spread, rest))] if rest > 0 else first
+
+
+def run(words, given, number, shim, room):
+    """One run of a program with this allocation refused (0: none): its allocations, its status, and its two outputs."""
+    with tempfile.NamedTemporaryFile(dir=room) as cell:
+        cell.write(bytes(8))
+        cell.flush()
+        environment = {"PATH": "/usr/bin:/bin", "LANG": "C.UTF-8", "LD_PRELOAD": shim, "REFUSE": str(number), "REFUSE_COUNT": cell.name}
+        try:
+            done = subprocess.run(words, cwd=room, env=environment, input=given, capture_output=True, timeout=LIMIT, check=False)
+        except subprocess.TimeoutExpired:
+            return 0, None, b"", f"it had not ended after {LIMIT} seconds".encode()
+        cell.seek(0)
+        return struct.unpack("=Q", cell.read(8))[0], done.returncode, done.stdout, done.stderr
+
+
+def is_right(status, said):
+    """Whether a test under a refused allocation ended as it has to."""
+    error = re.search(r"^error: (\w+)", said, re.M)
+    return status == 0 or status is not None and status > 0 and error is not None and error.group(1) in OUT_OF_MEMORY
+
+
+def sweep_test(program, name, test, most, shim, room):
+    """All runs of a test: how many allocations it makes, how many were refused, and what went wrong."""
+    allocations, status, said, error = run([program, test], b"", 0, shim, room)
+    if status != 0:
+        return 0, 0, [f"{name}: test {test} fails with no allocation refused:\n{shown(said + error)}"]
+    wrong = []
+    chosen = numbers(allocations, most)
+    for number in chosen:
+        _, status, said, error = run([program, test], b"", number, shim, room)
+        if not is_right(status, shown(said + error)):
+            wrong.append(f"{name}: test {test} with allocation {number} of {allocations} refused ended with status {status}:\n{shown(said + error)}")
+    return allocations, len(chosen), wrong
+
+
+def shown(text):
+    return text.decode("utf-8", "replace")
+
+
+def commands_of(script):
+    """The commands of a script, each with the lines of its entry."""
+    lines, commands = script.splitlines(keepends=True), []
+    while lines:
+        command = [lines.pop(0)]
+        words = command[0].rstrip(b"\n").split(b" ")
+        if words[0] in (b"post", b"commit", b"policy") and len(words) == 4 and re.fullmatch(rb"[0-9]{1,7}", words[3]):
+            count = int(words[3]) if int(words[3]) <= 1_000_000 else 0
+            command, lines = command + lines[:count], lines[count:]
+        commands.append(b"".join(command))
+    return commands
+
+
+def answers_of(text):
+    """The answers of a run, one for each command: a line, or `bytes N` and the N bytes behind it."""
+    answers = []
+    while text:
+        line, _, rest = text.partition(b"\n")
+        size = int(line[6:]) if line.startswith(b"bytes ") else 0
+        answers.append(line + b"\n" + rest[:size])
+        text = rest[size:]
+    return answers
+
+
+def sweep_case(program, name, most, shim, room):
+    """All runs of the program on a case: how many allocations it makes, how many were refused, and what went wrong."""
+    with open(os.path.join(CASES, f"{name}.script"), "rb") as file:
+        script = file.read()
+    words, commands = [program, "run"], commands_of(script)
+    allocations, status, right, _ = run(words, script, 0, shim, room)
+    wrong = [] if status == 0 and len(answers_of(right)) == len(commands) else [f"{name}: a run with no allocation refused has not one answer a command"]
+    without = {}
+
+    def answers_without(place):
+        """The answers to the script without the command at this place, which has the answer `no memory`."""
+        if place not in without:
+            rest = answers_of(run(words, b"".join(commands[:place] + commands[place + 1 :]), 0, shim, room)[2])
+            without[place] = [*rest[:place], b"no memory\n", *rest[place:]]
+        return without[place]
+
+    chosen = numbers(allocations, most)
+    for number in chosen:
+        _, status, said, error = run(words, script, number, shim, room)
+        answers = answers_of(said)
+        missed = [place for place, answer in enumerate(answers) if answer == b"no memory\n"]
+        if status == 1 and error == b"focusd: NoMemory\n" and not said:
             continue
-        source = os.path.join(top, "crates", name[0], "src")
-        texts = (
-            open(os.path.join(folder, file), encoding="utf-8").read()
-            for folder, _, files in os.walk(source)
-            for file in files
-            if file.endswith(".rt")
-        )
-        if any("#[test]" in text for text in texts):
-            yield name[0]
+        if status == 0 and (said == right or len(missed) == 1 and answers == answers_without(missed[0])):
+            continue
+        wrong.append(f"{name}: with allocation {number} of {allocations} refused, status {status} and these answers:\n{shown(said + error)}")
+    return allocations, len(chosen), wrong
 
 
-def run(top, crate, number):
-    """One run of a crate's tests with this allocation refused: (how many tests met the refusal, what is wrong)."""
-    done = subprocess.run(
-        ["rt", "try", "--test", "--fail-alloc", str(number)],
-        cwd=os.path.join(top, "crates", crate),
-        stdout=subprocess.PIPE,
-        stderr=subprocess.STDOUT,
-        text=True,
-        check=False,
-    )
-    ended = re.search(r"^test result: \w+\. (\d+) passed; (\d+) failed", done.stdout, re.M)
-    if not ended or "run=ended" not in done.stdout:
-        return None, [f"{crate}: no answer with allocation {number} refused:", done.stdout]
-    wrong = []
-    for name, report in re.findall(r"^test (\S+) \.\.\. FAILED\n((?:    .*\n)*)", done.stdout, re.M):
-        error = re.search(r"^    error: (\w+)", report, re.M)
-        if not error or error.group(1) not in WANT_OF_MEMORY:
-            wrong.append(f"{crate}: test {name} with allocation {number} refused:\n{report}")
-    return int(ended.group(2)), wrong
-
-
-def sweep(top, crate, most, jobs):
-    """All runs of a crate, `jobs` at a time, until none of a batch meets a refusal: what is wrong, and whether all runs answered."""
-    met = first = 0
-    wrong = []
-    while first < most:
-        numbers = range(first + 1, min(first + jobs, most) + 1)
-        with ThreadPoolExecutor(jobs) as pool:
-            answers = list(pool.map(lambda number: run(top, crate, number), numbers))
-        for _, faults in answers:
-            wrong += faults
-        if any(count is None for count, _ in answers):
-            return wrong, False
-        met += sum(1 for count, _ in answers if count)
-        first = numbers[-1]
-        if not any(count for count, _ in answers):
-            print(f"{crate}: {met} allocations refused in turn, and no test meets one after {first - len(numbers)}", flush=True)
-            return wrong, True
-    print(f"{crate}: the first {met} allocations refused in turn", flush=True)
-    return wrong, True
+def tests_of(program):
+    """The full names of a program's tests."""
+    listed = subprocess.run([program, "--list"], stdout=subprocess.PIPE, check=True, text=True).stdout
+    return [line.removesuffix(": test") for line in listed.splitlines() if line.endswith(": test")]
 
 
 def main():
     parser = argparse.ArgumentParser(description=__doc__, formatter_class=argparse.RawDescriptionHelpFormatter)
-    parser.add_argument("--most", type=int, default=MOST, metavar="N", help=f"the last allocation to refuse (default: {MOST})")
-    parser.add_argument("--jobs", type=int, default=max(1, min(4, os.cpu_count() or 1)), help="runs at a time")
-    parser.add_argument("crates", nargs="*", metavar="CRATE", help="the crates to run (default: each that has tests)")
+    parser.add_argument("--most", type=int, default=MOST, metavar="N", help=f"how many allocations of a test to refuse (default: {MOST})")
+    parser.add_argument("--jobs", type=int, default=len(os.sched_getaffinity(0)), help="tests at a time")
+    parser.add_argument("names", nargs="*", metavar="NAME", help="a crate whose tests to run, or `program` (default: all)")
     options = parser.parse_args()
-    top = os.path.dirname(os.path.dirname(os.path.abspath(__file__)))
-    wrong, answered = [], True
-    for crate in options.crates or crates_with_tests(top):
-        faults, all_answered = sweep(top, crate, options.most, options.jobs)
-        wrong += faults
-        answered = answered and all_answered
-    for fault in wrong:
-        print(fault)
-    sys.exit(2 if not answered else 1 if wrong else 0)
+    compiler = shutil.which("cc") or shutil.which("gcc") or shutil.which("clang")
+    built = sorted(os.listdir(TESTS)) if os.path.isdir(TESTS) else []
+    names = options.names or [*built, "program"]
+    if not compiler or not built:
+        lacking = "C compiler" if not compiler else "built test in out/tests: run tools/gate.py first"
+        print(f"tools/refuse_allocations.py: there is no {lacking}", file=sys.stderr)
+        return 2
+    faults = refused = 0
+    with tempfile.TemporaryDirectory(prefix="refuse-") as room:
+        shim = os.path.join(room, "refuse.so")
+        subprocess.run([compiler, "-O1", "-shared", "-fPIC", "-o", shim, SHIM, "-ldl"], check=True)
+        with ThreadPoolExecutor(max(1, options.jobs)) as pool:
+            for name in names:
+                if name == "program":
+                    items, kind = sorted(it[: -len(".script")] for it in os.listdir(CASES) if it.endswith(".script")), "cases"
+                    swept = list(pool.map(lambda case: sweep_case(PROGRAM, case, options.most, shim, room), items))
+                else:
+                    program = os.path.join(TESTS, name)
+                    items, kind = tests_of(program), "tests"
+                    swept = list(pool.map(lambda test: sweep_test(program, name, test, options.most, shim, room), items))
+                allocations, runs = sum(it[0] for it in swept), sum(it[1] for it in swept)
+                print(f"{name}: {len(items)} {kind} make {allocations} allocations; {runs} were refused, one a run", flush=True)
+                refused += runs
+                for wrong in (it for _, _, some in swept for it in some):
+                    faults += 1
+                    if faults <= 20:
+                        print(wrong)
+    print(f"{refused} allocations refused, {faults} wrong answers")
+    return 1 if faults or not refused else 0
 
 
 if __name__ == "__main__":
-    main()
+    sys.exit(main())

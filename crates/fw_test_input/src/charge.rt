@@ -1,6 +1,7 @@
-//! Rows, tags and currencies, made and shown.
+//! Rows, tags and currencies, made, copied and shown.
 ghost use Rattle.std.specs.Prelude.{◌≡◌, ◌∷◌, [], codes, IfOk};
 
+use crate::lines::row_line;
 use fw_charge::{
     Category, Currency, Discount, DiscountKind, DiscountStatus, Row, RowFields, Tag, Tags,
 };
@@ -28,39 +29,33 @@ fn two_tags(alloc: Global) -> Result<Tags, AllocError>
     Ok(Tags::of_vec(items))
 }
 
+/// Whether these are the two tags, looked up by key.
+fn are_the_two(tags: &Tags) -> bool {
+    tags.value("app") == Some("web")
+        && tags.value("team") == Some("")
+        && tags.value("ap").is_none()
+        && tags.group("app") == "web"
+        && tags.group("owner") == ""
+}
+
+/// Whether tags and a copy of them are the two.
+fn tags_are_looked_up(alloc: Global) -> Result<bool, AllocError> {
+    let tags = Box::new(alloc, two_tags(alloc)?)?;
+    let copy = Box::new(alloc, tags.copy(alloc)?)?;
+    Ok(are_the_two(&tags) && are_the_two(&copy))
+}
+
 #[test]
 fn groups(rt: HostRuntime) -> Result<(), Fail> {
-    let tags = two_tags(rt.alloc())?;
-    let copy = tags.copy(rt.alloc())?;
-    for tags in [&tags, &copy] {
-        assert_eq!(rt; tags.value("app"), Some("web"));
-        assert_eq!(rt; tags.value("team"), Some(""));
-        assert_eq!(rt; tags.value("ap"), None);
-        assert_eq!(rt; tags.group("app"), "web");
-        assert_eq!(rt; tags.group("owner"), "");
-    }
-    assert_eq!(rt; Tags::empty(rt.alloc()).as_slice().len(), 0);
+    let found = tags_are_looked_up(rt.alloc())?;
+    assert!(rt; found && Tags::empty(rt.alloc()).as_slice().is_empty());
     Ok(())
 }
 
-/// The fields of a row, its discount's and its tags' aside.
-fn shown(row: &Row) -> (i64, i64, Category, bool, u64, u64, u32) {
-    (
-        row.billed().count(),
-        row.effective().count(),
-        row.category(),
-        row.is_correction(),
-        row.start(),
-        row.end(),
-        row.hour(),
-    )
-}
-
-#[test]
-fn row_of_fields(rt: HostRuntime) -> Result<(), Fail> {
-    let alloc = rt.alloc();
+/// A row of all fields but an account.
+fn row(alloc: Global) -> Result<Row, AllocError> {
     let id = String::from_str(alloc, "sp-1")?;
-    let row = Row::of_fields(RowFields {
+    Ok(Row::of_fields(RowFields {
         billed: Nanos::of_fields(-1),
         effective: Nanos::of_fields(2),
         category: Category::Usage,
@@ -73,42 +68,47 @@ fn row_of_fields(rt: HostRuntime) -> Result<(), Fail> {
         sku: Some(String::from_str(alloc, "vm-4")?),
         sub_account: None,
         tags: two_tags(alloc)?,
-    });
-    let copy = row.copy(alloc)?;
-    for row in [&row, &copy] {
-        assert_eq!(rt;
-            shown(row),
-            (-1, 2, Category::Usage, true, 3600, 253_402_300_799, 1)
-        );
-        let Some(discount) = row.discount() else {
-            return Err(Fail::from(AllocError));
-        };
-        assert_eq!(rt; discount.id(), "sp-1");
-        assert_eq!(rt; discount.kind(), DiscountKind::Spend);
-        assert_eq!(rt; discount.status(), Some(DiscountStatus::Unused));
-        assert_eq!(rt; row.quantity(), Some(Nanos::of_fields(7)));
-        assert_eq!(rt; row.unit(), Some("Hours"));
-        assert_eq!(rt; row.sku(), Some("vm-4"));
-        assert_eq!(rt; row.sub_account(), None);
-        assert_eq!(rt; row.tags().group("app"), "web");
-    }
+    }))
+}
+
+const LINE: &str =
+    "-1 2 Usage 3600 253402300799 true 1 sp-1 Spend Some(Unused) 7 Hours vm-4 - app=web;team=;";
+
+/// Whether a row and its copy say what the row was made of.
+fn rows_are_shown(alloc: Global) -> Result<bool, AllocError> {
+    let row = Box::new(alloc, row(alloc)?)?;
+    let copy = Box::new(alloc, row.copy(alloc)?)?;
+    Ok(row_line(alloc, &row)?.as_str() == LINE && row_line(alloc, &copy)?.as_str() == LINE)
+}
+
+#[test]
+fn row_of_fields(rt: HostRuntime) -> Result<(), Fail> {
+    let shown = rows_are_shown(rt.alloc())?;
+    assert!(rt; shown);
     Ok(())
+}
+
+const CODES: &[(&str, bool)] = &[
+    ("USD", true),
+    ("usd", false),
+    ("US", false),
+    ("USDX", false),
+    ("U\u{d6}", false),
+    ("", false),
+];
+
+/// The first code with another answer.
+fn first_wrong_code() -> Option<&'static str> {
+    for (code, valid) in CODES {
+        if Currency::new(code.as_bytes()).is_some() != *valid {
+            return Some(code);
+        }
+    }
+    None
 }
 
 #[test]
 fn currencies(rt: HostRuntime) {
-    for (code, valid) in [
-        ("USD", true),
-        ("usd", false),
-        ("US", false),
-        ("USDX", false),
-        ("U\u{d6}", false),
-        ("", false),
-    ] {
-        assert_eq!(rt;
-            Currency::new(code.as_bytes()).is_some(),
-            valid,
-            "at {code}"
-        );
-    }
+    let wrong = first_wrong_code();
+    assert!(rt; wrong.is_none(), "{wrong:?}");
 }

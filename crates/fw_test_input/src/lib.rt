@@ -10,6 +10,8 @@ mod commitment;
 #[cfg(test)]
 mod instants;
 #[cfg(test)]
+mod lines;
+#[cfg(test)]
 mod money;
 #[cfg(test)]
 mod policy;

@@ -4,7 +4,6 @@ ghost use Rattle.fw_rules.specs.Table.{FirstBroken, NoneBroken};
 ghost use Rattle.fw_test_input.specs.declared.rules.SpanFault.TheVariants.{Backwards, Late};
 
 use fw_rules::{Ruled, first_is_one, first_or_none};
-use std::test::Fail;
 
 #[derive(Clone, Copy, Debug, Drop, PartialEq, Eq)]
 enum SpanFault {
@@ -39,17 +38,30 @@ fn first_fault(span: &Span) -> Option<SpanFault>
     }
 }
 
-#[test]
-fn faults_of_spans(rt: HostRuntime) -> Result<(), Fail> {
-    let cases = [
-        (3, 2, Some(SpanFault::Backwards)),
-        (40, 30, Some(SpanFault::Backwards)),
-        (2, 25, Some(SpanFault::Late)),
-        (2, 24, None),
-        (2, 2, None),
-    ];
-    for (start, end, fault) in cases {
-        assert_eq!(rt; first_fault(&Span { start, end }), fault);
+const SPANS: &[(u32, u32, Option<SpanFault>)] = &[
+    (3, 2, Some(SpanFault::Backwards)),
+    (40, 30, Some(SpanFault::Backwards)),
+    (2, 25, Some(SpanFault::Late)),
+    (2, 24, None),
+    (2, 2, None),
+];
+
+/// The place of the first span with another fault.
+fn first_wrong_span() -> Option<usize> {
+    for (place, (start, end, fault)) in SPANS.iter().enumerate() {
+        let span = Span {
+            start: *start,
+            end: *end,
+        };
+        if first_fault(&span) != *fault {
+            return Some(place);
+        }
     }
-    Ok(())
+    None
+}
+
+#[test]
+fn faults_of_spans(rt: HostRuntime) {
+    let wrong = first_wrong_span();
+    assert!(rt; wrong.is_none(), "{wrong:?}");
 }

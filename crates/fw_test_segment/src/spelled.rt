@@ -12,6 +12,11 @@ const GROUP: [u8; 27] = [
     1, 0, 0, 0, 1, 0, 0, 0, b'a', 1, 0, 0, 0, 0, 0, 0, 0, 3, 1, 0, 0, 0, b't', 0, 0, 0, 0,
 ];
 
+/// That entry alone.
+const ENTRY: [u8; 23] = [
+    1, 0, 0, 0, b'a', 1, 0, 0, 0, 0, 0, 0, 0, 3, 1, 0, 0, 0, b't', 0, 0, 0, 0,
+];
+
 /// The segment of one row: a tax of 1 nano in the first hour of 1970.
 const SEGMENT: [u8; 50] = [
     1, 1, 0, 0, 0, 1, 0, 0, 0, 0, 0, 0, 0, 1, 0, 0, 0, 0, 0, 0, 0, 3, 0, 0, 0, 0, 0, 0, 0, 0, 0,
@@ -78,35 +83,61 @@ fn again(alloc: Global, what: What, bytes: &[u8]) -> Result<Vec<u8>, DecodeFault
 }
 
 /// Where the first fault is, if there is one.
-fn fault(alloc: Global, what: What, bytes: &[u8]) -> Option<usize> {
+fn fault(alloc: Global, what: What, bytes: &[u8]) -> Result<Option<usize>, AllocError> {
     match again(alloc, what, bytes) {
-        Err(DecodeFault::Corrupt { at }) => Some(at),
-        _ => None,
+        Ok(_) => Ok(None),
+        Err(DecodeFault::Corrupt { at }) => Ok(Some(at)),
+        Err(DecodeFault::NoMemory) => Err(AllocError),
     }
 }
 
 /// Where the first fault is once the byte at a place is another.
-fn fault_with(alloc: Global, what: What, bytes: &[u8], place: usize, byte: u8) -> Option<usize> {
-    let mut changed = joined(alloc, &[bytes]).ok()?;
+fn fault_with(
+    alloc: Global,
+    what: What,
+    bytes: &[u8],
+    place: usize,
+    byte: u8,
+) -> Result<Option<usize>, AllocError> {
+    let mut changed = joined(alloc, &[bytes])?;
     if place < changed.len() {
         changed[place] = byte;
     }
     fault(alloc, what, &changed)
 }
 
-/// Whether the bytes are written again as they are.
-fn is_spelled_so(alloc: Global, what: What, bytes: &[u8]) -> bool {
+/// Whether the bytes are read, and written as others.
+fn is_written_as(
+    alloc: Global,
+    what: What,
+    bytes: &[u8],
+    others: &[u8],
+) -> Result<bool, AllocError> {
     match again(alloc, what, bytes) {
-        Ok(written) => written.as_slice() == bytes,
-        Err(_) => false,
+        Ok(written) => Ok(written.as_slice() == others),
+        Err(DecodeFault::Corrupt { .. }) => Ok(false),
+        Err(DecodeFault::NoMemory) => Err(AllocError),
     }
 }
 
+/// Bytes by hand, and what they spell.
+const SPELLED: &[(What, &[u8])] = &[
+    (What::Entry, &ENTRY),
+    (What::Group, &GROUP),
+    (What::Segment, &SEGMENT),
+    (What::State, &EMPTY),
+    (What::State, &STORED_RUN),
+];
+
 /// How many fronts of the bytes have a fault: each of them should.
-fn faulty_fronts(alloc: Global, what: What, bytes: &[u8]) -> usize {
-    (0..bytes.len())
-        .filter(|len| fault(alloc, what, &bytes[..*len]).is_some())
-        .count()
+fn faulty_fronts(alloc: Global, what: What, bytes: &[u8]) -> Result<usize, AllocError> {
+    let mut count = 0_usize;
+    for len in 0..bytes.len() {
+        if fault(alloc, what, &bytes[..len])?.is_some() {
+            count = count.saturating_add(1);
+        }
+    }
+    Ok(count)
 }
 
 /// How many changes of one byte, each to each other value, are told: what is read is written as it was read, and what isn't read has its
@@ -136,41 +167,57 @@ fn told_changes(alloc: Global, what: What, bytes: &[u8]) -> Result<usize, AllocE
     Ok(count)
 }
 
-#[test]
-fn spellings_by_hand(rt: HostRuntime) {
-    let alloc = rt.alloc();
-    assert!(rt; is_spelled_so(alloc, What::Entry, &GROUP[4..]));
-    assert!(rt; is_spelled_so(alloc, What::Group, &GROUP));
-    assert!(rt; is_spelled_so(alloc, What::Segment, &SEGMENT));
-    assert!(rt; is_spelled_so(alloc, What::State, &EMPTY));
-    assert!(rt; is_spelled_so(alloc, What::State, &STORED_RUN));
+/// The place of the first of the bytes that are not written again as they are.
+fn first_written_otherwise(alloc: Global) -> Result<Option<usize>, AllocError> {
+    for (place, (what, bytes)) in SPELLED.iter().enumerate() {
+        if !is_written_as(alloc, *what, bytes, bytes)? {
+            return Ok(Some(place));
+        }
+    }
+    Ok(None)
 }
 
 #[test]
-fn no_front_is_read(rt: HostRuntime) {
-    let alloc = rt.alloc();
-    let fronts = [
-        faulty_fronts(alloc, What::Entry, &GROUP[4..]),
-        faulty_fronts(alloc, What::Group, &GROUP),
-        faulty_fronts(alloc, What::Segment, &SEGMENT),
-        faulty_fronts(alloc, What::State, &EMPTY),
-        faulty_fronts(alloc, What::State, &STORED_RUN),
-    ];
-    assert!(rt; fronts == [23, 27, 50, 19, 404], "{fronts:?}");
+fn spellings_by_hand(rt: HostRuntime) -> Result<(), Fail> {
+    let wrong = first_written_otherwise(rt.alloc())?;
+    assert!(rt; wrong.is_none(), "{wrong:?}");
+    Ok(())
+}
+
+/// The place of the first of the bytes of which some front is read.
+fn first_with_a_read_front(alloc: Global) -> Result<Option<usize>, AllocError> {
+    for (place, (what, bytes)) in SPELLED.iter().enumerate() {
+        if faulty_fronts(alloc, *what, bytes)? != bytes.len() {
+            return Ok(Some(place));
+        }
+    }
+    Ok(None)
+}
+
+#[test]
+fn no_front_is_read(rt: HostRuntime) -> Result<(), Fail> {
+    let wrong = first_with_a_read_front(rt.alloc())?;
+    assert!(rt; wrong.is_none(), "{wrong:?}");
+    Ok(())
+}
+
+/// The place of the first of the bytes of which some change is not told, and how many changes there are in all.
+fn changes_of_all(alloc: Global) -> Result<(Option<usize>, usize), AllocError> {
+    let mut all = 0_usize;
+    for (place, (what, bytes)) in SPELLED.iter().enumerate() {
+        let changes = bytes.len().saturating_mul(255);
+        if told_changes(alloc, *what, bytes)? != changes {
+            return Ok((Some(place), all));
+        }
+        all = all.saturating_add(changes);
+    }
+    Ok((None, all))
 }
 
 #[test]
 fn each_change_of_a_byte_is_told(rt: HostRuntime) -> Result<(), Fail> {
-    let alloc = rt.alloc();
-    let changes = [
-        told_changes(alloc, What::Entry, &GROUP[4..])?,
-        told_changes(alloc, What::Group, &GROUP)?,
-        told_changes(alloc, What::Segment, &SEGMENT)?,
-        told_changes(alloc, What::State, &EMPTY)?,
-        told_changes(alloc, What::State, &STORED_RUN)?,
-    ];
-    let wanted = [23 * 255, 27 * 255, 50 * 255, 19 * 255, 404 * 255];
-    assert!(rt; changes == wanted, "{changes:?}");
+    let told = changes_of_all(rt.alloc())?;
+    assert!(rt; told == (None, 133_365), "{told:?}");
     Ok(())
 }
 
@@ -179,13 +226,13 @@ fn group_faults(alloc: Global) -> Result<[Option<usize>; 7], AllocError> {
     let longer = joined(alloc, &[&GROUP, &[0]])?;
     let hostile = [255, 255, 255, 255];
     Ok([
-        fault(alloc, What::Group, &GROUP[..26]),
-        fault(alloc, What::Group, &longer),
-        fault_with(alloc, What::Group, &GROUP, 9, 0),
-        fault_with(alloc, What::Group, &GROUP, 17, 9),
-        fault_with(alloc, What::Group, &GROUP, 0, 0),
-        fault_with(alloc, What::Group, &GROUP, 0, 65),
-        fault(alloc, What::Group, &hostile),
+        fault(alloc, What::Group, &GROUP[..26])?,
+        fault(alloc, What::Group, &longer)?,
+        fault_with(alloc, What::Group, &GROUP, 9, 0)?,
+        fault_with(alloc, What::Group, &GROUP, 17, 9)?,
+        fault_with(alloc, What::Group, &GROUP, 0, 0)?,
+        fault_with(alloc, What::Group, &GROUP, 0, 65)?,
+        fault(alloc, What::Group, &hostile)?,
     ])
 }
 
@@ -210,11 +257,11 @@ fn segment_faults(alloc: Global) -> Result<[Option<usize>; 5], AllocError> {
     let many = joined(alloc, &[&[1, 1, 0, 1, 0], &SEGMENT[5..]])?;
     let longer = joined(alloc, &[&SEGMENT, &[0]])?;
     Ok([
-        fault_with(alloc, What::Segment, &SEGMENT, 0, 2),
-        fault_with(alloc, What::Segment, &SEGMENT, 1, 0),
-        fault(alloc, What::Segment, &many),
-        fault_with(alloc, What::Segment, &SEGMENT, 25, 1),
-        fault(alloc, What::Segment, &longer),
+        fault_with(alloc, What::Segment, &SEGMENT, 0, 2)?,
+        fault_with(alloc, What::Segment, &SEGMENT, 1, 0)?,
+        fault(alloc, What::Segment, &many)?,
+        fault_with(alloc, What::Segment, &SEGMENT, 25, 1)?,
+        fault(alloc, What::Segment, &longer)?,
     ])
 }
 
@@ -231,12 +278,12 @@ fn faults_of_a_segment(rt: HostRuntime) -> Result<(), Fail> {
 fn state_faults(alloc: Global) -> Result<[Option<usize>; 6], AllocError> {
     let longer = joined(alloc, &[&STORED_RUN, &[0]])?;
     Ok([
-        fault_with(alloc, What::State, &STORED_RUN, 6, b'd'),
-        fault_with(alloc, What::State, &STORED_RUN, 144, 1),
-        fault_with(alloc, What::State, &STORED_RUN, 135, 1),
-        fault_with(alloc, What::State, &STORED_RUN, 159, 5),
-        fault_with(alloc, What::State, &STORED_RUN, 232, 2),
-        fault(alloc, What::State, &longer),
+        fault_with(alloc, What::State, &STORED_RUN, 6, b'd')?,
+        fault_with(alloc, What::State, &STORED_RUN, 144, 1)?,
+        fault_with(alloc, What::State, &STORED_RUN, 135, 1)?,
+        fault_with(alloc, What::State, &STORED_RUN, 159, 5)?,
+        fault_with(alloc, What::State, &STORED_RUN, 232, 2)?,
+        fault(alloc, What::State, &longer)?,
     ])
 }
 
@@ -248,15 +295,20 @@ fn faults_of_a_state(rt: HostRuntime) -> Result<(), Fail> {
     Ok(())
 }
 
-/// Two posts of one row each, whose rows stand in one segment and in two: both are one state, written with a segment for each post.
-#[test]
-fn rows_are_cut_in_any_way(rt: HostRuntime) -> Result<(), Fail> {
-    let alloc = rt.alloc();
+/// Whether two posts of one row each, whose rows stand in one segment or in two, are one state, written with a segment for each post.
+fn cuts_are_one_state(alloc: Global) -> Result<bool, AllocError> {
     let row = &SEGMENT[5..];
     let one = joined(alloc, &[&TWO_POSTS, &[1, 0, 0, 0, 1, 2, 0, 0, 0], row, row])?;
     let two = joined(alloc, &[&TWO_POSTS, &[2, 0, 0, 0], &SEGMENT, &SEGMENT])?;
-    assert!(rt; is_spelled_so(alloc, What::State, &two));
-    let written = again(alloc, What::State, &one)?;
-    assert!(rt; written.as_slice() == two.as_slice());
+    Ok(
+        is_written_as(alloc, What::State, &two, &two)?
+            && is_written_as(alloc, What::State, &one, &two)?,
+    )
+}
+
+#[test]
+fn rows_are_cut_in_any_way(rt: HostRuntime) -> Result<(), Fail> {
+    let are_one = cuts_are_one_state(rt.alloc())?;
+    assert!(rt; are_one);
     Ok(())
 }

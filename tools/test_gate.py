@@ -1,0 +1,161 @@
+#!/usr/bin/env python3
+"""Tests of the gate's choice of must-fail edits, and of the gate over a repository of two small crates: python3 tools/test_gate.py"""
+import os
+import subprocess
+import sys
+import tempfile
+import unittest
+
+sys.path.insert(0, os.path.dirname(os.path.abspath(__file__)))
+import gate  # noqa: E402
+import meter  # noqa: E402
+import refuse_allocations  # noqa: E402
+
+TOOL = os.path.join(os.path.dirname(os.path.abspath(__file__)), "gate.py")
+COUNTS = {"a": 9, "b": 7, "c": 5, "d": 3, "e": 3, "f": 1}
+
+SOURCE = """//! One function.
+#![tactic(auto)]
+
+ghost use Rattle.std.specs.Prelude.{◌≡◌, ◌+◌};
+
+/// One more than a byte.
+pub fn one_more(byte: u8) -> u16
+    ensures { result ≡ byte + 1 }
+{
+    u16::from(byte) + 1
+}
+"""
+# An edit that the prover refuses, and one that it accepts.
+REFUSED = "file: src/lib.rt\nold:     u16::from(byte) + 1\nnew:     u16::from(byte) + 2\n"
+ACCEPTED = "file: src/lib.rt\nold:     u16::from(byte) + 1\nnew:     1 + u16::from(byte)\n"
+
+
+class Choice(unittest.TestCase):
+    def test_a_changed_crate_is_due_whatever_the_commit(self):
+        for digit in "0123456789abcdef":
+            reasons = gate.due(COUNTS, {"c", "no_edits"}, digit * 40)
+            self.assertEqual(reasons["c"], "changed")
+            self.assertNotIn("no_edits", reasons)
+
+    def test_four_picks_see_each_crate_once(self):
+        parts = [gate.part_of(COUNTS, f"{digit:08x}") for digit in range(4)]
+        self.assertEqual(sorted(crate for part in parts for crate in part), sorted(COUNTS))
+
+    def test_the_parts_have_about_as_many_edits(self):
+        loads = [sum(COUNTS[crate] for crate in gate.part_of(COUNTS, f"{digit:08x}")) for digit in range(4)]
+        self.assertLessEqual(max(loads) - min(loads), 3)
+
+    def test_every_edit_is_due_where_the_commit_is_not_here(self):
+        self.assertEqual(set(gate.due(COUNTS, None, "")), set(COUNTS))
+
+    def test_counts_are_of_edits(self):
+        files = ["crates/a/must-fail/x.edit", "crates/a/must-fail/notes.md", "crates/a/src/lib.rt", "crates/b/src/lib.rt"]
+        self.assertEqual(gate.edit_counts(files), {"a": 1})
+
+    def test_a_program_stands_on_what_its_libraries_stand_on(self):
+        lines = gate.crate_lines("# a note\nlow: thiserror\nmid: low\n\nother:\nprogram: mid clap  # the top\n")
+        self.assertEqual(gate.below("program", lines), {"program", "mid", "low"})
+
+    def test_what_only_says_proved_is_not_shown(self):
+        self.assertFalse(gate.is_shown("fn fw_money::read::parse: proved", False))
+        self.assertFalse(gate.is_shown("statements std: modules loaded=254 checked=0", False))
+        for line in ["fn fw_money::read::parse: not proved", "rt: fw_money proved", "note: src/lib.rt:1:1", "3 passed, 0 failed"]:
+            self.assertTrue(gate.is_shown(line, False), line)
+
+
+class Kinds(unittest.TestCase):
+    def test_what_a_prover_does_is_told_by_its_command_line(self):
+        self.assertEqual(meter.kind_of(["rattle", "check", "--crate-name", "a"], "/tmp/rt-edit-x1"), "edit")
+        self.assertEqual(meter.kind_of(["rattle", "build", "--crate-name", "a", "--test"], "/r/crates/a"), "tests")
+        self.assertEqual(meter.kind_of(["rattle", "build", "--crate-name", "a"], "/r/crates/a"), "proof")
+
+
+class Refusals(unittest.TestCase):
+    def test_each_allocation_is_refused_where_there_are_few(self):
+        self.assertEqual(refuse_allocations.numbers(3, 400), [1, 2, 3])
+        self.assertEqual(refuse_allocations.numbers(0, 400), [])
+
+    def test_the_rest_is_sampled_where_there_are_many(self):
+        chosen = refuse_allocations.numbers(1000, 10)
+        self.assertEqual(chosen[:10], list(range(1, 11)))
+        self.assertEqual(len(chosen), 15)
+        self.assertEqual(len(set(chosen)), 15)
+        self.assertLessEqual(chosen[-1], 1000)
+
+    def test_a_script_is_cut_into_commands_and_its_answers_likewise(self):
+        script = b"post a 1 2\nx\ny\nstate\npost a 1\nreport t f t"
+        self.assertEqual(refuse_allocations.commands_of(script), [b"post a 1 2\nx\ny\n", b"state\n", b"post a 1\n", b"report t f t"])
+        answers = b"accepted 1\nbytes 4\na\nb\nbad command\n"
+        self.assertEqual(refuse_allocations.answers_of(answers), [b"accepted 1\n", b"bytes 4\na\nb\n", b"bad command\n"])
+
+    def test_only_an_error_that_says_out_of_memory_is_right(self):
+        self.assertTrue(refuse_allocations.is_right(0, "test result: ok\n"))
+        self.assertTrue(refuse_allocations.is_right(101, "error: NoMemory\nthe test failed\n"))
+        self.assertFalse(refuse_allocations.is_right(101, "error: TooLarge\nthe test failed\n"))
+        self.assertFalse(refuse_allocations.is_right(101, "assertion failed: told\n"))
+        self.assertFalse(refuse_allocations.is_right(-11, "error: NoMemory\n"))
+
+
+class Repository:
+    """A repository of the crates `changed` and `same`, of which the first gets another edit after the last full run."""
+
+    def __init__(self, top):
+        self.top = top
+
+    def write(self, path, text):
+        path = os.path.join(self.top, path)
+        os.makedirs(os.path.dirname(path), exist_ok=True)
+        with open(path, "w", encoding="utf-8") as file:
+            file.write(text)
+
+    def git(self, *words):
+        identity = ["-c", "user.name=test", "-c", "user.email=test@localhost"]
+        return subprocess.run(["git", *identity, *words], cwd=self.top, check=True, capture_output=True, text=True).stdout.strip()
+
+    def commit(self, message):
+        self.git("add", "-A")
+        self.git("commit", "-q", "--allow-empty", "-m", message)
+        return self.git("rev-parse", "HEAD")
+
+    def fill(self):
+        self.git("init", "-q")
+        self.write("HANDLES", "Handles allowed: none.\n")
+        self.write("crates.txt", "changed:\nsame:\n")
+        self.write(".gitignore", "out/\n")
+        for crate in ("changed", "same"):
+            self.write(f"crates/{crate}/src/lib.rt", SOURCE)
+            self.write(f"crates/{crate}/must-fail/adds_two.edit", REFUSED)
+        # the prover accepts this one, and a run that leaves the crate's edits doesn't see it
+        self.write("crates/same/must-fail/adds_the_other_way.edit", ACCEPTED)
+        kit = subprocess.run(["rt", "version"], check=True, capture_output=True, text=True).stdout.strip()
+        gate.Record(self.commit("all"), "2026-01-01", kit).write(self.top)
+
+    def leave_same(self):
+        """Commits until the commit's hash leaves the crate that didn't change."""
+        for number in range(1000):
+            if "same" not in gate.part_of({"same": 2}, self.commit(f"change {number}")):
+                return
+        raise AssertionError("no commit leaves the crate")
+
+
+class Gate(unittest.TestCase):
+    def test_a_wrong_edit_in_a_changed_crate_fails_the_run(self):
+        with tempfile.TemporaryDirectory() as top:
+            repository = Repository(top)
+            os.makedirs(os.path.join(top, "tools"))
+            repository.fill()
+            repository.write("crates/changed/must-fail/adds_the_other_way.edit", ACCEPTED)
+            repository.leave_same()
+            ran = subprocess.run([sys.executable, TOOL, "--top", top], capture_output=True, text=True, check=False)
+            self.assertEqual(ran.returncode, 1, ran.stdout + ran.stderr)
+            self.assertIn("tried: changed (changed, 2)\n", ran.stdout)
+            self.assertIn("left: same (2)\n", ran.stdout)
+            self.assertIn("must-fail changed/adds_the_other_way.edit: NOT REFUSED", ran.stdout)
+            self.assertIn("must-fail changed/adds_two.edit: refused", ran.stdout)
+            self.assertIn("3 passed, 1 failed\n", ran.stdout)
+            self.assertRegex(ran.stdout, r"(?m)^changed +\d+ ")
+
+
+if __name__ == "__main__":
+    unittest.main()
