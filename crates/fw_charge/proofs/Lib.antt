@@ -1,1 +1,2 @@
 pub mod TagFacts
+pub mod Fitting

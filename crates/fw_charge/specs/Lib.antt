@@ -3,3 +3,4 @@ pub mod Tags
 pub mod Charge
 pub mod ChargeView
 pub mod Codes
+pub mod Spelling

@@ -2,16 +2,26 @@
 //!
 //! A [`Row`] keeps the rules that stand between its fields, so whoever holds one need not look at them again. What a CSV text must hold
 //! for a row to come of it is said by the crate that reads such texts.
+//!
+//! `specs/Spelling.antt` has the bytes of a row and of its fields, and which of them have a spelling: each row has one, and knows its
+//! length. The crate above that reads and writes rows stands on the same definition.
 #![tactic(auto)]
 
 mod category;
 mod currency;
 mod discount;
+mod lengths;
 mod row;
+mod spelled;
 mod tags;
 
 pub use category::Category;
 pub use currency::Currency;
 pub use discount::{Discount, DiscountKind, DiscountStatus};
+pub use lengths::{optional_text_len, row_len, tags_len};
 pub use row::{Row, RowFields};
+pub use spelled::{
+    nanos_has_spelling, optional_nanos_has_spelling, optional_text_has_spelling, row_has_spelling,
+    short_text_has_spelling, tags_have_spelling,
+};
 pub use tags::{Tag, Tags};

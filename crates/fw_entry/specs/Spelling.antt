@@ -2,8 +2,8 @@
 use Rattle.std.specs.Prelude.{◌≡◌, ◌<◌, ◌≤◌, ◌^◌, ⊤, ℕ, List, ◌∷◌, ◌++◌, length, All, IsTrue}
 use Rattle.fw_bytes.specs.Spelling.{number64, text, listed}
 use Rattle.fw_charge.specs.Charge.{Charge}
-use Rattle.fw_row_bytes.specs.Spelling.{row, IsRow}
-use Rattle.fw_terms_bytes.specs.Spelling.{commitment, policy, IsSpelledCommitment, IsSpelledPolicy}
+use Rattle.fw_charge.specs.Spelling.{row, IsRow}
+use Rattle.fw_terms.specs.Spelling.{commitment, policy, IsSpelledCommitment, IsSpelledPolicy}
 use Rattle.fw_entry.specs.Entry.{CommandValue, EntryValue, is_origin, most_post_rows}
 use Rattle.fw_entry.specs.Entry.CommandValue.{post, commit, set_policy}
 

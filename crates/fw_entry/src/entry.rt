@@ -2,17 +2,17 @@
 ghost use Rattle.std.specs.Prelude.{◌≡◌, ◌≤◌, ◌<◌, ◌^◌, ◌-◌, length, All, IfOk, IfErr, string_bytes};
 ghost use Rattle.fw_bytes.specs.Spelling.{listed};
 ghost use Rattle.std.specs.List.{list_all};
-ghost use Rattle.fw_row_bytes.specs.Spelling.{row, IsRow};
+ghost use Rattle.fw_charge.specs.Spelling.{row, IsRow};
 ghost use Rattle.fw_entry.specs.Entry.{is_origin, is_origin_byte, most_post_rows};
 ghost use Rattle.fw_entry.specs.Refusals.{IsRefused};
 ghost use Rattle.fw_entry.specs.Spelling.{HasRowCount, IsEntry};
 ghost use Rattle.fw_entry.specs.View.{command_view};
 
 use crate::fault::EntryFault;
-use fw_charge::Row;
-use fw_row_bytes::{row_has_spelling, row_len};
-use fw_terms::{Commitment, Policy};
-use fw_terms_bytes::{commitment_has_spelling, commitment_len, policy_has_spelling, policy_len};
+use fw_charge::{Row, row_has_spelling, row_len};
+use fw_terms::{
+    Commitment, Policy, commitment_has_spelling, commitment_len, policy_has_spelling, policy_len,
+};
 use std::alloc::{AllocError, Global};
 use std::marker::Model;
 

@@ -5,9 +5,9 @@ use Rattle.fw_bytes.specs.Spelling.{number64, text, listed, pair, FitsPair, Fits
 use Rattle.fw_bytes.specs.Reading.{checked, seen}
 use Rattle.fw_bytes.proofs.Laws.{IsBytes, IsBytes-rest, IsFormat, Takes, Takes-behind, bind_ok, ok_is, checked_format, seen_format, both_format, list_format, list_parts, list_fits}
 use Rattle.fw_charge.specs.Charge.{Charge}
-use Rattle.fw_row_bytes.specs.Spelling.{row, IsRow}
+use Rattle.fw_charge.specs.Spelling.{row, IsRow}
 use Rattle.fw_row_bytes.proofs.RowFormat.{row_format}
-use Rattle.fw_terms_bytes.specs.Spelling.{commitment, policy}
+use Rattle.fw_terms.specs.Spelling.{commitment, policy}
 use Rattle.fw_terms_bytes.specs.Reading.{commitment_at, policy_at}
 use Rattle.fw_terms_bytes.proofs.CommitmentFormat.{commitment_format}
 use Rattle.fw_terms_bytes.proofs.PolicyFormat.{policy_format}

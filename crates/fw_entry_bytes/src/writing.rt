@@ -1,7 +1,7 @@
 //! The writer of an entry.
 ghost use Rattle.std.specs.Prelude.{◌≡◌, ◌++◌, ◌≤◌, length, OnOk};
 ghost use Rattle.fw_bytes.specs.Spelling.{listed};
-ghost use Rattle.fw_row_bytes.specs.Spelling.{row};
+ghost use Rattle.fw_charge.specs.Spelling.{row};
 ghost use Rattle.fw_entry.specs.Entry.{most_post_rows};
 ghost use Rattle.fw_entry.specs.Spelling.{command, entry, IsCommand, IsEntry};
 ghost use Rattle.fw_entry.specs.View.{command_view};

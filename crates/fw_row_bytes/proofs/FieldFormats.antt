@@ -13,7 +13,7 @@ use Rattle.fw_charge.specs.declared.discount.DiscountKind.{DiscountKind}
 use Rattle.fw_charge.specs.declared.discount.DiscountKind.TheVariants as kind
 use Rattle.fw_charge.specs.declared.discount.DiscountStatus.{DiscountStatus}
 use Rattle.fw_charge.specs.declared.discount.DiscountStatus.TheVariants as status
-use Rattle.fw_row_bytes.specs.Spelling.{nanos, tag, tags, is_nanos, FitsNanos, is_second, FitsSecond, is_short, FitsShortText, is_tag_text, FitsTagText, FitsTag, FitsTags}
+use Rattle.fw_charge.specs.Spelling.{nanos, tag, tags, is_nanos, FitsNanos, is_second, FitsSecond, is_short, FitsShortText, is_tag_text, FitsTagText, FitsTag, FitsTags}
 use Rattle.fw_row_bytes.specs.Reading.{category_of, class_of, kind_of, status_of, nanos_at, second_at, short_text_at, tag_text_at, tag_from, tag_at, tags_at}
 
 pub nanos_format : IsFormat nanos_at nanos FitsNanos

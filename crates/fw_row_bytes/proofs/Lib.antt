@@ -1,4 +1,3 @@
 pub mod FieldFormats
-pub mod Fitting
 pub mod RowFacts
 pub mod RowFormat

@@ -12,7 +12,7 @@ use Rattle.fw_charge.specs.declared.category.Category.{Category}
 use Rattle.fw_charge.specs.declared.category.Category.TheVariants as category
 use Rattle.fw_charge.specs.declared.discount.DiscountKind.{DiscountKind}
 use Rattle.fw_charge.specs.declared.discount.DiscountStatus.{DiscountStatus}
-use Rattle.fw_row_bytes.specs.Spelling.{FitsShortText, FitsTag, FitsTags, keys_rise, FitsDiscount}
+use Rattle.fw_charge.specs.Spelling.{FitsShortText, FitsTag, FitsTags, keys_rise, FitsDiscount}
 use Rattle.fw_row_bytes.specs.Reading.{DiscountParts, discount_agrees, discount_from}
 
 -- ---- tags

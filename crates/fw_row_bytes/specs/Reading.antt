@@ -10,7 +10,7 @@ use Rattle.fw_charge.specs.declared.discount.DiscountKind.{DiscountKind}
 use Rattle.fw_charge.specs.declared.discount.DiscountKind.TheVariants as kind
 use Rattle.fw_charge.specs.declared.discount.DiscountStatus.{DiscountStatus}
 use Rattle.fw_charge.specs.declared.discount.DiscountStatus.TheVariants as status
-use Rattle.fw_row_bytes.specs.Spelling.{is_nanos, is_second, is_short, is_tag_text, keys_rise}
+use Rattle.fw_charge.specs.Spelling.{is_nanos, is_second, is_short, is_tag_text, keys_rise}
 
 -- ---- what a code stands for
 

@@ -3,7 +3,7 @@ ghost use Rattle.std.specs.Prelude.{◌≡◌, ◌≤◌, string_bytes, option_m
 ghost use Rattle.fw_money.specs.Amount.{most_nanos};
 ghost use Rattle.fw_bytes.specs.Order.{rise_from};
 ghost use Rattle.fw_bytes.specs.Reading.{Gives, code_at, optional_at, times};
-ghost use Rattle.fw_row_bytes.specs.Spelling.{FitsTags, keys_rise};
+ghost use Rattle.fw_charge.specs.Spelling.{FitsTags, keys_rise};
 ghost use Rattle.fw_row_bytes.specs.Reading.{nanos_at, second_at, short_text_at, tag_text_at, tag_at, tags_at, category_of, class_of, kind_of, status_of};
 
 use fw_bytes::{ReadError, i64_at, str_at, u32_at, u64_at};

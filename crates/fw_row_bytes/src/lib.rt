@@ -2,25 +2,19 @@
 //!
 //! A row is read from the front of a slice. A fault is told by the number of bytes from its place to the end: a field that is cut off or
 //! out of its range is a fault at that field, and fields that break a rule together are a fault at the first byte of the row, told once
-//! all of them were read. What is read is spelled so, and each row that keeps the rules is read from its spelling.
+//! all of them were read. What is read is spelled so, and each row that keeps the rules is read from its spelling. `fw_charge` defines how a
+//! row is spelled.
 #![tactic(auto)]
 
 mod fields;
-mod lengths;
 mod row;
 mod rows;
-mod spelled;
 mod writing;
 
 pub use fields::{
     keys_rise, nanos_of, optional_nanos_of, optional_text_of, second_of, short_text_of,
     tag_text_of, tags_in_order, tags_of,
 };
-pub use lengths::{optional_text_len, row_len, tags_len};
 pub use row::row_of;
 pub use rows::rows_of;
-pub use spelled::{
-    nanos_has_spelling, optional_nanos_has_spelling, optional_text_has_spelling, row_has_spelling,
-    short_text_has_spelling, tags_have_spelling,
-};
 pub use writing::{put_nanos, put_optional_nanos, put_optional_text, put_row, put_tags};

@@ -1,7 +1,7 @@
 //! The reader of a row.
 ghost use Rattle.std.specs.Prelude.{◌≡◌};
 ghost use Rattle.fw_bytes.specs.Reading.{Gives};
-ghost use Rattle.fw_row_bytes.specs.Spelling.{IsRow};
+ghost use Rattle.fw_charge.specs.Spelling.{IsRow};
 ghost use Rattle.fw_row_bytes.specs.Reading.{amounts_at, period_at, discount_at, consumed_at, fields_at, discount_agrees, fields_agree, discount_from, row_from, row_at};
 ghost use Rattle.fw_row_bytes.specs.FieldView.{amounts_view, discount_view, consumed_view, fields_view};
 

@@ -6,7 +6,7 @@ ghost use Rattle.fw_bytes.specs.Spelling.{text, optional};
 ghost use Rattle.fw_charge.specs.Charge.{IsShortText};
 ghost use Rattle.fw_charge.specs.Codes.{category_code, kind_code, status_code};
 ghost use Rattle.fw_charge.specs.Tags.{IsTagSized};
-ghost use Rattle.fw_row_bytes.specs.Spelling.{nanos, tag, tags, amounts, period, discount, consumed, row};
+ghost use Rattle.fw_charge.specs.Spelling.{nanos, tag, tags, amounts, period, discount, consumed, row};
 
 use fw_bytes::{put_byte, put_i64, put_text, put_u32, put_u64};
 use fw_charge::{Category, DiscountKind, DiscountStatus, Row, Tag, Tags};
@@ -107,7 +107,7 @@ pub fn put_tags(out: &mut Vec<u8>, all: &Tags) -> Result<(), AllocError>
 }
 
 /// Writes costs, category and class.
-#[tactic(auto, unfolding(crate::specs::Spelling::amounts, fw_charge::specs::Codes::class_code))]
+#[tactic(auto, unfolding(fw_charge::specs::Spelling::amounts, fw_charge::specs::Codes::class_code))]
 fn put_amounts(out: &mut Vec<u8>, one: &Row) -> Result<(), AllocError>
     ensures { OnOk result (out.new.items ≡ out.old.items ++ amounts one.now) }
 {
@@ -119,7 +119,7 @@ fn put_amounts(out: &mut Vec<u8>, one: &Row) -> Result<(), AllocError>
 }
 
 /// Writes the period.
-#[tactic(auto, unfolding(crate::specs::Spelling::period))]
+#[tactic(auto, unfolding(fw_charge::specs::Spelling::period))]
 fn put_period(out: &mut Vec<u8>, one: &Row) -> Result<(), AllocError>
     ensures { OnOk result (out.new.items ≡ out.old.items ++ period one.now) }
 {
@@ -129,7 +129,7 @@ fn put_period(out: &mut Vec<u8>, one: &Row) -> Result<(), AllocError>
 }
 
 /// Writes the discount: id, kind and status, all three null where there is none.
-#[tactic(auto, unfolding(crate::specs::Spelling::discount))]
+#[tactic(auto, unfolding(fw_charge::specs::Spelling::discount))]
 fn put_discount(out: &mut Vec<u8>, one: &Row) -> Result<(), AllocError>
     ensures { OnOk result (out.new.items ≡ out.old.items ++ discount one.now.discount) }
 {
@@ -150,7 +150,7 @@ fn put_discount(out: &mut Vec<u8>, one: &Row) -> Result<(), AllocError>
 }
 
 /// Writes quantity, unit, SKU and sub-account.
-#[tactic(auto, unfolding(crate::specs::Spelling::consumed))]
+#[tactic(auto, unfolding(fw_charge::specs::Spelling::consumed))]
 fn put_consumed(out: &mut Vec<u8>, one: &Row) -> Result<(), AllocError>
     ensures { OnOk result (out.new.items ≡ out.old.items ++ consumed one.now) }
 {
@@ -167,7 +167,7 @@ fn put_consumed(out: &mut Vec<u8>, one: &Row) -> Result<(), AllocError>
 ///
 /// # Errors
 /// [`AllocError`] where the buffer can't grow. Then nothing is promised of what the buffer holds.
-#[tactic(auto, unfolding(crate::specs::Spelling::row))]
+#[tactic(auto, unfolding(fw_charge::specs::Spelling::row))]
 pub fn put_row(out: &mut Vec<u8>, one: &Row) -> Result<(), AllocError>
     ensures { OnOk result (out.new.items ≡ out.old.items ++ row one.now) }
 {

@@ -11,7 +11,7 @@ use Rattle.fw_entry.specs.Entry.{most_post_rows}
 use Rattle.fw_entry_bytes.specs.declared.form.Form.{Form}
 use Rattle.fw_entry_bytes.specs.Reading.{IsOrigin, IsSeq}
 use Rattle.fw_entry_bytes.proofs.Facts.{origin_format, seq_format}
-use Rattle.fw_terms_bytes.specs.Spelling.{commitment, policy}
+use Rattle.fw_terms.specs.Spelling.{commitment, policy}
 use Rattle.fw_terms_bytes.specs.Reading.{commitment_at, policy_at}
 use Rattle.fw_terms_bytes.proofs.CommitmentFormat.{commitment_format}
 use Rattle.fw_terms_bytes.proofs.PolicyFormat.{policy_format}

@@ -8,7 +8,7 @@ use Rattle.std.proofs.lemmas.Option.{slice_get_within, get_or_from_slice_get}
 use Rattle.fw_bytes.specs.Spelling.{text, listed, Fits64}
 use Rattle.fw_bytes.proofs.Laws.{IsBytes, bind_ok, ok_is, passed, list_parts, list_fits}
 use Rattle.fw_charge.specs.Charge.{Charge}
-use Rattle.fw_row_bytes.specs.Spelling.{IsRow}
+use Rattle.fw_charge.specs.Spelling.{IsRow}
 use Rattle.fw_entry.specs.Entry.{EntryValue, CommandValue}
 use Rattle.fw_entry.specs.Entry.CommandValue.{post, commit, set_policy}
 use Rattle.fw_entry.specs.Spelling.{IsCommand, IsEntry}

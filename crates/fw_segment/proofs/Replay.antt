@@ -7,7 +7,7 @@ use Rattle.std.proofs.lemmas.List.Elements.{All-nil, All-cons, All-head, All-tai
 use Rattle.std.proofs.Math.Seq.{take-append_seam, drop-append_seam}
 use Rattle.fw_bytes.proofs.Laws.{passed, ok_is}
 use Rattle.fw_charge.specs.Charge.{Charge}
-use Rattle.fw_row_bytes.specs.Spelling.{IsRow}
+use Rattle.fw_charge.specs.Spelling.{IsRow}
 use Rattle.fw_entry.specs.Entry.{EntryValue, CommandValue}
 use Rattle.fw_entry.specs.Spelling.{entry, most_entry_bytes, IsCommand, IsEntry}
 use Rattle.fw_snapshot.specs.Heads.{ContentValue, HeadValue, head_of, content_of, command_of, entry_of, entries_of, row_count, row_counts}

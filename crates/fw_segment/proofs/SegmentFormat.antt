@@ -3,7 +3,7 @@ use Rattle.std.proofs.Common.{◌≡◌, ℕ, zero, suc, List, [], ◌∷◌, �
 use Rattle.fw_bytes.specs.Spelling.{listed, FitsList}
 use Rattle.fw_bytes.proofs.Laws.{IsBytes, IsBytes-rest, IsFormat, Takes, Takes-behind, list_format, list_parts, list_fits}
 use Rattle.fw_charge.specs.Charge.{Charge}
-use Rattle.fw_row_bytes.specs.Spelling.{row, IsRow}
+use Rattle.fw_charge.specs.Spelling.{row, IsRow}
 use Rattle.fw_row_bytes.proofs.RowFormat.{row_format}
 use Rattle.fw_entry.specs.Entry.{EntryValue}
 use Rattle.fw_entry.specs.Spelling.{IsEntry}

@@ -4,7 +4,7 @@ use Rattle.std.specs.Int.{w32, w64}
 use Rattle.std.specs.List.{flat_map}
 use Rattle.fw_bytes.specs.Spelling.{number32, number64, text}
 use Rattle.fw_bytes.specs.Reading.{Reading, ◌>>=◌, number_at, checked, both, seen, times}
-use Rattle.fw_terms_bytes.specs.Spelling.{commitment, policy, IsSpelledCommitment, IsSpelledPolicy}
+use Rattle.fw_terms.specs.Spelling.{commitment, policy, IsSpelledCommitment, IsSpelledPolicy}
 use Rattle.fw_terms_bytes.specs.Reading.{commitment_at, policy_at}
 use Rattle.fw_entry.specs.Entry.{most_post_rows}
 use Rattle.fw_entry_bytes.specs.declared.form.Form.{Form}

@@ -3,7 +3,7 @@ use Rattle.std.specs.Prelude.{◌<◌, ◌≤◌, ℕ, zero, suc, List, [], ◌�
 use Rattle.fw_bytes.specs.Spelling.{listed}
 use Rattle.fw_bytes.specs.Reading.{Reading, list_at}
 use Rattle.fw_charge.specs.Charge.{Charge}
-use Rattle.fw_row_bytes.specs.Spelling.{row, IsRow}
+use Rattle.fw_charge.specs.Spelling.{row, IsRow}
 use Rattle.fw_row_bytes.specs.Reading.{row_at}
 use Rattle.fw_segment.specs.declared.kind.Kind.{Kind}
 use Rattle.fw_segment.specs.declared.kind.Kind.TheVariants.{Rows}

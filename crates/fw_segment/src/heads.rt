@@ -9,10 +9,8 @@ ghost use Rattle.fw_segment.specs.HeadView.{content_view, head_view};
 use fw_bytes::{ReadError, put_byte, put_text, put_u32, put_u64, u32_at, u64_at};
 use fw_entry_bytes::{Form, origin_of, seq_of};
 use fw_snapshot::{Content, Head};
-use fw_terms::{Commitment, Policy};
-use fw_terms_bytes::{
-    commitment_len, commitment_of, policy_len, policy_of, put_commitment, put_policy,
-};
+use fw_terms::{Commitment, Policy, commitment_len, policy_len};
+use fw_terms_bytes::{commitment_of, policy_of, put_commitment, put_policy};
 use std::alloc::{AllocError, Global};
 
 /// The most rows of a post.

@@ -2,16 +2,16 @@
 ghost use Rattle.std.specs.Prelude.{◌≡◌, ◌++◌, OnOk};
 ghost use Rattle.fw_bytes.specs.Reading.{Gives, seen, times};
 ghost use Rattle.fw_bytes.specs.Spelling.{listed};
-ghost use Rattle.fw_row_bytes.specs.Spelling.{row};
+ghost use Rattle.fw_charge.specs.Spelling.{row};
 ghost use Rattle.fw_snapshot.specs.Heads.{segment_rows};
 ghost use Rattle.fw_segment.specs.Segments.{segment, segment_at, IsSegment};
 ghost use Rattle.fw_segment.specs.States.{rows_at};
 
 use crate::kind::Kind;
 use fw_bytes::{ReadError, put_byte, put_u32, u32_at};
-use fw_charge::Row;
+use fw_charge::{Row, row_has_spelling};
 use fw_columns::Columns;
-use fw_row_bytes::{put_row, row_has_spelling, rows_of};
+use fw_row_bytes::{put_row, rows_of};
 use std::alloc::{AllocError, Global};
 
 /// The most rows of a segment.

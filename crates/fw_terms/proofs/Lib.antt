@@ -1,1 +1,4 @@
 pub mod Costs
+pub mod Ranges
+pub mod Items
+pub mod Utf8

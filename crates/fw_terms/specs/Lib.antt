@@ -4,3 +4,4 @@ pub mod PolicyView
 pub mod Commitment
 pub mod TermsView
 pub mod CommitmentView
+pub mod Spelling

@@ -2,10 +2,17 @@
 //!
 //! A [`Commitment`] and a [`Policy`] keep their limits, so whoever holds one need not look at them again. What a text must hold for one to come
 //! of it is said by the crates that read such texts.
+//!
+//! `specs/Spelling.antt` has the bytes of each, and which of them have a spelling: each commitment and each policy has one, and knows its
+//! length. The crate above that reads and writes them stands on the same definition.
 #![tactic(auto)]
 
 mod commitment;
+mod lengths;
 mod policy;
+mod spelled;
 
 pub use commitment::{Commitment, CommitmentFields, Purchase, Rate, Terms, total_cost};
+pub use lengths::{commitment_len, policy_len};
 pub use policy::{Give, Policy, Rule, Target};
+pub use spelled::{commitment_has_spelling, policy_has_spelling};

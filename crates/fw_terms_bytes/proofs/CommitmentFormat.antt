@@ -19,14 +19,15 @@ use Rattle.fw_charge.specs.declared.discount.DiscountKind.TheVariants as kind
 use Rattle.fw_charge.specs.Charge.{IsShortText, last_second}
 use Rattle.fw_charge.specs.Codes.{kind_code}
 use Rattle.fw_charge.specs.Tags.{TagText, IsTagSized, IsTags}
-use Rattle.fw_row_bytes.specs.Spelling.{nanos, tags, keys_rise, FitsNanos, FitsSecond, FitsShortText, FitsTag, FitsTags}
+use Rattle.fw_charge.specs.Spelling.{nanos, tags, keys_rise, FitsNanos, FitsSecond, FitsShortText, FitsTag, FitsTags}
 use Rattle.fw_row_bytes.proofs.FieldFormats.{nanos_format, second_format, short_text_format, tags_format}
 use Rattle.fw_terms.specs.Commitment.{PurchaseValue, RateValue, TermsValue, CommitmentValue, kind_of, cost_of, most_skus, most_purchases, AreSkus, IsRate, IsTerms, ArePurchases, IsCommitment}
 use Rattle.fw_terms.specs.Commitment.TermsValue.{usage, spend}
-use Rattle.fw_terms_bytes.specs.Spelling.{rate, purchase, committed, names, term, commitment, IsTagUtf8, AreTermsUtf8, IsSpelledCommitment}
+use Rattle.fw_terms.specs.Spelling.{rate, purchase, committed, names, term, commitment, IsTagUtf8, AreTermsUtf8, IsSpelledCommitment}
 use Rattle.fw_terms_bytes.specs.Reading.{kind_meant, is_start, is_hours, is_ppm, is_cost, is_capacity, start_at, hours_at, capacity_at, cost_at, ppm_at, Names, names_at, Term, term_at, skus_at, rate_from, rate_at, rates_at, usage_from, committed_at, purchase_from, purchase_at, purchases_at, Head, Fields, head_at, fields_at, commitment_from, skus_rise, commitment_rules, commitment_at}
 use Rattle.fw_terms_bytes.proofs.Formats.{then_by_format, told_format, case_format}
-use Rattle.fw_terms_bytes.proofs.Ranges.{count_from_list, list_from_count, text_fits, text_utf8}
+use Rattle.fw_terms.proofs.Ranges.{count_from_list, list_from_count, text_fits, text_utf8}
+use Rattle.fw_terms.proofs.Utf8.{account_utf8, tags_utf8}
 
 -- ---- single fields
 
@@ -252,10 +253,6 @@ account_is : (o : Option (List ℕ)) → FitsOptional FitsShortText o → IfSome
 account_is None h = tt
 account_is (Some x) h = short_is x h
 
-pub account_utf8 : (o : Option (List ℕ)) → FitsOptional FitsShortText o → IfSome o IsUtf8
-account_utf8 None h = tt
-account_utf8 (Some x) h = text_utf8 x h.0
-
 account_fits : (o : Option (List ℕ)) → IfSome o IsShortText → IfSome o IsUtf8 → FitsOptional FitsShortText o
 account_fits None h u = tt
 account_fits (Some x) h u = short_fits x h u
@@ -263,14 +260,8 @@ account_fits (Some x) h u = short_fits x h u
 tag_sized : (t : TagText) → FitsTag t → IsTagSized t
 tag_sized t h = record { key = leb-true _ _ h.0.1; value = leb-true _ _ h.1.1 }
 
-tag_utf8 : (t : TagText) → FitsTag t → IsTagUtf8 t
-tag_utf8 t h = record { key = text_utf8 t.key h.0.0; value = text_utf8 t.value h.1.0 }
-
 tag_fits : (t : TagText) → IsTagSized t → IsTagUtf8 t → FitsTag t
 tag_fits t s u = ((text_fits 1024 t.key (omega arith) s.key u.key, le-leb _ _ s.key), (text_fits 1024 t.value (omega arith) s.value u.value, le-leb _ _ s.value))
-
-pub tags_utf8 : (ts : List TagText) → FitsTags ts → All IsTagUtf8 ts
-tags_utf8 ts h = All-weaker FitsTag IsTagUtf8 tag_utf8 ts (count_from_list 0 256 FitsTag ts h).each
 
 tags_are : (ts : List TagText) → FitsTags ts → keys_rise ts ≡ true → IsTags ts
 tags_are ts h e =

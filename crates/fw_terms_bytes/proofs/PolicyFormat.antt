@@ -11,15 +11,15 @@ use Rattle.fw_bytes.specs.declared.fault.ReadError.TheVariants as errors
 use Rattle.fw_bytes.specs.Reading.{Fails, checked, seen}
 use Rattle.fw_bytes.proofs.Laws.{IsBytes, IsFormat, Takes, bind_ok, ok_is, checked_format, seen_format, both_format, list_format, number_format, wide64, text_format}
 use Rattle.fw_bytes.proofs.Rising.{sorted_from_rise, rise_from_sorted}
-use Rattle.fw_row_bytes.specs.Spelling.{FitsTagText}
+use Rattle.fw_charge.specs.Spelling.{FitsTagText}
 use Rattle.fw_row_bytes.proofs.FieldFormats.{tag_text_format}
 use Rattle.fw_terms.specs.Policy.{TargetValue, GiveValue, RuleValue, PolicyValue, IsTarget, IsGive, IsRule, IsPolicy, most_text, most_rules, most_targets}
 use Rattle.fw_terms.specs.Policy.GiveValue.{fixed, proportional}
 use Rattle.fw_terms_bytes.specs.Groups.{has_twice, has_target_from}
-use Rattle.fw_terms_bytes.specs.Spelling.{target, given, rule, policy, IsGiveUtf8, IsRuleUtf8, IsSpelledPolicy}
+use Rattle.fw_terms.specs.Spelling.{target, given, rule, policy, IsGiveUtf8, IsRuleUtf8, IsSpelledPolicy}
 use Rattle.fw_terms_bytes.specs.Reading.{is_key, is_weight, key_at, weight_at, target_from, target_at, targets_at, give_at, rule_from, rule_at, rules_at, policy_from, parts_at, targets_rise, all_rise, rules_agree, policy_rules, policy_at}
 use Rattle.fw_terms_bytes.proofs.Formats.{told_format}
-use Rattle.fw_terms_bytes.proofs.Ranges.{count_from_list, list_from_count, text_fits, text_utf8}
+use Rattle.fw_terms.proofs.Ranges.{count_from_list, list_from_count, text_fits, text_utf8}
 use Rattle.fw_terms_bytes.proofs.GroupFacts.{once, not_twice, apart, not_given}
 
 -- ---- single fields

@@ -1,4 +1,3 @@
 pub mod Groups
-pub mod Spelling
 pub mod Reading
 pub mod FieldView

@@ -3,7 +3,7 @@ ghost use Rattle.std.specs.Prelude.{◌≡◌, ◌≤◌, ◌<ℤ◌, ◌≤ℤ�
 ghost use Rattle.fw_money.specs.Amount.{most_nanos};
 ghost use Rattle.fw_bytes.specs.Reading.{Gives, code_at, times};
 ghost use Rattle.fw_row_bytes.specs.Reading.{short_text_at};
-ghost use Rattle.fw_row_bytes.specs.Spelling.{FitsTags};
+ghost use Rattle.fw_charge.specs.Spelling.{FitsTags};
 ghost use Rattle.fw_terms.specs.Commitment.{IsCommitment, most_purchases};
 ghost use Rattle.fw_terms.specs.TermsView.{terms_view};
 ghost use Rattle.fw_terms_bytes.specs.Reading.{kind_meant, start_at, hours_at, capacity_at, cost_at, ppm_at, names_at, term_at, skus_at, rate_at, rates_at, committed_at, purchase_at, purchases_at, fields_at, commitment_from, skus_rise, commitment_rules, commitment_at};

@@ -9,7 +9,7 @@ ghost use Rattle.fw_terms.specs.Commitment.{AreSkus, IsRate, AreRates, IsTerms, 
 ghost use Rattle.fw_terms.specs.Policy.{IsTarget, AreTargets, IsGive, IsRule};
 ghost use Rattle.fw_terms.specs.PolicyView.{give_view};
 ghost use Rattle.fw_terms.specs.TermsView.{terms_view};
-ghost use Rattle.fw_terms_bytes.specs.Spelling.{rate, purchase, committed, names, term, commitment, target, given, rule, policy};
+ghost use Rattle.fw_terms.specs.Spelling.{rate, purchase, committed, names, term, commitment, target, given, rule, policy};
 
 use fw_bytes::{put_byte, put_text, put_u32, put_u64};
 use fw_charge::DiscountKind;
@@ -29,7 +29,7 @@ fn kind_code(kind: DiscountKind) -> u8
 }
 
 /// Writes id, kind, account and tags.
-#[tactic(auto, unfolding(crate::specs::Spelling::names))]
+#[tactic(auto, unfolding(fw_terms::specs::Spelling::names))]
 fn put_names(out: &mut Vec<u8>, one: &Commitment) -> Result<(), AllocError>
     ensures { OnOk result (out.new.items ≡ out.old.items ++ names one.now) }
 {
@@ -41,7 +41,7 @@ fn put_names(out: &mut Vec<u8>, one: &Commitment) -> Result<(), AllocError>
 }
 
 /// Writes the first hour, the number of hours, and what each of them holds.
-#[tactic(auto, unfolding(crate::specs::Spelling::term))]
+#[tactic(auto, unfolding(fw_terms::specs::Spelling::term))]
 fn put_term(out: &mut Vec<u8>, one: &Commitment) -> Result<(), AllocError>
     ensures { OnOk result (out.new.items ≡ out.old.items ++ term one.now) }
 {
@@ -64,7 +64,7 @@ fn put_skus(out: &mut Vec<u8>, skus: &[String]) -> Result<(), AllocError>
 }
 
 /// Writes a SKU and its parts per million.
-#[tactic(auto, unfolding(crate::specs::Spelling::rate))]
+#[tactic(auto, unfolding(fw_terms::specs::Spelling::rate))]
 fn put_rate(out: &mut Vec<u8>, one: &Rate) -> Result<(), AllocError>
     requires { IsRate one.now }
     ensures { OnOk result (out.new.items ≡ out.old.items ++ rate one.now) }
@@ -87,7 +87,7 @@ fn put_rates(out: &mut Vec<u8>, rates: &[Rate]) -> Result<(), AllocError>
 }
 
 /// Writes what is committed to.
-#[tactic(auto, unfolding(crate::specs::Spelling::committed))]
+#[tactic(auto, unfolding(fw_terms::specs::Spelling::committed))]
 fn put_terms(out: &mut Vec<u8>, terms: &Terms) -> Result<(), AllocError>
     requires { IsTerms (terms_view terms.now) }
     ensures { OnOk result (out.new.items ≡ out.old.items ++ committed (terms_view terms.now)) }
@@ -103,7 +103,7 @@ fn put_terms(out: &mut Vec<u8>, terms: &Terms) -> Result<(), AllocError>
 }
 
 /// Writes when was paid, and how much.
-#[tactic(auto, unfolding(crate::specs::Spelling::purchase))]
+#[tactic(auto, unfolding(fw_terms::specs::Spelling::purchase))]
 fn put_purchase(out: &mut Vec<u8>, one: &Purchase) -> Result<(), AllocError>
     ensures { OnOk result (out.new.items ≡ out.old.items ++ purchase one.now) }
 {
@@ -128,7 +128,7 @@ fn put_purchases(out: &mut Vec<u8>, purchases: &[Purchase]) -> Result<(), AllocE
 ///
 /// # Errors
 /// [`AllocError`] where the buffer can't grow. Then nothing is promised of what the buffer holds.
-#[tactic(auto, unfolding(crate::specs::Spelling::commitment))]
+#[tactic(auto, unfolding(fw_terms::specs::Spelling::commitment))]
 pub fn put_commitment(out: &mut Vec<u8>, one: &Commitment) -> Result<(), AllocError>
     ensures { OnOk result (out.new.items ≡ out.old.items ++ commitment one.now) }
 {
@@ -140,7 +140,7 @@ pub fn put_commitment(out: &mut Vec<u8>, one: &Commitment) -> Result<(), AllocEr
 }
 
 /// Writes a group and its weight.
-#[tactic(auto, unfolding(crate::specs::Spelling::target))]
+#[tactic(auto, unfolding(fw_terms::specs::Spelling::target))]
 fn put_target(out: &mut Vec<u8>, one: &Target) -> Result<(), AllocError>
     requires { IsTarget one.now }
     ensures { OnOk result (out.new.items ≡ out.old.items ++ target one.now) }
@@ -163,7 +163,7 @@ fn put_targets(out: &mut Vec<u8>, targets: &[Target]) -> Result<(), AllocError>
 }
 
 /// Writes to whom a group's cost is given.
-#[tactic(auto, unfolding(crate::specs::Spelling::given))]
+#[tactic(auto, unfolding(fw_terms::specs::Spelling::given))]
 fn put_give(out: &mut Vec<u8>, give: &Give) -> Result<(), AllocError>
     requires { IsGive (give_view give.now) }
     ensures { OnOk result (out.new.items ≡ out.old.items ++ given (give_view give.now)) }
@@ -179,7 +179,7 @@ fn put_give(out: &mut Vec<u8>, give: &Give) -> Result<(), AllocError>
 }
 
 /// Writes a rule.
-#[tactic(auto, unfolding(crate::specs::Spelling::rule))]
+#[tactic(auto, unfolding(fw_terms::specs::Spelling::rule))]
 fn put_rule(out: &mut Vec<u8>, one: &Rule) -> Result<(), AllocError>
     requires { IsRule one.now }
     ensures { OnOk result (out.new.items ≡ out.old.items ++ rule one.now) }
@@ -193,7 +193,7 @@ fn put_rule(out: &mut Vec<u8>, one: &Rule) -> Result<(), AllocError>
 ///
 /// # Errors
 /// [`AllocError`] where the buffer can't grow. Then nothing is promised of what the buffer holds.
-#[tactic(auto, unfolding(crate::specs::Spelling::policy))]
+#[tactic(auto, unfolding(fw_terms::specs::Spelling::policy))]
 pub fn put_policy(out: &mut Vec<u8>, one: &Policy) -> Result<(), AllocError>
     ensures { OnOk result (out.new.items ≡ out.old.items ++ policy one.now) }
 {

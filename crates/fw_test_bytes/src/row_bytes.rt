@@ -1,10 +1,11 @@
 //! Rows, written and read, and the place of each fault.
 use fw_bytes::{ReadError, put_byte, put_u32};
-use fw_charge::{Category, Discount, DiscountKind, DiscountStatus, Row, RowFields, Tags};
+use fw_charge::{
+    Category, Discount, DiscountKind, DiscountStatus, Row, RowFields, Tags, row_len, tags_len,
+};
 use fw_money::Nanos;
 use fw_row_bytes::{
-    keys_rise, put_row, row_len, row_of, short_text_of, tag_text_of, tags_in_order, tags_len,
-    tags_of,
+    keys_rise, put_row, row_of, short_text_of, tag_text_of, tags_in_order, tags_of,
 };
 use std::alloc::{AllocError, Global};
 use std::test::Fail;

@@ -1,10 +1,9 @@
 //! Commitments and policies, read and written, and the place of each fault.
 use fw_bytes::{ReadError, put_byte, put_u32};
-use fw_terms::{Commitment, Policy};
-use fw_terms_bytes::{
-    commitment_has_spelling, commitment_len, commitment_of, policy_has_spelling, policy_len,
-    policy_of, put_commitment, put_policy,
+use fw_terms::{
+    Commitment, Policy, commitment_has_spelling, commitment_len, policy_has_spelling, policy_len,
 };
+use fw_terms_bytes::{commitment_of, policy_of, put_commitment, put_policy};
 use std::alloc::{AllocError, Global};
 use std::test::Fail;
 

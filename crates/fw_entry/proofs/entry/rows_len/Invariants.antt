@@ -2,7 +2,7 @@ use Rattle.std.proofs.Common.{◌≡◌, ◌+◌, ◌*◌, ◌≤◌, ℕ, List,
 use Rattle.std.specs.Prelude.{All}
 use Rattle.std.specs.List.{flat_map}
 use Rattle.fw_charge.specs.Charge.{Charge}
-use Rattle.fw_row_bytes.specs.Spelling.{row, IsRow}
+use Rattle.fw_charge.specs.Spelling.{row, IsRow}
 use Rattle.fw_entry.proofs.entry.rows_len.Given as goal
 
 -- the bytes of the first n rows, each of which has a spelling, behind the four of their number

@@ -1,7 +1,7 @@
 use Rattle.std.proofs.Common.{◌≡◌, ◌++◌, length, take}
 use Rattle.std.specs.List.{flat_map}
 use Rattle.fw_bytes.specs.Spelling.{number32}
-use Rattle.fw_row_bytes.specs.Spelling.{row}
+use Rattle.fw_charge.specs.Spelling.{row}
 use Rattle.fw_entry_bytes.proofs.writing.put_rows.Given as goal
 
 -- the number and the rows so far are written

@@ -1,5 +1,5 @@
 use Rattle.std.proofs.Common.{append_assoc}
-use Rattle.fw_row_bytes.specs.Spelling.{row}
+use Rattle.fw_charge.specs.Spelling.{row}
 use Rattle.fw_row_bytes.proofs.writing.put_row.Goals as goal
 
 pub returns : goal.returns

@@ -1,7 +1,7 @@
 use Rattle.std.proofs.Common.{◌≡◌, ◌++◌, length, take}
 use Rattle.std.specs.List.{flat_map}
 use Rattle.fw_bytes.specs.Spelling.{number32}
-use Rattle.fw_row_bytes.specs.Spelling.{tag}
+use Rattle.fw_charge.specs.Spelling.{tag}
 use Rattle.fw_row_bytes.proofs.writing.put_tags.Given as goal
 
 abbrev pub invariant-loop-one : goal.invariant-loop-one

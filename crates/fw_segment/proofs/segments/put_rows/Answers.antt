@@ -1,6 +1,6 @@
 use Rattle.std.proofs.Common.{length}
 use Rattle.fw_bytes.specs.Spelling.{number32}
-use Rattle.fw_row_bytes.specs.Spelling.{row, IsRow}
+use Rattle.fw_charge.specs.Spelling.{row, IsRow}
 use Rattle.fw_segment.proofs.Writing.{written_more, all_more}
 use Rattle.fw_segment.proofs.segments.put_rows.Goals as goal
 

@@ -1,7 +1,7 @@
 use Rattle.std.proofs.Common.{◌≡◌, ◌++◌, length, take}
 use Rattle.std.specs.List.{flat_map}
 use Rattle.fw_bytes.specs.Spelling.{number32}
-use Rattle.fw_terms_bytes.specs.Spelling.{purchase}
+use Rattle.fw_terms.specs.Spelling.{purchase}
 use Rattle.fw_terms_bytes.proofs.writing.put_purchases.Given as goal
 
 abbrev pub invariant-loop-one : goal.invariant-loop-one

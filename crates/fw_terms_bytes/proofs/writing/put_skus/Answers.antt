@@ -1,5 +1,5 @@
 use Rattle.std.proofs.Common.{arith}
-use Rattle.fw_terms_bytes.proofs.Items.{short_at}
+use Rattle.fw_terms.proofs.Items.{short_at}
 use Rattle.fw_terms_bytes.proofs.writing.put_skus.Goals as goal
 
 pub put_text-requires : goal.put_text-requires

@@ -1,5 +1,5 @@
 use Rattle.std.proofs.Common.{append_assoc}
-use Rattle.fw_terms_bytes.specs.Spelling.{term}
+use Rattle.fw_terms.specs.Spelling.{term}
 use Rattle.fw_terms_bytes.proofs.writing.put_term.Goals as goal
 
 pub returns : goal.returns

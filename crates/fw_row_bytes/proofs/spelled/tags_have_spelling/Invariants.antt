@@ -1,6 +1,0 @@
-use Rattle.std.proofs.Common.{take, All}
-use Rattle.fw_row_bytes.specs.Spelling.{FitsTag}
-use Rattle.fw_row_bytes.proofs.spelled.tags_have_spelling.Given as goal
-
-abbrev pub invariant-loop-one : goal.invariant-loop-one
-invariant-loop-one l = All FitsTag (take l.one-index l.all)

@@ -1,0 +1,6 @@
+use Rattle.std.proofs.Common.{All, take}
+use Rattle.std.specs.Str.{IsUtf8}
+use Rattle.fw_terms.proofs.spelled.targets_are_utf8.Given as goal
+
+abbrev pub invariant-loop-one : goal.invariant-loop-one
+invariant-loop-one l = All (λ t. IsUtf8 t.group) (take l.one-index l.targets)

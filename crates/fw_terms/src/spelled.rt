@@ -1,0 +1,76 @@
+//! Each commitment and each policy has a spelling: functions that tell so of a value, and do nothing else.
+ghost use Rattle.std.specs.Prelude.{All};
+ghost use Rattle.std.specs.Str.{IsUtf8};
+ghost use Rattle.fw_terms.specs.PolicyView.{give_view};
+ghost use Rattle.fw_terms.specs.TermsView.{terms_view};
+ghost use Rattle.fw_terms.specs.Spelling.{AreTermsUtf8, IsSpelledCommitment, IsGiveUtf8, IsRuleUtf8, IsSpelledPolicy};
+
+use crate::commitment::{Commitment, Rate, Terms};
+use crate::policy::{Give, Policy, Rule, Target};
+use fw_charge::{optional_text_has_spelling, tags_have_spelling};
+
+/// The SKU of each rate is UTF-8.
+fn rates_are_utf8(rates: &[Rate])
+    ensures { All (λ r. IsUtf8 r.sku) rates.now }
+{
+    for one in rates {
+        let _sku = one.sku();
+    }
+}
+
+/// Each text of what is committed to is UTF-8.
+fn terms_are_utf8(terms: &Terms)
+    ensures { AreTermsUtf8 (terms_view terms.now) }
+{
+    match terms {
+        Terms::Usage { .. } => {}
+        Terms::Spend { rates } => rates_are_utf8(rates),
+    }
+}
+
+/// Each commitment has a spelling, so it is read from what is written of it. Looks at each of its tags and rates.
+pub fn commitment_has_spelling(one: &Commitment)
+    ensures { IsSpelledCommitment one.now }
+{
+    let _id = one.id();
+    terms_are_utf8(one.terms());
+    optional_text_has_spelling(one.sub_account());
+    tags_have_spelling(one.tags());
+}
+
+/// The group of each target is UTF-8.
+fn targets_are_utf8(targets: &[Target])
+    ensures { All (λ t. IsUtf8 t.group) targets.now }
+{
+    for one in targets {
+        let _group = one.group();
+    }
+}
+
+/// Each text of what a rule gives is UTF-8.
+fn give_is_utf8(give: &Give)
+    ensures { IsGiveUtf8 (give_view give.now) }
+{
+    match give {
+        Give::Fixed(targets) => targets_are_utf8(targets),
+        Give::Proportional => {}
+    }
+}
+
+/// Each text of a rule is UTF-8.
+fn rule_is_utf8(one: &Rule)
+    ensures { IsRuleUtf8 one.now }
+{
+    let _from = one.from();
+    give_is_utf8(one.give());
+}
+
+/// Each policy has a spelling, so it is read from what is written of it. Looks at each of its targets.
+pub fn policy_has_spelling(one: &Policy)
+    ensures { IsSpelledPolicy one.now }
+{
+    let _key = one.key();
+    for rule in one.rules() {
+        rule_is_utf8(rule);
+    }
+}

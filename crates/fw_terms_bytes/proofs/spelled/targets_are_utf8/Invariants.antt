@@ -1,6 +1,0 @@
-use Rattle.std.proofs.Common.{All, take}
-use Rattle.std.specs.Str.{IsUtf8}
-use Rattle.fw_terms_bytes.proofs.spelled.targets_are_utf8.Given as goal
-
-abbrev pub invariant-loop-one : goal.invariant-loop-one
-invariant-loop-one l = All (λ t. IsUtf8 t.group) (take l.one-index l.targets)
