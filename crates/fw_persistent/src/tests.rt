@@ -26,28 +26,43 @@ fn counts_up(sequence: &Sequence<u32>) -> bool {
     true
 }
 
+/// Whether the sequence of so many numbers has each at its place.
+fn has_each(alloc: Global, count: u32) -> Result<bool, AllocError> {
+    let sequence = numbers(alloc, count)?;
+    Ok(sequence.len() == count as usize && counts_up(&sequence))
+}
+
+/// The first length whose sequence hasn't.
+fn first_wrong_length(alloc: Global) -> Result<Option<u32>, AllocError> {
+    for count in 0..40 {
+        if !has_each(alloc, count)? {
+            return Ok(Some(count));
+        }
+    }
+    Ok(None)
+}
+
 #[test]
 fn each_item_is_at_its_place(rt: HostRuntime) -> Result<(), Fail> {
-    for count in 0..40 {
-        let sequence = numbers(rt.alloc(), count)?;
-        assert_eq!(rt; sequence.len(), count as usize);
-        assert!(rt; counts_up(&sequence));
-    }
+    let wrong = first_wrong_length(rt.alloc())?;
+    assert!(rt; wrong.is_none(), "{wrong:?}");
     Ok(())
+}
+
+/// Whether a sequence stays as it was beside two that were made of it, and so does a copy.
+fn old_stays(alloc: Global) -> Result<bool, AllocError> {
+    let old = Box::new(alloc, numbers(alloc, 9)?)?;
+    let one = Box::new(alloc, old.push(alloc, 9)?)?;
+    let other = Box::new(alloc, old.push(alloc, 100)?)?;
+    let copy = Box::new(alloc, old.copy()?)?;
+    let lengths = (old.len(), one.len(), other.len());
+    Ok(lengths == (9, 10, 10) && counts_up(&old) && counts_up(&one) && counts_up(&copy))
 }
 
 #[test]
 fn a_push_leaves_the_sequence_as_it_was(rt: HostRuntime) -> Result<(), Fail> {
-    let alloc = rt.alloc();
-    let old = numbers(alloc, 9)?;
-    let one = old.push(alloc, 9)?;
-    let other = old.push(alloc, 100)?;
-    assert_eq!(rt; old.len(), 9);
-    assert!(rt; counts_up(&old));
-    assert_eq!(rt; one.len(), 10);
-    assert!(rt; counts_up(&one));
-    assert_eq!(rt; other.len(), 10);
-    assert!(rt; counts_up(&old.copy()?));
+    let stayed = old_stays(rt.alloc())?;
+    assert!(rt; stayed);
     Ok(())
 }
 
@@ -119,12 +134,17 @@ impl Heads {
     }
 }
 
+/// The numbers of two heads.
+fn two_heads(alloc: Global) -> Result<(u64, u64), AllocError> {
+    let one = Heads::new().with(alloc, 7)?;
+    let heads = one.with(alloc, 5)?;
+    Ok((heads.number(0), heads.number(1)))
+}
+
 #[test]
 fn a_struct_sees_a_sequence_as_a_list(rt: HostRuntime) -> Result<(), Fail> {
-    let alloc = rt.alloc();
-    let heads = Heads::new().with(alloc, 7)?.with(alloc, 5)?;
-    assert_eq!(rt; heads.number(0), 7);
-    assert_eq!(rt; heads.number(1), 5);
+    let seen = two_heads(rt.alloc())?;
+    assert!(rt; seen == (7, 5), "{seen:?}");
     Ok(())
 }
 
@@ -152,49 +172,72 @@ fn counted(alloc: Global, texts: &[&str]) -> Result<Counters, AllocError> {
     Ok(counters)
 }
 
+/// Texts, and how often each is among those counted below.
+const COUNTS: &[(&str, u64)] = &[("a", 3), ("ab", 1), ("b", 1), ("c", 1), ("", 1), ("aa", 0)];
+
+/// The first text with another count.
+fn first_miscounted(alloc: Global) -> Result<Option<&'static str>, AllocError> {
+    let counters = Box::new(alloc, counted(alloc, &["b", "a", "c", "a", "", "ab", "a"])?)?;
+    for (text, count) in COUNTS {
+        if counters.count(text) != *count {
+            return Ok(Some(text));
+        }
+    }
+    Ok(None)
+}
+
 #[test]
 fn each_text_has_its_count(rt: HostRuntime) -> Result<(), Fail> {
-    let counters = counted(rt.alloc(), &["b", "a", "c", "a", "", "ab", "a"])?;
-    assert_eq!(rt; counters.count("a"), 3);
-    assert_eq!(rt; counters.count("ab"), 1);
-    assert_eq!(rt; counters.count("b"), 1);
-    assert_eq!(rt; counters.count("c"), 1);
-    assert_eq!(rt; counters.count(""), 1);
-    assert_eq!(rt; counters.count("aa"), 0);
+    let wrong = first_miscounted(rt.alloc())?;
+    assert!(rt; wrong.is_none(), "{wrong:?}");
     Ok(())
+}
+
+/// How often the old counters have `c`, the new ones have it, and a copy of these has `b`.
+fn old_and_new(alloc: Global) -> Result<(u64, u64, u64), AllocError> {
+    let old = Box::new(alloc, counted(alloc, &["b", "a"])?)?;
+    let text = shared(alloc, "c")?;
+    let new = Box::new(alloc, old.raised(alloc, &text)?)?;
+    let copy = Box::new(alloc, new.copy()?)?;
+    Ok((old.count("c"), new.count("c"), copy.count("b")))
 }
 
 #[test]
 fn raised_counters_leave_the_old_ones(rt: HostRuntime) -> Result<(), Fail> {
-    let alloc = rt.alloc();
-    let old = counted(alloc, &["b", "a"])?;
-    let new = old.raised(alloc, &shared(alloc, "c")?)?;
-    assert_eq!(rt; old.count("c"), 0);
-    assert_eq!(rt; new.count("c"), 1);
-    assert_eq!(rt; new.copy()?.count("b"), 1);
+    let counts = old_and_new(rt.alloc())?;
+    assert!(rt; counts == (0, 1, 1), "{counts:?}");
     Ok(())
+}
+
+/// Whether counters share a text that they count, and lend it, and none that they don't.
+fn shares_its_texts(alloc: Global) -> Result<bool, AllocError> {
+    let text = shared(alloc, "a")?;
+    let old = Box::new(alloc, counted(alloc, &["b", "c"])?)?;
+    let counters = Box::new(alloc, old.raised(alloc, &text)?)?;
+    let key = counters.key("a").map(|key| key.as_str());
+    Ok(Arc::strong_count(&text) == 2 && counters.key("x").is_none() && key == Some("a"))
 }
 
 #[test]
 fn texts_are_shared(rt: HostRuntime) -> Result<(), Fail> {
-    let alloc = rt.alloc();
-    let text = shared(alloc, "a")?;
-    let counters = counted(alloc, &["b", "c"])?.raised(alloc, &text)?;
-    assert_eq!(rt; Arc::strong_count(&text), 2);
-    assert!(rt; counters.key("x").is_none());
-    let key = counters.key("a").map(|key| key.as_str());
-    assert_eq!(rt; key, Some("a"));
+    let shared = shares_its_texts(rt.alloc())?;
+    assert!(rt; shared);
     Ok(())
 }
 
-#[test]
-fn rising_texts_make_no_high_tree(rt: HostRuntime) -> Result<(), Fail> {
-    let alloc = rt.alloc();
+/// The height of the counters of 10,000 rising texts.
+fn height_of_rising(alloc: Global) -> Result<u32, AllocError> {
     let mut counters = Counters::new();
     for number in 0..10_000 {
         let text = Arc::new(alloc, format!(in alloc; "{number:05}")?)?;
         counters = counters.raised(alloc, &text)?;
     }
-    assert_eq!(rt; counters.height(), 14);
+    Ok(counters.height())
+}
+
+#[test]
+fn rising_texts_make_no_high_tree(rt: HostRuntime) -> Result<(), Fail> {
+    let height = height_of_rising(rt.alloc())?;
+    assert!(rt; height == 14, "{height}");
     Ok(())
 }

@@ -37,66 +37,100 @@ fn post(alloc: Global) -> Result<Command, AllocError>
     Ok(Command::Post(rows))
 }
 
-#[test]
-fn an_entry_of_two_rows(rt: HostRuntime) -> Result<(), Fail> {
-    let alloc = rt.alloc();
-    let entry = match Entry::new(alloc, b"a-B_9.", 7, post(alloc)?) {
-        Ok(entry) => entry,
-        Err(fault) => return Err(Fail::from(fault)),
-    };
-    assert_eq!(rt; entry.origin(), "a-B_9.");
-    assert_eq!(rt; entry.seq(), 7);
+/// Whether an entry is number 7 of `a-B_9.` and posts two rows.
+fn is_number_7(entry: &Entry) -> bool {
     // a length and six letters, a number, a kind, and a count with two rows
-    assert_eq!(rt; entry.encoded_len(), 4 + 6 + 8 + 1 + 4 + 2 * 45);
-    let copy = entry.copy(alloc)?;
-    assert_eq!(rt; copy.origin(), "a-B_9.");
-    assert_eq!(rt; copy.seq(), 7);
-    assert_eq!(rt; copy.encoded_len(), 113);
-    match copy.command() {
-        Command::Post(rows) => assert_eq!(rt; rows.len(), 2),
-        _ => assert!(rt; false, "a copy of another kind"),
+    entry.origin() == "a-B_9."
+        && entry.seq() == 7
+        && entry.encoded_len() == 4 + 6 + 8 + 1 + 4 + 2 * 45
+        && matches!(entry.command(), Command::Post(rows) if rows.len() == 2)
+}
+
+/// Whether an entry and its copy are that number 7.
+fn are_number_7(alloc: Global, entry: &Entry) -> Result<bool, EntryFault> {
+    match entry.copy(alloc) {
+        Ok(copy) => Ok(is_number_7(entry) && is_number_7(&copy)),
+        Err(_) => Err(EntryFault::NoMemory),
     }
-    Ok(())
+}
+
+/// Whether the parts make number 7 of `a-B_9.`, or why they make no entry.
+fn makes_number_7(
+    alloc: Global,
+    origin: &[u8],
+    seq: u64,
+    command: Command,
+) -> Result<bool, EntryFault>
+    requires { HasRowCount (command_view command) }
+{
+    match Entry::new(alloc, origin, seq, command) {
+        Ok(entry) => are_number_7(alloc, &entry),
+        Err(fault) => Err(fault),
+    }
+}
+
+/// What a post of two rows makes with this origin and number.
+fn made(alloc: Global, origin: &[u8], seq: u64) -> Result<bool, EntryFault> {
+    match post(alloc) {
+        Ok(command) => makes_number_7(alloc, origin, seq, command),
+        Err(_) => Err(EntryFault::NoMemory),
+    }
+}
+
+/// An origin and a number, and what a post of two rows makes with them.
+const PARTS: [(&[u8], u64, Result<bool, EntryFault>); 6] = [
+    (b"a-B_9.", 7, Ok(true)),
+    (b"a/b", 1, Err(EntryFault::Origin)),
+    (b"a/b", 0, Err(EntryFault::Origin)),
+    (b"", 1, Err(EntryFault::Origin)),
+    (b"\xff", 1, Err(EntryFault::Origin)),
+    (b"a", 0, Err(EntryFault::Seq)),
+];
+
+/// The first of the parts that make something else.
+fn wrong_parts(alloc: Global) -> Result<Option<usize>, EntryFault> {
+    for (i, (origin, seq, wanted)) in PARTS.iter().enumerate() {
+        let made = made(alloc, origin, *seq);
+        if made == Err(EntryFault::NoMemory) {
+            return Err(EntryFault::NoMemory);
+        }
+        if made != *wanted {
+            return Ok(Some(i));
+        }
+    }
+    Ok(None)
 }
 
 #[test]
-fn parts_that_make_no_entry(rt: HostRuntime) -> Result<(), Fail> {
-    let alloc = rt.alloc();
-    let cases = [
-        (b"a/b".as_slice(), 1, EntryFault::Origin),
-        (b"a/b".as_slice(), 0, EntryFault::Origin),
-        (b"".as_slice(), 1, EntryFault::Origin),
-        (b"\xff".as_slice(), 1, EntryFault::Origin),
-        (b"a".as_slice(), 0, EntryFault::Seq),
-    ];
-    for (origin, seq, wanted) in cases {
-        match Entry::new(alloc, origin, seq, post(alloc)?) {
-            Ok(_) => assert!(rt; false, "an entry of the number {seq}"),
-            Err(EntryFault::NoMemory) => return Err(Fail::from(EntryFault::NoMemory)),
-            Err(fault) => assert_eq!(rt; fault, wanted),
-        }
-    }
+fn parts_make_an_entry_or_none(rt: HostRuntime) -> Result<(), Fail> {
+    let wrong = wrong_parts(rt.alloc())?;
+    assert_eq!(rt; wrong, None);
     Ok(())
+}
+
+const NAMES: [&[u8]; 7] = [b"a", b"Z", b"0", b"-", b"_", b".", &[b'x'; 64]];
+
+const NO_NAMES: [&[u8]; 11] = [
+    b"",
+    b"a b",
+    b"a/b",
+    b"a:b",
+    b"a\n",
+    b"\xc3\xa9",
+    b"@",
+    b"[",
+    b"`",
+    b"{",
+    &[b'x'; 65],
+];
+
+/// The first of the texts that is an origin, or is none.
+fn first_that(texts: &[&[u8]], is: bool) -> Option<usize> {
+    texts.iter().position(|text| is_origin(text) == is)
 }
 
 #[test]
 fn names_of_origins(rt: HostRuntime) {
-    for name in [b"a".as_slice(), b"Z", b"0", b"-", b"_", b".", &[b'x'; 64]] {
-        assert!(&rt; is_origin(name), "{name:?}");
-    }
-    for name in [
-        b"".as_slice(),
-        b"a b",
-        b"a/b",
-        b"a:b",
-        b"a\n",
-        b"\xc3\xa9",
-        b"@",
-        b"[",
-        b"`",
-        b"{",
-        &[b'x'; 65],
-    ] {
-        assert!(&rt; !is_origin(name), "{name:?}");
-    }
+    let wrong = (first_that(&NAMES, false), first_that(&NO_NAMES, true));
+    assert_eq!(rt; wrong, (None, None));
 }

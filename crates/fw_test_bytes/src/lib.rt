@@ -6,10 +6,8 @@
 #[cfg(test)]
 mod bytes;
 #[cfg(test)]
+mod decoders;
+#[cfg(test)]
 mod entry;
 #[cfg(test)]
-mod entry_bytes;
-#[cfg(test)]
-mod row_bytes;
-#[cfg(test)]
-mod terms_bytes;
+mod vectors;

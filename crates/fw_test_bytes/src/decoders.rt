@@ -1,0 +1,318 @@
+//! What the decoders read, and the place of each fault.
+use crate::vectors::{
+    Change, DEAR, FAULTS, FULL, FULL_CHANGES, FULL_FRONTS, Front, POLICY, POLICY_CHANGES,
+    POLICY_FRONTS, SPEND, SPEND_CHANGES, TAX, TAX_CHANGES, USAGE, USAGE_CHANGES, USAGE_FRONTS,
+    VALUES,
+};
+use fw_bytes::{ReadError, i64_at, put_byte, str_at, u32_at, u64_at};
+use fw_charge::row_len;
+use fw_entry::Entry;
+use fw_entry_bytes::{Form, entry_of, put_entry};
+use fw_row_bytes::{put_row, row_of, short_text_of, tag_text_of};
+use fw_terms::{Commitment, Policy, commitment_len, policy_len};
+use fw_terms_bytes::{commitment_of, policy_of, put_commitment, put_policy};
+use std::alloc::{AllocError, Global};
+use std::fmt::Debug;
+use std::test::Fail;
+
+/// What bytes are read as.
+#[derive(Clone, Copy, Drop)]
+pub enum What {
+    U32,
+    U64,
+    I64,
+    Text,
+    ShortText,
+    TagText,
+    Row,
+    Commitment,
+    Policy,
+    Entry,
+}
+
+/// What is written in bytes.
+trait Spelled: Debug + Drop {
+    fn put(&self, out: &mut Vec<u8>) -> Result<(), AllocError>;
+
+    fn written_len(&self) -> usize;
+}
+
+impl Spelled for fw_charge::Row {
+    fn put(&self, out: &mut Vec<u8>) -> Result<(), AllocError> {
+        put_row(out, self)
+    }
+
+    fn written_len(&self) -> usize {
+        row_len(self)
+    }
+}
+
+impl Spelled for Commitment {
+    fn put(&self, out: &mut Vec<u8>) -> Result<(), AllocError> {
+        put_commitment(out, self)
+    }
+
+    fn written_len(&self) -> usize {
+        commitment_len(self)
+    }
+}
+
+impl Spelled for Policy {
+    fn put(&self, out: &mut Vec<u8>) -> Result<(), AllocError> {
+        put_policy(out, self)
+    }
+
+    fn written_len(&self) -> usize {
+        policy_len(self)
+    }
+}
+
+impl Spelled for Entry {
+    fn put(&self, out: &mut Vec<u8>) -> Result<(), AllocError> {
+        put_entry(out, self)
+    }
+
+    fn written_len(&self) -> usize {
+        self.encoded_len()
+    }
+}
+
+/// The parts, one after the other.
+fn joined(alloc: Global, parts: &[&[u8]]) -> Result<Vec<u8>, AllocError> {
+    let mut bytes = Vec::new(alloc);
+    for part in parts {
+        bytes.extend_from_slice(part)?;
+    }
+    Ok(bytes)
+}
+
+/// Whether a value prints so.
+fn prints<T: Debug>(alloc: Global, one: &T, printed: &str) -> Result<bool, AllocError> {
+    let text = format!(in alloc; "{one:?}")?;
+    Ok(text.as_str() == printed)
+}
+
+/// Whether a value is written as these bytes, here behind a 7.
+fn writes<T: Spelled>(out: &mut Vec<u8>, one: &T, bytes: &[u8]) -> Result<bool, AllocError> {
+    put_byte(out, 7)?;
+    one.put(out)?;
+    Ok(out.split_first() == Some((&7, bytes)) && one.written_len() == bytes.len())
+}
+
+/// Whether a value prints so and is written as these bytes.
+fn is_shown<T: Spelled>(
+    alloc: Global,
+    one: &T,
+    bytes: &[u8],
+    printed: &str,
+) -> Result<bool, ReadError> {
+    let mut out = Vec::new(alloc);
+    let is_written = writes(&mut out, one, bytes);
+    Ok(is_written? && prints(alloc, one, printed)?)
+}
+
+/// Whether the value that was read prints so and is written as these bytes, and so many were left.
+fn is_read<T: Spelled>(
+    alloc: Global,
+    read: Result<(T, &[u8]), ReadError>,
+    left: usize,
+    bytes: &[u8],
+    printed: &str,
+) -> Result<bool, ReadError> {
+    match read {
+        Ok((one, rest)) if rest.len() == left => is_shown(alloc, &one, bytes, printed),
+        Ok(_) => Ok(false),
+        Err(fault) => Err(fault),
+    }
+}
+
+/// Whether these bytes, of which the last few are left, are a value that prints so, and are written again.
+fn is_decoded(
+    alloc: Global,
+    what: What,
+    bytes: &[u8],
+    left: usize,
+    printed: &str,
+) -> Result<bool, ReadError> {
+    let own = bytes
+        .get(..bytes.len().saturating_sub(left))
+        .unwrap_or(bytes);
+    match what {
+        What::Row => is_read(alloc, row_of(alloc, bytes), left, own, printed),
+        What::Commitment => is_read(alloc, commitment_of(alloc, bytes), left, own, printed),
+        What::Policy => is_read(alloc, policy_of(alloc, bytes), left, own, printed),
+        What::Entry => is_read(alloc, entry_of(alloc, Form::One, bytes), left, own, printed),
+        _ => Ok(false),
+    }
+}
+
+/// Whether a value is read and written with these bytes after its own.
+fn is_spelled(
+    alloc: Global,
+    what: What,
+    parts: &[&[u8]],
+    after: &[u8],
+    printed: &str,
+) -> Result<bool, ReadError> {
+    let mut bytes = joined(alloc, parts)?;
+    match bytes.extend_from_slice(after) {
+        Ok(()) => is_decoded(alloc, what, &bytes, after.len(), printed),
+        Err(fault) => Err(ReadError::from(fault)),
+    }
+}
+
+/// Whether a value is read and written with nothing after its bytes, and with two more.
+fn is_right(alloc: Global, what: What, parts: &[&[u8]], printed: &str) -> Result<bool, ReadError> {
+    Ok(
+        is_spelled(alloc, what, parts, &[], printed)?
+            && is_spelled(alloc, what, parts, &[7, 7], printed)?,
+    )
+}
+
+/// What the first value prints that is not read or not written.
+fn wrong_value(alloc: Global) -> Result<Option<&'static str>, ReadError> {
+    for (what, parts, printed) in &VALUES {
+        if !is_right(alloc, *what, parts, printed)? {
+            return Ok(Some(printed));
+        }
+    }
+    Ok(None)
+}
+
+#[test]
+fn values_are_read_and_written(rt: HostRuntime) -> Result<(), Fail> {
+    let wrong = wrong_value(rt.alloc())?;
+    assert!(rt; wrong.is_none(), "{wrong:?}");
+    Ok(())
+}
+
+/// The place of a decoder's fault in these bytes; `None` where it read a value.
+fn place_of<T: Drop>(
+    bytes: &[u8],
+    read: Result<(T, &[u8]), ReadError>,
+) -> Result<Option<usize>, AllocError> {
+    match read {
+        Ok(_) => Ok(None),
+        Err(ReadError::Corrupt(left)) => Ok(Some(bytes.len().saturating_sub(left))),
+        Err(ReadError::NoMemory) => Err(AllocError),
+    }
+}
+
+/// The place of the fault in these bytes; `None` where they begin with a value.
+fn fault_of(alloc: Global, what: What, bytes: &[u8]) -> Result<Option<usize>, AllocError> {
+    match what {
+        What::U32 => place_of(bytes, u32_at(bytes)),
+        What::U64 => place_of(bytes, u64_at(bytes)),
+        What::I64 => place_of(bytes, i64_at(bytes)),
+        What::Text => place_of(bytes, str_at(bytes)),
+        What::ShortText => place_of(bytes, short_text_of(alloc, bytes)),
+        What::TagText => place_of(bytes, tag_text_of(alloc, bytes)),
+        What::Row => place_of(bytes, row_of(alloc, bytes)),
+        What::Commitment => place_of(bytes, commitment_of(alloc, bytes)),
+        What::Policy => place_of(bytes, policy_of(alloc, bytes)),
+        What::Entry => place_of(bytes, entry_of(alloc, Form::One, bytes)),
+    }
+}
+
+/// The place of the fault in the bytes that the parts make.
+fn fault(alloc: Global, what: What, parts: &[&[u8]]) -> Result<Option<usize>, AllocError> {
+    let bytes = joined(alloc, parts)?;
+    fault_of(alloc, what, &bytes)
+}
+
+/// The place of the fault once the byte at `place` is another.
+fn changed(
+    alloc: Global,
+    what: What,
+    bytes: &[u8],
+    place: usize,
+    byte: u8,
+) -> Result<Option<usize>, AllocError> {
+    let front = bytes.get(..place).unwrap_or(bytes);
+    let rest = bytes.get(place.saturating_add(1)..).unwrap_or(&[]);
+    fault(alloc, what, &[front, &[byte], rest])
+}
+
+/// The first change that makes no fault or makes it elsewhere.
+fn wrong_change(
+    alloc: Global,
+    what: What,
+    bytes: &[u8],
+    changes: &[Change],
+) -> Result<Option<Change>, AllocError> {
+    for (place, byte, at) in changes {
+        if changed(alloc, what, bytes, *place, *byte)? != Some(*at) {
+            return Ok(Some((*place, *byte, *at)));
+        }
+    }
+    Ok(None)
+}
+
+#[test]
+fn changes_have_their_faults(rt: HostRuntime) -> Result<(), Fail> {
+    let alloc = rt.alloc();
+    let wrong = [
+        wrong_change(alloc, What::Row, &TAX, TAX_CHANGES)?,
+        wrong_change(alloc, What::Row, &FULL, FULL_CHANGES)?,
+        wrong_change(alloc, What::Commitment, &USAGE, USAGE_CHANGES)?,
+        wrong_change(alloc, What::Commitment, &DEAR, &[(106, 1, 0)])?,
+        wrong_change(alloc, What::Commitment, &SPEND, SPEND_CHANGES)?,
+        wrong_change(alloc, What::Policy, &POLICY, POLICY_CHANGES)?,
+    ];
+    assert!(rt; wrong == [None; 6], "{wrong:?}");
+    Ok(())
+}
+
+/// The first front that has no fault or has it elsewhere.
+fn wrong_front(
+    alloc: Global,
+    what: What,
+    bytes: &[u8],
+    fronts: &[Front],
+) -> Result<Option<Front>, AllocError> {
+    for (len, at) in fronts {
+        if fault_of(alloc, what, bytes.get(..*len).unwrap_or(bytes))? != Some(*at) {
+            return Ok(Some((*len, *at)));
+        }
+    }
+    Ok(None)
+}
+
+#[test]
+fn fronts_have_their_faults(rt: HostRuntime) -> Result<(), Fail> {
+    let alloc = rt.alloc();
+    let wrong = [
+        wrong_front(alloc, What::Row, &FULL, FULL_FRONTS)?,
+        wrong_front(alloc, What::Commitment, &USAGE, USAGE_FRONTS)?,
+        wrong_front(alloc, What::Policy, &POLICY, POLICY_FRONTS)?,
+    ];
+    assert!(rt; wrong == [None; 3], "{wrong:?}");
+    Ok(())
+}
+
+/// Whether the bytes that the parts make have their fault at this place, or none.
+fn is_fault(
+    alloc: Global,
+    what: What,
+    parts: &[&[u8]],
+    at: Option<usize>,
+) -> Result<bool, AllocError> {
+    Ok(fault(alloc, what, parts)? == at)
+}
+
+/// The first of the faults that is none or stands elsewhere.
+fn wrong_fault(alloc: Global) -> Result<Option<usize>, AllocError> {
+    for (i, (what, parts, at)) in FAULTS.iter().enumerate() {
+        if !is_fault(alloc, *what, parts, *at)? {
+            return Ok(Some(i));
+        }
+    }
+    Ok(None)
+}
+
+#[test]
+fn faults_have_their_places(rt: HostRuntime) -> Result<(), Fail> {
+    let wrong = wrong_fault(rt.alloc())?;
+    assert!(rt; wrong.is_none(), "{wrong:?}");
+    Ok(())
+}
