@@ -1,5 +1,7 @@
 //! Names and columns, made and shown.
-use crate::given::rows;
+ghost use Rattle.std.specs.Prelude.{◌≡◌, [], length};
+
+use crate::given::{check, rows};
 use fw_columns::{Columns, Names};
 use fw_rows::Row;
 use std::alloc::{AllocError, Global};
@@ -21,9 +23,9 @@ const BOUGHT: &str =
 "#;
 
 /// The columns of the rows of these records.
-fn columns(alloc: Global, records: &str) -> Result<Box<Columns>, Fail> {
+fn columns(alloc: Global, records: &str) -> Result<Box<Columns>, AllocError> {
     let rows = rows(alloc, records)?;
-    Ok(boxed(alloc, rows.as_slice())?)
+    boxed(alloc, &rows)
 }
 
 /// The columns of 1 to 65,536 rows.
@@ -43,10 +45,10 @@ fn joined(alloc: Global, first: &Columns, second: &Columns) -> Result<Box<Column
 }
 
 /// The columns of a row of the team `web` and one of `data`.
-fn both(alloc: Global) -> Result<Box<Columns>, Fail> {
+fn both(alloc: Global) -> Result<Box<Columns>, AllocError> {
     let web = columns(alloc, WEB)?;
     let data = columns(alloc, DATA)?;
-    Ok(joined(alloc, &web, &data)?)
+    joined(alloc, &web, &data)
 }
 
 /// Whether the names are these texts.
@@ -62,94 +64,86 @@ fn are(names: &Names, texts: &[&str]) -> bool {
     true
 }
 
-/// Whether these are the names of the columns, and under a key the codes and the groups of the rows.
-fn show(
-    columns: &Columns,
-    names: &[&str],
-    key: &str,
-    codes: &[u32],
-    groups: &[&str],
-) -> Result<bool, AllocError> {
-    let shown_codes = columns.tag_codes(key)?;
-    let shown_groups = columns.groups(key)?;
-    Ok(
-        are(columns.names(), names)
-            && shown_codes.as_slice() == codes
-            && shown_groups.as_slice() == groups,
-    )
+/// Whether these are the codes and the groups of the rows under a key.
+fn have(columns: &Columns, key: &str, codes: &[u32], groups: &[&str]) -> Result<bool, AllocError> {
+    Ok(columns.tag_codes(key)?.as_slice() == codes && columns.groups(key)?.as_slice() == groups)
 }
 
-/// The codes of three texts, two of which are the same.
-fn codes(alloc: Global) -> Result<[u32; 3], AllocError> {
+/// Whether the texts of a new list of names have these codes.
+fn have_codes(names: &mut Names) -> Result<bool, AllocError>
+    requires { names.old ≡ [] }
+{
+    Ok((names.code("vm")?, names.code("")?, names.code("vm")?) == (0, 1, 0))
+}
+
+fn are_numbered(alloc: Global) -> Result<bool, AllocError> {
     let mut names = Names::new(alloc);
-    Ok([names.code("vm")?, names.code("")?, names.code("vm")?])
+    have_codes(&mut names)
 }
 
 #[test]
 fn names_number_texts(rt: HostRuntime) -> Result<(), Fail> {
-    let codes = codes(rt.alloc())?;
-    assert!(rt; codes == [0, 1, 0]);
-    Ok(())
+    check(&rt, are_numbered(rt.alloc()))
+}
+
+fn has_data(alloc: Global) -> Result<bool, AllocError> {
+    let data = columns(alloc, DATA)?;
+    let named = are(data.names(), &["Hours", "vm", "team", "data"]);
+    Ok(named && have(&data, "team", &[4], &["data"])?)
 }
 
 #[test]
 fn one_team(rt: HostRuntime) -> Result<(), Fail> {
-    let data = columns(rt.alloc(), DATA)?;
-    assert!(rt;
-        show(
-            &data,
-            &["Hours", "vm", "team", "data"],
-            "team",
-            &[4],
-            &["data"]
-        )?
-    );
-    Ok(())
+    check(&rt, has_data(rt.alloc()))
+}
+
+fn has_both(alloc: Global) -> Result<bool, AllocError> {
+    let both = both(alloc)?;
+    let named = are(both.names(), &["Hours", "vm", "team", "web", "data"]);
+    Ok(named && have(&both, "team", &[4, 5], &["web", "data"])?)
 }
 
 #[test]
-fn two_teams_and_a_tag_that_no_row_has(rt: HostRuntime) -> Result<(), Fail> {
-    let both = both(rt.alloc())?;
-    let names = ["Hours", "vm", "team", "web", "data"];
-    let cases: [(&str, [u32; 2], [&str; 2]); 2] = [
-        ("team", [4, 5], ["web", "data"]),
-        ("x", [0, 0], ["", ""]),
-    ];
-    for (key, codes, groups) in &cases {
-        assert!(rt; show(&both, &names, key, codes, groups)?, "{key}");
-    }
-    Ok(())
+fn two_teams(rt: HostRuntime) -> Result<(), Fail> {
+    check(&rt, has_both(rt.alloc()))
+}
+
+fn has_no_group(alloc: Global) -> Result<bool, AllocError> {
+    let both = both(alloc)?;
+    have(&both, "x", &[0, 0], &["", ""])
+}
+
+#[test]
+fn a_tag_that_no_row_has(rt: HostRuntime) -> Result<(), Fail> {
+    check(&rt, has_no_group(rt.alloc()))
 }
 
 /// Whether the row is that purchase.
 fn is_bought(row: &Row) -> bool {
     let amounts = (row.billed().count(), row.effective().count());
-    let texts = (row.unit(), row.sku(), row.sub_account());
-    let id = row.discount().map(|discount| discount.id());
-    amounts == (-5, 7)
-        && texts == (None, None, Some("north"))
-        && id == Some("ri-9")
-        && row.is_correction()
+    let id = match row.discount() {
+        Some(discount) => Some(discount.id()),
+        None => None,
+    };
+    let texts = (row.unit(), row.sku(), row.sub_account(), id);
+    (amounts, row.is_correction()) == ((-5, 7), true)
+        && texts == (None, None, Some("north"), Some("ri-9"))
         && row.tags().value("team") == Some("")
 }
 
 /// Whether the first row is that purchase.
-fn has_bought(columns: &Columns) -> Result<bool, AllocError> {
+fn starts_bought(columns: &Columns) -> Result<bool, AllocError> {
     let _some = columns.len();
-    let row = columns.row(0)?;
-    Ok(is_bought(&row))
+    Ok(is_bought(&columns.row(0)?))
+}
+
+fn has_bought(alloc: Global) -> Result<bool, AllocError> {
+    let columns = columns(alloc, BOUGHT)?;
+    let named = are(columns.names(), &["ri-9", "north", "team", ""]);
+    Ok(named && have(&columns, "team", &[0], &[""])? && starts_bought(&columns)?)
 }
 
 #[test]
 fn nulls_and_empty_texts(rt: HostRuntime) -> Result<(), Fail> {
-    let columns = columns(rt.alloc(), BOUGHT)?;
-    let shows = show(
-        &columns,
-        &["ri-9", "north", "team", ""],
-        "team",
-        &[0],
-        &[""],
-    )?;
-    assert!(rt; shows && has_bought(&columns)?);
-    Ok(())
+    check(&rt, has_bought(rt.alloc()))
 }

@@ -1,12 +1,8 @@
 //! Worked covers.
-use crate::given::read;
-use fw_cover::{Roster, Taken, cover, in_order};
-use fw_rows::Row;
-use std::alloc::Global;
+use crate::given::{Given, HOUR, check, read};
+use fw_cover::{Taken, cover, cover_hour, in_order};
+use std::alloc::{AllocError, Global};
 use std::test::Fail;
-
-/// The first hour of 2024.
-const HOUR: u32 = 473_352;
 
 /// A commitment to 2 hours of `vm`.
 const TWO_HOURS: &str = "id = 'cu'
@@ -64,77 +60,123 @@ const THREE_ROWS: &str = "1,1,USD,Usage,,2024-01-01T01:00Z,2024-01-01T02:00Z,,,,
 1,1,USD,Usage,,2024-01-01T00:00Z,2024-01-01T01:00Z,,,,0.5,Hours,vm,,
 ";
 
+/// A use of four hours.
 const FOUR_HOURS: &str = "2,2,USD,Usage,,2024-01-01T00:00Z,2024-01-01T01:00Z,,,,4,Hours,vm,,\n";
 
+/// A use of an hour.
 const ONE_HOUR: &str = "2,2,USD,Usage,,2024-01-01T00:00Z,2024-01-01T01:00Z,,,,1,Hours,vm,,\n";
 
-const fn took(commitment: usize, row: usize, quantity: u64, weight: u64) -> Taken {
+/// What two hours take of the three rows.
+const OF_THREE_ROWS: [Taken; 2] = [
     Taken {
-        commitment,
-        row,
-        quantity,
-        weight,
-    }
-}
+        commitment: 0,
+        row: 1,
+        quantity: 1_000_000_000,
+        weight: 1_000_000_000,
+    },
+    Taken {
+        commitment: 0,
+        row: 2,
+        quantity: 500_000_000,
+        weight: 500_000_000,
+    },
+];
+
+/// What a dollar takes of four hours.
+const OF_FOUR_HOURS: [Taken; 1] = [Taken {
+    commitment: 0,
+    row: 0,
+    quantity: 2_857_142_857,
+    weight: 1_000_000_000,
+}];
+
+/// What half an hour and then ten dollars take of an hour.
+const OF_AN_HOUR: [Taken; 2] = [
+    Taken {
+        commitment: 1,
+        row: 0,
+        quantity: 500_000_000,
+        weight: 500_000_000,
+    },
+    Taken {
+        commitment: 0,
+        row: 0,
+        quantity: 500_000_000,
+        weight: 1_000_000_000,
+    },
+];
 
 /// Whether the commitments take this of the rows.
 fn take(
     alloc: Global,
-    commitments: &[&str],
+    texts: &[&str],
     records: &str,
     wanted: &[Taken],
-) -> Result<bool, Fail> {
-    let given = read(alloc, commitments, records)?;
+) -> Result<bool, AllocError> {
+    let given = read(alloc, texts, records)?;
+    are_taken(alloc, &given, wanted)
+}
+
+fn are_taken(alloc: Global, given: &Given, wanted: &[Taken]) -> Result<bool, AllocError> {
     let taken = cover(alloc, &given.commitments, &given.rows, HOUR)?;
     Ok(taken.as_slice() == wanted)
 }
 
 #[test]
 fn two_rows_under_a_quantity(rt: HostRuntime) -> Result<(), Fail> {
-    let wanted = [
-        took(0, 1, 1_000_000_000, 1_000_000_000),
-        took(0, 2, 500_000_000, 500_000_000),
-    ];
-    assert!(rt; take(rt.alloc(), &[TWO_HOURS], THREE_ROWS, &wanted)?);
-    Ok(())
+    check(
+        &rt,
+        take(rt.alloc(), &[TWO_HOURS], THREE_ROWS, &OF_THREE_ROWS),
+    )
 }
 
 #[test]
 fn a_row_past_a_cost(rt: HostRuntime) -> Result<(), Fail> {
-    let wanted = [took(0, 0, 2_857_142_857, 1_000_000_000)];
-    assert!(rt; take(rt.alloc(), &[A_DOLLAR], FOUR_HOURS, &wanted)?);
-    Ok(())
+    check(
+        &rt,
+        take(rt.alloc(), &[A_DOLLAR], FOUR_HOURS, &OF_FOUR_HOURS),
+    )
 }
 
 #[test]
 fn a_quantity_before_a_cost(rt: HostRuntime) -> Result<(), Fail> {
-    let wanted = [
-        took(1, 0, 500_000_000, 500_000_000),
-        took(0, 0, 500_000_000, 1_000_000_000),
-    ];
-    assert!(rt; take(rt.alloc(), &[TEN_DOLLARS, HALF_AN_HOUR], ONE_HOUR, &wanted)?);
-    Ok(())
+    let texts = [TEN_DOLLARS, HALF_AN_HOUR];
+    check(&rt, take(rt.alloc(), &texts, ONE_HOUR, &OF_AN_HOUR))
 }
 
-/// Whether this is left of the three rows and of the two hours.
-fn leave(alloc: Global, rows: &[u64], capacities: &[u64]) -> Result<bool, Fail> {
+/// Whether two hours leave the row of the next hour and half an hour of their own.
+fn leave(alloc: Global) -> Result<bool, AllocError> {
     let given = read(alloc, &[TWO_HOURS], THREE_ROWS)?;
-    let roster = Roster::new(alloc, &given.commitments)?;
-    let lent: Vec<&Row> = given.rows.iter().collect(alloc)?;
-    let covered = roster.cover(alloc, &lent, HOUR)?;
-    Ok(covered.row_left.as_slice() == rows && covered.unused.as_slice() == capacities)
+    are_left(alloc, &given)
+}
+
+fn are_left(alloc: Global, given: &Given) -> Result<bool, AllocError> {
+    let [first, second, third] = given.rows.as_slice() else {
+        return Ok(false);
+    };
+    let covered = cover_hour(alloc, &given.commitments, &[first, second, third], HOUR)?;
+    Ok(
+        covered.row_left.as_slice() == [1_000_000_000, 0, 0].as_slice()
+            && covered.unused.as_slice() == [500_000_000].as_slice(),
+    )
 }
 
 #[test]
 fn what_two_rows_leave(rt: HostRuntime) -> Result<(), Fail> {
-    assert!(rt; leave(rt.alloc(), &[1_000_000_000, 0, 0], &[500_000_000])?);
-    Ok(())
+    check(&rt, leave(rt.alloc()))
+}
+
+/// Whether the second of two commitments goes first.
+fn are_in_order(alloc: Global) -> Result<bool, AllocError> {
+    let given = read(alloc, &[TEN_DOLLARS, HALF_AN_HOUR], ONE_HOUR)?;
+    is_second_first(alloc, &given)
+}
+
+fn is_second_first(alloc: Global, given: &Given) -> Result<bool, AllocError> {
+    Ok(in_order(alloc, &given.commitments)?.as_slice() == [1, 0].as_slice())
 }
 
 #[test]
 fn the_order_of_two(rt: HostRuntime) -> Result<(), Fail> {
-    let given = read(rt.alloc(), &[TEN_DOLLARS, HALF_AN_HOUR], ONE_HOUR)?;
-    let order = in_order(rt.alloc(), &given.commitments)?;
-    assert!(rt; order.as_slice() == [1, 0].as_slice());
-    Ok(())
+    check(&rt, are_in_order(rt.alloc()))
 }

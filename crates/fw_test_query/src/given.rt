@@ -1,8 +1,9 @@
-//! What the tests are given: rows and commitments, read from texts.
+//! What the tests are given, and how they end.
 use fw_commitment::{CommitmentFault, read_commitment};
-use fw_rows::{Currency, Row, RowFault, read_rows};
+use fw_rows::{Currency, Row, read_rows};
 use fw_terms::Commitment;
 use std::alloc::{AllocError, Global};
+use std::process::Abort;
 use std::test::Fail;
 
 /// The header of all texts of rows.
@@ -10,6 +11,15 @@ const HEADER: &str =
     "BilledCost,EffectiveCost,BillingCurrency,ChargeCategory,ChargeClass,ChargePeriodStart,ChargePeriodEnd,\
 CommitmentDiscountId,CommitmentDiscountCategory,CommitmentDiscountStatus,\
 ConsumedQuantity,ConsumedUnit,SkuId,SubAccountId,Tags\n";
+
+/// The first hour of 2024.
+pub const HOUR: u32 = 473_352;
+
+/// Ends a test: what it looked at has to hold, unless memory ran out.
+pub fn check(rt: &impl Abort, outcome: Result<bool, AllocError>) -> Result<(), Fail> {
+    assert!(rt; outcome?);
+    Ok(())
+}
 
 /// Rows and commitments.
 #[derive(Drop)]
@@ -24,9 +34,9 @@ pub fn dollar() -> Result<Currency, AllocError> {
 }
 
 /// The rows of these records.
-pub fn rows(alloc: Global, records: &str) -> Result<Vec<Row>, RowFault> {
+pub fn rows(alloc: Global, records: &str) -> Result<Vec<Row>, AllocError> {
     let text = format!(in alloc; "{HEADER}{records}")?;
-    read_rows(alloc, text.as_bytes(), dollar()?)
+    read_rows(alloc, text.as_bytes(), dollar()?).or(Err(AllocError))
 }
 
 /// The commitments of these texts.
@@ -39,18 +49,17 @@ fn commitments(alloc: Global, texts: &[&str]) -> Result<Vec<Commitment>, Commitm
 }
 
 /// The commitments of these texts and the rows of these records.
-pub fn read(alloc: Global, texts: &[&str], records: &str) -> Result<Box<Given>, Fail> {
-    let mut given = empty(alloc)?;
-    given.commitments = commitments(alloc, texts)?;
-    given.rows = rows(alloc, records)?;
-    Ok(given)
+pub fn read(alloc: Global, texts: &[&str], records: &str) -> Result<Box<Given>, AllocError> {
+    let commitments = commitments(alloc, texts).or(Err(AllocError))?;
+    beside(alloc, commitments, rows(alloc, records))
 }
 
-/// No row and no commitment.
-fn empty(alloc: Global) -> Result<Box<Given>, AllocError> {
-    let given = Given {
-        commitments: Vec::new(alloc),
-        rows: Vec::new(alloc),
-    };
-    Ok(Box::new(alloc, given)?)
+/// These commitments and rows.
+fn beside(
+    alloc: Global,
+    commitments: Vec<Commitment>,
+    rows: Result<Vec<Row>, AllocError>,
+) -> Result<Box<Given>, AllocError> {
+    let rows = rows?;
+    Ok(Box::new(alloc, Given { commitments, rows })?)
 }

@@ -1,4 +1,5 @@
 //! The group at which direct costs are too large, which no answer names.
+use crate::given::check;
 use crate::warehouse::{empty, posted};
 use fw_query::{Query, QueryFault, report};
 use fw_snapshot::Snapshot;
@@ -29,27 +30,33 @@ fn records(alloc: Global, more: &str) -> Result<String, AllocError> {
     Ok(records)
 }
 
-/// The group at which the direct costs of a warehouse are too large.
-fn group_past(alloc: Global, snapshot: &Snapshot) -> Result<String, Fail> {
+/// Whether the direct costs of a warehouse are too large at this group.
+fn is_past_at(alloc: Global, snapshot: &Snapshot, group: &str) -> Result<bool, AllocError> {
     match report(alloc, snapshot, &QUERY, 1) {
-        Err(QueryFault::TotalTooLarge { group }) => Ok(group),
-        Err(fault) => Err(Fail::from(fault)),
-        Ok(_) => Err(Fail::new("not too large")),
+        Err(QueryFault::TotalTooLarge { group: found }) => Ok(found.as_str() == group),
+        Err(QueryFault::NoMemory) => Err(AllocError),
+        _ => Ok(false),
     }
 }
 
-/// Whether the direct costs are too large at this group, where one more record is posted.
-fn pass_at(alloc: Global, more: &str, group: &str) -> Result<bool, Fail> {
+/// Whether they are after a post of these records.
+fn pass_at(alloc: Global, records: &str, group: &str) -> Result<bool, AllocError> {
+    let snapshot = posted(alloc, &empty(alloc)?, "a", 1, records)?;
+    is_past_at(alloc, &snapshot, group)
+}
+
+/// Whether one more record makes them so.
+fn passes_at(alloc: Global, more: &str, group: &str) -> Result<bool, AllocError> {
     let records = records(alloc, more)?;
-    let snapshot = posted(alloc, &empty(alloc)?, "a", 1, &records)?;
-    let found = group_past(alloc, &snapshot)?;
-    Ok(found.as_str() == group)
+    pass_at(alloc, &records, group)
 }
 
 #[test]
-fn the_group_that_passes_the_greatest_total(rt: HostRuntime) -> Result<(), Fail> {
-    for (more, group) in [(MOST, ""), (NANO, "b")] {
-        assert!(rt; pass_at(rt.alloc(), more, group)?, "{group}");
-    }
-    Ok(())
+fn one_more_of_the_greatest(rt: HostRuntime) -> Result<(), Fail> {
+    check(&rt, passes_at(rt.alloc(), MOST, ""))
+}
+
+#[test]
+fn a_nano_of_another_group(rt: HostRuntime) -> Result<(), Fail> {
+    check(&rt, passes_at(rt.alloc(), NANO, "b"))
 }

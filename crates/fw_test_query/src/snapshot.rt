@@ -1,7 +1,8 @@
 //! What a state holds, and that it stays as it was.
+use crate::given::check;
 use crate::warehouse::{committed, empty, posted, ruled, shared};
 use fw_snapshot::{Snapshot, State};
-use std::alloc::Global;
+use std::alloc::{AllocError, Global};
 use std::test::Fail;
 
 /// A use in the first hour of 1970 that carries the id of a commitment.
@@ -23,70 +24,90 @@ at = '1970-01-01T00:00Z'
 billed = '0.000000024'
 ";
 
-/// The warehouse after a post, a commitment, a policy and another post.
-fn four(alloc: Global) -> Result<Snapshot, Fail> {
-    let state = posted(alloc, &empty(alloc)?, "a", 1, OF_RI)?;
-    let state = committed(alloc, &state, "b", 1, COMMITMENT)?;
-    let state = ruled(alloc, &state, "a", 2, "key = 'team'")?;
-    posted(alloc, &state, "a", 3, OF_SP)
+/// How many entries, rows, segments and commitments a state has, and whether a policy holds.
+type Counts = (usize, usize, usize, usize, bool);
+
+/// Those after a post, a commitment, a policy and another post.
+const OF_FOUR: Counts = (4, 2, 2, 1, true);
+
+/// Those after one more post.
+const OF_FIVE: Counts = (5, 3, 3, 1, true);
+
+/// The warehouse after a post and a commitment.
+fn two(alloc: Global) -> Result<Snapshot, AllocError> {
+    let one = posted(alloc, &empty(alloc)?, "a", 1, OF_RI)?;
+    committed(alloc, &one, "b", 1, COMMITMENT)
 }
 
-/// How many entries, rows, segments and commitments a state has, and whether a policy holds.
-fn counts(state: &State) -> (usize, usize, usize, usize, bool) {
-    (
+/// The warehouse after a policy and another post, too.
+fn four(alloc: Global) -> Result<Snapshot, AllocError> {
+    let three = ruled(alloc, &two(alloc)?, "a", 2, "key = 'team'")?;
+    posted(alloc, &three, "a", 3, OF_SP)
+}
+
+/// Whether a state has these counts.
+fn has(state: &State, counts: Counts) -> bool {
+    let found = (
         state.entries(),
         state.rows(),
         state.segments().len(),
         state.commitments(),
         state.policy().is_some(),
-    )
+    );
+    found == counts
 }
 
-/// Whether a state is in dollars, its first commitment is `cd`, and its third entry is the second of `a`.
-fn has_parts(state: &State) -> bool {
-    if state.commitments() == 0 || state.heads().len() < 3 {
+/// Whether a state is in dollars, and its first commitment is `cd`.
+fn has_commitment(state: &State) -> bool {
+    state.commitments() > 0
+        && (state.currency().code(), state.commitment(0).id()) == (b"USD".as_slice(), "cd")
+}
+
+/// Whether a state's third entry is the second of `a`.
+fn has_third(state: &State) -> bool {
+    if state.heads().len() < 3 {
         return false;
     }
     let head = state.head(2);
-    state.currency().code() == b"USD".as_slice()
-        && state.commitment(0).id() == "cd"
-        && head.origin() == "a"
-        && head.seq() == 2
+    (head.origin(), head.seq()) == ("a", 2)
+}
+
+/// Whether a state is the one after four entries.
+fn is_four(state: &State) -> bool {
+    has(state, OF_FOUR) && has_commitment(state) && has_third(state)
+}
+
+fn holds_four(alloc: Global) -> Result<bool, AllocError> {
+    let four = four(alloc)?;
+    Ok(is_four(four.state()))
 }
 
 #[test]
 fn a_state_has_what_was_accepted(rt: HostRuntime) -> Result<(), Fail> {
-    let four = four(rt.alloc())?;
-    let counts = counts(four.state());
-    assert!(rt;
-        counts == (4, 2, 2, 1, true) && has_parts(four.state()),
-        "{counts:?}"
-    );
-    Ok(())
+    check(&rt, holds_four(rt.alloc()))
 }
 
-/// The warehouse after one more post to a copy of a state.
-fn copied_and_posted(alloc: Global, state: &State) -> Result<Snapshot, Fail> {
-    let copy = shared(state.copy()?)?;
-    posted(alloc, &copy, "b", 2, OF_RI)
+/// A snapshot of a copy of a state.
+fn copied(state: &State) -> Result<Snapshot, AllocError> {
+    shared(state.copy()?)
 }
 
-/// The counts of a state, of one that is shared with it, and of a copy with one entry more.
-fn older_and_newer(alloc: Global) -> Result<[(usize, usize, usize, usize, bool); 3], Fail> {
+/// Whether a copy of a state has one more post when it was sent.
+fn copy_grows(alloc: Global, state: &State) -> Result<bool, AllocError> {
+    let copy = copied(state)?;
+    let newer = posted(alloc, &copy, "b", 2, OF_RI)?;
+    Ok(is_four(copy.state()) && has(newer.state(), OF_FIVE))
+}
+
+/// Whether a state and one that is shared with it stay as they were then.
+fn older_stay(alloc: Global) -> Result<bool, AllocError> {
     let older = four(alloc)?;
     let same = older.copy()?;
-    let newer = copied_and_posted(alloc, older.state())?;
-    Ok([
-        counts(older.state()),
-        counts(same.state()),
-        counts(newer.state()),
-    ])
+    let grows = copy_grows(alloc, older.state())?;
+    Ok(grows && is_four(older.state()) && is_four(same.state()))
 }
 
 #[test]
 fn an_older_state_and_a_shared_one_stay(rt: HostRuntime) -> Result<(), Fail> {
-    let counts = older_and_newer(rt.alloc())?;
-    let four = (4, 2, 2, 1, true);
-    assert!(rt; counts == [four, four, (5, 3, 3, 1, true)], "{counts:?}");
-    Ok(())
+    check(&rt, older_stay(rt.alloc()))
 }

@@ -10,7 +10,6 @@ use fw_policy::read_policy;
 use fw_rows::Row;
 use fw_snapshot::{Snapshot, State, Verdict, judge};
 use std::alloc::{AllocError, Global};
-use std::test::Fail;
 
 /// A snapshot of a state.
 pub fn shared(state: State) -> Result<Snapshot, AllocError> {
@@ -29,17 +28,17 @@ pub fn posted(
     origin: &str,
     seq: u64,
     records: &str,
-) -> Result<Snapshot, Fail> {
-    let rows = rows(alloc, records)?;
-    after(alloc, before, origin, seq, post(rows)?)
+) -> Result<Snapshot, AllocError> {
+    let post = post(rows(alloc, records)?)?;
+    after(alloc, before, origin, seq, post)
 }
 
 /// A post of 1 to 4,096 rows.
-fn post(rows: Vec<Row>) -> Result<Command, Fail>
+fn post(rows: Vec<Row>) -> Result<Command, AllocError>
     ensures { IfOk result (λ command. HasRowCount (command_view command)) }
 {
     if rows.is_empty() || rows.len() > 4_096 {
-        return Err(Fail::new("no post"));
+        return Err(AllocError);
     }
     Ok(Command::Post(rows))
 }
@@ -51,9 +50,11 @@ pub fn committed(
     origin: &str,
     seq: u64,
     text: &str,
-) -> Result<Snapshot, Fail> {
-    let commitment = read_commitment(alloc, text.as_bytes())?;
-    after(alloc, before, origin, seq, Command::Commit(commitment))
+) -> Result<Snapshot, AllocError> {
+    match read_commitment(alloc, text.as_bytes()) {
+        Ok(commitment) => after(alloc, before, origin, seq, Command::Commit(commitment)),
+        Err(_) => Err(AllocError),
+    }
 }
 
 /// The warehouse after a policy, which is accepted.
@@ -63,9 +64,11 @@ pub fn ruled(
     origin: &str,
     seq: u64,
     text: &str,
-) -> Result<Snapshot, Fail> {
-    let policy = read_policy(alloc, text.as_bytes())?;
-    after(alloc, before, origin, seq, Command::SetPolicy(policy))
+) -> Result<Snapshot, AllocError> {
+    match read_policy(alloc, text.as_bytes()) {
+        Ok(policy) => after(alloc, before, origin, seq, Command::SetPolicy(policy)),
+        Err(_) => Err(AllocError),
+    }
 }
 
 /// The warehouse after a command, which is accepted.
@@ -75,17 +78,19 @@ fn after(
     origin: &str,
     seq: u64,
     command: Command,
-) -> Result<Snapshot, Fail>
+) -> Result<Snapshot, AllocError>
     requires { HasRowCount (command_view command) }
 {
-    let entry = Entry::new(alloc, origin.as_bytes(), seq, command)?;
-    applied(before.state(), &entry)
+    match Entry::new(alloc, origin.as_bytes(), seq, command) {
+        Ok(entry) => applied(before.state(), &entry),
+        Err(_) => Err(AllocError),
+    }
 }
 
 /// The warehouse after an entry, which is accepted.
-fn applied(before: &State, entry: &Entry) -> Result<Snapshot, Fail> {
+fn applied(before: &State, entry: &Entry) -> Result<Snapshot, AllocError> {
     match judge(before, entry) {
-        Verdict::Accept => Ok(shared(before.apply(entry)?)?),
-        verdict => Err(Fail::from(verdict)),
+        Verdict::Accept => shared(before.apply(entry)?),
+        _ => Err(AllocError),
     }
 }
