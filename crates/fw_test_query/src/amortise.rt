@@ -1,176 +1,121 @@
-//! Amounts and lines that are worked out by hand.
-ghost use Rattle.std.specs.Prelude.{◌<◌, ◌≤◌, ◌<ℤ◌, ◌^◌, pos, nat_abs, IfOk};
-ghost use Rattle.fw_terms.specs.Commitment.{IsTerms};
-ghost use Rattle.fw_terms.specs.TermsView.{terms_view};
-
-use fw_amortise::{Line, LineKind, hour_amount, lines, lines_of_hour};
-use fw_charge::{Category, DiscountKind, DiscountStatus, Row, RowFields, Tags};
-use fw_money::Nanos;
-use fw_terms::{Commitment, CommitmentFields, Purchase, Rate, Terms};
+//! The lines of an hour among rows of two.
+use crate::given::{Given, HOUR, check, read};
+use fw_amortise::{Line, LineKind, lines};
+use fw_charge::{Category, DiscountKind, DiscountStatus};
 use std::alloc::{AllocError, Global};
 use std::test::Fail;
 
-/// The first hour of 2024.
-const HOUR: u32 = 473_352;
+/// A commitment to a dollar of `vm` in each hour of a day, at seven tenths of its cost.
+const A_DOLLAR: &str = "id = 'cd-2'
+category = 'Spend'
+start = '2024-01-01T00:00Z'
+hours = 24
+capacity = '1'
+rates = { vm = 700000 }
+[[purchase]]
+at = '2024-01-01T00:00Z'
+billed = '24'
+";
 
-/// A use of `vm` in the hour, in half units; its effective cost is what it is billed.
-fn row(alloc: Global, billed: u8, quantity: u8) -> Result<Row, AllocError> {
-    let start = u64::from(HOUR) * 3600;
-    let cost = Nanos::of_fields(i64::from(billed) * 500_000_000);
-    let unit = Some(String::from_str(alloc, "Hours")?);
-    let sku = Some(String::from_str(alloc, "vm")?);
-    Ok(Row::of_fields(RowFields {
-        billed: cost,
-        effective: cost,
-        category: Category::Usage,
-        is_correction: false,
-        start,
-        end: start + 3600,
-        discount: None,
-        quantity: Some(Nanos::of_fields(i64::from(quantity) * 500_000_000)),
-        unit,
-        sku,
-        sub_account: None,
-        tags: Tags::empty(alloc),
-    }))
-}
+/// A row of the next hour, and one of the hour.
+const ROWS: &str = "1,1,USD,Usage,,2024-01-01T01:00Z,2024-01-01T02:00Z,,,,1,Hours,vm,,
+2,2,USD,Usage,,2024-01-01T00:00Z,2024-01-01T01:00Z,,,,4,Hours,vm,,
+";
 
-/// A quantity of `vm` in hours.
-fn usage(alloc: Global) -> Result<Terms, AllocError>
-    ensures { IfOk result (λ terms. IsTerms (terms_view terms)) }
-{
-    let mut skus = Vec::new(alloc);
-    skus.push(String::from_str(alloc, "vm")?)?;
-    let unit = String::from_str(alloc, "Hours")?;
-    Ok(Terms::Usage { unit, skus })
-}
+/// A line's kind and category, its costs and quantity, and its SKU.
+type Charge<'a> = (LineKind, Category, i64, i64, Option<i64>, Option<&'a str>);
 
-/// A cost of `vm`, at 700,000 parts per million.
-fn spend(alloc: Global) -> Result<Terms, AllocError>
-    ensures { IfOk result (λ terms. IsTerms (terms_view terms)) }
-{
-    let mut rates = Vec::new(alloc);
-    rates.push(Rate::of_fields(String::from_str(alloc, "vm")?, 700_000))?;
-    Ok(Terms::Spend { rates })
-}
+/// A line's commitment, its kind and its status.
+type Owner<'a> = Option<(&'a str, DiscountKind, Option<DiscountStatus>)>;
 
-/// A commitment from the hour on, with one purchase.
-fn commitment(
-    alloc: Global,
-    terms: Terms,
-    hours: u8,
-    capacity: Nanos,
-    purchase: Purchase,
-) -> Result<Commitment, AllocError>
-    requires terms { IsTerms (terms_view terms) }
-    requires hours { 0 < hours }
-    requires some_capacity { pos 0 <ℤ capacity }
-    requires capacity { 0 < nat_abs capacity }
-    requires most_capacity { nat_abs capacity ≤ 10 ^ 17 }
-    requires at { purchase.at ≤ 10 ^ 10 }
-    requires cost { purchase.billed ≤ 10 ^ 17 }
-{
-    let mut purchases = Vec::new(alloc);
-    purchases.push(purchase)?;
-    let id = String::from_str(alloc, "cd-2")?;
-    Ok(Commitment::of_fields(CommitmentFields {
-        id,
-        terms,
-        sub_account: None,
-        tags: Tags::empty(alloc),
-        start: HOUR,
-        hours: u32::from(hours),
-        capacity,
-        purchases,
-    }))
-}
+/// A line's charge and owner.
+type Wanted<'a> = (Charge<'a>, Owner<'a>);
 
-/// A line's kind, its costs, its quantity, and whether it has the SKU `vm`.
-fn shown(line: &Line) -> (LineKind, i64, i64, Option<i64>, bool) {
+fn charge<'a>(line: &Line<'a>) -> Charge<'a> {
     let quantity = match line.quantity() {
         Some(quantity) => Some(quantity.count()),
         None => None,
     };
-    let costs = (line.billed().count(), line.effective().count());
+    let (billed, effective) = (line.billed().count(), line.effective().count());
     (
         line.kind(),
-        costs.0,
-        costs.1,
+        line.category(),
+        billed,
+        effective,
         quantity,
-        line.sku() == Some("vm"),
+        line.sku(),
     )
 }
 
-#[test]
-fn amounts(rt: HostRuntime) -> Result<(), Fail> {
-    let total = Nanos::of_fields(10);
-    assert_eq!(rt; hour_amount(total, 3, 0).count(), 3);
-    assert_eq!(rt; hour_amount(total, 3, 1).count(), 3);
-    assert_eq!(rt; hour_amount(total, 3, 2).count(), 4);
-    Ok(())
+fn owner<'a>(line: &Line<'a>) -> Owner<'a> {
+    match line.commitment() {
+        Some(discount) => Some((discount.id, discount.kind, discount.status)),
+        None => None,
+    }
 }
 
-#[test]
-fn a_quantity_partly_used(rt: HostRuntime) -> Result<(), Fail> {
-    let alloc = rt.alloc();
-    let purchase = Purchase::of_fields(0, Nanos::of_fields(3));
-    let commitments = [commitment(
-        alloc,
-        usage(alloc)?,
-        1,
-        Nanos::of_fields(2_000_000_000),
-        purchase,
-    )?];
-    let rows = [row(alloc, 2, 2)?, row(alloc, 2, 1)?];
-    let lines = lines_of_hour(alloc, &commitments, &[&rows[0], &rows[1]], HOUR)?;
-    assert_eq!(rt; lines.len(), 3);
-    assert_eq!(rt;
-        shown(&lines[0]),
-        (LineKind::Used, 0, 1, Some(1_000_000_000), true)
-    );
-    assert_eq!(rt;
-        shown(&lines[1]),
-        (LineKind::Used, 0, 1, Some(500_000_000), true)
-    );
-    assert_eq!(rt; shown(&lines[2]), (LineKind::Unused, 0, 1, None, false));
-    Ok(())
+/// Whether these are the lines.
+fn are(lines: &[Line<'_>], wanted: &[Wanted<'_>]) -> bool {
+    if lines.len() != wanted.len() {
+        return false;
+    }
+    for (place, line) in lines.iter().enumerate() {
+        if charge(line) != wanted[place].0 || owner(line) != wanted[place].1 {
+            return false;
+        }
+    }
+    true
+}
+
+/// The purchase, what the dollar covers of the row, and what is left of the row.
+const LINES: [Wanted<'static>; 3] = [
+    (
+        (
+            LineKind::Purchase,
+            Category::Purchase,
+            24_000_000_000,
+            0,
+            None,
+            None,
+        ),
+        Some(("cd-2", DiscountKind::Spend, None)),
+    ),
+    (
+        (
+            LineKind::Used,
+            Category::Usage,
+            0,
+            1_000_000_000,
+            Some(2_857_142_857),
+            Some("vm"),
+        ),
+        Some(("cd-2", DiscountKind::Spend, Some(DiscountStatus::Used))),
+    ),
+    (
+        (
+            LineKind::Rest,
+            Category::Usage,
+            571_428_571,
+            571_428_571,
+            Some(1_142_857_143),
+            Some("vm"),
+        ),
+        None,
+    ),
+];
+
+/// Whether the lines of the hour are these.
+fn has_lines(alloc: Global, given: &Given) -> Result<bool, AllocError> {
+    let lines = lines(alloc, &given.commitments, &given.rows, HOUR)?;
+    Ok(are(&lines, &LINES))
+}
+
+fn is_used_up(alloc: Global) -> Result<bool, AllocError> {
+    let given = read(alloc, &[A_DOLLAR], ROWS)?;
+    has_lines(alloc, &given)
 }
 
 #[test]
 fn a_cost_used_up(rt: HostRuntime) -> Result<(), Fail> {
-    let alloc = rt.alloc();
-    let purchase = Purchase::of_fields(1_704_067_200, Nanos::of_fields(24_000_000_000));
-    let commitments = [commitment(
-        alloc,
-        spend(alloc)?,
-        24,
-        Nanos::of_fields(1_000_000_000),
-        purchase,
-    )?];
-    let rows = [row(alloc, 4, 8)?];
-    let lines = lines(alloc, &commitments, &rows, HOUR)?;
-    assert_eq!(rt; lines.len(), 3);
-    assert_eq!(rt;
-        shown(&lines[0]),
-        (LineKind::Purchase, 24_000_000_000, 0, None, false)
-    );
-    assert_eq!(rt;
-        shown(&lines[1]),
-        (LineKind::Used, 0, 1_000_000_000, Some(2_857_142_857), true)
-    );
-    assert_eq!(rt;
-        shown(&lines[2]),
-        (
-            LineKind::Rest,
-            571_428_571,
-            571_428_571,
-            Some(1_142_857_143),
-            true
-        )
-    );
-    assert_eq!(rt; lines[1].category(), Category::Usage);
-    let discount = lines[1].commitment().map(|d| (d.id, d.kind, d.status));
-    let used = Some(DiscountStatus::Used);
-    assert_eq!(rt; discount, Some(("cd-2", DiscountKind::Spend, used)));
-    Ok(())
+    check(&rt, is_used_up(rt.alloc()))
 }

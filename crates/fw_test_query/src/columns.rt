@@ -1,48 +1,54 @@
 //! Names and columns, made and shown.
-ghost use Rattle.std.specs.Prelude.{◌≡◌, ◌≤◌, ◌∷◌, [], length, nat_abs, IfOk};
-ghost use Rattle.fw_money.specs.Amount.{most_nanos};
+ghost use Rattle.std.specs.Prelude.{◌≡◌, [], length};
 
-use fw_charge::{Category, Discount, DiscountKind, Row, RowFields, Tag, Tags};
+use crate::given::{check, rows};
 use fw_columns::{Columns, Names};
-use fw_money::Nanos;
+use fw_rows::Row;
 use std::alloc::{AllocError, Global};
 use std::test::Fail;
 
-/// One tag.
-fn tagged(alloc: Global, key: &str, value: &str) -> Result<Tags, AllocError>
-    requires key { length key.now ≤ 1024 }
-    requires value { length value.now ≤ 1024 }
-    ensures { IfOk result (λ tags. tags ≡ record { key = key.now; value = value.now } ∷ []) }
-{
-    let mut items = Vec::new(alloc);
-    let tag = Tag::of_fields(
-        String::from_str(alloc, key)?,
-        String::from_str(alloc, value)?,
-    );
-    items.push(tag)?;
-    Ok(Tags::of_vec(items))
+/// An hour of use of `vm` by the team `web`.
+const WEB: &str =
+    r#"0.1,0.1,USD,Usage,,2024-01-01T00:00Z,2024-01-01T01:00Z,,,,1,Hours,vm,,"{""team"":""web""}"
+"#;
+
+/// Half an hour of use of `vm` by the team `data`.
+const DATA: &str =
+    r#"0.05,0.05,USD,Usage,,2024-01-01T00:00Z,2024-01-01T01:00Z,,,,0.5,Hours,vm,,"{""team"":""data""}"
+"#;
+
+/// A purchase that most columns are null of, with an empty tag.
+const BOUGHT: &str =
+    r#"-5e-9,7e-9,USD,Purchase,Correction,1970-01-01T00:00Z,1970-01-01T01:00Z,ri-9,Spend,,,,,north,"{""team"":""""}"
+"#;
+
+/// The columns of the rows of these records.
+fn columns(alloc: Global, records: &str) -> Result<Box<Columns>, AllocError> {
+    let rows = rows(alloc, records)?;
+    boxed(alloc, &rows)
 }
 
-/// An hour of use of `vm`, in nanos of a dollar and of an hour, by a team.
-fn used(alloc: Global, cost: i64, quantity: i64, team: &str) -> Result<Row, AllocError>
-    requires cost { nat_abs cost ≤ most_nanos }
-    requires quantity { nat_abs quantity ≤ most_nanos }
-    requires team { length team.now ≤ 1024 }
-{
-    Ok(Row::of_fields(RowFields {
-        billed: Nanos::of_fields(cost),
-        effective: Nanos::of_fields(cost),
-        category: Category::Usage,
-        is_correction: false,
-        start: 1_704_067_200,
-        end: 1_704_070_800,
-        discount: None,
-        quantity: Some(Nanos::of_fields(quantity)),
-        unit: Some(String::from_str(alloc, "Hours")?),
-        sku: Some(String::from_str(alloc, "vm")?),
-        sub_account: None,
-        tags: tagged(alloc, "team", team)?,
-    }))
+/// The columns of 1 to 65,536 rows.
+fn boxed(alloc: Global, rows: &[Row]) -> Result<Box<Columns>, AllocError> {
+    if rows.is_empty() || rows.len() > 65_536 {
+        return Err(AllocError);
+    }
+    Ok(Box::new(alloc, Columns::from_rows(alloc, rows)?)?)
+}
+
+/// The columns of the rows of the one and then of the other.
+fn joined(alloc: Global, first: &Columns, second: &Columns) -> Result<Box<Columns>, AllocError> {
+    if first.len() + second.len() > 65_536 {
+        return Err(AllocError);
+    }
+    Ok(Box::new(alloc, Columns::concat(alloc, first, second)?)?)
+}
+
+/// The columns of a row of the team `web` and one of `data`.
+fn both(alloc: Global) -> Result<Box<Columns>, AllocError> {
+    let web = columns(alloc, WEB)?;
+    let data = columns(alloc, DATA)?;
+    joined(alloc, &web, &data)
 }
 
 /// Whether the names are these texts.
@@ -58,108 +64,86 @@ fn are(names: &Names, texts: &[&str]) -> bool {
     true
 }
 
-/// Whether the names and the codes of the teams are these.
-fn shows(columns: &Columns, names: &[&str], teams: &[u32]) -> Result<bool, AllocError> {
-    let codes = columns.tag_codes("team")?;
-    Ok(are(columns.names(), names) && codes.as_slice() == teams)
+/// Whether these are the codes and the groups of the rows under a key.
+fn have(columns: &Columns, key: &str, codes: &[u32], groups: &[&str]) -> Result<bool, AllocError> {
+    Ok(columns.tag_codes(key)?.as_slice() == codes && columns.groups(key)?.as_slice() == groups)
 }
 
-/// A purchase that most columns are null of, with an empty tag.
-fn bought(alloc: Global) -> Result<Row, AllocError> {
-    let id = String::from_str(alloc, "ri-9")?;
-    Ok(Row::of_fields(RowFields {
-        billed: Nanos::of_fields(-5),
-        effective: Nanos::of_fields(7),
-        category: Category::Purchase,
-        is_correction: true,
-        start: 0,
-        end: 3600,
-        discount: Some(Discount::of_fields(id, DiscountKind::Spend, None)),
-        quantity: None,
-        unit: None,
-        sku: None,
-        sub_account: Some(String::from_str(alloc, "north")?),
-        tags: tagged(alloc, "team", "")?,
-    }))
+/// Whether the texts of a new list of names have these codes.
+fn have_codes(names: &mut Names) -> Result<bool, AllocError>
+    requires { names.old ≡ [] }
+{
+    Ok((names.code("vm")?, names.code("")?, names.code("vm")?) == (0, 1, 0))
+}
+
+fn are_numbered(alloc: Global) -> Result<bool, AllocError> {
+    let mut names = Names::new(alloc);
+    have_codes(&mut names)
+}
+
+#[test]
+fn names_number_texts(rt: HostRuntime) -> Result<(), Fail> {
+    check(&rt, are_numbered(rt.alloc()))
+}
+
+fn has_data(alloc: Global) -> Result<bool, AllocError> {
+    let data = columns(alloc, DATA)?;
+    let named = are(data.names(), &["Hours", "vm", "team", "data"]);
+    Ok(named && have(&data, "team", &[4], &["data"])?)
+}
+
+#[test]
+fn one_team(rt: HostRuntime) -> Result<(), Fail> {
+    check(&rt, has_data(rt.alloc()))
+}
+
+fn has_both(alloc: Global) -> Result<bool, AllocError> {
+    let both = both(alloc)?;
+    let named = are(both.names(), &["Hours", "vm", "team", "web", "data"]);
+    Ok(named && have(&both, "team", &[4, 5], &["web", "data"])?)
+}
+
+#[test]
+fn two_teams(rt: HostRuntime) -> Result<(), Fail> {
+    check(&rt, has_both(rt.alloc()))
+}
+
+fn has_no_group(alloc: Global) -> Result<bool, AllocError> {
+    let both = both(alloc)?;
+    have(&both, "x", &[0, 0], &["", ""])
+}
+
+#[test]
+fn a_tag_that_no_row_has(rt: HostRuntime) -> Result<(), Fail> {
+    check(&rt, has_no_group(rt.alloc()))
 }
 
 /// Whether the row is that purchase.
 fn is_bought(row: &Row) -> bool {
     let amounts = (row.billed().count(), row.effective().count());
-    let texts = (row.unit(), row.sku(), row.sub_account());
-    let id = row.discount().map(|discount| discount.id());
-    amounts == (-5, 7)
-        && texts == (None, None, Some("north"))
-        && id == Some("ri-9")
-        && row.is_correction()
+    let id = match row.discount() {
+        Some(discount) => Some(discount.id()),
+        None => None,
+    };
+    let texts = (row.unit(), row.sku(), row.sub_account(), id);
+    (amounts, row.is_correction()) == ((-5, 7), true)
+        && texts == (None, None, Some("north"), Some("ri-9"))
         && row.tags().value("team") == Some("")
 }
 
-#[test]
-fn names_number_texts(rt: HostRuntime) -> Result<(), Fail> {
-    let mut names = Names::new(rt.alloc());
-    assert_eq!(rt; names.code("vm")?, 0);
-    assert_eq!(rt; names.code("")?, 1);
-    assert_eq!(rt; names.code("vm")?, 0);
-    Ok(())
+/// Whether the first row is that purchase.
+fn starts_bought(columns: &Columns) -> Result<bool, AllocError> {
+    let _some = columns.len();
+    Ok(is_bought(&columns.row(0)?))
 }
 
-/// The columns of one row.
-fn alone(alloc: Global, row: Row) -> Result<Columns, AllocError>
-    ensures { IfOk result (λ columns. length columns ≡ 1) }
-{
-    Columns::from_rows(alloc, &[row])
-}
-
-/// The columns of a row of the team `web`.
-fn web_alone(alloc: Global) -> Result<Columns, AllocError>
-    ensures { IfOk result (λ columns. length columns ≡ 1) }
-{
-    alone(alloc, used(alloc, 100_000_000, 1_000_000_000, "web")?)
-}
-
-/// The columns of a row of the team `data`.
-fn data_alone(alloc: Global) -> Result<Columns, AllocError>
-    ensures { IfOk result (λ columns. length columns ≡ 1) }
-{
-    alone(alloc, used(alloc, 50_000_000, 500_000_000, "data")?)
-}
-
-/// The columns of both rows.
-fn joined(alloc: Global) -> Result<Columns, AllocError> {
-    let web = web_alone(alloc)?;
-    let data = data_alone(alloc)?;
-    Columns::concat(alloc, &web, &data)
-}
-
-#[test]
-fn one_team(rt: HostRuntime) -> Result<(), Fail> {
-    let data = data_alone(rt.alloc())?;
-    assert!(rt; shows(&data, &["Hours", "vm", "team", "data"], &[4])?);
-    Ok(())
-}
-
-#[test]
-fn two_teams(rt: HostRuntime) -> Result<(), Fail> {
-    let both = joined(rt.alloc())?;
-    assert!(rt; shows(&both, &["Hours", "vm", "team", "web", "data"], &[4, 5])?);
-    assert!(rt; both.groups("team")?.as_slice() == ["web", "data"].as_slice());
-    Ok(())
-}
-
-#[test]
-fn a_tag_that_no_row_has(rt: HostRuntime) -> Result<(), Fail> {
-    let both = joined(rt.alloc())?;
-    assert!(rt; both.tag_codes("x")?.as_slice() == [0, 0].as_slice());
-    assert!(rt; both.groups("x")?.as_slice() == ["", ""].as_slice());
-    Ok(())
+fn has_bought(alloc: Global) -> Result<bool, AllocError> {
+    let columns = columns(alloc, BOUGHT)?;
+    let named = are(columns.names(), &["ri-9", "north", "team", ""]);
+    Ok(named && have(&columns, "team", &[0], &[""])? && starts_bought(&columns)?)
 }
 
 #[test]
 fn nulls_and_empty_texts(rt: HostRuntime) -> Result<(), Fail> {
-    let alloc = rt.alloc();
-    let columns = alone(alloc, bought(alloc)?)?;
-    assert!(rt; shows(&columns, &["ri-9", "north", "team", ""], &[0])?);
-    assert!(rt; is_bought(&columns.row(0)?));
-    Ok(())
+    check(&rt, has_bought(rt.alloc()))
 }

@@ -1,2 +1,0 @@
-pub mod OneRule
-pub mod Samples
