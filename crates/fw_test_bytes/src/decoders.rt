@@ -186,14 +186,16 @@ fn values_are_read_and_written(rt: HostRuntime) -> Result<(), Fail> {
     Ok(())
 }
 
-/// The place of a decoder's fault in these bytes; `None` where it read a value.
+/// The place of a decoder's fault in these bytes; `None` where it read a value. A fault before the bytes is at no place of a table.
 fn place_of<T: Drop>(
     bytes: &[u8],
     read: Result<(T, &[u8]), ReadError>,
 ) -> Result<Option<usize>, AllocError> {
     match read {
         Ok(_) => Ok(None),
-        Err(ReadError::Corrupt(left)) => Ok(Some(bytes.len().saturating_sub(left))),
+        Err(ReadError::Corrupt(left)) => {
+            Ok(Some(bytes.len().checked_sub(left).unwrap_or(usize::MAX)))
+        }
         Err(ReadError::NoMemory) => Err(AllocError),
     }
 }
