@@ -224,7 +224,13 @@ def keep(room, out):
             shutil.copy2(os.path.join(made, name), os.path.join(out, name))
 
 
+def stop_at_once(*_):
+    """Lets a run that is told to stop end `rt ci`, and remove its folder, on the way out."""
+    sys.exit(2)
+
+
 def main():
+    signal.signal(signal.SIGTERM, stop_at_once)
     parser = argparse.ArgumentParser(description=__doc__, formatter_class=argparse.RawDescriptionHelpFormatter)
     which = parser.add_mutually_exclusive_group()
     which.add_argument("--all", action="store_true", help="try every must-fail edit")
