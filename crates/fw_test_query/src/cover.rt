@@ -122,26 +122,18 @@ fn are_taken(alloc: Global, given: &Given, wanted: &[Taken]) -> Result<bool, All
     Ok(taken.as_slice() == wanted)
 }
 
-#[test]
-fn two_rows_under_a_quantity(rt: HostRuntime) -> Result<(), Fail> {
-    check(
-        &rt,
-        take(rt.alloc(), &[TWO_HOURS], THREE_ROWS, &OF_THREE_ROWS),
+/// Whether two hours take two rows, a dollar takes part of a row, and half an hour goes before ten dollars.
+fn take_as_worked(alloc: Global) -> Result<bool, AllocError> {
+    Ok(
+        take(alloc, &[TWO_HOURS], THREE_ROWS, &OF_THREE_ROWS)?
+            && take(alloc, &[A_DOLLAR], FOUR_HOURS, &OF_FOUR_HOURS)?
+            && take(alloc, &[TEN_DOLLARS, HALF_AN_HOUR], ONE_HOUR, &OF_AN_HOUR)?,
     )
 }
 
 #[test]
-fn a_row_past_a_cost(rt: HostRuntime) -> Result<(), Fail> {
-    check(
-        &rt,
-        take(rt.alloc(), &[A_DOLLAR], FOUR_HOURS, &OF_FOUR_HOURS),
-    )
-}
-
-#[test]
-fn a_quantity_before_a_cost(rt: HostRuntime) -> Result<(), Fail> {
-    let texts = [TEN_DOLLARS, HALF_AN_HOUR];
-    check(&rt, take(rt.alloc(), &texts, ONE_HOUR, &OF_AN_HOUR))
+fn worked_covers(rt: HostRuntime) -> Result<(), Fail> {
+    check(&rt, take_as_worked(rt.alloc()))
 }
 
 /// Whether two hours leave the row of the next hour and half an hour of their own.

@@ -4,34 +4,26 @@ use fw_shares::{share, share_counts};
 use std::alloc::{AllocError, Global};
 use std::test::Fail;
 
+/// Whether the shares of 100 and of -100 over equal weights are these.
 fn are_even(alloc: Global) -> Result<bool, AllocError> {
-    Ok(share(alloc, 100, &[1, 1, 1])?.as_slice() == [34, 33, 33].as_slice())
+    let positive = share(alloc, 100, &[1, 1, 1])?;
+    let negative = share(alloc, -100, &[1, 1, 1])?;
+    Ok(
+        positive.as_slice() == [34, 33, 33].as_slice()
+            && negative.as_slice() == [-34, -33, -33].as_slice(),
+    )
 }
 
-fn are_even_and_negative(alloc: Global) -> Result<bool, AllocError> {
-    Ok(share(alloc, -100, &[1, 1, 1])?.as_slice() == [-34, -33, -33].as_slice())
-}
-
-fn are_of_nothing(alloc: Global) -> Result<bool, AllocError> {
-    Ok(share(alloc, 0, &[5])?.as_slice() == [0].as_slice())
-}
-
-fn are_over_nothing(alloc: Global) -> Result<bool, AllocError> {
-    Ok(share(alloc, 7, &[0, 1])?.as_slice() == [0, 7].as_slice())
-}
-
-fn are_of_a_count(alloc: Global) -> Result<bool, AllocError> {
-    let weights = [1_000_000_000, 500_000_000, 500_000_000];
-    Ok(share_counts(alloc, 3, &weights)?.as_slice() == [1, 1, 1].as_slice())
-}
-
+/// Whether those of nothing, those over a weight of nothing, and those of a count are these, too.
 fn are_as_worked(alloc: Global) -> Result<bool, AllocError> {
+    let none = share(alloc, 0, &[5])?;
+    let second = share(alloc, 7, &[0, 1])?;
+    let halves = share_counts(alloc, 3, &[1_000_000_000, 500_000_000, 500_000_000])?;
     Ok(
         are_even(alloc)?
-            && are_even_and_negative(alloc)?
-            && are_of_nothing(alloc)?
-            && are_over_nothing(alloc)?
-            && are_of_a_count(alloc)?,
+            && none.as_slice() == [0].as_slice()
+            && second.as_slice() == [0, 7].as_slice()
+            && halves.as_slice() == [1, 1, 1].as_slice(),
     )
 }
 
