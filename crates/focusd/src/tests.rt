@@ -29,7 +29,8 @@ impl Read for FailingReader<'_> {
     }
 }
 
-// Takes as many bytes as it has room for, and fails where it has none left, or at a flush.
+// Takes as many bytes as it has room for, and fails where it has none left, or at a flush. Its text has room for all that the tests
+// write, so that no write fails for want of memory.
 #[derive(Drop)]
 struct ShortWriter {
     text: Vec<u8>,
@@ -166,7 +167,7 @@ fn a_failing_writer_is_told(
 ) -> Result<bool, ServeFault> {
     let mut desk = dollar_desk(alloc)?;
     let mut writer = ShortWriter {
-        text: Vec::new(alloc),
+        text: Vec::with_capacity(alloc, 64)?,
         room,
         flushes: false,
     };
@@ -201,7 +202,7 @@ fn a_writer_that_fails_leaves_what_is_done(rt: HostRuntime) -> Result<(), Fail> 
 fn a_writer_takes_all(alloc: Global) -> Result<bool, ServeFault> {
     let mut desk = dollar_desk(alloc)?;
     let mut writer = ShortWriter {
-        text: Vec::new(alloc),
+        text: Vec::with_capacity(alloc, 64)?,
         room: 12,
         flushes: true,
     };
