@@ -79,14 +79,14 @@ fn text_of(answers: &[u8]) -> Result<&str, ServeFault> {
     }
 }
 
-// Whether these are the answers to a script.
+// Whether these are the answers to a script, which have room in 64 bytes.
 fn answers_are(
     alloc: Global,
     desk: &mut Desk,
     script: &str,
     wanted: &str,
 ) -> Result<bool, ServeFault> {
-    let mut output = Vec::new(alloc);
+    let mut output = Vec::with_capacity(alloc, 64)?;
     serve(alloc, &mut script.as_bytes(), &mut output, desk, 1)?;
     Ok(text_of(&output)? == wanted)
 }
