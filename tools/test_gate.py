@@ -66,7 +66,7 @@ class Choice(unittest.TestCase):
 
 class Kinds(unittest.TestCase):
     def test_what_a_prover_does_is_told_by_its_command_line(self):
-        self.assertEqual(meter.kind_of(["rattle", "check", "--crate-name", "a"], "/tmp/rt-edit-x1"), "edit")
+        self.assertEqual(meter.kind_of(["rattle", "check", "--crate-name", "a"], "rooms/rt-edit-x1"), "edit")
         self.assertEqual(meter.kind_of(["rattle", "build", "--crate-name", "a", "--test"], "/r/crates/a"), "tests")
         self.assertEqual(meter.kind_of(["rattle", "build", "--crate-name", "a"], "/r/crates/a"), "proof")
 

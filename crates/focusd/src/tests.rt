@@ -30,7 +30,7 @@ impl Read for FailingReader<'_> {
 }
 
 // Takes as many bytes as it has room for, and fails where it has none left, or at a flush. Its text has room for all that the tests
-// write, so that no write fails for want of memory.
+// write, so that a refused allocation is never taken for a failed write.
 #[derive(Drop)]
 struct ShortWriter {
     text: Vec<u8>,
