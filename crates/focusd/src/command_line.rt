@@ -26,8 +26,8 @@ const SCRIPT: &str = "Commands of a script, one a line, which a line feed alone 
   lines FROM TO                 list what these hours cost, line by line: purchases, rows, used and unused parts
   state                         count the entries, rows and commitments, and tell whether a policy holds (1) or not (0)
 
-ORIGIN names who sends: 1 to 64 ASCII letters, digits, `-`, `_` and `.`. SEQUENCE counts what this origin had accepted,
-from 1. So an entry that is sent again is not billed twice, and one that is missing is told.
+ORIGIN names the sender: 1 to 64 ASCII letters, digits, `-`, `_` and `.`. SEQUENCE numbers this origin's entries: 1, 2, 3 ..
+So an entry that is sent again is not billed twice, and a skipped number is reported.
 LINES is at most 1,000,000 and counts line feeds, also those within quotes; a post has at most 4,096 rows.
 FROM and TO are instants on whole hours, as 2024-01-01T00:00Z, at most 26,304 hours apart.
 KEY is a tag's key; rows without the tag are in the group of the empty text.
@@ -36,7 +36,7 @@ An entry is answered `accepted N`, where N counts the accepted entries of all or
 accepted before and L is the origin's last; `gap E`, where the origin's next number would be E; or `refused CODE NAME`
 and the column, record or field. Only an accepted entry uses its number up.
 A report and lines are answered `bytes N` and a CSV of N bytes, or `refused` and why.
-A command for which memory is wanting is answered `no memory`, and changes nothing.
+A command that runs out of memory is answered `no memory`, and changes nothing.
 Other lines are answered `bad command`; an entry with too few lines after it `bad end`.
 
 Exit status: 0 where the script was served, 1 where reading, writing or memory failed, 2 where the command line is wrong.";

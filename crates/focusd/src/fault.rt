@@ -16,7 +16,7 @@ pub enum ServeFault {
     /// The script has more than 2^30 bytes, or took more than 2^30 reads. No command was done.
     #[error("F3 TooLong")]
     TooLong,
-    /// Memory is wanting for the script. No command was done.
+    /// Out of memory while reading the script. No command was run.
     #[error("NoMemory")]
     NoMemory,
 }

@@ -61,7 +61,7 @@ fn run(rt: &HostRuntime) -> Result<ExitCode, ServeFault> {
         Err(error) => {
             let status = error.exit_code() as u8;
             let printed = error.print(rt);
-            // A help that was asked for has to come out; a wrong command line is wrong also where nobody can be told.
+            // A help that was asked for has to come out; a wrong command line has its status also where nothing can be printed.
             if printed.is_err() && status == 0 {
                 return Err(ServeFault::Write);
             }

@@ -14,7 +14,7 @@ use std::io::{Read, Write};
 ///
 /// A script has at most 2^30 bytes, and is read in at most 2^30 reads: beyond these it is `TooLong`. On `Read`, `TooLong`
 /// and `NoMemory` no command was done and nothing written. On `Write` the commands before stay done, and the last of
-/// them may have its answer written in part, or not at all. A command for which memory is wanting is answered
+/// them may have its answer written in part, or not at all. A command that runs out of memory is answered
 /// `no memory` and changes nothing, and the script goes on.
 ///
 /// The number of workers is not looked at yet: it will be 1 to 64.
