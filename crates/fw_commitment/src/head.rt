@@ -12,14 +12,12 @@ use crate::fault::{CommitmentFault, CommitmentField};
 use crate::fields::{amount, second, short_text};
 use fw_charge::DiscountKind;
 use fw_money::Nanos;
+use fw_terms::Commitment;
 use fw_toml::{Table, integer, text};
 use std::alloc::Global;
 
 /// Seconds in an hour.
 const SECONDS_PER_HOUR: u64 = 3600;
-
-/// The greatest number of hours of a term.
-const MOST_HOURS: i64 = 26_304;
 
 /// The fields that commitments of both kinds have first.
 #[derive(Drop)]
@@ -76,7 +74,7 @@ fn hours(table: &Table) -> Result<u32, CommitmentFault>
     let Some(hours) = integer(table, CommitmentField::Hours.name()) else {
         return Err(CommitmentFault::Field(CommitmentField::Hours));
     };
-    if hours < 1 || hours > MOST_HOURS {
+    if hours < 1 || hours > Commitment::MOST_HOURS as i64 {
         return Err(CommitmentFault::Limit(CommitmentField::Hours));
     }
     Ok(hours as u32)

@@ -21,12 +21,6 @@ use fw_toml::{Table, integers, member, texts};
 use std::alloc::{AllocError, Global};
 use std::collections::BTreeSet;
 
-/// The greatest number of SKUs or rates.
-const MOST_SKUS: usize = 256;
-
-/// The greatest rate, in parts per million.
-const MOST_PPM: i64 = 1_000_000;
-
 /// The texts in rising order of their bytes; `None` where one stands twice.
 fn in_order<'a>(alloc: Global, texts: &[&'a str]) -> Result<Option<Vec<&'a str>>, AllocError>
     ensures { let found = map (λ t. t.now) texts.now in
@@ -51,7 +45,7 @@ fn skus_of(alloc: Global, texts: &[&str]) -> Result<Option<Vec<String>>, AllocEr
     ensures { let found = map (λ t. t.now) texts.now in
         IfOk result (λ skus. MatchOption skus (¬ AreSkus found) (λ v. (map string_bytes v.items ≡ found) × AreSkus found)) }
 {
-    if texts.is_empty() || texts.len() > MOST_SKUS {
+    if texts.is_empty() || texts.len() > Terms::MOST_SKUS {
         return Ok(None);
     }
     let mut skus = Vec::with_capacity(alloc, texts.len())?;
@@ -87,7 +81,7 @@ fn skus(alloc: Global, table: &Table) -> Result<Vec<String>, CommitmentFault>
 fn rate_of(alloc: Global, sku: &str, ppm: i64) -> Result<Option<Rate>, AllocError>
     ensures { IfOk result (λ rate. MatchOption rate (¬ IsRateStated (sku.now, ppm)) (λ r. (rate_stated r ≡ (sku.now, ppm)) × IsRate r)) }
 {
-    if !is_short(sku) || ppm < 1 || ppm > MOST_PPM {
+    if !is_short(sku) || ppm < 1 || ppm > Rate::MOST_PPM as i64 {
         return Ok(None);
     }
     let sku = String::from_str(alloc, sku)?;
@@ -100,7 +94,7 @@ fn rates_of(alloc: Global, stated: &[(&str, i64)]) -> Result<Option<Vec<Rate>>, 
     ensures { let found = map (λ e. (e.0.now, e.1)) stated.now in
         IfOk result (λ rates. MatchOption rates (¬ AreRatesStated found) (λ v. (found ≡ rates_stated v.items) × AreRates v.items)) }
 {
-    if stated.is_empty() || stated.len() > MOST_SKUS {
+    if stated.is_empty() || stated.len() > Terms::MOST_SKUS {
         return Ok(None);
     }
     let mut rates = Vec::with_capacity(alloc, stated.len())?;

@@ -4,6 +4,7 @@ use Rattle.std.specs.List.{All, Any, AllZip, Contains}
 use Rattle.toml.specs.Data.{Members}
 use Rattle.fw_rules.specs.Table.{FirstBroken, NoneBroken}
 use Rattle.fw_terms.specs.Texts.{HasTwice}
+use Rattle.fw_terms.proofs.GroupFacts.{all_not}
 use Rattle.fw_terms.specs.Policy.{RuleValue, IsPolicy, froms, targets_of, policy_value}
 use Rattle.fw_toml.specs.Tree.{HasOnly}
 use Rattle.fw_policy.specs.Policy.{key_checks, array_checks, rules_checks, unknown_checks, group_checks, policy_checks, policy_fields, rule_fields, rules_in, StandsForRule, StandForRules}
@@ -13,7 +14,6 @@ use Rattle.fw_policy.specs.declared.fault.PolicyFault.{PolicyFault}
 use Rattle.fw_policy.specs.declared.fault.PolicyFault.TheVariants as fault
 use Rattle.fw_policy.proofs.CheckFacts.{none-both, first-in, first-after, fault-in, fault-after}
 use Rattle.fw_policy.proofs.OneReading.{rules-one}
-use Rattle.fw_policy.proofs.SearchFacts.{all_not}
 
 pub gives_fault : (ms : Members) (f : PolicyFault) → IsFault (policy_checks ms) f → TableGives ms (Err f)
 gives_fault ms f (inl memory) = inl (ap (λ x. Err x) memory)

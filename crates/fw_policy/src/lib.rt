@@ -4,7 +4,6 @@
 #![tactic(auto)]
 
 mod fault;
-mod groups;
 mod laws;
 mod reading;
 mod rule;

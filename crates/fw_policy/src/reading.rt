@@ -6,15 +6,10 @@ ghost use Rattle.fw_policy.specs.Policy.{PolicyReads, key_checks, array_checks, 
 ghost use Rattle.fw_policy.specs.Parts.{IsFault, IsKey, AreRuleTables, TableGives};
 
 use crate::fault::{PolicyFault, PolicyField};
-use crate::groups::{has_double_from, has_target_from};
 use crate::rule::{have_rule_fields, rules_of};
-use crate::target::MOST_TEXT;
-use fw_terms::Policy;
+use fw_terms::{Policy, has_double_from, has_target_from};
 use fw_toml::{Table, TableFault, has_only, member, table_of, tables, text};
 use std::alloc::Global;
-
-/// The greatest number of rules.
-const MOST_RULES: usize = 64;
 
 /// The tag key.
 fn key_of(table: &Table) -> Result<&str, PolicyFault>
@@ -23,7 +18,7 @@ fn key_of(table: &Table) -> Result<&str, PolicyFault>
     let Some(key) = text(table, "key") else {
         return Err(PolicyFault::Field(PolicyField::Key));
     };
-    if key.is_empty() || key.len() > MOST_TEXT {
+    if key.is_empty() || key.len() > Policy::LONGEST_TEXT {
         return Err(PolicyFault::Limit(PolicyField::Key));
     }
     Ok(key)
@@ -39,7 +34,7 @@ fn rule_tables(alloc: Global, table: &Table) -> Result<Vec<&Table>, PolicyFault>
     let Some(rules) = tables(alloc, array)? else {
         return Err(PolicyFault::Field(PolicyField::Rule));
     };
-    if rules.len() > MOST_RULES {
+    if rules.len() > Policy::MOST_RULES {
         return Err(PolicyFault::Limit(PolicyField::Rule));
     }
     Ok(rules)

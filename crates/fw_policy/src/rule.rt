@@ -8,8 +8,8 @@ ghost use Rattle.fw_policy.specs.Policy.{from_checks, give_checks, rule_checks, 
 ghost use Rattle.fw_policy.specs.Parts.{IsFault, IsFrom, IsGiven, IsRuleOf, AreRulesOf};
 
 use crate::fault::{PolicyFault, PolicyField};
-use crate::target::{MOST_TEXT, targets_of};
-use fw_terms::{Give, Rule};
+use crate::target::targets_of;
+use fw_terms::{Give, Policy, Rule};
 use fw_toml::{Table, has_only, is_true, member, text};
 use std::alloc::Global;
 
@@ -20,7 +20,7 @@ fn from_of(table: &Table) -> Result<&str, PolicyFault>
     let Some(from) = text(table, "from") else {
         return Err(PolicyFault::Field(PolicyField::From));
     };
-    if from.len() > MOST_TEXT {
+    if from.len() > Policy::LONGEST_TEXT {
         return Err(PolicyFault::Limit(PolicyField::From));
     }
     Ok(from)

@@ -6,25 +6,16 @@ ghost use Rattle.fw_policy.specs.Policy.{IsWeight};
 ghost use Rattle.fw_policy.specs.Parts.{IsFault, to_checks, IsSized, weights_of, AreTargetsOf};
 
 use crate::fault::{PolicyFault, PolicyField};
-use fw_terms::Target;
+use fw_terms::{Give, Policy, Target};
 use fw_toml::{Value, integers};
 use std::alloc::Global;
-
-/// The greatest number of targets of a rule.
-const MOST_TARGETS: usize = 256;
-
-/// The greatest number of bytes of a key and of a group.
-pub(crate) const MOST_TEXT: usize = 1024;
-
-/// The greatest weight.
-const MOST_WEIGHT: u64 = 1_000_000_000;
 
 /// A number as a weight, if it is one.
 fn weight_of(number: i64) -> Option<u64>
     ensures { MatchOption result (¬ IsWeight number) (λ weight. (number ≡ pos weight) × (weight ≤ most_weight)) }
 {
     match u64::try_from(number) {
-        Ok(weight) if weight <= MOST_WEIGHT => Some(weight),
+        Ok(weight) if weight <= Target::MOST_WEIGHT => Some(weight),
         _ => None,
     }
 }
@@ -35,7 +26,7 @@ fn target_of(alloc: Global, named: &(&str, i64)) -> Result<Target, PolicyFault>
         (λ f. (f ≡ PolicyFault.NoMemory) ⊎ ((f ≡ PolicyFault.Limit PolicyField.To) × (¬ IsSized (named.now.0.now, named.now.1)))) }
 {
     let (group, number) = *named;
-    if group.len() > MOST_TEXT {
+    if group.len() > Policy::LONGEST_TEXT {
         return Err(PolicyFault::Limit(PolicyField::To));
     }
     let Some(weight) = weight_of(number) else {
@@ -63,7 +54,7 @@ pub(crate) fn targets_of(alloc: Global, to: &Value) -> Result<Vec<Target>, Polic
     let Some(weights) = integers(alloc, to)? else {
         return Err(PolicyFault::Field(PolicyField::To));
     };
-    if weights.is_empty() || weights.len() > MOST_TARGETS {
+    if weights.is_empty() || weights.len() > Give::MOST_TARGETS {
         return Err(PolicyFault::Limit(PolicyField::To));
     }
     all_targets(alloc, &weights)

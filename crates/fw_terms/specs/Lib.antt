@@ -1,7 +1,9 @@
 pub mod Texts
 pub mod Policy
+pub mod Groups
 pub mod PolicyView
 pub mod Commitment
 pub mod TermsView
 pub mod CommitmentView
 pub mod Spelling
+pub mod Lengths

@@ -79,6 +79,9 @@ impl Model for Rate {
 }
 
 impl Rate {
+    /// The greatest rate, in parts per million: all of a row's cost counts.
+    pub const MOST_PPM: u32 = 1_000_000;
+
     /// The rate of this SKU, in parts per million.
     pub fn of_fields(sku: String, ppm: u32) -> Rate
         ensures sku { result.sku ≡ string_bytes sku }
@@ -132,6 +135,9 @@ pub enum Terms {
 impl Terms {
     ghost use Rattle.fw_terms.specs.Commitment.{kind_of};
     ghost use Rattle.fw_terms.specs.TermsView.{terms_view};
+
+    /// The most SKUs, or rates, of a commitment.
+    pub const MOST_SKUS: usize = 256;
 
     /// Which of the two kinds of commitment the terms are of.
     pub fn kind(&self) -> DiscountKind
@@ -237,6 +243,15 @@ impl Commitment {
     ghost use Rattle.fw_terms.specs.Commitment.{IsCommitment, kind_of, cost_of};
     ghost use Rattle.fw_terms.specs.TermsView.{terms_view};
     ghost use Rattle.fw_terms.specs.CommitmentView.{commitment_of};
+
+    /// The last hour in which a term may start, counted from 1970: the last of the year 9999.
+    pub const LAST_START: u32 = 70_389_527;
+
+    /// The most hours of a term: three years.
+    pub const MOST_HOURS: u32 = 26_304;
+
+    /// The most purchases of a commitment.
+    pub const MOST_PURCHASES: usize = 64;
 
     /// The commitment with these fields, which keep the limits that [`CommitmentFields`] gives.
     pub fn of_fields(fields: CommitmentFields) -> Commitment

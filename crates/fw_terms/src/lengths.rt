@@ -3,6 +3,7 @@ ghost use Rattle.std.specs.Prelude.{◌≡◌, ◌≤◌, length, map, string_by
 ghost use Rattle.fw_bytes.specs.Spelling.{text, listed};
 ghost use Rattle.fw_terms.specs.Commitment.{AreSkus, IsRate, AreRates, IsTerms, most_purchases};
 ghost use Rattle.fw_terms.specs.Policy.{IsTarget, AreTargets, IsGive, IsRule};
+ghost use Rattle.fw_terms.specs.Lengths.{most_skus_len, most_rate_len, most_rates_len, most_purchases_len, most_commitment_len, most_target_len, most_targets_len, most_give_len, most_rule_len, most_policy_len};
 ghost use Rattle.fw_terms.specs.PolicyView.{give_view};
 ghost use Rattle.fw_terms.specs.TermsView.{terms_view};
 ghost use Rattle.fw_terms.specs.Spelling.{rate, purchase, committed, commitment, target, given, rule, policy};
@@ -16,7 +17,7 @@ use fw_charge::{optional_text_len, tags_len};
 fn skus_len(skus: &[String]) -> usize
     requires { AreSkus (map string_bytes skus.now) }
     ensures value { result ≡ length (listed text (map string_bytes skus.now)) }
-    ensures few { result ≤ 66564 }
+    ensures few { result ≤ most_skus_len }
 {
     let mut len = 4;
     for sku in skus {
@@ -30,7 +31,7 @@ fn skus_len(skus: &[String]) -> usize
 fn rate_len(one: &Rate) -> usize
     requires { IsRate one.now }
     ensures value { result ≡ length (rate one.now) }
-    ensures few { result ≤ 264 }
+    ensures few { result ≤ most_rate_len }
 {
     text_len(one.sku()) + 4
 }
@@ -39,7 +40,7 @@ fn rate_len(one: &Rate) -> usize
 fn rates_len(rates: &[Rate]) -> usize
     requires { AreRates rates.now }
     ensures value { result ≡ length (listed rate rates.now) }
-    ensures few { result ≤ 67588 }
+    ensures few { result ≤ most_rates_len }
 {
     let mut len = 4;
     for one in rates {
@@ -53,7 +54,7 @@ fn rates_len(rates: &[Rate]) -> usize
 fn terms_len(terms: &Terms) -> usize
     requires { IsTerms (terms_view terms.now) }
     ensures value { result ≡ length (committed (terms_view terms.now)) }
-    ensures few { result ≤ 67588 }
+    ensures few { result ≤ most_rates_len }
 {
     match terms {
         Terms::Usage { unit, skus } => text_len(unit) + skus_len(skus),
@@ -65,7 +66,7 @@ fn terms_len(terms: &Terms) -> usize
 fn purchases_len(purchases: &[Purchase]) -> usize
     requires { length purchases.now ≤ most_purchases }
     ensures value { result ≡ length (listed purchase purchases.now) }
-    ensures few { result ≤ 1028 }
+    ensures few { result ≤ most_purchases_len }
 {
     4 + 16 * purchases.len()
 }
@@ -74,7 +75,7 @@ fn purchases_len(purchases: &[Purchase]) -> usize
 #[tactic(auto, unfolding(crate::specs::Spelling::commitment, crate::specs::Spelling::names, crate::specs::Spelling::term))]
 pub fn commitment_len(one: &Commitment) -> usize
     ensures value { result ≡ length (commitment one.now) }
-    ensures few { result ≤ 595494 }
+    ensures few { result ≤ most_commitment_len }
 {
     let id = text_len(one.id());
     let sub_account = optional_text_len(one.sub_account());
@@ -89,7 +90,7 @@ pub fn commitment_len(one: &Commitment) -> usize
 fn target_len(one: &Target) -> usize
     requires { IsTarget one.now }
     ensures value { result ≡ length (target one.now) }
-    ensures few { result ≤ 1036 }
+    ensures few { result ≤ most_target_len }
 {
     text_len(one.group()) + 8
 }
@@ -98,7 +99,7 @@ fn target_len(one: &Target) -> usize
 fn targets_len(targets: &[Target]) -> usize
     requires { AreTargets targets.now }
     ensures value { result ≡ length (listed target targets.now) }
-    ensures few { result ≤ 265220 }
+    ensures few { result ≤ most_targets_len }
 {
     let mut len = 4;
     for one in targets {
@@ -112,7 +113,7 @@ fn targets_len(targets: &[Target]) -> usize
 fn give_len(give: &Give) -> usize
     requires { IsGive (give_view give.now) }
     ensures value { result ≡ length (given (give_view give.now)) }
-    ensures few { result ≤ 265221 }
+    ensures few { result ≤ most_give_len }
 {
     match give {
         Give::Fixed(targets) => 1 + targets_len(targets),
@@ -125,7 +126,7 @@ fn give_len(give: &Give) -> usize
 fn rule_len(one: &Rule) -> usize
     requires { IsRule one.now }
     ensures value { result ≡ length (rule one.now) }
-    ensures few { result ≤ 266249 }
+    ensures few { result ≤ most_rule_len }
 {
     text_len(one.from()) + give_len(one.give())
 }
@@ -134,7 +135,7 @@ fn rule_len(one: &Rule) -> usize
 #[tactic(auto, unfolding(crate::specs::Spelling::policy))]
 pub fn policy_len(one: &Policy) -> usize
     ensures value { result ≡ length (policy one.now) }
-    ensures few { result ≤ 17040968 }
+    ensures few { result ≤ most_policy_len }
 {
     let mut len = text_len(one.key()) + 4;
     for rule in one.rules() {

@@ -8,11 +8,13 @@
 #![tactic(auto)]
 
 mod commitment;
+mod groups;
 mod lengths;
 mod policy;
 mod spelled;
 
 pub use commitment::{Commitment, CommitmentFields, Purchase, Rate, Terms, total_cost};
+pub use groups::{has_double_from, has_target_from};
 pub use lengths::{commitment_len, policy_len};
 pub use policy::{Give, Policy, Rule, Target};
 pub use spelled::{commitment_has_spelling, policy_has_spelling};

@@ -21,6 +21,9 @@ impl Model for Target {
 }
 
 impl Target {
+    /// The greatest weight.
+    pub const MOST_WEIGHT: u64 = 1_000_000_000;
+
     /// The target of this group and weight.
     pub fn of_fields(group: String, weight: u64) -> Target
         ensures group { result.group ≡ string_bytes group }
@@ -65,6 +68,9 @@ pub enum Give {
 
 impl Give {
     ghost use Rattle.fw_terms.specs.PolicyView.{give_view};
+
+    /// The most targets of a rule.
+    pub const MOST_TARGETS: usize = 256;
 
     /// An equal value.
     pub fn copy(&self, alloc: Global) -> Result<Give, AllocError>
@@ -170,6 +176,12 @@ impl Model for Policy {
 
 impl Policy {
     ghost use Rattle.fw_terms.specs.Policy.{IsPolicy, policy_value};
+
+    /// The most bytes of a policy's key, and of a group.
+    pub const LONGEST_TEXT: usize = 1_024;
+
+    /// The most rules of a policy.
+    pub const MOST_RULES: usize = 64;
 
     /// The policy of this key and these rules. The key has 1 to 1,024 bytes; there are at most 64 rules; a group has at most 1,024 bytes;
     /// each rule with targets has 1 to 256 of them, in rising order of their bytes, each of a weight of at most 1,000,000,000; no group gives

@@ -1,4 +1,3 @@
 pub mod Formats
-pub mod GroupFacts
 pub mod PolicyFormat
 pub mod CommitmentFormat

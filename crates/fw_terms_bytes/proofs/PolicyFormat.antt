@@ -15,12 +15,12 @@ use Rattle.fw_charge.specs.Spelling.{FitsTagText}
 use Rattle.fw_row_bytes.proofs.FieldFormats.{tag_text_format}
 use Rattle.fw_terms.specs.Policy.{TargetValue, GiveValue, RuleValue, PolicyValue, IsTarget, IsGive, IsRule, IsPolicy, most_text, most_rules, most_targets}
 use Rattle.fw_terms.specs.Policy.GiveValue.{fixed, proportional}
-use Rattle.fw_terms_bytes.specs.Groups.{has_twice, has_target_from}
+use Rattle.fw_terms.specs.Groups.{has_double_from, has_target_from}
 use Rattle.fw_terms.specs.Spelling.{target, given, rule, policy, IsGiveUtf8, IsRuleUtf8, IsSpelledPolicy}
 use Rattle.fw_terms_bytes.specs.Reading.{is_key, is_weight, key_at, weight_at, target_from, target_at, targets_at, give_at, rule_from, rule_at, rules_at, policy_from, parts_at, targets_rise, all_rise, rules_agree, policy_rules, policy_at}
 use Rattle.fw_terms_bytes.proofs.Formats.{told_format}
 use Rattle.fw_terms.proofs.Ranges.{count_from_list, list_from_count, text_fits, text_utf8}
-use Rattle.fw_terms_bytes.proofs.GroupFacts.{once, not_twice, apart, not_given}
+use Rattle.fw_terms.proofs.GroupFacts.{once, not_twice, apart, not_given}
 
 -- ---- single fields
 
@@ -180,8 +180,8 @@ rules_fit (r ∷ rules) h =
 policy_is : (p : PolicyValue) → FitsPolicy p → IsSpelledPolicy p
 policy_is p h =
     let n = count_from_list 0 most_rules FitsRule p.rules h.0.1 in
-    let rules = and_parts (all_rise p.rules) (not (has_twice p.rules) && not (has_target_from p.rules p.rules)) h.1 in
-    let groups = and_parts (not (has_twice p.rules)) (not (has_target_from p.rules p.rules)) rules.1 in
+    let rules = and_parts (all_rise p.rules) (not (has_double_from p.rules) && not (has_target_from p.rules p.rules)) h.1 in
+    let groups = and_parts (not (has_double_from p.rules)) (not (has_target_from p.rules p.rules)) rules.1 in
     let key = and_parts _ _ h.0.0.1 in
     let each = All-from_recursion IsSpelledRule p.rules (rules_are p.rules h.0.1.2 rules.0) in
     record {

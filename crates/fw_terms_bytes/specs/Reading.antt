@@ -13,7 +13,7 @@ use Rattle.fw_terms.specs.Policy.{TargetValue, GiveValue, RuleValue, PolicyValue
 use Rattle.fw_terms.specs.Policy.GiveValue.{fixed, proportional}
 use Rattle.fw_charge.specs.Spelling.{keys_rise}
 use Rattle.fw_row_bytes.specs.Reading.{nanos_at, second_at, short_text_at, tag_text_at, tags_at}
-use Rattle.fw_terms_bytes.specs.Groups.{has_twice, has_target_from}
+use Rattle.fw_terms.specs.Groups.{has_double_from, has_target_from}
 
 -- a field, and one behind it whose form its value tells
 unfoldable pub then_by : {A B : Type 0} → Reading A → (A → Reading B) → Reading (A × B)
@@ -212,7 +212,7 @@ all_rise (rule ∷ rules) = targets_rise rule.give && all_rise rules
 
 -- the rules over several fields: targets stand in rising order, no group gives away twice, and none that gives away is given to
 abbrev pub rules_agree : List RuleValue → Bool
-rules_agree rules = all_rise rules && (not (has_twice rules) && not (has_target_from rules rules))
+rules_agree rules = all_rise rules && (not (has_double_from rules) && not (has_target_from rules rules))
 
 abbrev pub policy_rules : PolicyValue → Bool
 policy_rules p = rules_agree p.rules

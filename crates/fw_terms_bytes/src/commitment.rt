@@ -17,21 +17,6 @@ use fw_row_bytes::{keys_rise, nanos_of, optional_text_of, second_of, short_text_
 use fw_terms::{Commitment, CommitmentFields, Purchase, Rate, Terms, total_cost};
 use std::alloc::Global;
 
-/// The last hour of the year 9999, counted from 1970.
-const LAST_HOUR: u32 = 70_389_527;
-
-/// The greatest number of hours of a term: three years.
-const MOST_HOURS: u32 = 26_304;
-
-/// The whole of a cost, in parts per million.
-const MOST_PPM: u32 = 1_000_000;
-
-/// The greatest number of SKUs, and of rates.
-const MOST_SKUS: u32 = 256;
-
-/// The greatest number of purchases.
-const MOST_PURCHASES: u32 = 64;
-
 /// Id, kind, account and tags.
 #[derive(Drop)]
 struct NameFields {
@@ -76,7 +61,7 @@ fn start_of(bytes: &[u8]) -> Result<(u32, &[u8]), ReadError>
     ensures { Gives (λ x. (x.0, x.1.now)) result (start_at bytes.now) }
 {
     let (start, rest) = u32_at(bytes)?;
-    if start > LAST_HOUR {
+    if start > Commitment::LAST_START {
         return Err(ReadError::Corrupt(bytes.len()));
     }
     Ok((start, rest))
@@ -88,7 +73,7 @@ fn hours_of(bytes: &[u8]) -> Result<(u32, &[u8]), ReadError>
     ensures { Gives (λ x. (x.0, x.1.now)) result (hours_at bytes.now) }
 {
     let (hours, rest) = u32_at(bytes)?;
-    if hours == 0 || hours > MOST_HOURS {
+    if hours == 0 || hours > Commitment::MOST_HOURS {
         return Err(ReadError::Corrupt(bytes.len()));
     }
     Ok((hours, rest))
@@ -126,7 +111,7 @@ fn ppm_of(bytes: &[u8]) -> Result<(u32, &[u8]), ReadError>
     ensures { Gives (λ x. (x.0, x.1.now)) result (ppm_at bytes.now) }
 {
     let (ppm, rest) = u32_at(bytes)?;
-    if ppm == 0 || ppm > MOST_PPM {
+    if ppm == 0 || ppm > Rate::MOST_PPM {
         return Err(ReadError::Corrupt(bytes.len()));
     }
     Ok((ppm, rest))
@@ -185,7 +170,7 @@ fn skus_of(alloc: Global, bytes: &[u8]) -> Result<(Vec<String>, &[u8]), ReadErro
     ensures { Gives (λ x. (map string_bytes x.0.items, x.1.now)) result (skus_at bytes.now) }
 {
     let (count, rest) = u32_at(bytes)?;
-    if count == 0 || count > MOST_SKUS {
+    if count == 0 || count > Terms::MOST_SKUS as u32 {
         return Err(ReadError::Corrupt(bytes.len()));
     }
     skus_after(alloc, count, rest)
@@ -221,7 +206,7 @@ fn rates_of(alloc: Global, bytes: &[u8]) -> Result<(Vec<Rate>, &[u8]), ReadError
     ensures { Gives (λ x. (x.0.items, x.1.now)) result (rates_at bytes.now) }
 {
     let (count, rest) = u32_at(bytes)?;
-    if count == 0 || count > MOST_SKUS {
+    if count == 0 || count > Terms::MOST_SKUS as u32 {
         return Err(ReadError::Corrupt(bytes.len()));
     }
     rates_after(alloc, count, rest)
@@ -283,7 +268,7 @@ fn purchases_of(alloc: Global, bytes: &[u8]) -> Result<(Vec<Purchase>, &[u8]), R
     ensures { Gives (λ x. (x.0.items, x.1.now)) result (purchases_at bytes.now) }
 {
     let (count, rest) = u32_at(bytes)?;
-    if count == 0 || count > MOST_PURCHASES {
+    if count == 0 || count > Commitment::MOST_PURCHASES as u32 {
         return Err(ReadError::Corrupt(bytes.len()));
     }
     purchases_after(alloc, count, rest)

@@ -5,7 +5,6 @@
 #![tactic(auto)]
 
 mod commitment;
-mod groups;
 mod order;
 mod policy;
 mod writing;

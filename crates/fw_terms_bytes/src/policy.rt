@@ -4,24 +4,11 @@ ghost use Rattle.fw_bytes.specs.Reading.{Gives, times};
 ghost use Rattle.fw_terms.specs.PolicyView.{give_view};
 ghost use Rattle.fw_terms_bytes.specs.Reading.{key_at, weight_at, target_at, targets_at, give_at, rule_at, rules_at, parts_at, targets_rise, all_rise, rules_agree, policy_at};
 
-use crate::groups::{has_target_from, has_twice};
 use crate::order::names_rise;
 use fw_bytes::{ReadError, str_at, u32_at, u64_at};
 use fw_row_bytes::tag_text_of;
-use fw_terms::{Give, Policy, Rule, Target};
+use fw_terms::{Give, Policy, Rule, Target, has_double_from, has_target_from};
 use std::alloc::Global;
-
-/// The greatest number of bytes of a policy's key.
-const LONGEST_KEY: usize = 1024;
-
-/// The greatest weight.
-const MOST_WEIGHT: u64 = 1_000_000_000;
-
-/// The greatest number of targets of a rule.
-const MOST_TARGETS: u32 = 256;
-
-/// The greatest number of rules.
-const MOST_RULES: u32 = 64;
 
 /// The tag key whose values are the groups.
 #[tactic(auto, unfolding(crate::specs::Reading::key_at, fw_bytes::specs::Reading::checked))]
@@ -29,7 +16,7 @@ fn key_of(alloc: Global, bytes: &[u8]) -> Result<(String, &[u8]), ReadError>
     ensures { Gives (λ x. (string_bytes x.0, x.1.now)) result (key_at bytes.now) }
 {
     let (key, rest) = str_at(bytes)?;
-    if key.is_empty() || key.len() > LONGEST_KEY {
+    if key.is_empty() || key.len() > Policy::LONGEST_TEXT {
         return Err(ReadError::Corrupt(bytes.len()));
     }
     Ok((String::from_str(alloc, key)?, rest))
@@ -41,7 +28,7 @@ fn weight_of(bytes: &[u8]) -> Result<(u64, &[u8]), ReadError>
     ensures { Gives (λ x. (x.0, x.1.now)) result (weight_at bytes.now) }
 {
     let (weight, rest) = u64_at(bytes)?;
-    if weight > MOST_WEIGHT {
+    if weight > Target::MOST_WEIGHT {
         return Err(ReadError::Corrupt(bytes.len()));
     }
     Ok((weight, rest))
@@ -77,7 +64,7 @@ fn targets_of(alloc: Global, bytes: &[u8]) -> Result<(Vec<Target>, &[u8]), ReadE
     ensures { Gives (λ x. (x.0.items, x.1.now)) result (targets_at bytes.now) }
 {
     let (count, rest) = u32_at(bytes)?;
-    if count == 0 || count > MOST_TARGETS {
+    if count == 0 || count > Give::MOST_TARGETS as u32 {
         return Err(ReadError::Corrupt(bytes.len()));
     }
     targets_after(alloc, count, rest)
@@ -128,7 +115,7 @@ fn rules_of(alloc: Global, bytes: &[u8]) -> Result<(Vec<Rule>, &[u8]), ReadError
     ensures { Gives (λ x. (x.0.items, x.1.now)) result (rules_at bytes.now) }
 {
     let (count, rest) = u32_at(bytes)?;
-    if count > MOST_RULES {
+    if count > Policy::MOST_RULES as u32 {
         return Err(ReadError::Corrupt(bytes.len()));
     }
     rules_after(alloc, count, rest)
@@ -160,7 +147,7 @@ fn all_rise(rules: &[Rule]) -> bool
 fn rules_agree(rules: &[Rule]) -> bool
     ensures { result ≡ rules_agree rules.now }
 {
-    all_rise(rules) && !has_twice(rules) && !has_target_from(rules)
+    all_rise(rules) && !has_double_from(rules) && !has_target_from(rules)
 }
 
 /// The key and the rules of a policy.

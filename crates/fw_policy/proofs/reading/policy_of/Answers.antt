@@ -38,7 +38,7 @@ returns-then-has_double_from c =
     let has : HasRules ms c.in_ok-key.key.now tables rules = record { has = record { is_key = c.in_ok-key.ensures; are_tables = c.in_ok-tables.ensures }; are_rules = rw c.deref.ensures.value at c.in_ok-rules.ensures } in
     let known = (rw c.deref-2.ensures.value at c.has_only_known.ensures).0 c.if-not-has_only_known.false in
     let all : HasAll ms c.in_ok-key.key.now tables rules = record { has = has; only = known.0; each = known.1 } in
-    double_fault ms c.in_ok-key.key.now tables rules all ((rw c.deref-3.ensures.value at c.has_double_from.ensures).0 c.if-has_double_from.true)
+    double_fault ms c.in_ok-key.key.now tables rules all ((rw c.deref-3.ensures.value at c.has_double_from.ensures.meaning).0 c.if-has_double_from.true)
 
 pub returns-then-has_target_from : goal.returns-then-has_target_from
 returns-then-has_target_from c =
@@ -46,8 +46,8 @@ returns-then-has_target_from c =
     let has : HasRules ms c.in_ok-key.key.now tables rules = record { has = record { is_key = c.in_ok-key.ensures; are_tables = c.in_ok-tables.ensures }; are_rules = rw c.deref.ensures.value at c.in_ok-rules.ensures } in
     let known = (rw c.deref-2.ensures.value at c.has_only_known.ensures).0 c.if-not-has_only_known.false in
     let all : HasAll ms c.in_ok-key.key.now tables rules = record { has = has; only = known.0; each = known.1 } in
-    let once : ¬ HasTwice (froms rules) = λ h. let found = (rw c.deref-3.ensures.value at c.has_double_from.ensures).1 h in let not_ = c.if-has_double_from.false in cc in
-    target_fault ms c.in_ok-key.key.now tables rules all once ((rw c.deref-4.ensures.value at c.has_target_from.ensures).0 c.if-has_target_from.true)
+    let once : ¬ HasTwice (froms rules) = λ h. let found = (rw c.deref-3.ensures.value at c.has_double_from.ensures.meaning).1 h in let not_ = c.if-has_double_from.false in cc in
+    target_fault ms c.in_ok-key.key.now tables rules all once ((rw c.deref-4.ensures.value at c.has_target_from.ensures.meaning).0 c.if-has_target_from.true)
 
 pub returns-in_err-from_str : goal.returns-in_err-from_str
 returns-in_err-from_str c =
@@ -58,8 +58,8 @@ pub of_fields-requires : goal.of_fields-requires
 of_fields-requires c =
     let ms = stated c.args.table.now in let tables = map (λ t. stated t.now) c.in_ok-tables.tables.items in let rules = c.in_ok-rules.rules.items in
     let has : HasRules ms c.in_ok-key.key.now tables rules = record { has = record { is_key = c.in_ok-key.ensures; are_tables = c.in_ok-tables.ensures }; are_rules = rw c.deref.ensures.value at c.in_ok-rules.ensures } in
-    let once : ¬ HasTwice (froms rules) = λ h. let found = (rw c.deref-3.ensures.value at c.has_double_from.ensures).1 h in let not_ = c.if-has_double_from.false in cc in
-    let apart : ¬ Any (λ g. Contains (froms rules) g) (targets_of rules) = λ h. let found = (rw c.deref-4.ensures.value at c.has_target_from.ensures).1 h in let not_ = c.if-has_target_from.false in cc in
+    let once : ¬ HasTwice (froms rules) = λ h. let found = (rw c.deref-3.ensures.value at c.has_double_from.ensures.meaning).1 h in let not_ = c.if-has_double_from.false in cc in
+    let apart : ¬ Any (λ g. Contains (froms rules) g) (targets_of rules) = λ h. let found = (rw c.deref-4.ensures.value at c.has_target_from.ensures.meaning).1 h in let not_ = c.if-has_target_from.false in cc in
     rw c.in_ok-from_str.ensures.ok (policy_kept ms c.in_ok-key.key.now tables rules has once apart)
 
 pub returns : goal.returns
@@ -68,6 +68,6 @@ returns c =
     let has : HasRules ms c.in_ok-key.key.now tables rules = record { has = record { is_key = c.in_ok-key.ensures; are_tables = c.in_ok-tables.ensures }; are_rules = rw c.deref.ensures.value at c.in_ok-rules.ensures } in
     let known = (rw c.deref-2.ensures.value at c.has_only_known.ensures).0 c.if-not-has_only_known.false in
     let all : HasAll ms c.in_ok-key.key.now tables rules = record { has = has; only = known.0; each = known.1 } in
-    let once : ¬ HasTwice (froms rules) = λ h. let found = (rw c.deref-3.ensures.value at c.has_double_from.ensures).1 h in let not_ = c.if-has_double_from.false in cc in
-    let apart : ¬ Any (λ g. Contains (froms rules) g) (targets_of rules) = λ h. let found = (rw c.deref-4.ensures.value at c.has_target_from.ensures).1 h in let not_ = c.if-has_target_from.false in cc in
+    let once : ¬ HasTwice (froms rules) = λ h. let found = (rw c.deref-3.ensures.value at c.has_double_from.ensures.meaning).1 h in let not_ = c.if-has_double_from.false in cc in
+    let apart : ¬ Any (λ g. Contains (froms rules) g) (targets_of rules) = λ h. let found = (rw c.deref-4.ensures.value at c.has_target_from.ensures.meaning).1 h in let not_ = c.if-has_target_from.false in cc in
     rw (c.of_fields.ensures, c.in_ok-from_str.ensures.ok) (policy_is ms c.in_ok-key.key.now tables rules all once apart)

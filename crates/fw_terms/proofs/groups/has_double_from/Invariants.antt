@@ -1,9 +1,9 @@
 use Rattle.std.proofs.Common.{◌≡◌, length}
-use Rattle.fw_terms_bytes.specs.Groups.{has_twice}
-use Rattle.fw_terms_bytes.proofs.groups.has_twice.Given as goal
+use Rattle.fw_terms.specs.Groups.{has_double_from}
+use Rattle.fw_terms.proofs.groups.has_double_from.Given as goal
 
 abbrev pub invariant-loop-rest : goal.invariant-loop-rest
-invariant-loop-rest l = has_twice l.rest ≡ has_twice l.rules
+invariant-loop-rest l = has_double_from l.rest ≡ has_double_from l.rules
 
 abbrev pub decreases-loop-rest : goal.decreases-loop-rest
 decreases-loop-rest l = length l.rest

@@ -1,9 +1,11 @@
-//! The groups of a policy that give away, and those that are given to.
-ghost use Rattle.std.specs.Prelude.{◌≡◌};
+//! The groups that give their cost away by rules, and those that are given to.
+ghost use Rattle.std.specs.Prelude.{◌≡◌, ◌↔◌, Any, Contains, IsTrue};
+ghost use Rattle.fw_terms.specs.Groups.{is_from, has_double_from, is_any_from, gives_to_from, has_target_from};
+ghost use Rattle.fw_terms.specs.Policy.{froms, targets_of};
 ghost use Rattle.fw_terms.specs.PolicyView.{give_view};
-ghost use Rattle.fw_terms_bytes.specs.Groups.{is_from, has_twice, is_any_from, gives_to_from, has_target_from};
+ghost use Rattle.fw_terms.specs.Texts.{HasTwice};
 
-use fw_terms::{Give, Rule, Target};
+use crate::policy::{Give, Rule, Target};
 
 /// Whether a group gives away by one of the rules.
 fn is_from(rules: &[Rule], group: &str) -> bool
@@ -17,9 +19,10 @@ fn is_from(rules: &[Rule], group: &str) -> bool
     false
 }
 
-/// Whether a group gives away twice.
-pub(crate) fn has_twice(rules: &[Rule]) -> bool
-    ensures { result ≡ has_twice rules.now }
+/// Whether a group is the `from` of two rules, which no policy allows.
+pub fn has_double_from(rules: &[Rule]) -> bool
+    ensures test { result ≡ has_double_from rules.now }
+    ensures meaning { IsTrue result ↔ HasTwice (froms rules.now) }
 {
     let mut rest = rules;
     while let [rule, others @ ..] = rest {
@@ -53,9 +56,10 @@ fn gives_to_from(rules: &[Rule], give: &Give) -> bool
     }
 }
 
-/// Whether a group that is given to gives away.
-pub(crate) fn has_target_from(rules: &[Rule]) -> bool
-    ensures { result ≡ has_target_from rules.now rules.now }
+/// Whether a group that is given to is the `from` of a rule, which no policy allows.
+pub fn has_target_from(rules: &[Rule]) -> bool
+    ensures test { result ≡ has_target_from rules.now rules.now }
+    ensures meaning { IsTrue result ↔ Any (λ g. Contains (froms rules.now) g) (targets_of rules.now) }
 {
     for rule in rules {
         if gives_to_from(rules, rule.give()) {

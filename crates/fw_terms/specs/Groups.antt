@@ -10,9 +10,9 @@ is_from [] group = false
 is_from (rule ∷ rules) group = bytes_eq rule.from group || is_from rules group
 
 -- some group gives away twice
-abbrev pub has_twice : List RuleValue → Bool
-has_twice [] = false
-has_twice (rule ∷ rules) = is_from rules rule.from || has_twice rules
+abbrev pub has_double_from : List RuleValue → Bool
+has_double_from [] = false
+has_double_from (rule ∷ rules) = is_from rules rule.from || has_double_from rules
 
 -- one of the targets gives away by one of the rules
 abbrev pub is_any_from : List RuleValue → List TargetValue → Bool

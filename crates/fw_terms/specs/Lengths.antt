@@ -1,0 +1,43 @@
+-- The most bytes that the parts of commitments and of policies have where they are written.
+use Rattle.std.specs.Prelude.{ℕ, ◌+◌, ◌*◌}
+use Rattle.fw_terms.specs.Commitment.{most_skus, most_purchases}
+use Rattle.fw_terms.specs.Policy.{most_text, most_targets, most_rules}
+
+-- ---- a commitment
+
+-- a text of at most 256 bytes
+abbrev pub most_name_len : ℕ
+most_name_len = 4 + 256
+
+abbrev pub most_skus_len : ℕ
+most_skus_len = 4 + most_skus * most_name_len
+
+abbrev pub most_rate_len : ℕ
+most_rate_len = most_name_len + 4
+
+abbrev pub most_rates_len : ℕ
+most_rates_len = 4 + most_skus * most_rate_len
+
+abbrev pub most_purchases_len : ℕ
+most_purchases_len = 4 + most_purchases * 16
+
+-- tags have at most 526,340 bytes; rates are longer than a unit and SKUs
+abbrev pub most_commitment_len : ℕ
+most_commitment_len = 17 + (most_name_len + (1 + most_name_len) + (526340 + most_rates_len + most_purchases_len))
+
+-- ---- a policy
+
+abbrev pub most_target_len : ℕ
+most_target_len = 4 + most_text + 8
+
+abbrev pub most_targets_len : ℕ
+most_targets_len = 4 + most_targets * most_target_len
+
+abbrev pub most_give_len : ℕ
+most_give_len = 1 + most_targets_len
+
+abbrev pub most_rule_len : ℕ
+most_rule_len = 4 + most_text + most_give_len
+
+abbrev pub most_policy_len : ℕ
+most_policy_len = 4 + most_text + (4 + most_rules * most_rule_len)
