@@ -9,7 +9,7 @@ use Rattle.fw_terms.specs.Commitment.{CommitmentValue}
 use Rattle.fw_toml.specs.Tree.{IsTable}
 use Rattle.fw_commitment.specs.Finding.{Finds}
 use Rattle.fw_commitment.specs.Reading.{CommitmentReads, Stands}
-use Rattle.fw_commitment.specs.Rules.{Rule, rules_of, head_rules, terms_rules, rest_rules}
+use Rattle.fw_commitment.specs.Rules.{Rule, rules_of, id_and_term_rules, terms_rules, billing_rules}
 use Rattle.fw_commitment.specs.declared.fault.CommitmentFault.{CommitmentFault}
 use Rattle.fw_commitment.specs.declared.fault.CommitmentFault.TheVariants as fault
 
@@ -32,7 +32,7 @@ first-of_field (r ∷ rules) f all (inl here) = let both = and_parts (of_field r
 first-of_field (r ∷ rules) f all (inr later) = let both = and_parts (of_field r.0) (are_of_fields rules) all in first-of_field rules f both.1 later.1
 
 rules-of_fields : (ms : Members) → are_of_fields (rules_of ms) ≡ true
-unfolding rules_of head_rules terms_rules rest_rules
+unfolding rules_of id_and_term_rules terms_rules billing_rules
 rules-of_fields ms = refl
 
 -- ---- the text

@@ -3,4 +3,4 @@ pub mod Fields
 pub mod Rules
 pub mod Reading
 pub mod Finding
-pub mod Head
+pub mod Parts

@@ -101,14 +101,14 @@ unknown_rules ms = field_rule field.Unknown (λ kind. HasKind ms kind × HasOnly
 
 -- ---- all of them, in order
 
-unfoldable pub head_rules : Members → List Rule
-head_rules ms = id_rules ms ++ (kind_rules ms ++ (start_rules ms ++ (hours_rules ms ++ capacity_rules ms)))
+unfoldable pub id_and_term_rules : Members → List Rule
+id_and_term_rules ms = id_rules ms ++ (kind_rules ms ++ (start_rules ms ++ (hours_rules ms ++ capacity_rules ms)))
 
 unfoldable pub terms_rules : Members → List Rule
 terms_rules ms = only_where (HasKind ms kind.Usage) (unit_rules ms ++ skus_rules ms) ++ only_where (HasKind ms kind.Spend) (rates_rules ms)
 
-unfoldable pub rest_rules : Members → List Rule
-rest_rules ms = sub_account_rules ms ++ (tags_rules ms ++ (purchase_rules ms ++ unknown_rules ms))
+unfoldable pub billing_rules : Members → List Rule
+billing_rules ms = sub_account_rules ms ++ (tags_rules ms ++ (purchase_rules ms ++ unknown_rules ms))
 
 unfoldable pub rules_of : Members → List Rule
-rules_of ms = head_rules ms ++ (terms_rules ms ++ rest_rules ms)
+rules_of ms = id_and_term_rules ms ++ (terms_rules ms ++ billing_rules ms)

@@ -1,12 +1,15 @@
 //! How a TOML text reads as a commitment.
 #![tactic(auto)]
 
+mod billing;
 mod fault;
 mod fields;
-mod head;
+mod id_and_term;
 mod laws;
+mod names;
+mod purchases;
 mod reading;
-mod rest;
+mod tags;
 mod terms;
 
 pub use fault::{CommitmentFault, CommitmentField};

@@ -4,9 +4,9 @@ ghost use Rattle.fw_commitment.specs.Finding.{Finds};
 ghost use Rattle.fw_commitment.specs.Rules.{rules_of};
 ghost use Rattle.fw_commitment.specs.Reading.{CommitmentReads, Stands};
 
+use crate::billing::Billing;
 use crate::fault::CommitmentFault;
-use crate::head::Head;
-use crate::rest::Rest;
+use crate::id_and_term::IdAndTerm;
 use crate::terms::terms;
 use fw_terms::{Commitment, CommitmentFields};
 use fw_toml::{Table, TableFault, table_of};
@@ -31,17 +31,17 @@ pub fn read_commitment(alloc: Global, text: &[u8]) -> Result<Commitment, Commitm
 fn commitment_of(alloc: Global, table: &Table) -> Result<Commitment, CommitmentFault>
     ensures { Finds (rules_of (stated table.now)) (Stands (stated table.now)) result }
 {
-    let head = Head::of_table(alloc, table)?;
-    let terms = terms(alloc, table, head.kind)?;
-    let rest = Rest::of_table(alloc, table, head.kind)?;
+    let id_and_term = IdAndTerm::of_table(alloc, table)?;
+    let terms = terms(alloc, table, id_and_term.kind)?;
+    let billing = Billing::of_table(alloc, table, id_and_term.kind)?;
     Ok(Commitment::of_fields(CommitmentFields {
-        id: head.id,
+        id: id_and_term.id,
         terms,
-        sub_account: rest.sub_account,
-        tags: rest.tags,
-        start: head.start,
-        hours: head.hours,
-        capacity: head.capacity,
-        purchases: rest.purchases,
+        sub_account: billing.sub_account,
+        tags: billing.tags,
+        start: id_and_term.start,
+        hours: id_and_term.hours,
+        capacity: id_and_term.capacity,
+        purchases: billing.purchases,
     }))
 }

@@ -1,1 +1,2 @@
 pub mod OriginFacts
+pub mod KindFacts

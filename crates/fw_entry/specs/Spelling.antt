@@ -6,12 +6,17 @@ use Rattle.fw_charge.specs.Spelling.{row, IsRow}
 use Rattle.fw_terms.specs.Spelling.{commitment, policy, IsSpelledCommitment, IsSpelledPolicy}
 use Rattle.fw_entry.specs.Entry.{CommandValue, EntryValue, is_origin, most_post_rows}
 use Rattle.fw_entry.specs.Entry.CommandValue.{post, commit, set_policy}
+use Rattle.fw_entry.specs.Kinds.{kind_of, kind_code}
+
+-- what a command brings
+unfoldable pub brought : CommandValue → List ℕ
+brought (post rows) = listed row rows
+brought (commit c) = commitment c
+brought (set_policy p) = policy p
 
 -- a command: one byte for its kind, and what it brings
 unfoldable pub command : CommandValue → List ℕ
-command (post rows) = 1 ∷ listed row rows
-command (commit c) = 2 ∷ commitment c
-command (set_policy p) = 3 ∷ policy p
+command c = kind_code (kind_of c) ∷ brought c
 
 -- an entry: its origin, its number, and its command
 unfoldable pub entry : EntryValue → List ℕ

@@ -9,15 +9,13 @@ ghost use Rattle.fw_entry.specs.Spelling.{HasRowCount, IsEntry};
 ghost use Rattle.fw_entry.specs.View.{command_view};
 
 use crate::fault::EntryFault;
+use crate::kind::CommandKind;
 use fw_charge::{Row, row_has_spelling, row_len};
 use fw_terms::{
     Commitment, Policy, commitment_has_spelling, commitment_len, policy_has_spelling, policy_len,
 };
 use std::alloc::{AllocError, Global};
 use std::marker::Model;
-
-/// The most bytes that an entry is written in.
-const MOST_BYTES: usize = 4_194_304;
 
 /// What an entry asks for.
 #[derive(Debug, Drop)]
@@ -31,8 +29,23 @@ pub enum Command {
 }
 
 impl Command {
+    ghost use Rattle.fw_entry.specs.Kinds.{kind_of};
     ghost use Rattle.fw_entry.specs.Spelling.{command, HasRowCount, IsCommand};
     ghost use Rattle.fw_entry.specs.View.{command_view};
+
+    /// The most rows of a post.
+    pub const MOST_POST_ROWS: usize = 4_096;
+
+    /// The kind of the command.
+    pub fn kind(&self) -> CommandKind
+        ensures { result ≡ kind_of (command_view self.now) }
+    {
+        match self {
+            Command::Post(_) => CommandKind::Post,
+            Command::Commit(_) => CommandKind::Commit,
+            Command::SetPolicy(_) => CommandKind::SetPolicy,
+        }
+    }
 
     /// An equal command.
     pub fn copy(&self, alloc: Global) -> Result<Command, AllocError>
@@ -46,7 +59,7 @@ impl Command {
     }
 
     // How many bytes the command is written in.
-    #[tactic(auto, unfolding(crate::specs::Spelling::command))]
+    #[tactic(auto, unfolding(crate::specs::Spelling::command, crate::specs::Spelling::brought))]
     fn encoded_len(&self) -> usize
         requires { HasRowCount (command_view self.now) }
         ensures length { result ≡ length (command (command_view self.now)) }
@@ -112,7 +125,7 @@ fn are_origin_bytes(bytes: &[u8]) -> bool
 pub fn is_origin(bytes: &[u8]) -> bool
     ensures { result ≡ is_origin bytes.now }
 {
-    !bytes.is_empty() && bytes.len() <= 64 && are_origin_bytes(bytes)
+    !bytes.is_empty() && bytes.len() <= Entry::LONGEST_ORIGIN && are_origin_bytes(bytes)
 }
 
 // The name of the origin, where the parts make an entry.
@@ -129,7 +142,7 @@ fn checked<'a>(origin: &'a [u8], seq: u64, command: &Command) -> Result<&'a str,
     if seq == 0 {
         return Err(EntryFault::Seq);
     }
-    if 12 + origin.len() + command.encoded_len() > MOST_BYTES {
+    if 12 + origin.len() + command.encoded_len() > Entry::MOST_BYTES {
         return Err(EntryFault::TooLarge);
     }
     match str::from_utf8(origin) {
@@ -163,6 +176,12 @@ impl Entry {
     ghost use Rattle.fw_entry.specs.Refusals.{IsRefused};
     ghost use Rattle.fw_entry.specs.Spelling.{entry, HasRowCount, IsEntry};
     ghost use Rattle.fw_entry.specs.View.{command_view};
+
+    /// The most bytes of an origin's name.
+    pub const LONGEST_ORIGIN: usize = 64;
+
+    /// The most bytes that an entry is written in.
+    pub const MOST_BYTES: usize = 4_194_304;
 
     /// The entry of this origin, number and command; a post has 1 to 4,096 rows. Where the parts break several limits, the fault is the first in the order of
     /// [`EntryFault`]; the command is dropped then.

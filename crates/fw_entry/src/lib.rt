@@ -5,6 +5,8 @@
 
 mod entry;
 mod fault;
+mod kind;
 
 pub use entry::{Command, Entry, is_origin};
 pub use fault::EntryFault;
+pub use kind::CommandKind;

@@ -1,21 +1,27 @@
 -- What is read of an entry is spelled so, and what is spelled so is read.
-use Rattle.std.proofs.Common.{◌≡◌, ℕ, zero, suc, List, [], ◌∷◌, ◌++◌, Ok, refl, subst, arith}
+use Rattle.std.proofs.Common.{◌≡◌, List, refl, arith}
 use Rattle.std.proofs.lemmas.Bool.{leb-true, le-leb}
 use Rattle.fw_bytes.specs.Spelling.{number64, text, listed, pair, FitsPair, FitsChecked, FitsList}
 use Rattle.fw_bytes.specs.Reading.{checked, seen}
-use Rattle.fw_bytes.proofs.Laws.{IsBytes, IsBytes-rest, IsFormat, Takes, Takes-behind, bind_ok, ok_is, checked_format, seen_format, both_format, list_format, list_parts, list_fits}
+use Rattle.fw_bytes.proofs.Laws.{IsFormat, checked_format, seen_format, both_format, list_format, list_parts, list_fits}
 use Rattle.fw_charge.specs.Charge.{Charge}
 use Rattle.fw_charge.specs.Spelling.{row, IsRow}
 use Rattle.fw_row_bytes.proofs.RowFormat.{row_format}
-use Rattle.fw_terms.specs.Spelling.{commitment, policy}
-use Rattle.fw_terms_bytes.specs.Reading.{commitment_at, policy_at}
+use Rattle.fw_terms.specs.Commitment.{CommitmentValue}
+use Rattle.fw_terms.specs.Policy.{PolicyValue}
+use Rattle.fw_terms.specs.Spelling.{IsSpelledCommitment, IsSpelledPolicy}
+use Rattle.fw_terms_bytes.proofs.Formats.{case_format, kind_format}
 use Rattle.fw_terms_bytes.proofs.CommitmentFormat.{commitment_format}
 use Rattle.fw_terms_bytes.proofs.PolicyFormat.{policy_format}
 use Rattle.fw_entry.specs.Entry.{CommandValue, EntryValue, most_post_rows}
 use Rattle.fw_entry.specs.Entry.CommandValue.{post, commit, set_policy}
-use Rattle.fw_entry.specs.Spelling.{command, entry, IsPost, IsCommand, IsEntry}
+use Rattle.fw_entry.specs.Kinds.{kind_of, kind_code, kind_meant}
+use Rattle.fw_entry.specs.declared.kind.CommandKind.{CommandKind}
+use Rattle.fw_entry.specs.declared.kind.CommandKind.TheVariants as kind
+use Rattle.fw_entry.proofs.KindFacts.{kind_back, kind_there}
+use Rattle.fw_entry.specs.Spelling.{brought, command, entry, IsPost, IsCommand, IsEntry}
 use Rattle.fw_entry_bytes.specs.declared.form.Form.{Form}
-use Rattle.fw_entry_bytes.specs.Reading.{IsOrigin, IsSeq, rows_at, command_at, Fields, fields_at, entry_from, is_small, entry_at}
+use Rattle.fw_entry_bytes.specs.Reading.{IsOrigin, IsSeq, rows_at, brought_at, command_at, Fields, fields_at, entry_from, is_small, entry_at}
 use Rattle.fw_entry_bytes.proofs.Facts.{origin_format, seq_format}
 
 -- ---- the rows of a post
@@ -35,47 +41,34 @@ rows_format = record {
 
 -- ---- what an entry asks for
 
-post_takes : (rest : List ℕ) (x : CommandValue × List ℕ) → IsBytes rest → seen post rows_at rest ≡ Ok x → Takes (1 ∷ rest) (command x.0) x.1 × IsCommand x.0
-unfolding seen command
-post_takes rest x is e =
-    let b = bind_ok (rows_at rest) (λ y. Ok (post y.0, y.1)) x e in
-    let t = rows_format.takes rest b.0 is b.1 in
-    let made : CommandValue × List ℕ = (post b.0.0, b.0.1) in
-    subst (λ (z : CommandValue × List ℕ). Takes (1 ∷ rest) (command z.0) z.1 × IsCommand z.0) (ok_is made x b.2) (Takes-behind 1 rest (listed row b.0.0) b.0.1 t.0, t.1)
+-- a command of a kind, within its limits
+abbrev IsOfKind : CommandKind → CommandValue → Type 0
+IsOfKind k c = (kind_of c ≡ k) × IsCommand c
 
-commit_takes : (rest : List ℕ) (x : CommandValue × List ℕ) → IsBytes rest → seen commit commitment_at rest ≡ Ok x → Takes (2 ∷ rest) (command x.0) x.1 × IsCommand x.0
-unfolding seen command
-commit_takes rest x is e =
-    let b = bind_ok (commitment_at rest) (λ y. Ok (commit y.0, y.1)) x e in
-    let t = commitment_format.takes rest b.0 is b.1 in
-    let made : CommandValue × List ℕ = (commit b.0.0, b.0.1) in
-    subst (λ (z : CommandValue × List ℕ). Takes (2 ∷ rest) (command z.0) z.1 × IsCommand z.0) (ok_is made x b.2) (Takes-behind 2 rest (commitment b.0.0) b.0.1 t.0, t.1)
+post_back : (c : CommandValue) → IsOfKind kind.Post c → (rows : List Charge) × (post rows ≡ c) × IsPost rows
+post_back (post rows) h = (rows, refl, h.1)
+post_back (commit c) h = let e = h.0 in absurd cc
+post_back (set_policy p) h = let e = h.0 in absurd cc
 
-set_policy_takes : (rest : List ℕ) (x : CommandValue × List ℕ) → IsBytes rest → seen set_policy policy_at rest ≡ Ok x → Takes (3 ∷ rest) (command x.0) x.1 × IsCommand x.0
-unfolding seen command
-set_policy_takes rest x is e =
-    let b = bind_ok (policy_at rest) (λ y. Ok (set_policy y.0, y.1)) x e in
-    let t = policy_format.takes rest b.0 is b.1 in
-    let made : CommandValue × List ℕ = (set_policy b.0.0, b.0.1) in
-    subst (λ (z : CommandValue × List ℕ). Takes (3 ∷ rest) (command z.0) z.1 × IsCommand z.0) (ok_is made x b.2) (Takes-behind 3 rest (policy b.0.0) b.0.1 t.0, t.1)
+commit_back : (c : CommandValue) → IsOfKind kind.Commit c → (one : CommitmentValue) × (commit one ≡ c) × IsSpelledCommitment one
+commit_back (post rows) h = let e = h.0 in absurd cc
+commit_back (commit c) h = (c, refl, h.1)
+commit_back (set_policy p) h = let e = h.0 in absurd cc
 
-command_takes : (form : Form) (bytes : List ℕ) (x : CommandValue × List ℕ) → IsBytes bytes → command_at form bytes ≡ Ok x → Takes bytes (command x.0) x.1 × IsCommand x.0
-unfolding command_at
-command_takes form [] x is e = absurd cc
-command_takes form (zero ∷ rest) x is e = absurd cc
-command_takes form (suc zero ∷ rest) x is e = post_takes rest x (IsBytes-rest 1 rest is) e
-command_takes form (suc (suc zero) ∷ rest) x is e = commit_takes rest x (IsBytes-rest 2 rest is) e
-command_takes form (suc (suc (suc zero)) ∷ rest) x is e = set_policy_takes rest x (IsBytes-rest 3 rest is) e
-command_takes form (suc (suc (suc (suc kind))) ∷ rest) x is e = absurd cc
+set_policy_back : (c : CommandValue) → IsOfKind kind.SetPolicy c → (one : PolicyValue) × (set_policy one ≡ c) × IsSpelledPolicy one
+set_policy_back (post rows) h = let e = h.0 in absurd cc
+set_policy_back (commit c) h = let e = h.0 in absurd cc
+set_policy_back (set_policy p) h = (p, refl, h.1)
 
-command_again : (form : Form) (c : CommandValue) (rest : List ℕ) → IsCommand c → command_at form (command c ++ rest) ≡ Ok (c, rest)
-unfolding command_at command seen
-command_again form (post rows) rest h = rw (rows_format.again rows rest h) refl
-command_again form (commit c) rest h = rw (commitment_format.again c rest h) refl
-command_again form (set_policy p) rest h = rw (policy_format.again p rest h) refl
+brought_format : (k : CommandKind) → IsFormat (brought_at k) brought (IsOfKind k)
+unfolding brought_at brought
+brought_format kind.Post = case_format (λ (rows : List Charge). post rows) brought (IsOfKind kind.Post) (λ rows. refl) (λ rows h. (refl, h)) post_back rows_format
+brought_format kind.Commit = case_format (λ (c : CommitmentValue). commit c) brought (IsOfKind kind.Commit) (λ c. refl) (λ c h. (refl, h)) commit_back commitment_format
+brought_format kind.SetPolicy = case_format (λ (p : PolicyValue). set_policy p) brought (IsOfKind kind.SetPolicy) (λ p. refl) (λ p h. (refl, h)) set_policy_back policy_format
 
 pub command_format : (form : Form) → IsFormat (command_at form) command IsCommand
-command_format form = record { takes = command_takes form; again = command_again form }
+unfolding command_at command
+command_format form = kind_format kind_meant kind_code kind_of kind_back kind_there brought_format
 
 -- ---- an entry
 

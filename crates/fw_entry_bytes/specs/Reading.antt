@@ -1,13 +1,16 @@
 -- Reading entries.
-use Rattle.std.specs.Prelude.{◌<◌, ◌^◌, ℕ, zero, suc, Bool, List, [], ◌∷◌, length, Err, nat_lt, nat_le, IsTrue}
+use Rattle.std.specs.Prelude.{◌<◌, ◌^◌, ℕ, Bool, List, length, nat_lt, nat_le, IsTrue}
 use Rattle.std.specs.Int.{w64}
 use Rattle.fw_bytes.specs.Reading.{Reading, number_at, text_at, checked, both, seen, list_at}
 use Rattle.fw_charge.specs.Charge.{Charge}
 use Rattle.fw_row_bytes.specs.Reading.{row_at}
-use Rattle.fw_terms_bytes.specs.Reading.{commitment_at, policy_at}
+use Rattle.fw_terms_bytes.specs.Reading.{of_kind, commitment_at, policy_at}
 use Rattle.fw_entry.specs.Entry.{CommandValue, EntryValue, is_origin, most_post_rows}
 use Rattle.fw_entry.specs.Entry.CommandValue.{post, commit, set_policy}
+use Rattle.fw_entry.specs.Kinds.{kind_meant}
 use Rattle.fw_entry.specs.Spelling.{entry, most_entry_bytes}
+use Rattle.fw_entry.specs.declared.kind.CommandKind.{CommandKind}
+use Rattle.fw_entry.specs.declared.kind.CommandKind.TheVariants as kind
 use Rattle.fw_entry_bytes.specs.declared.form.Form.{Form}
 
 -- ---- who sent an entry, and its number
@@ -35,14 +38,16 @@ IsSeq n = (0 < n) × (n < 2 ^ 64)
 unfoldable pub rows_at : Reading (List Charge)
 rows_at = list_at 1 most_post_rows row_at
 
--- a byte for the kind, and what a command of this kind brings; a kind that the form doesn't have is a fault at its byte
+-- what a command of a kind brings
+unfoldable pub brought_at : CommandKind → Reading CommandValue
+brought_at kind.Post = seen post rows_at
+brought_at kind.Commit = seen commit commitment_at
+brought_at kind.SetPolicy = seen set_policy policy_at
+
+-- a byte for the kind, and what a command of this kind brings; a kind that the form doesn't have is a fault at its byte. The one form that there is
+-- has all kinds
 unfoldable pub command_at : Form → Reading CommandValue
-command_at form [] = Err 0
-command_at form (zero ∷ rest) = Err (suc (length rest))
-command_at form (suc zero ∷ rest) = seen post rows_at rest
-command_at form (suc (suc zero) ∷ rest) = seen commit commitment_at rest
-command_at form (suc (suc (suc zero)) ∷ rest) = seen set_policy policy_at rest
-command_at form (suc (suc (suc (suc kind))) ∷ rest) = Err (suc (length rest))
+command_at form = of_kind kind_meant brought_at
 
 -- ---- an entry
 

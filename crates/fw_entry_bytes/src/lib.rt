@@ -10,7 +10,7 @@ mod laws;
 mod reading;
 mod writing;
 
-pub use fields::{origin_of, seq_of};
+pub use fields::{kind_of, origin_of, seq_of};
 pub use form::Form;
 pub use laws::entries_have_one_spelling;
 pub use reading::entry_of;

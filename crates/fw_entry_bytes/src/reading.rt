@@ -2,42 +2,44 @@
 ghost use Rattle.std.specs.Prelude.{string_bytes};
 ghost use Rattle.fw_bytes.specs.Reading.{Gives};
 ghost use Rattle.fw_entry.specs.View.{command_view};
-ghost use Rattle.fw_entry_bytes.specs.Reading.{command_at, fields_at, entry_at};
+ghost use Rattle.fw_entry_bytes.specs.Reading.{brought_at, command_at, fields_at, entry_at};
 
-use crate::fields::{origin_of, seq_of};
+use crate::fields::{kind_of, origin_of, seq_of};
 use crate::form::Form;
 use fw_bytes::ReadError;
-use fw_entry::{Command, Entry};
+use fw_entry::{Command, CommandKind, Entry};
 use fw_row_bytes::rows_of;
 use fw_terms_bytes::{commitment_of, policy_of};
 use std::alloc::Global;
 
-/// The most rows that a post has.
-const MOST_ROWS: u32 = 4096;
-
-/// The most bytes that an entry is written in.
-const MOST_BYTES: usize = 4_194_304;
-
-/// What an entry asks for: its kind, and what a command of this kind brings.
-#[tactic(auto, unfolding(crate::specs::Reading::command_at, crate::specs::Reading::rows_at, fw_bytes::specs::Reading::seen))]
-fn command_of(alloc: Global, form: Form, bytes: &[u8]) -> Result<(Command, &[u8]), ReadError>
-    ensures { Gives (λ x. (command_view x.0, x.1.now)) result (command_at form bytes.now) }
+/// What a command of this kind brings.
+#[tactic(auto, unfolding(crate::specs::Reading::brought_at, crate::specs::Reading::rows_at, fw_bytes::specs::Reading::seen))]
+fn brought_of(alloc: Global, kind: CommandKind, bytes: &[u8]) -> Result<(Command, &[u8]), ReadError>
+    ensures { Gives (λ x. (command_view x.0, x.1.now)) result (brought_at kind bytes.now) }
 {
-    match bytes {
-        [1, rest @ ..] => match rows_of(alloc, MOST_ROWS, rest) {
+    match kind {
+        CommandKind::Post => match rows_of(alloc, Command::MOST_POST_ROWS as u32, bytes) {
             Ok((rows, rest)) => Ok((Command::Post(rows), rest)),
             Err(e) => Err(e),
         },
-        [2, rest @ ..] => match commitment_of(alloc, rest) {
+        CommandKind::Commit => match commitment_of(alloc, bytes) {
             Ok((commitment, rest)) => Ok((Command::Commit(commitment), rest)),
             Err(e) => Err(e),
         },
-        [3, rest @ ..] => match policy_of(alloc, rest) {
+        CommandKind::SetPolicy => match policy_of(alloc, bytes) {
             Ok((policy, rest)) => Ok((Command::SetPolicy(policy), rest)),
             Err(e) => Err(e),
         },
-        _ => Err(ReadError::Corrupt(bytes.len())),
     }
+}
+
+/// What an entry asks for: its kind, and what a command of this kind brings. The one form that there is has all kinds.
+#[tactic(auto, unfolding(crate::specs::Reading::command_at, fw_terms_bytes::specs::Reading::of_kind))]
+fn command_of(alloc: Global, _form: Form, bytes: &[u8]) -> Result<(Command, &[u8]), ReadError>
+    ensures { Gives (λ x. (command_view x.0, x.1.now)) result (command_at _form bytes.now) }
+{
+    let (kind, rest) = kind_of(bytes)?;
+    brought_of(alloc, kind, rest)
 }
 
 /// The fields of an entry, each in its range.
@@ -82,7 +84,7 @@ pub fn entry_of(alloc: Global, form: Form, bytes: &[u8]) -> Result<(Entry, &[u8]
 {
     match fields_of(alloc, form, bytes) {
         Ok((fields, rest)) => {
-            if bytes.len() - rest.len() > MOST_BYTES {
+            if bytes.len() - rest.len() > Entry::MOST_BYTES {
                 return Err(ReadError::Corrupt(bytes.len()));
             }
             Ok((

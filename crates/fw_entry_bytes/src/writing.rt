@@ -3,7 +3,7 @@ ghost use Rattle.std.specs.Prelude.{◌≡◌, ◌++◌, ◌≤◌, length, OnOk
 ghost use Rattle.fw_bytes.specs.Spelling.{listed};
 ghost use Rattle.fw_charge.specs.Spelling.{row};
 ghost use Rattle.fw_entry.specs.Entry.{most_post_rows};
-ghost use Rattle.fw_entry.specs.Spelling.{command, entry, IsCommand, IsEntry};
+ghost use Rattle.fw_entry.specs.Spelling.{brought, command, entry, IsCommand, IsEntry};
 ghost use Rattle.fw_entry.specs.View.{command_view};
 
 use fw_bytes::{put_byte, put_text, put_u32, put_u64};
@@ -25,26 +25,27 @@ fn put_rows(out: &mut Vec<u8>, rows: &[Row]) -> Result<(), AllocError>
     Ok(())
 }
 
+/// Writes what a command brings.
+#[tactic(auto, unfolding(fw_entry::specs::Spelling::brought))]
+fn put_brought(out: &mut Vec<u8>, one: &Command) -> Result<(), AllocError>
+    requires { IsCommand (command_view one.now) }
+    ensures { OnOk result (out.new.items ≡ out.old.items ++ brought (command_view one.now)) }
+{
+    match one {
+        Command::Post(rows) => put_rows(out, rows),
+        Command::Commit(commitment) => put_commitment(out, commitment),
+        Command::SetPolicy(policy) => put_policy(out, policy),
+    }
+}
+
 /// Writes what an entry asks for: its kind, and what the command brings.
 #[tactic(auto, unfolding(fw_entry::specs::Spelling::command))]
 fn put_command(out: &mut Vec<u8>, one: &Command) -> Result<(), AllocError>
     requires { IsCommand (command_view one.now) }
     ensures { OnOk result (out.new.items ≡ out.old.items ++ command (command_view one.now)) }
 {
-    match one {
-        Command::Post(rows) => {
-            put_byte(out, 1)?;
-            put_rows(out, rows)
-        }
-        Command::Commit(commitment) => {
-            put_byte(out, 2)?;
-            put_commitment(out, commitment)
-        }
-        Command::SetPolicy(policy) => {
-            put_byte(out, 3)?;
-            put_policy(out, policy)
-        }
-    }
+    put_byte(out, one.kind().code())?;
+    put_brought(out, one)
 }
 
 /// Writes an entry at the end of the buffer: its one spelling, in at most 4,194,304 bytes.

@@ -22,6 +22,12 @@ then_by first next bytes = do
   y ← next x.0 x.1
   Ok ((x.0, y.0), y.1)
 
+-- a byte for the kind, and what stands behind it for that kind; a byte that stands for none is a fault
+unfoldable pub of_kind : {K A : Type 0} → (ℕ → Option K) → (K → Reading A) → Reading A
+of_kind meaning next bytes = do
+  kind ← code_at meaning bytes
+  next kind.0 kind.1
+
 -- ---- a commitment: single fields, each with its range
 
 -- the kind that a byte stands for
