@@ -85,7 +85,7 @@ fn tags_of(alloc: Global, texts: &[(&str, &str)]) -> Result<Option<Tags>, AllocE
             None => return Ok(None),
         }
     }
-    Ok(Some(Tags::of_vec(tags)))
+    Ok(Some(Tags::of_fields(tags)))
 }
 
 fn tags(alloc: Global, table: &Table) -> Result<Tags, CommitmentFault>
