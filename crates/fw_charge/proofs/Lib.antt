@@ -1,2 +1,3 @@
 pub mod TagFacts
 pub mod Fitting
+pub mod CodeFacts

@@ -1,12 +1,10 @@
 -- A charge row as plain values.
-use Rattle.std.specs.Prelude.{◌≡◌, ◌<◌, ◌≤◌, ◌/◌, ℕ, ℤ, Bool, List, length, codes, Option, IfSome, IsSome}
+use Rattle.std.specs.Prelude.{◌≡◌, ◌<◌, ◌≤◌, ◌/◌, ℕ, ℤ, Bool, List, length, Option, IfSome, IsSome}
 use Rattle.fw_charge.specs.Tags.{TagText, IsTags}
 use Rattle.fw_charge.specs.declared.category.Category.{Category}
 use Rattle.fw_charge.specs.declared.category.Category.TheVariants as category
 use Rattle.fw_charge.specs.declared.discount.DiscountKind.{DiscountKind}
-use Rattle.fw_charge.specs.declared.discount.DiscountKind.TheVariants as kind
 use Rattle.fw_charge.specs.declared.discount.DiscountStatus.{DiscountStatus}
-use Rattle.fw_charge.specs.declared.discount.DiscountStatus.TheVariants as status
 
 -- the commitment discount that a row belongs to; a status may be null
 pub record DiscountText : Type 0 where
@@ -33,10 +31,14 @@ pub record Charge : Type 0 where
 abbrev pub last_second : ℕ
 last_second = 253402300799
 
--- a text of 1 to 256 bytes
+-- the greatest number of bytes of a short text
+abbrev pub longest_short_text : ℕ
+longest_short_text = 256
+
+-- a short text: one of 1 to 256 bytes
 pub record IsShortText (text : List ℕ) : Type 0 where
   pub some : 0 < length text
-  pub few : length text ≤ 256
+  pub few : length text ≤ longest_short_text
 
 -- what the discount of a row of a category keeps: the id is a short text, and a usage row's discount has a status
 pub record IsDiscountOf (c : Category) (discount : DiscountText) : Type 0 where
@@ -53,24 +55,9 @@ pub record IsCharge (c : Charge) : Type 0 where
   pub sub_account : IfSome c.sub_account IsShortText
   pub tags : IsTags c.tags
 
+abbrev pub seconds_per_hour : ℕ
+seconds_per_hour = 3600
+
 -- the hour of a second; hour 0 begins with 1970
 unfoldable pub hour_of : ℕ → ℕ
-hour_of second = second / 3600
-
--- the word of a category
-unfoldable pub category_word : Category → List ℕ
-category_word category.Usage = codes "Usage"
-category_word category.Purchase = codes "Purchase"
-category_word category.Tax = codes "Tax"
-category_word category.Credit = codes "Credit"
-category_word category.Adjustment = codes "Adjustment"
-
--- the word of a discount's kind
-unfoldable pub kind_word : DiscountKind → List ℕ
-kind_word kind.Usage = codes "Usage"
-kind_word kind.Spend = codes "Spend"
-
--- the word of a discount's status
-unfoldable pub status_word : DiscountStatus → List ℕ
-status_word status.Used = codes "Used"
-status_word status.Unused = codes "Unused"
+hour_of second = second / seconds_per_hour

@@ -3,8 +3,8 @@ use Rattle.std.specs.Prelude.{ℕ, Bool, ◌&&◌, List, [], ◌∷◌, ◌++◌
 use Rattle.fw_bytes.specs.Spelling.{number64, signed64, text, optional, listed, Fits64, FitsSigned64, FitsText, FitsOptional, FitsList, FitsChecked}
 use Rattle.fw_bytes.specs.Order.{rise}
 use Rattle.fw_money.specs.Amount.{most_nanos}
-use Rattle.fw_charge.specs.Charge.{Charge, DiscountText, IsCharge, last_second}
-use Rattle.fw_charge.specs.Tags.{TagText}
+use Rattle.fw_charge.specs.Charge.{Charge, DiscountText, IsCharge, last_second, longest_short_text}
+use Rattle.fw_charge.specs.Tags.{TagText, most_tags, longest_tag_text}
 use Rattle.fw_charge.specs.Codes.{category_code, class_code, kind_code, status_code}
 
 -- ---- fields
@@ -61,14 +61,14 @@ FitsSecond n = FitsChecked is_second Fits64 n
 
 -- a text of 1 to 256 bytes
 abbrev pub is_short : List ℕ → Bool
-is_short bytes = nat_lt 0 (length bytes) && nat_le (length bytes) 256
+is_short bytes = nat_lt 0 (length bytes) && nat_le (length bytes) longest_short_text
 
 abbrev pub FitsShortText : List ℕ → Type 0
 FitsShortText bytes = FitsChecked is_short FitsText bytes
 
 -- a key or a text of a tag: at most 1,024 bytes
 abbrev pub is_tag_text : List ℕ → Bool
-is_tag_text bytes = nat_le (length bytes) 1024
+is_tag_text bytes = nat_le (length bytes) longest_tag_text
 
 abbrev pub FitsTagText : List ℕ → Type 0
 FitsTagText bytes = FitsChecked is_tag_text FitsText bytes
@@ -78,7 +78,7 @@ FitsTag t = FitsTagText t.key × FitsTagText t.value
 
 -- at most 256 tags. Their order is a rule of what they belong to
 abbrev pub FitsTags : List TagText → Type 0
-FitsTags ts = FitsList 0 256 FitsTag ts
+FitsTags ts = FitsList 0 most_tags FitsTag ts
 
 -- the keys of tags rise strictly in the order of their bytes
 abbrev pub keys_rise : List TagText → Bool

@@ -10,15 +10,23 @@ pub record TagText : Type 0 where
   pub key : List ℕ
   pub value : List ℕ
 
+-- the greatest number of tags
+abbrev pub most_tags : ℕ
+most_tags = 256
+
+-- the greatest number of bytes of a tag's key, and of its text
+abbrev pub longest_tag_text : ℕ
+longest_tag_text = 1024
+
 -- a key and a text have at most 1,024 bytes each
 pub record IsTagSized (tag : TagText) : Type 0 where
-  pub key : length tag.key ≤ 1024
-  pub value : length tag.value ≤ 1024
+  pub key : length tag.key ≤ longest_tag_text
+  pub value : length tag.value ≤ longest_tag_text
 
 -- what tags keep: each key is below those after it, in the order of their bytes; there are at most 256 tags, and none is too long
 pub record IsTags (tags : List TagText) : Type 0 where
   pub rising : IsStrictlySortedBy (slice_cmp nat_cmp) (map (λ t. t.key) tags)
-  pub few : length tags ≤ 256
+  pub few : length tags ≤ most_tags
   pub sized : All IsTagSized tags
 
 -- the tag with a key

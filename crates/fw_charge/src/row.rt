@@ -4,6 +4,7 @@ ghost use Rattle.std.specs.Prelude.{◌≡◌, string_bytes, option_map, option_
 use crate::category::Category;
 use crate::discount::Discount;
 use crate::tags::Tags;
+use crate::time::hour_of;
 use fw_money::Nanos;
 use std::alloc::{AllocError, Global};
 use std::marker::Model;
@@ -117,7 +118,7 @@ impl Row {
     pub fn hour(&self) -> u32
         ensures { result ≡ hour_of self.now.start }
     {
-        (self.fields.start / 3600) as u32
+        hour_of(self.fields.start) as u32
     }
 
     /// The commitment discount that the row belongs to.

@@ -22,6 +22,9 @@ impl Model for Tag {
 }
 
 impl Tag {
+    /// The greatest number of bytes of a key, and of a text, in [`Tags`].
+    pub const LONGEST: usize = 1024;
+
     /// The tag with this key and this text.
     pub fn of_fields(key: String, value: String) -> Tag
         ensures { result ≡ record { key = string_bytes key; value = string_bytes value } }
@@ -72,6 +75,9 @@ impl Model for Tags {
 }
 
 impl Tags {
+    /// The greatest number of tags.
+    pub const MOST: usize = 256;
+
     /// No tags.
     pub fn empty(alloc: Global) -> Tags
         ensures { result ≡ [] }
@@ -82,7 +88,7 @@ impl Tags {
     }
 
     /// These tags: at most 256, the keys rising strictly in the order of their bytes, each key and text of at most 1,024 bytes.
-    pub fn of_vec(items: Vec<Tag>) -> Tags
+    pub fn of_fields(items: Vec<Tag>) -> Tags
         requires { IsTags items.items }
         ensures { result ≡ items.items }
     {

@@ -106,5 +106,5 @@ fn tags_of(alloc: Global, names: &Names, codes: &[TagCode]) -> Result<Tags, Allo
     for code in codes {
         tags.push(tag_of(alloc, names, *code)?)?;
     }
-    Ok(Tags::of_vec(tags))
+    Ok(Tags::of_fields(tags))
 }

@@ -3,7 +3,7 @@ use Rattle.std.proofs.Common.{◌≡◌, ◌*◌, ℕ, ℤ, List, Option, Some, 
 use Rattle.std.specs.Prelude.{MatchOption}
 use Rattle.std.specs.Result.{result_ok}
 use Rattle.toml.specs.Data.{Data, Members, string, integer}
-use Rattle.fw_charge.specs.Charge.{kind_word}
+use Rattle.fw_charge.specs.Codes.{kind_word}
 use Rattle.fw_charge.specs.declared.discount.DiscountKind.{DiscountKind}
 use Rattle.fw_charge.specs.declared.discount.DiscountKind.TheVariants as kind
 use Rattle.fw_instants.specs.Instants.{IsSecond, nanos_per_second}

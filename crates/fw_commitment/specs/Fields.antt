@@ -5,7 +5,7 @@ use Rattle.std.specs.BTreeSet.{insert_key}
 use Rattle.std.specs.Cmp.Lexicographic.{slice_cmp}
 use Rattle.std.specs.Ordering.{nat_cmp}
 use Rattle.toml.specs.Data.{Data, Members, string, integer}
-use Rattle.fw_charge.specs.Charge.{kind_word}
+use Rattle.fw_charge.specs.Codes.{kind_word}
 use Rattle.fw_charge.specs.Tags.{TagText}
 use Rattle.fw_charge.specs.declared.discount.DiscountKind.{DiscountKind}
 use Rattle.fw_instants.specs.Instants.{IsSecond}

@@ -1,6 +1,6 @@
 //! Id, kind and term of a commitment: the fields that commitments of both kinds have first.
 ghost use Rattle.std.specs.Prelude.{◌≡◌, MatchOption, ◌<◌, ◌≤◌, ◌<ℤ◌, ℕ, ◌∷◌, [], pos, codes};
-ghost use Rattle.fw_charge.specs.Charge.{kind_word};
+ghost use Rattle.fw_charge.specs.Codes.{kind_word};
 ghost use Rattle.fw_charge.specs.declared.discount.DiscountKind.{DiscountKind};
 ghost use Rattle.fw_terms.specs.Commitment.{most_hours, last_hour};
 ghost use Rattle.fw_toml.specs.Tree.{stated};
@@ -30,7 +30,7 @@ pub(crate) struct IdAndTerm {
 }
 
 /// The kind whose word a text is.
-#[tactic(auto, unfolding(fw_charge::specs::Charge::kind_word))]
+#[tactic(auto, unfolding(fw_charge::specs::Codes::kind_word))]
 fn kind_of(word: &str) -> Option<DiscountKind>
     ensures { MatchOption result ((kind : DiscountKind) → ¬ (word.now ≡ kind_word kind)) (λ kind. word.now ≡ kind_word kind) }
 {

@@ -47,7 +47,7 @@ fn tags_of(alloc: Global, texts: &[(&str, &str)]) -> Result<Option<Tags>, AllocE
             None => return Ok(None),
         }
     }
-    Ok(Some(Tags::of_vec(tags)))
+    Ok(Some(Tags::of_fields(tags)))
 }
 
 /// The tags of a table; none where their name isn't there.

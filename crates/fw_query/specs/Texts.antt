@@ -5,7 +5,8 @@ use Rattle.std.specs.Fmt.{decimal}
 use Rattle.std.specs.List.{concat}
 use Rattle.csv.specs.Writing.{default_writer, row_text}
 use Rattle.fw_money.specs.Writing.{text_of}
-use Rattle.fw_charge.specs.Charge.{DiscountText, category_word, kind_word, status_word}
+use Rattle.fw_charge.specs.Charge.{DiscountText}
+use Rattle.fw_charge.specs.Codes.{category_word, kind_word, status_word}
 use Rattle.fw_amortise.specs.LineValue.{LineValue}
 use Rattle.fw_query.specs.Reports.{EntryValue}
 

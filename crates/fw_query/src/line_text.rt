@@ -1,7 +1,7 @@
 //! The record of a line.
 ghost use Rattle.std.specs.Prelude.{◌≡◌, ◌++◌, List, ℕ, map, option_copied, option_map, IfOk, OnOk, string_bytes};
 ghost use Rattle.std.specs.List.{concat};
-ghost use Rattle.fw_charge.specs.Charge.{category_word, kind_word, status_word};
+ghost use Rattle.fw_charge.specs.Codes.{category_word, kind_word, status_word};
 ghost use Rattle.fw_money.specs.Writing.{text_of};
 ghost use Rattle.fw_amortise.specs.LineView.{discount_of};
 ghost use Rattle.fw_query.specs.Texts.{id_text, kind_text, line_fields, line_header, or_empty, record_line, status_text};
@@ -190,7 +190,7 @@ fn or_empty(text: Option<&str>) -> &str
 }
 
 // The word of a category.
-#[tactic(auto, unfolding(fw_charge::specs::Charge::category_word))]
+#[tactic(auto, unfolding(fw_charge::specs::Codes::category_word))]
 fn category_text(category: Category) -> &'static str
     ensures { result.now ≡ category_word category }
 {
@@ -204,7 +204,7 @@ fn category_text(category: Category) -> &'static str
 }
 
 // The word of a discount's kind.
-#[tactic(auto, unfolding(fw_charge::specs::Charge::kind_word))]
+#[tactic(auto, unfolding(fw_charge::specs::Codes::kind_word))]
 fn kind_word(kind: DiscountKind) -> &'static str
     ensures { result.now ≡ kind_word kind }
 {
@@ -215,7 +215,7 @@ fn kind_word(kind: DiscountKind) -> &'static str
 }
 
 // The word of a discount's status.
-#[tactic(auto, unfolding(fw_charge::specs::Charge::status_word))]
+#[tactic(auto, unfolding(fw_charge::specs::Codes::status_word))]
 fn status_word(status: DiscountStatus) -> &'static str
     ensures { result.now ≡ status_word status }
 {

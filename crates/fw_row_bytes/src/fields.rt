@@ -253,5 +253,5 @@ pub fn tags_in_order(items: Vec<Tag>) -> Tags
     requires rising { IsTrue (keys_rise items.items) }
     ensures { result ≡ items.items }
 {
-    Tags::of_vec(items)
+    Tags::of_fields(items)
 }

@@ -179,7 +179,7 @@ impl ReadFields {
             unit: self.consumed.unit,
             sku: self.consumed.sku,
             sub_account: self.consumed.sub_account,
-            tags: Tags::of_vec(self.tags),
+            tags: Tags::of_fields(self.tags),
         })
     }
 }

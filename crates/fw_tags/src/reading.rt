@@ -34,7 +34,7 @@ pub fn read_tags(alloc: Global, text: &str) -> Result<Tags, TagFault>
     if !are_sized(&tags) {
         return Err(TagFault::TooLong);
     }
-    Ok(Tags::of_vec(tags))
+    Ok(Tags::of_fields(tags))
 }
 
 /// The members of the JSON object that a text is: `NotTags` where it is none.

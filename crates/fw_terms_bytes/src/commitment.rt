@@ -335,7 +335,7 @@ impl ReadFields {
             id: names.id,
             terms,
             sub_account: names.sub_account,
-            tags: Tags::of_vec(names.tags),
+            tags: Tags::of_fields(names.tags),
             start: term.start,
             hours: term.hours,
             capacity: Nanos::of_fields(term.capacity),

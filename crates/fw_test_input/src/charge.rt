@@ -26,7 +26,7 @@ fn two_tags(alloc: Global) -> Result<Tags, AllocError>
     let mut items = Vec::new(alloc);
     items.push(tag(alloc, "app", "web")?)?;
     items.push(tag(alloc, "team", "")?)?;
-    Ok(Tags::of_vec(items))
+    Ok(Tags::of_fields(items))
 }
 
 /// Whether these are the two tags, looked up by key.

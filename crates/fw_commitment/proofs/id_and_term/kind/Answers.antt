@@ -1,5 +1,5 @@
 use Rattle.std.proofs.Common.{codes, subst}
-use Rattle.fw_charge.specs.Charge.{kind_word}
+use Rattle.fw_charge.specs.Codes.{kind_word}
 use Rattle.fw_toml.specs.Tree.{stated, at}
 use Rattle.fw_commitment.specs.Fields.{HasKind, HasText}
 use Rattle.fw_commitment.proofs.RuleFacts.{alone-fits, alone-missing}

@@ -19,8 +19,8 @@ loop-entry-preserved c =
       sized = all-grown IsTagSized c.loop-entry.tags.items c.push.new.self.items c.in-Some.tag c.in_ok-push-in-Some.ensures.items c.loop-entry.invariant.sized made.1;
     }
 
-pub of_vec-requires : goal.of_vec-requires
-of_vec-requires c =
+pub of_fields-requires : goal.of_fields-requires
+of_fields-requires c =
     let texts = c.args.texts.now in
     let past : length texts ≤ c.loop-entry.entry-index = let end = c.loop-entry-test.false in omega arith in
     let same = c.loop-entry.invariant.same ∙ ap (map tag_shown) (take_all c.loop-entry.entry-index texts past) in

@@ -1,6 +1,6 @@
 use Rattle.std.proofs.Common.{◌≡◌, ◌∙◌, List, ℕ, ap}
 use Rattle.std.specs.Fmt.{decimal}
-use Rattle.fw_charge.specs.Charge.{category_word}
+use Rattle.fw_charge.specs.Codes.{category_word}
 use Rattle.fw_money.specs.Writing.{text_of}
 use Rattle.fw_query.specs.Texts.{id_text, kind_text, line_fields, or_empty, status_text}
 use Rattle.fw_query.proofs.line_text.write_line.Goals as goal

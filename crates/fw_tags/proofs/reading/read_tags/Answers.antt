@@ -31,4 +31,4 @@ pub returns : goal.returns
 returns c =
     let tags = rw c.in-Some.is at c.in_ok-tags.ensures.tags in
     let sized = rw c.deref.ensures.value at c.are_sized.ensures in
-    rw c.of_vec.ensures (are_read c.args.text.now c.in-Some.tags.items (tags_are c.args.text.now (members_view c.in_ok-members.members.entries) (Some c.in-Some.tags.items) c.in_ok-members.ensures.members tags) (sized.0 c.if-not-are_sized.false))
+    rw c.of_fields.ensures (are_read c.args.text.now c.in-Some.tags.items (tags_are c.args.text.now (members_view c.in_ok-members.members.entries) (Some c.in-Some.tags.items) c.in_ok-members.ensures.members tags) (sized.0 c.if-not-are_sized.false))

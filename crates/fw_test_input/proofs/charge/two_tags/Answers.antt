@@ -20,6 +20,6 @@ two = record { rising = ((refl, tt), (tt, tt)); few = omega arith; sized = each 
     each (suc (suc k)) d lt = absurd (omega arith)
 
 -- src/tests.rt:28:8
-pub of_vec-requires : goal.of_vec-requires
+pub of_fields-requires : goal.of_fields-requires
 unfolding app team
-of_vec-requires c = rw (c.in_ok-push-2.ensures.items, c.in_ok-push.ensures.items, c.new-items.ensures.items, c.in_ok-tag-2.ensures, c.in_ok-tag.ensures) two
+of_fields-requires c = rw (c.in_ok-push-2.ensures.items, c.in_ok-push.ensures.items, c.new-items.ensures.items, c.in_ok-tag-2.ensures, c.in_ok-tag.ensures) two

@@ -1,0 +1,66 @@
+-- Each code stands for one category, class, kind or status, and each of them has one code.
+use Rattle.std.proofs.Common.{◌≡◌, ℕ, zero, suc, Bool, true, false, Some, refl}
+use Rattle.fw_charge.specs.Codes.{category_code, category_of, class_code, class_of, kind_code, kind_of, status_code, status_of}
+use Rattle.fw_charge.specs.declared.category.Category.{Category}
+use Rattle.fw_charge.specs.declared.category.Category.TheVariants as category
+use Rattle.fw_charge.specs.declared.discount.DiscountKind.{DiscountKind}
+use Rattle.fw_charge.specs.declared.discount.DiscountKind.TheVariants as kind
+use Rattle.fw_charge.specs.declared.discount.DiscountStatus.{DiscountStatus}
+use Rattle.fw_charge.specs.declared.discount.DiscountStatus.TheVariants as status
+
+-- what has a code, has that code
+same_code : {A : Type 0} (code : A → ℕ) (x y : A) → Some x ≡ Some y → code y ≡ code x
+same_code code x y e = cc
+
+pub category_back : (b : ℕ) (x : Category) → category_of b ≡ Some x → category_code x ≡ b
+unfolding category_code
+category_back zero x e = absurd cc
+category_back (suc zero) x e = same_code category_code category.Usage x e
+category_back (suc (suc zero)) x e = same_code category_code category.Purchase x e
+category_back (suc (suc (suc zero))) x e = same_code category_code category.Tax x e
+category_back (suc (suc (suc (suc zero)))) x e = same_code category_code category.Credit x e
+category_back (suc (suc (suc (suc (suc zero))))) x e = same_code category_code category.Adjustment x e
+category_back (suc (suc (suc (suc (suc (suc b)))))) x e = absurd cc
+
+pub category_there : (x : Category) → category_of (category_code x) ≡ Some x
+unfolding category_code
+category_there category.Usage = refl
+category_there category.Purchase = refl
+category_there category.Tax = refl
+category_there category.Credit = refl
+category_there category.Adjustment = refl
+
+pub class_back : (b : ℕ) (x : Bool) → class_of b ≡ Some x → class_code x ≡ b
+unfolding class_code
+class_back zero x e = same_code class_code false x e
+class_back (suc zero) x e = same_code class_code true x e
+class_back (suc (suc b)) x e = absurd cc
+
+pub class_there : (x : Bool) → class_of (class_code x) ≡ Some x
+unfolding class_code
+class_there false = refl
+class_there true = refl
+
+pub kind_back : (b : ℕ) (x : DiscountKind) → kind_of b ≡ Some x → kind_code (Some x) ≡ b
+unfolding kind_code
+kind_back zero x e = absurd cc
+kind_back (suc zero) x e = same_code (λ k. kind_code (Some k)) kind.Usage x e
+kind_back (suc (suc zero)) x e = same_code (λ k. kind_code (Some k)) kind.Spend x e
+kind_back (suc (suc (suc b))) x e = absurd cc
+
+pub kind_there : (x : DiscountKind) → kind_of (kind_code (Some x)) ≡ Some x
+unfolding kind_code
+kind_there kind.Usage = refl
+kind_there kind.Spend = refl
+
+pub status_back : (b : ℕ) (x : DiscountStatus) → status_of b ≡ Some x → status_code (Some x) ≡ b
+unfolding status_code
+status_back zero x e = absurd cc
+status_back (suc zero) x e = same_code (λ s. status_code (Some s)) status.Used x e
+status_back (suc (suc zero)) x e = same_code (λ s. status_code (Some s)) status.Unused x e
+status_back (suc (suc (suc b))) x e = absurd cc
+
+pub status_there : (x : DiscountStatus) → status_of (status_code (Some x)) ≡ Some x
+unfolding status_code
+status_there status.Used = refl
+status_there status.Unused = refl
