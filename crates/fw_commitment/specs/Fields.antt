@@ -5,6 +5,7 @@ use Rattle.std.specs.BTreeSet.{insert_key}
 use Rattle.std.specs.Cmp.Lexicographic.{slice_cmp}
 use Rattle.std.specs.Ordering.{nat_cmp}
 use Rattle.toml.specs.Data.{Data, Members, string, integer}
+use Rattle.fw_charge.specs.Charge.{seconds_per_hour}
 use Rattle.fw_charge.specs.Codes.{kind_word}
 use Rattle.fw_charge.specs.Tags.{TagText}
 use Rattle.fw_charge.specs.declared.discount.DiscountKind.{DiscountKind}
@@ -35,7 +36,7 @@ HasKind ms kind = HasText ms (codes "category") (kind_word kind)
 
 -- the term starts with this hour since 1970
 abbrev pub HasHour : Members → ℕ → Type 0
-HasHour ms hour = HasSecond ms (codes "start") (hour * 3600)
+HasHour ms hour = HasSecond ms (codes "start") (hour * seconds_per_hour)
 
 -- the texts in rising order of their bytes, each once
 abbrev pub in_byte_order : List (List ℕ) → List (List ℕ)

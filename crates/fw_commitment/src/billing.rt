@@ -6,11 +6,10 @@ ghost use Rattle.fw_commitment.specs.Rules.{billing_rules, sub_account_rules, Is
 ghost use Rattle.fw_commitment.specs.Finding.{Finds};
 
 use crate::fault::{CommitmentFault, CommitmentField};
-use crate::fields::is_short;
 use crate::names::has_only_known;
 use crate::purchases::purchases;
 use crate::tags::tags;
-use fw_charge::{DiscountKind, Tags};
+use fw_charge::{DiscountKind, Tags, is_short_text};
 use fw_terms::Purchase;
 use fw_toml::{Table, as_text, member};
 use std::alloc::Global;
@@ -33,7 +32,7 @@ fn sub_account(alloc: Global, table: &Table) -> Result<Option<String>, Commitmen
     let Some(text) = as_text(value) else {
         return Err(CommitmentFault::Field(CommitmentField::SubAccount));
     };
-    if !is_short(text) {
+    if !is_short_text(text) {
         return Err(CommitmentFault::Limit(CommitmentField::SubAccount));
     }
     Ok(Some(String::from_str(alloc, text)?))

@@ -1,5 +1,5 @@
 //! Fields of one value.
-ghost use Rattle.std.specs.Prelude.{◌↔◌, ◌≤◌, ℕ, ℤ, IsTrue, IfSome, MatchOption};
+ghost use Rattle.std.specs.Prelude.{◌≤◌, ℕ, ℤ, IfSome, MatchOption};
 ghost use Rattle.fw_charge.specs.Charge.{IsShortText, last_second};
 ghost use Rattle.fw_toml.specs.Tree.{stated};
 ghost use Rattle.fw_commitment.specs.FieldNames.{name_of};
@@ -8,16 +8,10 @@ ghost use Rattle.fw_commitment.specs.Rules.{field_rules};
 ghost use Rattle.fw_commitment.specs.Finding.{Finds};
 
 use crate::fault::{CommitmentFault, CommitmentField};
+use fw_charge::is_short_text;
 use fw_instants::second_of;
 use fw_money::Nanos;
 use fw_toml::{Table, text};
-
-/// Whether a text has 1 to 256 bytes.
-pub(crate) fn is_short(text: &str) -> bool
-    ensures { IsTrue result ↔ IsShortText text.now }
-{
-    !text.is_empty() && text.len() <= 256
-}
 
 /// The text of a field, of 1 to 256 bytes.
 pub(crate) fn short_text(table: &Table, field: CommitmentField) -> Result<&str, CommitmentFault>
@@ -27,7 +21,7 @@ pub(crate) fn short_text(table: &Table, field: CommitmentField) -> Result<&str, 
     let Some(text) = text(table, field.name()) else {
         return Err(CommitmentFault::Field(field));
     };
-    if !is_short(text) {
+    if !is_short_text(text) {
         return Err(CommitmentFault::Limit(field));
     }
     Ok(text)

@@ -1,7 +1,5 @@
 //! Id, kind and term of a commitment: the fields that commitments of both kinds have first.
-ghost use Rattle.std.specs.Prelude.{◌≡◌, MatchOption, ◌<◌, ◌≤◌, ◌<ℤ◌, ℕ, ◌∷◌, [], pos, codes};
-ghost use Rattle.fw_charge.specs.Codes.{kind_word};
-ghost use Rattle.fw_charge.specs.declared.discount.DiscountKind.{DiscountKind};
+ghost use Rattle.std.specs.Prelude.{◌<◌, ◌≤◌, ◌<ℤ◌, pos, codes};
 ghost use Rattle.fw_terms.specs.Commitment.{most_hours, last_hour};
 ghost use Rattle.fw_toml.specs.Tree.{stated};
 ghost use Rattle.fw_commitment.specs.Fields.{HasInteger, HasAmount, HasKind, HasHour};
@@ -10,14 +8,11 @@ ghost use Rattle.fw_commitment.specs.Finding.{Finds};
 
 use crate::fault::{CommitmentFault, CommitmentField};
 use crate::fields::{amount, second, short_text};
-use fw_charge::DiscountKind;
+use fw_charge::{DiscountKind, SECONDS_PER_HOUR};
 use fw_money::Nanos;
 use fw_terms::Commitment;
 use fw_toml::{Table, integer, text};
 use std::alloc::Global;
-
-/// Seconds in an hour.
-const SECONDS_PER_HOUR: u64 = 3600;
 
 /// Id, kind and term of a commitment.
 #[derive(Drop)]
@@ -29,18 +24,6 @@ pub(crate) struct IdAndTerm {
     pub(crate) capacity: Nanos,
 }
 
-/// The kind whose word a text is.
-#[tactic(auto, unfolding(fw_charge::specs::Codes::kind_word))]
-fn kind_of(word: &str) -> Option<DiscountKind>
-    ensures { MatchOption result ((kind : DiscountKind) → ¬ (word.now ≡ kind_word kind)) (λ kind. word.now ≡ kind_word kind) }
-{
-    match word {
-        "Usage" => Some(DiscountKind::Usage),
-        "Spend" => Some(DiscountKind::Spend),
-        _ => None,
-    }
-}
-
 fn kind(table: &Table) -> Result<DiscountKind, CommitmentFault>
     ensures { let ms = stated table.now in
         Finds (kind_rules ms) (HasKind ms) result }
@@ -48,7 +31,7 @@ fn kind(table: &Table) -> Result<DiscountKind, CommitmentFault>
     let Some(word) = text(table, CommitmentField::Category.name()) else {
         return Err(CommitmentFault::Field(CommitmentField::Category));
     };
-    match kind_of(word) {
+    match DiscountKind::from_word(word) {
         Some(kind) => Ok(kind),
         None => Err(CommitmentFault::Field(CommitmentField::Category)),
     }

@@ -12,18 +12,12 @@ use fw_charge::{Tag, Tags};
 use fw_toml::{Table, member, named_texts};
 use std::alloc::{AllocError, Global};
 
-/// The greatest number of tags.
-const MOST_TAGS: usize = 256;
-
-/// The greatest number of bytes of a tag's key and of its text.
-const MOST_TAG_BYTES: usize = 1024;
-
 /// The tag of a key with its text; `None` where one of the two is too long.
 fn tag_of(alloc: Global, key: &str, value: &str) -> Result<Option<Tag>, AllocError>
     ensures { let found = tag_text key.now value.now in
         IfOk result (λ tag. MatchOption tag (¬ IsTagSized found) (λ t. (t ≡ found) × IsTagSized t)) }
 {
-    if key.len() > MOST_TAG_BYTES || value.len() > MOST_TAG_BYTES {
+    if key.len() > Tag::LONGEST || value.len() > Tag::LONGEST {
         return Ok(None);
     }
     let key = String::from_str(alloc, key)?;
@@ -37,7 +31,7 @@ fn tags_of(alloc: Global, texts: &[(&str, &str)]) -> Result<Option<Tags>, AllocE
     ensures { let found = map tag_shown texts.now in
         IfOk result (λ tags. MatchOption tags (¬ IsTags found) (λ t. (t ≡ found) × IsTags t)) }
 {
-    if texts.len() > MOST_TAGS {
+    if texts.len() > Tags::MOST {
         return Ok(None);
     }
     let mut tags = Vec::with_capacity(alloc, texts.len())?;

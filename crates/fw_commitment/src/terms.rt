@@ -14,8 +14,8 @@ ghost use Rattle.fw_commitment.specs.Reading.{TermsStand};
 ghost use Rattle.fw_commitment.specs.Finding.{Finds};
 
 use crate::fault::{CommitmentFault, CommitmentField};
-use crate::fields::{is_short, short_text};
-use fw_charge::DiscountKind;
+use crate::fields::short_text;
+use fw_charge::{DiscountKind, is_short_text};
 use fw_terms::{Rate, Terms};
 use fw_toml::{Table, integers, member, texts};
 use std::alloc::{AllocError, Global};
@@ -50,7 +50,7 @@ fn skus_of(alloc: Global, texts: &[&str]) -> Result<Option<Vec<String>>, AllocEr
     }
     let mut skus = Vec::with_capacity(alloc, texts.len())?;
     for text in texts {
-        if !is_short(text) {
+        if !is_short_text(text) {
             return Ok(None);
         }
         skus.push(String::from_str(alloc, text)?)?;
@@ -81,7 +81,7 @@ fn skus(alloc: Global, table: &Table) -> Result<Vec<String>, CommitmentFault>
 fn rate_of(alloc: Global, sku: &str, ppm: i64) -> Result<Option<Rate>, AllocError>
     ensures { IfOk result (λ rate. MatchOption rate (¬ IsRateStated (sku.now, ppm)) (λ r. (rate_stated r ≡ (sku.now, ppm)) × IsRate r)) }
 {
-    if !is_short(sku) || ppm < 1 || ppm > Rate::MOST_PPM as i64 {
+    if !is_short_text(sku) || ppm < 1 || ppm > Rate::MOST_PPM as i64 {
         return Ok(None);
     }
     let sku = String::from_str(alloc, sku)?;

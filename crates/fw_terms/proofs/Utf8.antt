@@ -5,7 +5,7 @@ use Rattle.std.specs.Option.{IfSome}
 use Rattle.std.specs.Str.{IsUtf8}
 use Rattle.std.proofs.lemmas.List.Elements.{All-weaker}
 use Rattle.fw_bytes.specs.Spelling.{FitsOptional}
-use Rattle.fw_charge.specs.Tags.{TagText}
+use Rattle.fw_charge.specs.Tags.{TagText, most_tags}
 use Rattle.fw_charge.specs.Spelling.{FitsShortText, FitsTag, FitsTags}
 use Rattle.fw_terms.specs.Spelling.{IsTagUtf8}
 use Rattle.fw_terms.proofs.Ranges.{count_from_list, text_utf8}
@@ -18,4 +18,4 @@ tag_utf8 : (t : TagText) → FitsTag t → IsTagUtf8 t
 tag_utf8 t h = record { key = text_utf8 t.key h.0.0; value = text_utf8 t.value h.1.0 }
 
 pub tags_utf8 : (ts : List TagText) → FitsTags ts → All IsTagUtf8 ts
-tags_utf8 ts h = All-weaker FitsTag IsTagUtf8 tag_utf8 ts (count_from_list 0 256 FitsTag ts h).each
+tags_utf8 ts h = All-weaker FitsTag IsTagUtf8 tag_utf8 ts (count_from_list 0 most_tags FitsTag ts h).each

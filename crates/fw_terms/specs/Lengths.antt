@@ -1,13 +1,15 @@
 -- The most bytes that the parts of commitments and of policies have where they are written.
 use Rattle.std.specs.Prelude.{ℕ, ◌+◌, ◌*◌}
+use Rattle.fw_charge.specs.Charge.{longest_short_text}
+use Rattle.fw_charge.specs.Tags.{most_tags, longest_tag_text}
 use Rattle.fw_terms.specs.Commitment.{most_skus, most_purchases}
 use Rattle.fw_terms.specs.Policy.{most_text, most_targets, most_rules}
 
 -- ---- a commitment
 
--- a text of at most 256 bytes
+-- a short text
 abbrev pub most_name_len : ℕ
-most_name_len = 4 + 256
+most_name_len = 4 + longest_short_text
 
 abbrev pub most_skus_len : ℕ
 most_skus_len = 4 + most_skus * most_name_len
@@ -21,9 +23,12 @@ most_rates_len = 4 + most_skus * most_rate_len
 abbrev pub most_purchases_len : ℕ
 most_purchases_len = 4 + most_purchases * 16
 
--- tags have at most 526,340 bytes; rates are longer than a unit and SKUs
+abbrev pub most_tags_len : ℕ
+most_tags_len = 4 + most_tags * (4 + longest_tag_text + (4 + longest_tag_text))
+
+-- rates are longer than a unit and SKUs
 abbrev pub most_commitment_len : ℕ
-most_commitment_len = 17 + (most_name_len + (1 + most_name_len) + (526340 + most_rates_len + most_purchases_len))
+most_commitment_len = 17 + (most_name_len + (1 + most_name_len) + (most_tags_len + most_rates_len + most_purchases_len))
 
 -- ---- a policy
 

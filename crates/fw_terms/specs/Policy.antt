@@ -1,6 +1,7 @@
 -- A policy as plain values.
 use Rattle.std.specs.Prelude.{◌<◌, ◌≤◌, ℕ, List, [], length, map, All, Contains}
 use Rattle.std.specs.List.{flat_map}
+use Rattle.fw_charge.specs.Tags.{longest_tag_text}
 use Rattle.fw_terms.specs.Texts.{IsRising, HasTwice}
 
 -- a group that is given a part, and its weight among the targets of its rule
@@ -23,9 +24,9 @@ pub record PolicyValue : Type 0 where
   pub key : List ℕ
   pub rules : List RuleValue
 
--- the greatest number of bytes of a policy's key and of a group
+-- the greatest number of bytes of a policy's key and of a group: those of a tag
 abbrev pub most_text : ℕ
-most_text = 1024
+most_text = longest_tag_text
 
 abbrev pub most_rules : ℕ
 most_rules = 64

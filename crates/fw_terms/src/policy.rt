@@ -1,6 +1,7 @@
 //! Policies: which groups give their cost away, and to whom.
 ghost use Rattle.std.specs.Prelude.{◌≡◌, IfOk, string_bytes};
 
+use fw_charge::Tag;
 use std::alloc::{AllocError, Global};
 use std::marker::Model;
 
@@ -177,8 +178,8 @@ impl Model for Policy {
 impl Policy {
     ghost use Rattle.fw_terms.specs.Policy.{IsPolicy, policy_value};
 
-    /// The most bytes of a policy's key, and of a group.
-    pub const LONGEST_TEXT: usize = 1_024;
+    /// The most bytes of a policy's key, and of a group: those of a tag.
+    pub const LONGEST_TEXT: usize = Tag::LONGEST;
 
     /// The most rules of a policy.
     pub const MOST_RULES: usize = 64;

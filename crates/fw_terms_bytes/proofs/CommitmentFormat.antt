@@ -16,37 +16,25 @@ use Rattle.fw_bytes.proofs.Rising.{sorted_from_rise, rise_from_sorted}
 use Rattle.fw_money.specs.Amount.{most_nanos}
 use Rattle.fw_charge.specs.declared.discount.DiscountKind.{DiscountKind}
 use Rattle.fw_charge.specs.declared.discount.DiscountKind.TheVariants as kind
-use Rattle.fw_charge.specs.Charge.{IsShortText, last_second}
+use Rattle.fw_charge.specs.Charge.{IsShortText, last_second, longest_short_text}
+use Rattle.fw_charge.specs.Codes as discount
 use Rattle.fw_charge.specs.Codes.{kind_code}
-use Rattle.fw_charge.specs.Tags.{TagText, IsTagSized, IsTags}
+use Rattle.fw_charge.proofs.CodeFacts.{kind_back, kind_there}
+use Rattle.fw_charge.specs.Tags.{TagText, IsTagSized, IsTags, most_tags, longest_tag_text}
 use Rattle.fw_charge.specs.Spelling.{nanos, tags, keys_rise, FitsNanos, FitsSecond, FitsShortText, FitsTag, FitsTags}
 use Rattle.fw_row_bytes.proofs.FieldFormats.{nanos_format, second_format, short_text_format, tags_format}
 use Rattle.fw_terms.specs.Commitment.{PurchaseValue, RateValue, TermsValue, CommitmentValue, kind_of, cost_of, most_skus, most_purchases, AreSkus, IsRate, IsTerms, ArePurchases, IsCommitment}
 use Rattle.fw_terms.specs.Commitment.TermsValue.{usage, spend}
 use Rattle.fw_terms.specs.Spelling.{rate, purchase, committed, names, term, commitment, IsTagUtf8, AreTermsUtf8, IsSpelledCommitment}
-use Rattle.fw_terms_bytes.specs.Reading.{kind_meant, is_start, is_hours, is_ppm, is_cost, is_capacity, start_at, hours_at, capacity_at, cost_at, ppm_at, Names, names_at, Term, term_at, skus_at, rate_from, rate_at, rates_at, usage_from, committed_at, purchase_from, purchase_at, purchases_at, Head, Fields, head_at, fields_at, commitment_from, skus_rise, commitment_rules, commitment_at}
+use Rattle.fw_terms_bytes.specs.Reading.{is_start, is_hours, is_ppm, is_cost, is_capacity, start_at, hours_at, capacity_at, cost_at, ppm_at, Names, names_at, Term, term_at, skus_at, rate_from, rate_at, rates_at, usage_from, committed_at, purchase_from, purchase_at, purchases_at, Head, Fields, head_at, fields_at, commitment_from, skus_rise, commitment_rules, commitment_at}
 use Rattle.fw_terms_bytes.proofs.Formats.{then_by_format, told_format, case_format}
 use Rattle.fw_terms.proofs.Ranges.{count_from_list, list_from_count, text_fits, text_utf8}
 use Rattle.fw_terms.proofs.Utf8.{account_utf8, tags_utf8}
 
 -- ---- single fields
 
-kind_back : (b : ℕ) (k : DiscountKind) → kind_meant b ≡ Some k → kind_code (Some k) ≡ b
-unfolding kind_code
-kind_back zero k e = absurd cc
-kind_back (suc zero) kind.Usage e = refl
-kind_back (suc zero) kind.Spend e = absurd cc
-kind_back (suc (suc zero)) kind.Usage e = absurd cc
-kind_back (suc (suc zero)) kind.Spend e = refl
-kind_back (suc (suc (suc b))) k e = absurd cc
-
-kind_there : (k : DiscountKind) → kind_meant (kind_code (Some k)) ≡ Some k
-unfolding kind_code
-kind_there kind.Usage = refl
-kind_there kind.Spend = refl
-
-kind_format : IsFormat (code_at kind_meant) (λ k. kind_code (Some k) ∷ []) Always
-kind_format = code_format kind_meant (λ k. kind_code (Some k)) kind_back kind_there
+kind_format : IsFormat (code_at discount.kind_of) (λ k. kind_code (Some k) ∷ []) Always
+kind_format = code_format discount.kind_of (λ k. kind_code (Some k)) kind_back kind_there
 
 start_format : IsFormat start_at number32 (FitsChecked is_start Fits32)
 unfolding start_at
@@ -108,7 +96,7 @@ short_is : (bytes : List ℕ) → FitsShortText bytes → IsShortText bytes
 short_is bytes h = let p = and_parts _ _ h.1 in record { some = ltb-true _ _ p.0; few = leb-true _ _ p.1 }
 
 short_fits : (bytes : List ℕ) → IsShortText bytes → IsUtf8 bytes → FitsShortText bytes
-short_fits bytes h u = (text_fits 256 bytes (omega arith) h.few u, and_from _ _ (lt-ltb _ _ h.some) (le-leb _ _ h.few))
+short_fits bytes h u = (text_fits longest_short_text bytes (omega arith) h.few u, and_from _ _ (lt-ltb _ _ h.some) (le-leb _ _ h.few))
 
 rate_is : (r : RateValue) → FitsPair FitsShortText (FitsChecked is_ppm Fits32) (rate_to r) → IsSpelledRate r
 rate_is r h =
@@ -261,17 +249,17 @@ tag_sized : (t : TagText) → FitsTag t → IsTagSized t
 tag_sized t h = record { key = leb-true _ _ h.0.1; value = leb-true _ _ h.1.1 }
 
 tag_fits : (t : TagText) → IsTagSized t → IsTagUtf8 t → FitsTag t
-tag_fits t s u = ((text_fits 1024 t.key (omega arith) s.key u.key, le-leb _ _ s.key), (text_fits 1024 t.value (omega arith) s.value u.value, le-leb _ _ s.value))
+tag_fits t s u = ((text_fits longest_tag_text t.key (omega arith) s.key u.key, le-leb _ _ s.key), (text_fits longest_tag_text t.value (omega arith) s.value u.value, le-leb _ _ s.value))
 
 tags_are : (ts : List TagText) → FitsTags ts → keys_rise ts ≡ true → IsTags ts
 tags_are ts h e =
-    let n = count_from_list 0 256 FitsTag ts h in
+    let n = count_from_list 0 most_tags FitsTag ts h in
     record { rising = sorted_from_rise (map (λ t. t.key) ts) e; few = n.few; sized = All-weaker FitsTag IsTagSized tag_sized ts n.each }
 
 tags_fit : (ts : List TagText) → IsTags ts → All IsTagUtf8 ts → FitsTags ts × (keys_rise ts ≡ true)
 tags_fit ts h u =
     let each : All FitsTag ts = λ k d lt. tag_fits _ (h.sized k d lt) (u k d lt) in
-    (list_from_count 0 256 FitsTag ts (omega arith) (omega arith) h.few each, rise_from_sorted (map (λ t. t.key) ts) h.rising)
+    (list_from_count 0 most_tags FitsTag ts (omega arith) (omega arith) h.few each, rise_from_sorted (map (λ t. t.key) ts) h.rising)
 
 purchases_are : (ps : List PurchaseValue) → FitsList 1 most_purchases FitsPurchase ps → cost_of ps ≤ most_nanos → ArePurchases ps
 purchases_are ps h cost =

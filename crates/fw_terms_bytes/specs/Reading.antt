@@ -5,6 +5,7 @@ use Rattle.fw_money.specs.Amount.{most_nanos}
 use Rattle.fw_bytes.specs.Order.{rise}
 use Rattle.fw_bytes.specs.Reading.{Reading, ◌>>=◌, number_at, text_at, code_at, optional_at, checked, both, seen, list_at}
 use Rattle.fw_charge.specs.Tags.{TagText}
+use Rattle.fw_charge.specs.Codes.{kind_of}
 use Rattle.fw_charge.specs.declared.discount.DiscountKind.{DiscountKind}
 use Rattle.fw_charge.specs.declared.discount.DiscountKind.TheVariants as kind
 use Rattle.fw_terms.specs.Commitment.{PurchaseValue, RateValue, TermsValue, CommitmentValue, cost_of, most_skus, most_ppm, most_purchases, most_hours, last_hour}
@@ -29,13 +30,6 @@ of_kind meaning next bytes = do
   next kind.0 kind.1
 
 -- ---- a commitment: single fields, each with its range
-
--- the kind that a byte stands for
-abbrev pub kind_meant : ℕ → Option DiscountKind
-kind_meant zero = None
-kind_meant (suc zero) = Some kind.Usage
-kind_meant (suc (suc zero)) = Some kind.Spend
-kind_meant (suc (suc (suc b))) = None
 
 -- the first hour of a term, up to the last of the year 9999
 abbrev pub is_start : ℕ → Bool
@@ -81,7 +75,7 @@ abbrev pub Names : Type 0
 Names = List ℕ × (DiscountKind × (Option (List ℕ) × List TagText))
 
 unfoldable pub names_at : Reading Names
-names_at = both short_text_at (both (code_at kind_meant) (both (optional_at short_text_at) tags_at))
+names_at = both short_text_at (both (code_at kind_of) (both (optional_at short_text_at) tags_at))
 
 -- the first hour, the number of hours, and what each of them holds
 abbrev pub Term : Type 0

@@ -3,10 +3,11 @@ ghost use Rattle.std.specs.Prelude.{◌≡◌, ◌≤◌, ◌<ℤ◌, ◌≤ℤ�
 ghost use Rattle.fw_money.specs.Amount.{most_nanos};
 ghost use Rattle.fw_bytes.specs.Reading.{Gives, code_at, times};
 ghost use Rattle.fw_row_bytes.specs.Reading.{short_text_at};
+ghost use Rattle.fw_charge.specs.Codes.{kind_of};
 ghost use Rattle.fw_charge.specs.Spelling.{FitsTags};
 ghost use Rattle.fw_terms.specs.Commitment.{IsCommitment, most_purchases};
 ghost use Rattle.fw_terms.specs.TermsView.{terms_view};
-ghost use Rattle.fw_terms_bytes.specs.Reading.{kind_meant, start_at, hours_at, capacity_at, cost_at, ppm_at, names_at, term_at, skus_at, rate_at, rates_at, committed_at, purchase_at, purchases_at, fields_at, commitment_from, skus_rise, commitment_rules, commitment_at};
+ghost use Rattle.fw_terms_bytes.specs.Reading.{start_at, hours_at, capacity_at, cost_at, ppm_at, names_at, term_at, skus_at, rate_at, rates_at, committed_at, purchase_at, purchases_at, fields_at, commitment_from, skus_rise, commitment_rules, commitment_at};
 ghost use Rattle.fw_terms_bytes.specs.FieldView.{names_view, term_view, fields_view};
 
 use crate::order::names_rise;
@@ -46,12 +47,14 @@ struct ReadFields {
 /// The kind of a commitment.
 #[tactic(auto, unfolding(fw_bytes::specs::Reading::code_at))]
 fn kind_of(bytes: &[u8]) -> Result<(DiscountKind, &[u8]), ReadError>
-    ensures { Gives (λ x. (x.0, x.1.now)) result (code_at kind_meant bytes.now) }
+    ensures { Gives (λ x. (x.0, x.1.now)) result (code_at kind_of bytes.now) }
 {
     match bytes {
-        [1, rest @ ..] => Ok((DiscountKind::Usage, rest)),
-        [2, rest @ ..] => Ok((DiscountKind::Spend, rest)),
-        _ => Err(ReadError::Corrupt(bytes.len())),
+        [] => Err(ReadError::Corrupt(0)),
+        [code, rest @ ..] => match DiscountKind::from_code(*code) {
+            Some(kind) => Ok((kind, rest)),
+            None => Err(ReadError::Corrupt(bytes.len())),
+        },
     }
 }
 

@@ -1,10 +1,9 @@
 //! The writers of commitments and policies, at the end of a buffer.
 //!
 //! Each has one error, [`AllocError`] where the buffer can't grow; then nothing is promised of what the buffer holds.
-ghost use Rattle.std.specs.Prelude.{◌≡◌, ◌≤◌, ◌++◌, Some, length, map, pos, string_bytes, OnOk};
+ghost use Rattle.std.specs.Prelude.{◌≡◌, ◌≤◌, ◌++◌, length, map, pos, string_bytes, OnOk};
 ghost use Rattle.fw_bytes.specs.Spelling.{text, listed};
 ghost use Rattle.fw_charge.specs.Charge.{IsShortText};
-ghost use Rattle.fw_charge.specs.Codes.{kind_code};
 ghost use Rattle.fw_terms.specs.Commitment.{AreSkus, IsRate, AreRates, IsTerms, most_purchases};
 ghost use Rattle.fw_terms.specs.Policy.{IsTarget, AreTargets, IsGive, IsRule};
 ghost use Rattle.fw_terms.specs.PolicyView.{give_view};
@@ -12,21 +11,9 @@ ghost use Rattle.fw_terms.specs.TermsView.{terms_view};
 ghost use Rattle.fw_terms.specs.Spelling.{rate, purchase, committed, names, term, commitment, target, given, rule, policy};
 
 use fw_bytes::{put_byte, put_text, put_u32, put_u64};
-use fw_charge::DiscountKind;
 use fw_row_bytes::{put_nanos, put_optional_text, put_tags};
 use fw_terms::{Commitment, Give, Policy, Purchase, Rate, Rule, Target, Terms};
 use std::alloc::AllocError;
-
-/// The code of a kind of commitment.
-#[tactic(auto, unfolding(fw_charge::specs::Codes::kind_code))]
-fn kind_code(kind: DiscountKind) -> u8
-    ensures { result ≡ kind_code (Some kind) }
-{
-    match kind {
-        DiscountKind::Usage => 1,
-        DiscountKind::Spend => 2,
-    }
-}
 
 /// Writes id, kind, account and tags.
 #[tactic(auto, unfolding(fw_terms::specs::Spelling::names))]
@@ -34,7 +21,7 @@ fn put_names(out: &mut Vec<u8>, one: &Commitment) -> Result<(), AllocError>
     ensures { OnOk result (out.new.items ≡ out.old.items ++ names one.now) }
 {
     put_text(out, one.id())?;
-    put_byte(out, kind_code(one.kind()))?;
+    put_byte(out, one.kind().code())?;
     put_optional_text(out, one.sub_account())?;
     put_tags(out, one.tags())?;
     Ok(())

@@ -13,12 +13,12 @@ returns-in_default c = λ _.
     let none = text-none ms (codes "category") (rw c.name.ensures at c.in_default.ensures) in
     alone-missing field.Category (HasKind ms) (λ kind has. none (kind_word kind) has)
 
-pub returns-in-Some-kind_of : goal.returns-in-Some-kind_of
-returns-in-Some-kind_of c =
+pub returns-in-Some-from_word : goal.returns-in-Some-from_word
+returns-in-Some-from_word c =
     let ms = stated c.args.table.now in
-    let kind = c.in-Some-kind_of.kind in
+    let kind = c.in-Some-from_word.kind in
     let word : HasText ms (codes "category") c.in-Some.word.now = rw c.name.ensures at c.in-Some.ensures in
-    let has : HasKind ms kind = subst (HasText ms (codes "category")) c.in-Some-kind_of.ensures word in
+    let has : HasKind ms kind = subst (HasText ms (codes "category")) c.in-Some-from_word.ensures word in
     (alone-fits field.Category (HasKind ms) kind has, has)
 
 pub returns-in-None : goal.returns-in-None

@@ -24,4 +24,4 @@ of_fields-requires c =
     let texts = c.args.texts.now in
     let past : length texts ≤ c.loop-entry.entry-index = let end = c.loop-entry-test.false in omega arith in
     let same = c.loop-entry.invariant.same ∙ ap (map tag_shown) (take_all c.loop-entry.entry-index texts past) in
-    tags-are texts c.loop-entry.tags.items same c.if-texts-gt-MOST_TAGS.false c.loop-entry.invariant.sized c.requires
+    tags-are texts c.loop-entry.tags.items same c.if-texts-gt-MOST.false c.loop-entry.invariant.sized c.requires
