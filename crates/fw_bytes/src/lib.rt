@@ -4,7 +4,7 @@
 //! together from few words, and the laws of those words say for each of them that what is read is spelled so, and that what is spelled
 //! so is read again, whatever follows it. The formats of rows, terms and entries are made of these words in the crates above.
 //!
-//! A reader that fails tells how many bytes were left from the fault to the end, so no reader needs to know where its bytes stand.
+//! A reader that fails reports how many bytes were left from the fault to the end, so no reader needs to know where its bytes stand.
 #![tactic(auto)]
 
 mod fault;

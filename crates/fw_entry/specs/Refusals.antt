@@ -5,7 +5,7 @@ use Rattle.fw_entry.specs.Spelling.{entry, most_entry_bytes}
 use Rattle.fw_entry.specs.declared.fault.EntryFault.{EntryFault}
 use Rattle.fw_entry.specs.declared.fault.EntryFault.TheVariants as fault
 
--- there is no entry of these parts for this reason, the first that holds; want of memory may come in place of any answer
+-- there is no entry of these parts for this reason, the first that holds; running out of memory may come in place of any answer
 abbrev pub IsRefused : List ℕ → ℕ → CommandValue → EntryFault → Type 0
 IsRefused origin seq command fault.Origin = is_origin origin ≡ false
 IsRefused origin seq command fault.Seq = (is_origin origin ≡ true) × (seq ≡ 0)

@@ -151,7 +151,7 @@ fn checked<'a>(origin: &'a [u8], seq: u64, command: &Command) -> Result<&'a str,
     }
 }
 
-/// A command, the name of who sent it, and its number among the commands of this sender, counted from 1.
+/// A command, the name of its sender, and its number among the commands of this sender: 1, 2, 3 and so on.
 #[derive(Debug, Drop)]
 pub struct Entry {
     origin: String,

@@ -17,7 +17,7 @@ pub enum EntryFault {
     /// The entry would be written in more than 4,194,304 bytes.
     #[error("the entry has more than 4,194,304 bytes")]
     TooLarge,
-    /// Memory was wanting. It may come in place of any answer.
+    /// Out of memory. It may come in place of any answer.
     #[error("out of memory")]
     NoMemory,
 }

@@ -1,4 +1,4 @@
-//! What holds of all entries: a law, the contract of a function that does nothing.
+//! Each entry has one spelling, and each spelling one reading: a proof-only function.
 ghost use Rattle.std.specs.Prelude.{◌≡◌, ◌<◌, ◌++◌, ℕ, List, slice_index};
 ghost use Rattle.fw_entry.specs.Entry.{EntryValue};
 ghost use Rattle.fw_entry.specs.Spelling.{entry, IsEntry};

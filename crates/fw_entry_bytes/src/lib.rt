@@ -1,7 +1,7 @@
 //! Entries as bytes: how an entry is read and written.
 //!
 //! An entry stands as its origin, its number, the kind of its command, and what the command brings. What is read is spelled so, and what
-//! is spelled so is read again, whatever follows it. A reader that fails tells how many bytes were left from the fault to the end.
+//! is spelled so is read again, whatever follows it. A reader that fails reports how many bytes were left from the fault to the end.
 #![tactic(auto)]
 
 mod fields;

@@ -72,13 +72,13 @@ fn fields_of(alloc: Global, form: Form, bytes: &[u8]) -> Result<(Fields, &[u8]),
 
 /// An entry of the form, and the bytes after it.
 ///
-/// Memory is taken as texts and items are read, never for a length or a count that they don't bear out.
+/// Memory is taken as texts and items are read. A length prefix or a count is never trusted.
 ///
 /// # Errors
 /// [`ReadError::Corrupt`] at the first fault. A field that is cut off or out of its range is a fault where the field starts, a kind that the
 /// form doesn't have is one at its byte, and the rules over several fields of a row, of a commitment or of a policy are kept or broken where
 /// it starts; where there is no such fault, an entry of more than 4,194,304 bytes is one at its own first byte. [`ReadError::NoMemory`]
-/// where there is no memory for what is kept of the bytes, told where it runs out: a fault of a later field isn't looked for.
+/// where there is no memory for what is kept of the bytes, reported where it runs out: a fault of a later field isn't looked for.
 pub fn entry_of(alloc: Global, form: Form, bytes: &[u8]) -> Result<(Entry, &[u8]), ReadError>
     ensures { Gives (λ x. (x.0, x.1.now)) result (entry_at form bytes.now) }
 {

@@ -42,7 +42,7 @@ pub fault-after : (xs ys : Checks) (f : PolicyFault) → NoneBroken xs → IsFau
 fault-after xs ys f none (inl memory) = inl memory
 fault-after xs ys f none (inr first) = inr (first-after xs ys f none first)
 
--- ---- the faults that a list tells
+-- ---- the faults that a list can give
 
 unfoldable pub AllFaults : (PolicyFault → Type 0) → Checks → Type 0
 AllFaults Q [] = Unit {0}

@@ -10,7 +10,7 @@ use Rattle.fw_policy.specs.declared.fault.PolicyField.TheVariants as field
 use Rattle.fw_policy.specs.declared.fault.PolicyFault.{PolicyFault}
 use Rattle.fw_policy.specs.declared.fault.PolicyFault.TheVariants as fault
 
--- the fault of the first rule that is broken; want of memory may come in its place
+-- the fault of the first rule that is broken; running out of memory may come in its place
 abbrev pub IsFault : Checks → PolicyFault → Type 0
 IsFault checks f = (f ≡ fault.NoMemory) ⊎ FirstBroken checks f
 
@@ -72,6 +72,6 @@ pub record AreRulesOf (tables : List Members) (rules : List RuleValue) : Type 0 
   pub kept : All IsRule rules
   pub unbroken : NoneBroken (rules_checks tables)
 
--- what a table reads as, or want of memory
+-- what a table reads as, or out of memory
 abbrev pub TableGives : Members → Result PolicyValue PolicyFault → Type 0
 TableGives ms r = (r ≡ Err fault.NoMemory) ⊎ TableReads ms r

@@ -113,7 +113,7 @@ abbrev pub TableReads : Members → Result PolicyValue PolicyFault → Type 0
 TableReads ms (Ok p) = NoneBroken (policy_checks ms) × StandsForPolicy ms p
 TableReads ms (Err f) = FirstBroken (policy_checks ms) f
 
--- what a text reads as. Want of memory may come in place of anything else
+-- what a text reads as. Running out of memory may come in place of anything else
 unfoldable pub PolicyReads : List ℕ → Result PolicyValue PolicyFault → Type 0
 PolicyReads text (Err fault.NoMemory) = ⊤
 PolicyReads text (Err fault.Syntax) = (ms : Members) → ¬ IsTable text ms

@@ -73,13 +73,13 @@ fn whole_columns(alloc: Global, bytes: &[u8]) -> Result<Columns, ReadError>
 
 /// The entry that the bytes spell. The form says which kinds of entries there are.
 ///
-/// Memory is taken as texts and items are read, never for a length or a count that they don't bear out.
+/// Memory is taken as texts and items are read. A length prefix or a count is never trusted.
 ///
 /// # Errors
 /// [`DecodeFault::Corrupt`] at the first fault, with its offset. Fields are read in turn: one that is cut off or out of its range is a fault at
 /// the offset of the field, a text at that of its length. Where the fields of a row, a commitment, a policy or an entry end, the rules over
 /// several of them come, a fault at its first byte; an entry of more than 4,194,304 bytes is one of these. Bytes after the entry come last: a
-/// fault at the first of them. [`DecodeFault::NoMemory`] where there is no memory for what is kept, told where it runs out: a later fault isn't
+/// fault at the first of them. [`DecodeFault::NoMemory`] where there is no memory for what is kept, reported where it runs out: a later fault isn't
 /// looked for.
 pub fn decode_entry(alloc: Global, form: Form, bytes: &[u8]) -> Result<Entry, DecodeFault>
     ensures found { IfOk result (λ e. IsEntry e × (bytes.now ≡ entry e)) }

@@ -1,4 +1,4 @@
-//! Each commitment and each policy has a spelling: functions that tell so of a value, and do nothing else.
+//! Each commitment and each policy has a spelling: proof-only functions.
 ghost use Rattle.std.specs.Prelude.{All};
 ghost use Rattle.std.specs.Str.{IsUtf8};
 ghost use Rattle.fw_terms.specs.PolicyView.{give_view};

@@ -1,4 +1,4 @@
--- More formats that are put together from formats: a field behind one that tells its form.
+-- More formats that are put together from formats: a field whose format the value before it decides.
 use Rattle.std.proofs.Common.{◌≡◌, ℕ, List, [], ◌∷◌, ◌++◌, Option, Some, Result, Ok, refl, sym, ap, ◌∙◌, subst, append_assoc}
 use Rattle.fw_bytes.specs.Reading.{◌>>=◌, code_at, seen}
 use Rattle.fw_bytes.proofs.Laws.{IsFormat, Takes, Takes-then, bind_ok, ok_is, code_format}
@@ -36,7 +36,7 @@ kind_format {K = K} {A = A} {next = next} {spell = spell} {Fits = Fits} meaning 
       rw (there (kind_of x)) ((f (kind_of x)).again x rest (refl, h));
 }
 
--- the same format, of values that are told in other words
+-- the same format, of values that are described in other words
 pub told_format : {A : Type 0} {read : List ℕ → Result (A × List ℕ) ℕ} {spell : A → List ℕ} {Fits Fit : A → Type 0} → ((x : A) → Fits x → Fit x) → ((x : A) → Fit x → Fits x) → IsFormat read spell Fits → IsFormat read spell Fit
 told_format to back f = record {
   takes = λ bytes x is e. let t = f.takes bytes x is e in (t.0, to x.0 t.1);

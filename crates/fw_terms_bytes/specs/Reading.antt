@@ -16,7 +16,7 @@ use Rattle.fw_charge.specs.Spelling.{keys_rise}
 use Rattle.fw_row_bytes.specs.Reading.{nanos_at, second_at, short_text_at, tag_text_at, tags_at}
 use Rattle.fw_terms.specs.Groups.{has_double_from, has_target_from}
 
--- a field, and one behind it whose form its value tells
+-- a field, and one behind it whose format its value decides
 unfoldable pub then_by : {A B : Type 0} → Reading A → (A → Reading B) → Reading (A × B)
 then_by first next bytes = do
   x ← first bytes
@@ -68,7 +68,7 @@ cost_at = seen nat_abs (checked is_cost nanos_at)
 unfoldable pub ppm_at : Reading ℕ
 ppm_at = checked is_ppm (number_at w32)
 
--- ---- the fields of a commitment, in turn: a head, which tells the kind, and what is read by that
+-- ---- the fields of a commitment, in turn: a head with the kind, and what is read by the kind
 
 -- id, kind, account and tags
 abbrev pub Names : Type 0

@@ -10,6 +10,7 @@ ghost use Rattle.fw_terms.specs.TermsView.{terms_view};
 ghost use Rattle.fw_terms_bytes.specs.Reading.{start_at, hours_at, capacity_at, cost_at, ppm_at, names_at, term_at, skus_at, rate_at, rates_at, committed_at, purchase_at, purchases_at, fields_at, commitment_from, skus_rise, commitment_rules, commitment_at};
 ghost use Rattle.fw_terms_bytes.specs.FieldView.{names_view, term_view, fields_view};
 
+use crate::lists::{Item, list_of};
 use crate::order::names_rise;
 use fw_bytes::{ReadError, u32_at};
 use fw_charge::{DiscountKind, Tag, Tags};
@@ -179,44 +180,19 @@ fn skus_of(alloc: Global, bytes: &[u8]) -> Result<(Vec<String>, &[u8]), ReadErro
     skus_after(alloc, count, rest)
 }
 
-/// A SKU, and how much of a cost counts where a row has it.
-#[tactic(auto, unfolding(crate::specs::Reading::rate_at, fw_bytes::specs::Reading::both, fw_bytes::specs::Reading::seen))]
-fn rate_of(alloc: Global, bytes: &[u8]) -> Result<(Rate, &[u8]), ReadError>
-    ensures { Gives (λ x. (x.0, x.1.now)) result (rate_at bytes.now) }
-{
-    let (sku, rest) = short_text_of(alloc, bytes)?;
-    let (ppm, rest) = ppm_of(rest)?;
-    Ok((Rate::of_fields(sku, ppm), rest))
-}
+impl Item for Rate {
+    ghost item_at = { rate_at };
 
-/// So many rates.
-fn rates_after(alloc: Global, count: u32, bytes: &[u8]) -> Result<(Vec<Rate>, &[u8]), ReadError>
-    ensures { Gives (λ x. (x.0.items, x.1.now)) result (times rate_at count bytes.now) }
-{
-    let mut rates = Vec::new(alloc);
-    let mut rest = bytes;
-    for _ in 0..count {
-        let (rate, after) = rate_of(alloc, rest)?;
-        rates.push(rate)?;
-        rest = after;
+    #[tactic(auto, unfolding(crate::specs::Reading::rate_at, fw_bytes::specs::Reading::both, fw_bytes::specs::Reading::seen))]
+    fn read(alloc: Global, bytes: &[u8]) -> Result<(Rate, &[u8]), ReadError> {
+        let (sku, rest) = short_text_of(alloc, bytes)?;
+        let (ppm, rest) = ppm_of(rest)?;
+        Ok((Rate::of_fields(sku, ppm), rest))
     }
-    Ok((rates, rest))
-}
-
-/// The rates of a commitment to spend.
-#[tactic(auto, unfolding(crate::specs::Reading::rates_at, fw_bytes::specs::Reading::list_at))]
-fn rates_of(alloc: Global, bytes: &[u8]) -> Result<(Vec<Rate>, &[u8]), ReadError>
-    ensures { Gives (λ x. (x.0.items, x.1.now)) result (rates_at bytes.now) }
-{
-    let (count, rest) = u32_at(bytes)?;
-    if count == 0 || count > Terms::MOST_SKUS as u32 {
-        return Err(ReadError::Corrupt(bytes.len()));
-    }
-    rates_after(alloc, count, rest)
 }
 
 /// What is committed to, where the commitment is of the kind.
-#[tactic(auto, unfolding(crate::specs::Reading::committed_at, fw_bytes::specs::Reading::both, fw_bytes::specs::Reading::seen))]
+#[tactic(auto, unfolding(crate::specs::Reading::committed_at, crate::specs::Reading::rates_at, fw_bytes::specs::Reading::both, fw_bytes::specs::Reading::seen))]
 fn terms_of(alloc: Global, kind: DiscountKind, bytes: &[u8]) -> Result<(Terms, &[u8]), ReadError>
     ensures { Gives (λ x. (terms_view x.0, x.1.now)) result (committed_at kind bytes.now) }
 {
@@ -227,58 +203,25 @@ fn terms_of(alloc: Global, kind: DiscountKind, bytes: &[u8]) -> Result<(Terms, &
             Ok((Terms::Usage { unit, skus }, rest))
         }
         DiscountKind::Spend => {
-            let (rates, rest) = rates_of(alloc, bytes)?;
+            let (rates, rest) = list_of(alloc, 1, Terms::MOST_SKUS as u32, bytes)?;
             Ok((Terms::Spend { rates }, rest))
         }
     }
 }
 
-/// A purchase.
-#[tactic(auto, unfolding(crate::specs::Reading::purchase_at, fw_bytes::specs::Reading::both, fw_bytes::specs::Reading::seen))]
-fn purchase_of(bytes: &[u8]) -> Result<(Purchase, &[u8]), ReadError>
-    ensures { Gives (λ x. (x.0, x.1.now)) result (purchase_at bytes.now) }
-{
-    let (at, rest) = second_of(bytes)?;
-    let (cost, rest) = cost_of(rest)?;
-    Ok((Purchase::of_fields(at, Nanos::of_fields(cost)), rest))
-}
+impl Item for Purchase {
+    ghost item_at = { purchase_at };
 
-/// So many purchases.
-fn purchases_after(
-    alloc: Global,
-    count: u32,
-    bytes: &[u8],
-) -> Result<(Vec<Purchase>, &[u8]), ReadError>
-    ensures { Gives (λ x. (x.0.items, x.1.now)) result (times purchase_at count bytes.now) }
-{
-    let mut purchases = Vec::new(alloc);
-    let mut rest = bytes;
-    for _ in 0..count {
-        match purchase_of(rest) {
-            Ok((purchase, after)) => {
-                purchases.push(purchase)?;
-                rest = after;
-            }
-            Err(e) => return Err(e),
-        }
+    #[tactic(auto, unfolding(crate::specs::Reading::purchase_at, fw_bytes::specs::Reading::both, fw_bytes::specs::Reading::seen))]
+    fn read(_alloc: Global, bytes: &[u8]) -> Result<(Purchase, &[u8]), ReadError> {
+        let (at, rest) = second_of(bytes)?;
+        let (cost, rest) = cost_of(rest)?;
+        Ok((Purchase::of_fields(at, Nanos::of_fields(cost)), rest))
     }
-    Ok((purchases, rest))
-}
-
-/// The purchases.
-#[tactic(auto, unfolding(crate::specs::Reading::purchases_at, fw_bytes::specs::Reading::list_at))]
-fn purchases_of(alloc: Global, bytes: &[u8]) -> Result<(Vec<Purchase>, &[u8]), ReadError>
-    ensures { Gives (λ x. (x.0.items, x.1.now)) result (purchases_at bytes.now) }
-{
-    let (count, rest) = u32_at(bytes)?;
-    if count == 0 || count > Commitment::MOST_PURCHASES as u32 {
-        return Err(ReadError::Corrupt(bytes.len()));
-    }
-    purchases_after(alloc, count, rest)
 }
 
 /// The fields of a commitment, in turn.
-#[tactic(auto, unfolding(crate::specs::Reading::fields_at, crate::specs::Reading::head_at, crate::specs::Reading::then_by, fw_bytes::specs::Reading::both))]
+#[tactic(auto, unfolding(crate::specs::Reading::fields_at, crate::specs::Reading::head_at, crate::specs::Reading::purchases_at, crate::specs::Reading::then_by, fw_bytes::specs::Reading::both))]
 fn fields_of(alloc: Global, bytes: &[u8]) -> Result<(ReadFields, &[u8]), ReadError>
     ensures read { Gives (λ x. (fields_view x.0, x.1.now)) result (fields_at bytes.now) }
     ensures some_capacity { IfOk result (λ x. pos 0 <ℤ x.0.term.capacity) }
@@ -286,7 +229,7 @@ fn fields_of(alloc: Global, bytes: &[u8]) -> Result<(ReadFields, &[u8]), ReadErr
     let (names, rest) = names_of(alloc, bytes)?;
     let (term, rest) = term_of(rest)?;
     let (terms, rest) = terms_of(alloc, names.kind, rest)?;
-    match purchases_of(alloc, rest) {
+    match list_of(alloc, 1, Commitment::MOST_PURCHASES as u32, rest) {
         Ok((purchases, rest)) => {
             let fields = ReadFields {
                 names,
@@ -352,7 +295,7 @@ impl ReadFields {
 /// # Errors
 /// [`ReadError::Corrupt`] at the first field that is cut off or out of its range, a list's count among them; where there is none, at the
 /// commitment's first byte where the keys of the tags or the SKUs don't stand in rising order of their bytes, or where the purchases
-/// together cost more than 10^17 nanos. [`ReadError::NoMemory`] where there is no memory for the commitment, told where it runs out: a
+/// together cost more than 10^17 nanos. [`ReadError::NoMemory`] where there is no memory for the commitment, reported where it runs out: a
 /// fault of a later field isn't looked for.
 pub fn commitment_of(alloc: Global, bytes: &[u8]) -> Result<(Commitment, &[u8]), ReadError>
     ensures { Gives (λ x. (x.0, x.1.now)) result (commitment_at bytes.now) }

@@ -1,10 +1,11 @@
 //! Commitments and policies as bytes.
 //!
 //! `fw_terms` defines the bytes of each, and which of them have bytes at all; `specs/Reading.antt` says what bytes read as, and at which
-//! place the first fault of other bytes is. A reader tells how many bytes were left from the fault to the end.
+//! place the first fault of other bytes is. A reader that fails reports how many bytes were left from the fault to the end.
 #![tactic(auto)]
 
 mod commitment;
+mod lists;
 mod order;
 mod policy;
 mod writing;

@@ -4,8 +4,8 @@ ghost use Rattle.fw_bytes.specs.Order.{rise, rise_from};
 
 use fw_terms::{Rate, Target};
 
-/// What stands in a list by its name.
-pub(crate) trait Named {
+/// What has a name, by which lists of it are ordered.
+pub(crate) trait HasName {
     ghost name_of: { Self → List ℕ };
 
     /// The name.
@@ -13,7 +13,7 @@ pub(crate) trait Named {
         ensures { result.now ≡ name_of self.now };
 }
 
-impl Named for String {
+impl HasName for String {
     ghost name_of = { string_bytes };
 
     fn name(&self) -> &str {
@@ -21,7 +21,7 @@ impl Named for String {
     }
 }
 
-impl Named for Rate {
+impl HasName for Rate {
     ghost name_of = { λ r. r.sku };
 
     fn name(&self) -> &str {
@@ -29,7 +29,7 @@ impl Named for Rate {
     }
 }
 
-impl Named for Target {
+impl HasName for Target {
     ghost name_of = { λ t. t.group };
 
     fn name(&self) -> &str {
@@ -38,7 +38,7 @@ impl Named for Target {
 }
 
 /// Whether each name is above the one before it in the order of their bytes, the first above `last`.
-fn names_rise_from<T: Named>(last: &str, items: &[T]) -> bool
+fn names_rise_from<T: HasName>(last: &str, items: &[T]) -> bool
     ensures { result ≡ rise_from last.now (map T.name_of items.now) }
 {
     let mut last = last;
@@ -52,7 +52,7 @@ fn names_rise_from<T: Named>(last: &str, items: &[T]) -> bool
 }
 
 /// Whether each name is above the one before it in the order of their bytes.
-pub(crate) fn names_rise<T: Named>(items: &[T]) -> bool
+pub(crate) fn names_rise<T: HasName>(items: &[T]) -> bool
     ensures { result ≡ rise (map T.name_of items.now) }
 {
     match items {

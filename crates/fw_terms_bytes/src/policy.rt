@@ -1,11 +1,12 @@
 //! The reader of a policy.
 ghost use Rattle.std.specs.Prelude.{◌≡◌, string_bytes};
-ghost use Rattle.fw_bytes.specs.Reading.{Gives, times};
+ghost use Rattle.fw_bytes.specs.Reading.{Gives};
 ghost use Rattle.fw_terms.specs.PolicyView.{give_view};
 ghost use Rattle.fw_terms_bytes.specs.Reading.{key_at, weight_at, target_at, targets_at, give_at, rule_at, rules_at, parts_at, targets_rise, all_rise, rules_agree, policy_at};
 
+use crate::lists::{Item, list_of};
 use crate::order::names_rise;
-use fw_bytes::{ReadError, str_at, u32_at, u64_at};
+use fw_bytes::{ReadError, str_at, u64_at};
 use fw_row_bytes::tag_text_of;
 use fw_terms::{Give, Policy, Rule, Target, has_double_from, has_target_from};
 use std::alloc::Global;
@@ -34,50 +35,25 @@ fn weight_of(bytes: &[u8]) -> Result<(u64, &[u8]), ReadError>
     Ok((weight, rest))
 }
 
-/// A group that is given to, and its weight.
-#[tactic(auto, unfolding(crate::specs::Reading::target_at, fw_bytes::specs::Reading::both, fw_bytes::specs::Reading::seen))]
-fn target_of(alloc: Global, bytes: &[u8]) -> Result<(Target, &[u8]), ReadError>
-    ensures { Gives (λ x. (x.0, x.1.now)) result (target_at bytes.now) }
-{
-    let (group, rest) = tag_text_of(alloc, bytes)?;
-    let (weight, rest) = weight_of(rest)?;
-    Ok((Target::of_fields(group, weight), rest))
-}
+impl Item for Target {
+    ghost item_at = { target_at };
 
-/// So many targets.
-fn targets_after(alloc: Global, count: u32, bytes: &[u8]) -> Result<(Vec<Target>, &[u8]), ReadError>
-    ensures { Gives (λ x. (x.0.items, x.1.now)) result (times target_at count bytes.now) }
-{
-    let mut targets = Vec::new(alloc);
-    let mut rest = bytes;
-    for _ in 0..count {
-        let (target, after) = target_of(alloc, rest)?;
-        targets.push(target)?;
-        rest = after;
+    #[tactic(auto, unfolding(crate::specs::Reading::target_at, fw_bytes::specs::Reading::both, fw_bytes::specs::Reading::seen))]
+    fn read(alloc: Global, bytes: &[u8]) -> Result<(Target, &[u8]), ReadError> {
+        let (group, rest) = tag_text_of(alloc, bytes)?;
+        let (weight, rest) = weight_of(rest)?;
+        Ok((Target::of_fields(group, weight), rest))
     }
-    Ok((targets, rest))
-}
-
-/// The targets of a rule.
-#[tactic(auto, unfolding(crate::specs::Reading::targets_at, fw_bytes::specs::Reading::list_at))]
-fn targets_of(alloc: Global, bytes: &[u8]) -> Result<(Vec<Target>, &[u8]), ReadError>
-    ensures { Gives (λ x. (x.0.items, x.1.now)) result (targets_at bytes.now) }
-{
-    let (count, rest) = u32_at(bytes)?;
-    if count == 0 || count > Give::MOST_TARGETS as u32 {
-        return Err(ReadError::Corrupt(bytes.len()));
-    }
-    targets_after(alloc, count, rest)
 }
 
 /// To whom a group's cost is given.
-#[tactic(auto, unfolding(crate::specs::Reading::give_at, fw_bytes::specs::Reading::seen))]
+#[tactic(auto, unfolding(crate::specs::Reading::give_at, crate::specs::Reading::targets_at, fw_bytes::specs::Reading::seen))]
 fn give_of(alloc: Global, bytes: &[u8]) -> Result<(Give, &[u8]), ReadError>
     ensures { Gives (λ x. (give_view x.0, x.1.now)) result (give_at bytes.now) }
 {
     match bytes {
         [1, rest @ ..] => {
-            let (targets, rest) = targets_of(alloc, rest)?;
+            let (targets, rest) = list_of(alloc, 1, Give::MOST_TARGETS as u32, rest)?;
             Ok((Give::Fixed(targets), rest))
         }
         [2, rest @ ..] => Ok((Give::Proportional, rest)),
@@ -85,40 +61,15 @@ fn give_of(alloc: Global, bytes: &[u8]) -> Result<(Give, &[u8]), ReadError>
     }
 }
 
-/// A rule.
-#[tactic(auto, unfolding(crate::specs::Reading::rule_at, fw_bytes::specs::Reading::both, fw_bytes::specs::Reading::seen))]
-fn rule_of(alloc: Global, bytes: &[u8]) -> Result<(Rule, &[u8]), ReadError>
-    ensures { Gives (λ x. (x.0, x.1.now)) result (rule_at bytes.now) }
-{
-    let (from, rest) = tag_text_of(alloc, bytes)?;
-    let (give, rest) = give_of(alloc, rest)?;
-    Ok((Rule::of_fields(from, give), rest))
-}
+impl Item for Rule {
+    ghost item_at = { rule_at };
 
-/// So many rules.
-fn rules_after(alloc: Global, count: u32, bytes: &[u8]) -> Result<(Vec<Rule>, &[u8]), ReadError>
-    ensures { Gives (λ x. (x.0.items, x.1.now)) result (times rule_at count bytes.now) }
-{
-    let mut rules = Vec::new(alloc);
-    let mut rest = bytes;
-    for _ in 0..count {
-        let (rule, after) = rule_of(alloc, rest)?;
-        rules.push(rule)?;
-        rest = after;
+    #[tactic(auto, unfolding(crate::specs::Reading::rule_at, fw_bytes::specs::Reading::both, fw_bytes::specs::Reading::seen))]
+    fn read(alloc: Global, bytes: &[u8]) -> Result<(Rule, &[u8]), ReadError> {
+        let (from, rest) = tag_text_of(alloc, bytes)?;
+        let (give, rest) = give_of(alloc, rest)?;
+        Ok((Rule::of_fields(from, give), rest))
     }
-    Ok((rules, rest))
-}
-
-/// The rules of a policy.
-#[tactic(auto, unfolding(crate::specs::Reading::rules_at, fw_bytes::specs::Reading::list_at))]
-fn rules_of(alloc: Global, bytes: &[u8]) -> Result<(Vec<Rule>, &[u8]), ReadError>
-    ensures { Gives (λ x. (x.0.items, x.1.now)) result (rules_at bytes.now) }
-{
-    let (count, rest) = u32_at(bytes)?;
-    if count > Policy::MOST_RULES as u32 {
-        return Err(ReadError::Corrupt(bytes.len()));
-    }
-    rules_after(alloc, count, rest)
 }
 
 /// Whether the targets of a rule stand in rising order.
@@ -151,12 +102,12 @@ fn rules_agree(rules: &[Rule]) -> bool
 }
 
 /// The key and the rules of a policy.
-#[tactic(auto, unfolding(crate::specs::Reading::parts_at, fw_bytes::specs::Reading::both))]
+#[tactic(auto, unfolding(crate::specs::Reading::parts_at, crate::specs::Reading::rules_at, fw_bytes::specs::Reading::both))]
 fn parts_of(alloc: Global, bytes: &[u8]) -> Result<((String, Vec<Rule>), &[u8]), ReadError>
     ensures { Gives (λ x. ((string_bytes x.0.0, x.0.1.items), x.1.now)) result (parts_at bytes.now) }
 {
     let (key, rest) = key_of(alloc, bytes)?;
-    let (rules, rest) = rules_of(alloc, rest)?;
+    let (rules, rest) = list_of(alloc, 0, Policy::MOST_RULES as u32, rest)?;
     Ok(((key, rules), rest))
 }
 
@@ -165,7 +116,7 @@ fn parts_of(alloc: Global, bytes: &[u8]) -> Result<((String, Vec<Rule>), &[u8]),
 /// # Errors
 /// [`ReadError::Corrupt`] at the first field that is cut off or out of its range, a list's count among them; where there is none, at the
 /// policy's first byte where the targets of a rule don't stand in rising order of their bytes, where a group gives away twice, or where a
-/// group that is given to gives away. [`ReadError::NoMemory`] where there is no memory for the policy, told where it runs out: a fault of a
+/// group that is given to gives away. [`ReadError::NoMemory`] where there is no memory for the policy, reported where it runs out: a fault of a
 /// later field isn't looked for.
 pub fn policy_of(alloc: Global, bytes: &[u8]) -> Result<(Policy, &[u8]), ReadError>
     ensures { Gives (λ x. (x.0, x.1.now)) result (policy_at bytes.now) }

@@ -1,4 +1,4 @@
--- The kinds of values, as the readers of `toml` tell them.
+-- The kinds of values, as the readers of `toml` return them.
 use Rattle.std.proofs.Common.{◌≡◌, ℕ, ℤ, List, Option, Some, None, Bor, sym, ◌∙◌, ap}
 use Rattle.std.specs.Prelude.{MatchOption, option_copied}
 use Rattle.toml.specs.Data.{Data, Items, Members, string, integer, float, boolean, datetime, array, table, as_str, as_integer, as_array, as_table}

@@ -21,13 +21,13 @@ returns-in_default-as_text c = λ _.
     let is : at ms (codes "sub_account") ≡ Some (view c.in-Some.value.now) = rw c.name.ensures at c.in-Some.ensures in
     field-missing field.SubAccount (HasAccount ms) IsAccount (account-none (at ms (codes "sub_account")) (view c.in-Some.value.now) is c.in_default-as_text.ensures)
 
-pub returns-then-not-is_short : goal.returns-then-not-is_short
-returns-then-not-is_short c = λ _.
+pub returns-then-not-is_short_text : goal.returns-then-not-is_short_text
+returns-then-not-is_short_text c = λ _.
     let ms = stated c.args.table.now in
     let t = c.in-Some-as_text.text.now in
     let is : at ms (codes "sub_account") ≡ Some (view c.in-Some.value.now) = rw c.name.ensures at c.in-Some.ensures in
     let has : HasAccount ms (Some t) = is ∙ ap Some c.in-Some-as_text.ensures in
-    let long : ¬ IsAccount (Some t) = λ short. let same = c.if-not-is_short.ensures.1 short in absurd (cc) in
+    let long : ¬ IsAccount (Some t) = λ short. let same = c.if-not-is_short_text.ensures.1 short in absurd (cc) in
     field-over field.SubAccount (HasAccount ms) IsAccount (Some t) has (λ a other short. long (subst IsAccount (account-one (at ms (codes "sub_account")) a (Some t) other has) short))
 
 pub returns : goal.returns
@@ -37,5 +37,5 @@ returns c =
     let copied = c.in_ok-from_str.ensures.ok in
     let is : at ms (codes "sub_account") ≡ Some (view c.in-Some.value.now) = rw c.name.ensures at c.in-Some.ensures in
     let has : HasAccount ms (Some s) = is ∙ (ap Some c.in-Some-as_text.ensures ∙ ap (λ t. Some (string t)) (sym copied)) in
-    let short : IsAccount (Some s) = rw copied (c.is_short.ensures.0 c.if-not-is_short.false) in
+    let short : IsAccount (Some s) = rw copied (c.is_short_text.ensures.0 c.if-not-is_short_text.false) in
     (field-fits field.SubAccount (HasAccount ms) IsAccount (Some s) has short, (has, short))

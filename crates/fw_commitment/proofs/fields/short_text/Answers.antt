@@ -11,12 +11,12 @@ returns-in_default c = λ _.
     let ms = stated c.args.table.now in let name = name_of c.args.field in
     field-missing c.args.field (HasText ms name) IsShortText (text-none ms name (rw c.name.ensures at c.in_default.ensures))
 
-pub returns-then-not-is_short : goal.returns-then-not-is_short
-returns-then-not-is_short c = λ _.
+pub returns-then-not-is_short_text : goal.returns-then-not-is_short_text
+returns-then-not-is_short_text c = λ _.
     let ms = stated c.args.table.now in let name = name_of c.args.field in
     let t = c.in-Some.text.now in
     let has : HasText ms name t = rw c.name.ensures at c.in-Some.ensures in
-    let long : ¬ IsShortText t = λ short. let same = c.if-not-is_short.ensures.1 short in absurd (cc) in
+    let long : ¬ IsShortText t = λ short. let same = c.if-not-is_short_text.ensures.1 short in absurd (cc) in
     field-over c.args.field (HasText ms name) IsShortText t has (text-not IsShortText ms name t has long)
 
 pub returns : goal.returns
@@ -24,5 +24,5 @@ returns c =
     let ms = stated c.args.table.now in let name = name_of c.args.field in
     let t = c.in-Some.text.now in
     let has : HasText ms name t = rw c.name.ensures at c.in-Some.ensures in
-    let short = c.is_short.ensures.0 c.if-not-is_short.false in
+    let short = c.is_short_text.ensures.0 c.if-not-is_short_text.false in
     (field-fits c.args.field (HasText ms name) IsShortText t has short, (has, short))

@@ -9,7 +9,7 @@ use Rattle.fw_commitment.proofs.RuleFacts.{field-fits, field-missing, field-over
 use Rattle.fw_commitment.proofs.ValueFacts.{integer-none, integer-not}
 use Rattle.fw_commitment.specs.declared.fault.CommitmentField.TheVariants as field
 use Rattle.fw_commitment.proofs.id_and_term.hours.Goals as goal
-use Rattle.fw_commitment.proofs.id_and_term.hours.Goals.{then-hours-lt1-via-then-hours-lt1, then-hours-lt1-via-else-hours-lt1+then-hours-gt-MOST_HOURS}
+use Rattle.fw_commitment.proofs.id_and_term.hours.Goals.{then-hours-lt1-via-then-hours-lt1, then-hours-lt1-via-else-hours-lt1+then-hours}
 
 pub returns-in_default : goal.returns-in_default
 returns-in_default c = λ _.
@@ -24,7 +24,7 @@ returns-then-hours-lt1 c = λ _.
     let fits : SFits w64 z = search rules in
     let out : ¬ IsTermLength z = λ within. elim c.then-hours-lt1.branch [
       | then-hours-lt1-via-then-hours-lt1 w ↦ let test = w.if-hours-lt1.true in let low = within.0 in grind (arith, ints)
-      | then-hours-lt1-via-else-hours-lt1+then-hours-gt-MOST_HOURS w ↦ let test = w.if-hours-gt-MOST_HOURS.true in let high = within.1 in grind (arith, ints)
+      | then-hours-lt1-via-else-hours-lt1+then-hours w ↦ let test = w.if-hours.true in let high = within.1 in grind (arith, ints)
     ] in
     field-over field.Hours (HasInteger ms name) IsTermLength z has (integer-not IsTermLength ms name z has out)
 
@@ -40,6 +40,6 @@ returns c =
     let has : HasInteger ms name z = rw c.name.ensures at c.in-Some.ensures in
     let fits : SFits w64 z = search rules in
     let low : pos 1 ≤ℤ z = let test = c.if-hours-lt1.false in grind (arith, ints) in
-    let high : z ≤ℤ pos most_hours = let test = c.if-hours-gt-MOST_HOURS.false in grind (arith, ints) in
+    let high : z ≤ℤ pos most_hours = let test = c.if-hours.false in grind (arith, ints) in
     let whole = natural z fits (low, high) in
     (field-fits field.Hours (HasInteger ms name) IsTermLength z has (low, high), (subst (HasInteger ms name) (sym whole.0) has, whole.1, whole.2))

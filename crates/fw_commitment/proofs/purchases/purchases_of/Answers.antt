@@ -35,11 +35,11 @@ loop-payment-preserved c =
       dated = all-grown (λ p. p.at ≤ last_second) c.loop-payment.purchases.items c.push.new.self.items p c.in_ok-push.ensures.items c.loop-payment.invariant.dated dated;
     }
 
-pub returns-then-total_cost-gt-MOST : goal.returns-then-total_cost-gt-MOST
-returns-then-total_cost-gt-MOST c =
+pub returns-then-total_cost : goal.returns-then-total_cost
+returns-then-total_cost c =
     let payments = c.args.payments.now in
     let past : length payments ≤ c.loop-payment.payment-index = let end = c.loop-payment-test.false in omega arith in
     let same = sym (c.loop-payment.invariant.same ∙ take_all c.loop-payment.payment-index payments past) in
     let cost = c.total_cost.ensures ∙ ap cost_of c.deref.ensures.value in
-    let dear = c.if-total_cost-gt-MOST.true in
+    let dear = c.if-total_cost.true in
     purchases-dear payments c.loop-payment.purchases.items same (omega arith)

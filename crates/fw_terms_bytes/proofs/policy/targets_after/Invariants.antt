@@ -1,8 +1,0 @@
-use Rattle.std.proofs.Common.{◌≡◌, ◌-◌}
-use Rattle.fw_bytes.specs.Reading.{times}
-use Rattle.fw_bytes.proofs.Loop.{with_front}
-use Rattle.fw_terms_bytes.specs.Reading.{target_at}
-use Rattle.fw_terms_bytes.proofs.policy.targets_after.Given as goal
-
-abbrev pub invariant-loop : goal.invariant-loop
-invariant-loop l = with_front l.targets.items (times target_at (l.count - l.counter) l.rest) ≡ times target_at l.count l.bytes
