@@ -15,7 +15,7 @@ use Rattle.fw_policy.specs.declared.fault.PolicyFault.TheVariants as fault
 abbrev pub Checks : Type 1
 Checks = List (PolicyFault × Type 0)
 
--- the tag key: a text of 1 to 1,024 bytes
+-- the tag key: a text that is neither empty nor too long
 unfoldable pub key_checks : Members → Checks
 key_checks ms = let key = at ms (codes "key") in
     (fault.Field field.Key, ¬ IsThere key (IsText Anything))
@@ -26,25 +26,25 @@ key_checks ms = let key = at ms (codes "key") in
 abbrev pub rules_in : Members → List Members
 rules_in ms = tables_of (at ms (codes "rule"))
 
--- the rules, which may be absent: an array of at most 64 tables
+-- the rules, which may be absent: an array of tables, not too many
 unfoldable pub array_checks : Members → Checks
 array_checks ms =
     (fault.Field field.Rule, ¬ IsAbsentOr (at ms (codes "rule")) (IsArrayOf (All (IsTableOf Anything))))
     ∷ (fault.Limit field.Rule, most_rules < length (rules_in ms))
     ∷ []
 
--- the group that gives away: a text of at most 1,024 bytes, which may be empty
+-- the group that gives away: a text, which may be empty and is not too long
 unfoldable pub from_checks : Members → Checks
 from_checks rule = let from = at rule (codes "from") in
     (fault.Field field.From, ¬ IsThere from (IsText Anything))
     ∷ (fault.Limit field.From, ¬ IsThere from (IsText (λ t. length t ≤ most_text)))
     ∷ []
 
--- a weight is 0 to 1,000,000,000
+-- a weight: a natural number that is not too great
 unfoldable pub IsWeight : ℤ → Type 0
 IsWeight z = (weight : ℕ) × (z ≡ pos weight) × (weight ≤ most_weight)
 
--- 1 to 256 groups of at most 1,024 bytes, each with a weight
+-- one group or more, not too many and none too long, each with a weight
 unfoldable pub AreWeights : List (List ℕ × Data) → Type 0
 AreWeights ms = (0 < length ms) × (length ms ≤ most_targets) × All (λ m. (length m.0 ≤ most_text) × IsInteger IsWeight m.1) ms
 

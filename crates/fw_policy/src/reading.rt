@@ -77,12 +77,16 @@ fn policy_of(alloc: Global, table: &Table) -> Result<Policy, PolicyFault>
 /// Reads the policy of a TOML text.
 ///
 /// Where the text is not UTF-8 or no TOML document, that is `Syntax`. Else the fields are checked in this order, and the first fault is
-/// the answer: `key`, a text of 1 to 1,024 bytes; `rule`, which may be absent, an array of at most 64 tables; and in each of them in turn `from`,
-/// a text of at most 1,024 bytes, and one of `to`, a table of 1 to 256 groups of at most 1,024 bytes, each with a weight of 0 to
-/// 1,000,000,000, and `proportional = true`. A field that is missing or of another kind is `Field`, and so are both or neither of `to` and
-/// `proportional`, under the name `rule`; one that is too small or too large is `Limit`. Then a field that none of these is, anywhere, is
-/// `Field(Unknown)`; then a group that is `from` twice is `DoubleFrom`, and a group under a `to` that is also a `from` is `TargetIsFrom`.
-/// `NoMemory` comes where memory runs out, at any place.
+/// the answer: `key`, a text of 1 to [`Policy::LONGEST_TEXT`] bytes; `rule`, which may be absent, an array of at most
+/// [`Policy::MOST_RULES`] tables; and in each of them in turn `from`, a text as long at most, and one of `to`, a table of 1 to
+/// [`Give::MOST_TARGETS`] groups, also as long at most, each with a weight of 0 to [`Target::MOST_WEIGHT`], and `proportional = true`.
+/// A field that is missing or of another kind is `Field`, and so are both or neither of `to` and `proportional`, under the name `rule`; one
+/// that is too small or too large is `Limit`. Then a field that none of these is, anywhere, is `Field(Unknown)`; then a group that is
+/// `from` twice is `DoubleFrom`, and a group under a `to` that is also a `from` is `TargetIsFrom`. `NoMemory` comes where memory runs
+/// out, at any place.
+///
+/// [`Give::MOST_TARGETS`]: fw_terms::Give::MOST_TARGETS
+/// [`Target::MOST_WEIGHT`]: fw_terms::Target::MOST_WEIGHT
 pub fn read_policy(alloc: Global, text: &[u8]) -> Result<Policy, PolicyFault>
     ensures { PolicyReads text.now result }
 {

@@ -3,16 +3,16 @@ use Rattle.fw_bytes.specs.Reading.{times}
 use Rattle.fw_bytes.proofs.Loop.{goes_on, ends, is_done}
 use Rattle.fw_terms_bytes.proofs.lists.items_of.Goals as goal
 
-pub returns-in_err-read : goal.returns-in_err-read
-returns-in_err-read g c =
+pub returns-in_err-item : goal.returns-in_err-item
+returns-in_err-item g c =
     let at = g.T.Item.item_at in
     let p = err_from_is_err_and c.from_residual.result c.from_residual.ensures.1 in
-    rw (p.1, p.2) (ends at c.in_err-read.field-0.0 c.loop.items.items c.args.count c.loop.counter c.loop.rest.now (times at c.args.count c.args.bytes.now) c.loop-test.true c.in_err-read.ensures c.loop.invariant)
+    rw (p.1, p.2) (ends at c.in_err-item.field-0.0 c.loop.items.items c.args.count c.loop.counter c.loop.rest.now (times at c.args.count c.args.bytes.now) c.loop-test.true c.in_err-item.ensures c.loop.invariant)
 
 pub loop-preserved : goal.loop-preserved
 loop-preserved g c =
     let at = g.T.Item.item_at in
-    rw c.in_ok-push.ensures.items (goes_on at c.loop.items.items c.args.count c.loop.counter c.loop.rest.now c.in_ok-read.item c.in_ok-read.after.now (times at c.args.count c.args.bytes.now) c.loop-test.true c.in_ok-read.ensures c.loop.invariant)
+    rw c.in_ok-push.ensures.items (goes_on at c.loop.items.items c.args.count c.loop.counter c.loop.rest.now c.in_ok-item.item c.in_ok-item.after.now (times at c.args.count c.args.bytes.now) c.loop-test.true c.in_ok-item.ensures c.loop.invariant)
 
 pub returns : goal.returns
 returns g c = let at = g.T.Item.item_at in is_done at c.loop.items.items c.args.count c.loop.counter c.loop.rest.now (times at c.args.count c.args.bytes.now) c.loop-test.false c.loop.invariant
