@@ -1,5 +1,5 @@
 -- Reading commitments and policies.
-use Rattle.std.specs.Prelude.{ℕ, zero, suc, ℤ, pos, negsuc, nat_abs, Bool, true, false, ◌&&◌, not, List, [], ◌∷◌, length, map, Option, Some, None, Ok, Err, nat_lt, nat_le}
+use Rattle.std.specs.Prelude.{ℕ, zero, suc, ℤ, pos, negsuc, nat_abs, Bool, true, false, ◌&&◌, not, List, [], ◌∷◌, length, map, Option, Ok, Err, nat_lt, nat_le}
 use Rattle.std.specs.Int.{w32, w64}
 use Rattle.fw_money.specs.Amount.{most_nanos}
 use Rattle.fw_bytes.specs.Order.{rise}
