@@ -1,5 +1,5 @@
 -- Which of its later calls a volume fails, and what a failing write does to the volume below.
-use Rattle.std.specs.Prelude.{◌==◌, ℕ, ◌+◌, ◌-◌, ◌^◌, min, Bool, true, false, nat_le, nat_lt, ◌&&◌, ◌||◌, List, [], ◌∷◌, reverse, Option, Some, None, IsTrue, IsErrOf, OnOk, Result}
+use Rattle.std.specs.Prelude.{◌==◌, ℕ, ◌+◌, ◌-◌, ◌^◌, min, Bool, true, false, nat_le, nat_lt, ◌&&◌, ◌||◌, List, [], ◌∷◌, reverse, Some, None, IsTrue, IsErrOf, OnOk, Result}
 use Rattle.fw_disk.specs.declared.volume.Side.{Side}
 use Rattle.fw_disk.specs.declared.volume.VolumeFault.{VolumeFault}
 use Rattle.fw_disk.specs.declared.volume.VolumeFault.TheVariants.{TooLarge}
