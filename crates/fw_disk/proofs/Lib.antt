@@ -2,4 +2,5 @@ pub mod Moments
 mod Outcomes
 mod Ranges
 mod Record
+mod Series
 mod Stops

@@ -1,12 +1,12 @@
 -- Which of its later calls a volume fails, and what a failing write does to the volume below.
-use Rattle.std.specs.Prelude.{◌==◌, ℕ, ◌+◌, ◌-◌, ◌^◌, min, Bool, true, false, nat_le, List, IsTrue, IsErrOf, OnOk, Result}
+use Rattle.std.specs.Prelude.{◌==◌, ℕ, ◌+◌, ◌-◌, ◌^◌, min, Bool, true, false, nat_le, nat_lt, ◌&&◌, ◌||◌, List, [], ◌∷◌, reverse, Some, None, IsTrue, IsErrOf, OnOk, Result}
 use Rattle.fw_disk.specs.declared.volume.Side.{Side}
 use Rattle.fw_disk.specs.declared.volume.VolumeFault.{VolumeFault}
 use Rattle.fw_disk.specs.declared.volume.VolumeFault.TheVariants.{TooLarge}
 use Rattle.fw_disk.specs.declared.fault.Mode.{Mode}
 use Rattle.fw_disk.specs.declared.fault.Mode.TheVariants.{Once, After}
 use Rattle.fw_disk.specs.declared.fault.Plan.{Plan}
-use Rattle.fw_disk.specs.declared.fault.Plan.TheVariants.{Passing, Failing, Done}
+use Rattle.fw_disk.specs.declared.fault.Plan.TheVariants.{Passing, Failing, Done, Series}
 use Rattle.fw_disk.specs.declared.fault.FaultVolume.{FaultVolume}
 use Rattle.fw_disk.specs.Volume.{View, Holds, HasCause}
 
@@ -19,15 +19,37 @@ abbrev pub fails_after : ℕ → Mode → Schedule
 fails_after pass Once k = k == pass
 fails_after pass After k = nat_le pass k
 
--- by a plan as it stands
+-- the first number of calls pass, one fails, the second number pass, one fails, and so on; then none fails
+abbrev pub fails_between : List ℕ → Schedule
+fails_between [] k = false
+fails_between (pass ∷ more) k = (k == pass) || (nat_lt pass k && fails_between more (k - (pass + 1)))
+
+-- by a plan as it stands; the further numbers of a series are kept with the next one last
 abbrev pub schedule : Plan → Schedule
 schedule (Passing pass mode) k = fails_after pass mode k
 schedule Failing k = true
 schedule Done k = false
+schedule (Series None more) k = false
+schedule (Series (Some pass) more) k = fails_between (pass ∷ reverse more.items) k
+
+-- whether a plan is a series, which goes on after a stop
+abbrev pub is_series : Plan → Bool
+is_series (Series pass more) = true
+is_series (Passing pass mode) = false
+is_series Failing = false
+is_series Done = false
+
+-- after a stop: a series goes on, and otherwise none fails
+abbrev pub stopped : Bool → Schedule → Schedule
+stopped true calls k = calls k
+stopped false calls k = false
 
 -- of a volume
 abbrev pub schedule_of : {V : Type 0} → FaultVolume V → Schedule
 schedule_of volume = schedule volume.plan
+
+abbrev pub is_series_of : {V : Type 0} → FaultVolume V → Bool
+is_series_of volume = is_series volume.plan
 
 -- the volume below
 abbrev pub inner_of : {V : Type 0} → FaultVolume V → V

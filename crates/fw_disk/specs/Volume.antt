@@ -95,6 +95,15 @@ pub record Writes (side : Side) (at n : ℕ) (old new : View) : Type 0 where
   pub crash : Follows (TornSide side at n) old.may_leave new.may_leave
   pub time : Elapses old new
 
+-- what a crash could leave before, it can leave after: nothing that was pending is settled
+abbrev pub StaysPending : View → View → Type 0
+StaysPending old new = (c : Image) → old.may_leave c → new.may_leave c
+
+-- the same but for one side, of which a sync may have settled any part: where an image has of that side what is read,
+-- a crash can leave it after too
+abbrev pub SettlesOnly : Side → View → View → Type 0
+SettlesOnly side old new = (c : Image) → old.may_leave c → c side ≡ old.seen side → new.may_leave c
+
 -- nothing is pending on a side
 abbrev pub Settled : Side → View → Type 0
 Settled side v = (c : Image) → v.may_leave c → c side ≡ v.seen side

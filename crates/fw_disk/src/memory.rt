@@ -1,7 +1,7 @@
 //! A volume in memory. It keeps what each write replaced, so each of its past contents can be told.
 ghost use Rattle.std.specs.Prelude.{◌≡◌, ◌+◌, ◌-◌, ◌^◌, ◌<◌, ◌≤◌, ◌↔◌, ◌∷◌, [], length, min, reverse, vec_capacity, true, refl, OnOk, OnErr, IsOk, IsErrOf, IsTrue, IsFalse};
 ghost use Rattle.std.proofs.Common.{inl};
-ghost use Rattle.fw_disk.specs.Volume.{View, Image, other, Returns, Holds, Torn, Writes, Quiet, SameSizes, Grows, HasCause, Rose, Settled, Shows, Allows, TornSide};
+ghost use Rattle.fw_disk.specs.Volume.{View, Image, other, Returns, Holds, Torn, Writes, Quiet, SameSizes, Grows, HasCause, Rose, Settled, StaysPending, SettlesOnly, Shows, Allows, TornSide};
 ghost use Rattle.fw_disk.specs.declared.volume.Side.{Side};
 ghost use Rattle.fw_disk.specs.declared.volume.Side.TheVariants.{Left, Right};
 ghost use Rattle.fw_disk.specs.declared.volume.VolumeFault.TheVariants.{Io, TooLarge};
@@ -105,6 +105,7 @@ impl Volume for MemVolume {
         requires { at + length into.old ≤ (view_of self.old).size side }
         ensures bytes { OnOk result (Returns at ((view_of self.old).seen side) into.new) }
         ensures told { Quiet (view_of self.old) (view_of self.new) }
+        ensures pending { StaysPending (view_of self.old) (view_of self.new) }
         ensures sizes { SameSizes (view_of self.old) (view_of self.new) }
         ensures cause { HasCause (view_of self.old) (view_of self.new) result }
         ensures fits { IsErrOf result TooLarge → ⊥ }
@@ -127,13 +128,16 @@ impl Volume for MemVolume {
         requires { at ≤ (view_of self.old).size side }
         ensures written { OnOk result (Holds at bytes.now ((view_of self.old).seen side) ((view_of self.new).seen side)) }
         ensures told { Writes side at (length bytes.now) (view_of self.old) (view_of self.new) }
+        ensures pending { StaysPending (view_of self.old) (view_of self.new) }
+
+        // A write that was done may be torn in every way.
+        ensures every_tear { OnOk result (Allows (TornSide side at (length bytes.now)) (view_of self.old).may_leave (view_of self.new).may_leave) }
         ensures sizes { Grows side at (length bytes.now) (view_of self.old) (view_of self.new) result }
         ensures cause { HasCause (view_of self.old) (view_of self.new) result }
         ensures too_large { IsErrOf result TooLarge ↔ ((view_of self.old).limit < at + length bytes.now) }
         ensures unchanged { IsErrOf result TooLarge → self.new ≡ self.old }
 
-        // A write that was done may be torn in every way, and its range is unsynced from then on.
-        ensures every_tear { OnOk result (Allows (TornSide side at (length bytes.now)) (view_of self.old).may_leave (view_of self.new).may_leave) }
+        // The range of a write that was done is unsynced from then on.
         ensures adds { OnOk result (AddsRange side at (length bytes.now) (file_of self.old) (file_of self.new)) }
 
         // A write that wasn't done changes no file and no image.
@@ -177,13 +181,13 @@ impl Volume for MemVolume {
     fn sync(&mut self, side: Side) -> Result<(), VolumeFault>
         ensures durable { OnOk result (Settled side (view_of self.new)) }
         ensures told { Quiet (view_of self.old) (view_of self.new) }
+        ensures pending { SettlesOnly side (view_of self.old) (view_of self.new) }
         ensures sizes { SameSizes (view_of self.old) (view_of self.new) }
         ensures cause { HasCause (view_of self.old) (view_of self.new) result }
         ensures fits { IsErrOf result TooLarge → ⊥ }
 
-        // It never fails, settles its own side, and leaves what is pending on the other one.
+        // It never fails, and settles its own side alone.
         ensures succeeds { IsOk result }
-        ensures stay_pending { (c : Image) → (view_of self.old).may_leave c → c side ≡ (view_of self.old).seen side → (view_of self.new).may_leave c }
         ensures syncs { Syncs side (file_of self.old) (file_of self.new) }
         ensures nothing_pending { (file_of self.old side).unsynced ≡ [] → self.new ≡ self.old }
 
@@ -198,7 +202,9 @@ impl Volume for MemVolume {
 }
 
 impl Stoppable for MemVolume {
-    ghost use Rattle.fw_disk.specs.Stop.{choice_of, file_of, view_of};
+    ghost use Rattle.fw_disk.specs.Stop.{choice_of, file_of, view_of, leaves_of};
+
+    ghost leaves = { leaves_of };
 
     /// Leaves of each file what the choice says. The record of calls is empty afterwards.
     fn stop(self) -> Self
@@ -210,7 +216,7 @@ impl Stoppable for MemVolume {
         ensures images { (c : Image) → (view_of self).may_leave c ↔ ((s : Side) → Outcome (file_of self s) (c s)) }
 
         // Which of these a stop leaves.
-        ensures left { (s : Side) → LeftBy (choice_of self) (file_of self s) ((view_of result).seen s) }
+        ensures left { leaves_of self (view_of result).seen }
         ensures files { (s : Side) → file_of result s ≡ all_synced ((view_of result).seen s) }
         ensures choice { choice_of result ≡ choice_of self }
         ensures failures { (view_of result).failures ≡ (view_of self).failures }

@@ -14,7 +14,7 @@
 ghost use Rattle.std.specs.Prelude.{◌≡◌, ℕ, ◌+◌, ◌-◌, ◌^◌, ◌<◌, ◌≤◌, ◌↔◌, min, Bool, IsTrue, List, length, IsErrOf, OnOk};
 ghost use Rattle.fw_disk.specs.declared.volume.VolumeFault.TheVariants.{Io, TooLarge};
 ghost use Rattle.fw_disk.specs.declared.volume.Side.{Side};
-ghost use Rattle.fw_disk.specs.Volume.{View, Image, other, Returns, Writes, Holds, Settled, Quiet, SameSizes, Grows, HasCause, Rose};
+ghost use Rattle.fw_disk.specs.Volume.{View, Image, other, Returns, Writes, Holds, Settled, Quiet, StaysPending, SettlesOnly, Allows, TornSide, SameSizes, Grows, HasCause, Rose};
 
 use thiserror::Error;
 
@@ -54,32 +54,38 @@ pub trait Volume {
         ensures { result ≡ (view self.now).size side };
 
     /// Fills the slice with the bytes from `at` on; they have to lie within the file. It fails with `Io` alone, and
-    /// then the slice may hold anything.
+    /// then the slice may hold anything. It settles nothing: what was pending still is.
     fn read(&mut self, side: Side, at: u64, into: &mut [u8]) -> Result<(), VolumeFault>
         requires { at + length into.old ≤ (view self.old).size side }
         ensures bytes { OnOk result (IsTrue tells → Returns at ((view self.old).seen side) into.new) }
         ensures told { IsTrue tells → Quiet (view self.old) (view self.new) }
+        ensures pending { IsTrue tells → StaysPending (view self.old) (view self.new) }
         ensures sizes { SameSizes (view self.old) (view self.new) }
         ensures cause { HasCause (view self.old) (view self.new) result }
         ensures fits { IsErrOf result TooLarge → ⊥ };
 
     /// Writes over what is there, and past the end; `at` is at most the length. `TooLarge` comes exactly where the
     /// write would end past the limit, and changes nothing. After `Io` the write counts as written and not synced:
-    /// a read, too, may give anything in its range, and the end may lie anywhere up to the new one.
+    /// a read, too, may give anything in its range, and the end may lie anywhere up to the new one. It settles nothing,
+    /// and after `Ok` a crash may tear the write in every way.
     fn write_at(&mut self, side: Side, at: u64, bytes: &[u8]) -> Result<(), VolumeFault>
         requires { at ≤ (view self.old).size side }
         ensures written { OnOk result (IsTrue tells → Holds at bytes.now ((view self.old).seen side) ((view self.new).seen side)) }
         ensures told { IsTrue tells → Writes side at (length bytes.now) (view self.old) (view self.new) }
+        ensures pending { IsTrue tells → StaysPending (view self.old) (view self.new) }
+        ensures every_tear { OnOk result (IsTrue tells → Allows (TornSide side at (length bytes.now)) (view self.old).may_leave (view self.new).may_leave) }
         ensures sizes { Grows side at (length bytes.now) (view self.old) (view self.new) result }
         ensures cause { HasCause (view self.old) (view self.new) result }
         ensures too_large { IsErrOf result TooLarge ↔ ((view self.old).limit < at + length bytes.now) }
         ensures unchanged { IsErrOf result TooLarge → self.new ≡ self.old };
 
     /// After `Ok` a crash leaves of this file what a read gives. It fails with `Io` alone, and then what was pending
-    /// may still be. Whatever it answers, no byte changes and a crash leaves nothing new.
+    /// may still be. Whatever it answers, no byte changes, a crash leaves nothing new, and the other file is as pending
+    /// as before.
     fn sync(&mut self, side: Side) -> Result<(), VolumeFault>
         ensures durable { OnOk result (IsTrue tells → Settled side (view self.new)) }
         ensures told { IsTrue tells → Quiet (view self.old) (view self.new) }
+        ensures pending { IsTrue tells → SettlesOnly side (view self.old) (view self.new) }
         ensures sizes { SameSizes (view self.old) (view self.new) }
         ensures cause { HasCause (view self.old) (view self.new) result }
         ensures fits { IsErrOf result TooLarge → ⊥ };
@@ -105,9 +111,14 @@ pub trait Volume {
 
 /// A volume that can be stopped as by a crash.
 pub trait Stoppable: Volume {
-    /// Reads afterwards as one of the images of now, with nothing pending. The clock may start anew.
+    /// The images that a stop now may leave. A crash may leave others too: a stop takes one by the volume's own choice.
+    ghost leaves: { Self → Image → Type 0 };
+
+    /// Reads afterwards as one of the images of now, the one of its choice, with nothing pending. The clock may start
+    /// anew.
     fn stop(self) -> Self
         ensures image { IsTrue Self.tells → (Self.view self).may_leave (Self.view result).seen }
+        ensures left { IsTrue Self.tells → Self.leaves self (Self.view result).seen }
         ensures settled { IsTrue Self.tells → (s : Side) → Settled s (Self.view result) }
         ensures limit { (Self.view result).limit ≡ (Self.view self).limit };
 }

@@ -6,7 +6,12 @@ use std::test::Fail;
 const MARK: u8 = 170;
 
 /// Writes where the file is long enough for it.
-fn write(volume: &mut impl Volume, side: Side, at: u64, bytes: &[u8]) -> Result<(), VolumeFault> {
+pub(crate) fn write(
+    volume: &mut impl Volume,
+    side: Side,
+    at: u64,
+    bytes: &[u8],
+) -> Result<(), VolumeFault> {
     if at > volume.len(side) {
         return Err(VolumeFault::TooLarge);
     }
@@ -14,7 +19,11 @@ fn write(volume: &mut impl Volume, side: Side, at: u64, bytes: &[u8]) -> Result<
 }
 
 /// Whether a file reads as these bytes, at most 8, and ends there.
-fn reads_as(volume: &mut impl Volume, side: Side, bytes: &[u8]) -> Result<bool, VolumeFault> {
+pub(crate) fn reads_as(
+    volume: &mut impl Volume,
+    side: Side,
+    bytes: &[u8],
+) -> Result<bool, VolumeFault> {
     let mut buffer = [0; 8];
     if bytes.len() > 8 || volume.len(side) != bytes.len() as u64 {
         return Ok(false);
@@ -177,6 +186,68 @@ fn a_failed_call_reaches_the_volume_below_or_not(rt: HostRuntime) -> Result<(), 
         );
         stopped.sync(Side::Left)?;
     }
+    Ok(())
+}
+
+/// What is written to Right and not synced stays pending through a read and a sync of Left: a stop leaves the choice.
+#[test]
+fn a_side_stays_pending_through_calls_on_the_other(rt: HostRuntime) -> Result<(), Fail> {
+    for (choice, right) in [
+        (Choice::Old, [].as_slice()),
+        (Choice::New, [2].as_slice()),
+        (Choice::Torn(MARK), [MARK].as_slice()),
+    ] {
+        let memory = MemVolume::new(rt.alloc(), 100, choice);
+        let mut volume = FaultVolume::new(memory, 4, Mode::After);
+        write(&mut volume, Side::Right, 0, &[2])?;
+        write(&mut volume, Side::Left, 0, &[1])?;
+        volume.sync(Side::Left)?;
+        assert!(rt; reads_as(&mut volume, Side::Left, &[1])?);
+        // A sync that fails settles nothing either.
+        assert_eq!(rt; volume.sync(Side::Right), Err(VolumeFault::Io));
+        let mut stopped = volume.stop();
+        assert!(rt; reads_as(&mut stopped, Side::Left, &[1])?, "{choice:?}");
+        assert!(rt; reads_as(&mut stopped, Side::Right, right)?, "{choice:?}");
+    }
+    Ok(())
+}
+
+/// The numbers of a series, and which of its first six calls fail.
+const SERIES: [(&[u64], [bool; 6]); 5] = [
+    (&[], [false, false, false, false, false, false]),
+    (&[0], [true, false, false, false, false, false]),
+    (&[2], [false, false, true, false, false, false]),
+    (&[0, 0, 1], [true, true, false, true, false, false]),
+    (&[1, 2], [false, true, false, false, true, false]),
+];
+
+#[test]
+fn a_series_fails_the_call_after_each_number(rt: HostRuntime) -> Result<(), Fail> {
+    for (passes, failing) in SERIES {
+        let passes = passes.to_vec(rt.alloc())?;
+        let memory = MemVolume::new(rt.alloc(), 100, Choice::Old);
+        let mut volume = FaultVolume::series(memory, passes);
+        for (call, fails) in failing.iter().enumerate() {
+            let synced = volume.sync(Side::Left);
+            assert!(rt; is_as_planned(synced, *fails)?, "call {call}");
+        }
+    }
+    Ok(())
+}
+
+/// One call passes and one fails; after the stop one passes and one fails again, and then none fails.
+#[test]
+fn a_series_goes_on_after_a_stop(rt: HostRuntime) -> Result<(), Fail> {
+    let passes = [1, 1].to_vec(rt.alloc())?;
+    let memory = MemVolume::new(rt.alloc(), 100, Choice::Old);
+    let mut volume = FaultVolume::series(memory, passes);
+    let done = write_synced(&mut volume, Side::Left, 0, &[5]);
+    assert_eq!(rt; done, Err(VolumeFault::Io));
+    let mut stopped = volume.stop();
+    assert!(rt; reads_as(&mut stopped, Side::Left, &[])?);
+    let synced = stopped.sync(Side::Left);
+    assert_eq!(rt; synced, Err(VolumeFault::Io));
+    stopped.sync(Side::Left)?;
     Ok(())
 }
 
