@@ -4,7 +4,7 @@ use Rattle.std.specs.Prelude.{option_map, option_to_list, All, IfSome, nat_abs}
 use Rattle.std.specs.List.{flat_map}
 use Rattle.std.proofs.lemmas.List.{get_or-map, length-map, map-append}
 use Rattle.std.proofs.lemmas.List.Elements.{All-nil, All-head, All-tail, All-append, All-map, All-weaker, All-from_get_or}
-use Rattle.fw_charge.specs.Tags.{TagText}
+use Rattle.fw_charge.specs.Tags.{TagText, most_tags}
 use Rattle.fw_charge.specs.Charge.{Charge, DiscountText, IsCharge}
 use Rattle.fw_money.specs.Amount.{most_nanos}
 use Rattle.std.proofs.lemmas.Grind.{flat_map-append}
@@ -13,7 +13,7 @@ use Rattle.fw_columns.specs.declared.joining.Plain.{Plain}
 use Rattle.fw_columns.specs.declared.joining.Coded.{Coded}
 use Rattle.fw_columns.specs.declared.joining.Tagged.{Tagged}
 use Rattle.fw_columns.specs.Names.{Text, place_of}
-use Rattle.fw_columns.specs.Texts.{texts_of_tags, names_of, with_texts}
+use Rattle.fw_columns.specs.Texts.{texts_of_tags, names_of, with_texts, most_texts}
 use Rattle.fw_columns.specs.Codes.{text_code}
 use Rattle.fw_columns.specs.Table.{AreColumns, discount_code, tag_places, ends_from}
 use Rattle.fw_columns.specs.Joining.{replaced_code, replaced_discount, replaced_tag, IsTagBelow, AreCodesBelow, AreTagsBelow, ArePlainOf, AreCodedOf, AreTagsOf}
@@ -62,11 +62,11 @@ ends_behind behind start [] = refl
 ends_behind behind start (n ∷ ns) = let e : behind + start + n ≡ behind + (start + n) = omega arith in rw (e, ends_behind behind (start + n) ns) refl
 
 -- rows have few tags
-few_tags : (rows : List Charge) → All IsCharge rows → total (map (λ (c : Charge). length c.tags) rows) ≤ 256 * length rows
+few_tags : (rows : List Charge) → All IsCharge rows → total (map (λ (c : Charge). length c.tags) rows) ≤ most_tags * length rows
 few_tags [] all = omega arith
 few_tags (r ∷ rs) all =
-    let one : length r.tags ≤ 256 = (All-head IsCharge r rs all).tags.few in
-    let rest : total (map (λ (c : Charge). length c.tags) rs) ≤ 256 * length rs = few_tags rs (All-tail IsCharge r rs all) in
+    let one : length r.tags ≤ most_tags = (All-head IsCharge r rs all).tags.few in
+    let rest : total (map (λ (c : Charge). length c.tags) rs) ≤ most_tags * length rs = few_tags rs (All-tail IsCharge r rs all) in
     omega (arith, one, rest)
 
 -- the codes of columns are those of their names
@@ -83,7 +83,7 @@ module _ (t : Table) (rows : List Charge) (columns : AreColumns t rows) where
   })
 
   tags_few : total (map (λ (c : Charge). length c.tags) rows) ≤ 2 ^ 30
-  tags_few = let some : total (map (λ (c : Charge). length c.tags) rows) ≤ 256 * length rows = few_tags rows columns.charges in let few : length rows ≤ 65536 = columns.few in omega (arith, some, few)
+  tags_few = let some : total (map (λ (c : Charge). length c.tags) rows) ≤ most_tags * length rows = few_tags rows columns.charges in let few : length rows ≤ 65536 = columns.few in omega (arith, some, few)
 
   tag_count : length t.tags.items ≡ total (map (λ (c : Charge). length c.tags) rows)
   tag_count = rw columns.tags (length_of_parts (λ (c : Charge). map (tag_places t.names) c.tags) (λ c. length c.tags) (λ c. length-map c.tags (tag_places t.names)) rows)
@@ -128,7 +128,7 @@ joined_columns a b ra rb ca cb fits names p k g one two seen some of_a of_b plai
   few = rw length-append fits;
   charges = All-append IsCharge ra rb ca.charges cb.charges;
   names = seen ∙ (ap (λ ns. with_texts (with_texts [] ns) b.names) ca.names ∙ (ap (λ ns. with_texts (with_texts [] (names_of ra)) ns) cb.names ∙ names_of-append ra rb));
-  names_few = let x : length a.names ≤ 516 * length ra = ca.names_few in let y : length b.names ≤ 516 * length rb = cb.names_few in rw length-append (omega (arith, some, x, y));
+  names_few = let x : length a.names ≤ most_texts * length ra = ca.names_few in let y : length b.names ≤ most_texts * length rb = cb.names_few in rw length-append (omega (arith, some, x, y));
   billed = plain.billed ∙ rw (ca.billed, cb.billed, map-append) refl;
   effective = plain.effective ∙ rw (ca.effective, cb.effective, map-append) refl;
   billed_range = rw plain.billed (All-append (λ n. nat_abs n ≤ most_nanos) a.billed.items b.billed.items ca.billed_range cb.billed_range);

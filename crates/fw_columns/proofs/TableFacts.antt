@@ -1,35 +1,28 @@
 -- The rows of the columns of rows are these rows.
-use Rattle.std.proofs.Common.{◌≡◌, ℕ, zero, suc, ◌+◌, ◌-◌, ◌<◌, Bool, true, false, List, [], ◌∷◌, ◌++◌, length, get_or, map, take, Option, Some, None, refl, sym, subst, arith, append_assoc, length-append}
-use Rattle.std.specs.Prelude.{option_map, option_to_list, ◌==◌, pos, nat_abs, slice_range}
+use Rattle.std.proofs.Common.{◌≡◌, ℕ, zero, suc, ◌+◌, ◌-◌, ◌<◌, Bool, List, [], ◌∷◌, ◌++◌, length, get_or, map, take, Option, Some, None, refl, sym, subst, arith, append_assoc, length-append}
+use Rattle.std.specs.Prelude.{option_map, option_to_list, pos, nat_abs, slice_range}
 use Rattle.std.specs.List.{flat_map}
 use Rattle.std.proofs.lemmas.List.{take_at, drop_at, get_or-map, length-map, map_more}
 use Rattle.std.proofs.lemmas.List.FromFn.{fill_by_all}
 use Rattle.fw_charge.specs.Tags.{TagText}
 use Rattle.fw_charge.specs.Charge.{Charge, DiscountText}
 use Rattle.fw_charge.specs.declared.category.Category.{Category}
-use Rattle.fw_charge.specs.declared.category.Category.TheVariants as category
 use Rattle.fw_columns.specs.declared.table.Table.{Table}
 use Rattle.fw_columns.specs.Names.{Text, place_of}
 use Rattle.fw_columns.specs.Texts.{texts_of_tags}
 use Rattle.fw_charge.specs.Codes.{category_code, class_code}
+use Rattle.fw_charge.proofs.CodeFacts.{category_there, class_there}
 use Rattle.fw_columns.specs.Codes.{text_code}
-use Rattle.fw_columns.specs.Table.{AreColumns, discount_code, tag_places, ends_from, category_of, text_at, text_of, discount_of, tag_of, tags_start, tags_end, charge_at, rows_of}
+use Rattle.fw_columns.specs.Table.{AreColumns, discount_code, tag_places, ends_from, category_at, class_at, text_at, text_of, discount_of, tag_of, tags_start, tags_end, charge_at, rows_of}
 use Rattle.fw_columns.proofs.NameFacts.{text_at_place}
 use Rattle.fw_columns.proofs.TextFacts.{IsKnown, AreKnown, IsRowKnown, rows-known}
 
 -- each code stands for what it was made from
-pub category-back : (c : Category) → category_of (category_code c) ≡ c
-unfolding category_of category_code
-category-back category.Usage = refl
-category-back category.Purchase = refl
-category-back category.Tax = refl
-category-back category.Credit = refl
-category-back category.Adjustment = refl
+pub category-back : (c : Category) → category_at (category_code c) ≡ c
+category-back c = rw (category_there c) refl
 
-pub class-back : (b : Bool) → (class_code b == 1) ≡ b
-unfolding class_code
-class-back false = refl
-class-back true = refl
+pub class-back : (b : Bool) → class_at (class_code b) ≡ b
+class-back b = rw (class_there b) refl
 
 known_text : (names : List Text) (t : Text) → IsKnown names t → text_at names (place_of names t) ≡ t
 unfolding text_at
@@ -107,8 +100,8 @@ module _ (t : Table) (rows : List Charge) (columns : AreColumns t rows) (i : ℕ
       let known = texts_known in
       let e1 : get_or t.billed.items i (pos 0) ≡ r.billed = rw columns.billed (get_or-map (λ c. c.billed) rows i d (pos 0) h) in
       let e2 : get_or t.effective.items i (pos 0) ≡ r.effective = rw columns.effective (get_or-map (λ c. c.effective) rows i d (pos 0) h) in
-      let e3 : category_of (get_or t.categories.items i 0) ≡ r.category = rw (columns.categories, get_or-map (λ c. category_code c.category) rows i d 0 h) (category-back r.category) in
-      let e4 : (get_or t.classes.items i 0 == 1) ≡ r.is_correction = rw (columns.classes, get_or-map (λ c. class_code c.is_correction) rows i d 0 h) (class-back r.is_correction) in
+      let e3 : category_at (get_or t.categories.items i 0) ≡ r.category = rw (columns.categories, get_or-map (λ c. category_code c.category) rows i d 0 h) (category-back r.category) in
+      let e4 : class_at (get_or t.classes.items i 0) ≡ r.is_correction = rw (columns.classes, get_or-map (λ c. class_code c.is_correction) rows i d 0 h) (class-back r.is_correction) in
       let e5 : nat_abs (get_or t.starts.items i (pos 0)) ≡ r.start = rw (columns.starts, get_or-map (λ c. pos c.start) rows i d (pos 0) h) refl in
       let e6 : get_or t.ends.items i 0 ≡ r.end = rw columns.ends (get_or-map (λ c. c.end) rows i d 0 h) in
       let e7 : option_map (discount_of t.names) (get_or t.discounts.items i None) ≡ r.discount =

@@ -1,5 +1,5 @@
 -- The columns of rows, and the rows of columns. The private functions of the crate cite it.
-use Rattle.std.specs.Prelude.{◌≡◌, ◌≤◌, ◌<◌, ◌+◌, ◌*◌, ℕ, zero, suc, pos, nat_abs, if◌then◌else◌, ◌==◌, List, [], ◌∷◌, length, map, slice_index_or, slice_range, Option, Some, None, option_map, All}
+use Rattle.std.specs.Prelude.{◌≡◌, ◌≤◌, ◌<◌, ◌+◌, ◌*◌, ℕ, zero, suc, pos, nat_abs, Bool, false, List, [], ◌∷◌, length, map, slice_index_or, slice_range, Option, Some, None, option_map, unwrap_or, All}
 use Rattle.std.specs.List.{flat_map, range_with_len}
 use Rattle.fw_money.specs.Amount.{most_nanos}
 use Rattle.fw_charge.specs.Tags.{TagText}
@@ -7,8 +7,8 @@ use Rattle.fw_charge.specs.Charge.{Charge, DiscountText, IsCharge}
 use Rattle.fw_charge.specs.declared.category.Category.{Category}
 use Rattle.fw_charge.specs.declared.category.Category.TheVariants as category
 use Rattle.fw_columns.specs.Names.{Text, place_of}
-use Rattle.fw_columns.specs.Texts.{names_of}
-use Rattle.fw_charge.specs.Codes.{category_code, class_code}
+use Rattle.fw_columns.specs.Texts.{names_of, most_texts}
+use Rattle.fw_charge.specs.Codes.{category_code, category_of, class_code, class_of}
 use Rattle.fw_columns.specs.Codes.{text_code}
 use Rattle.fw_columns.specs.declared.table.Table.{Table}
 use Rattle.fw_columns.specs.declared.codes.DiscountCode.{DiscountCode}
@@ -32,7 +32,7 @@ pub record AreColumns (t : Table) (rows : List Charge) : Type 0 where
   pub few : length rows ≤ 65536
   pub charges : All IsCharge rows
   pub names : t.names ≡ names_of rows
-  pub names_few : length t.names ≤ 516 * length rows
+  pub names_few : length t.names ≤ most_texts * length rows
   pub billed : t.billed.items ≡ map (λ c. c.billed) rows
   pub effective : t.effective.items ≡ map (λ c. c.effective) rows
   pub billed_range : All (λ n. nat_abs n ≤ most_nanos) t.billed.items
@@ -49,9 +49,13 @@ pub record AreColumns (t : Table) (rows : List Charge) : Type 0 where
   pub tags : t.tags.items ≡ flat_map (λ c. map (tag_places t.names) c.tags) rows
   pub tag_ends : t.tag_ends.items ≡ ends_from 0 (map (λ c. length c.tags) rows)
 
--- what codes stand for
-unfoldable pub category_of : ℕ → Category
-category_of code = if code == 1 then category.Usage else (if code == 2 then category.Purchase else (if code == 3 then category.Tax else (if code == 4 then category.Credit else category.Adjustment)))
+-- what codes stand for. The columns of rows have the codes of categories and of classes alone; any other counts as an adjustment, and
+-- as no correction
+abbrev pub category_at : ℕ → Category
+category_at code = unwrap_or (category_of code) category.Adjustment
+
+abbrev pub class_at : ℕ → Bool
+class_at code = unwrap_or (class_of code) false
 
 unfoldable pub text_at : List Text → ℕ → Text
 text_at names place = slice_index_or names place []
@@ -78,8 +82,8 @@ unfoldable pub charge_at : Table → ℕ → Charge
 charge_at t place = record {
   billed = slice_index_or t.billed.items place (pos 0);
   effective = slice_index_or t.effective.items place (pos 0);
-  category = category_of (slice_index_or t.categories.items place 0);
-  is_correction = slice_index_or t.classes.items place 0 == 1;
+  category = category_at (slice_index_or t.categories.items place 0);
+  is_correction = class_at (slice_index_or t.classes.items place 0);
   start = nat_abs (slice_index_or t.starts.items place (pos 0));
   end = slice_index_or t.ends.items place 0;
   discount = option_map (discount_of t.names) (slice_index_or t.discounts.items place None);

@@ -1,7 +1,7 @@
 -- The texts of charge rows, and the names that they make.
-use Rattle.std.specs.Prelude.{List, [], ◌∷◌, ◌++◌, option_map, option_to_list}
+use Rattle.std.specs.Prelude.{◌+◌, ◌*◌, ℕ, List, [], ◌∷◌, ◌++◌, option_map, option_to_list}
 use Rattle.std.specs.List.{fold, flat_map}
-use Rattle.fw_charge.specs.Tags.{TagText}
+use Rattle.fw_charge.specs.Tags.{TagText, most_tags}
 use Rattle.fw_charge.specs.Charge.{Charge}
 use Rattle.fw_columns.specs.Names.{Text, with_text}
 
@@ -18,6 +18,10 @@ unfoldable pub texts_of : Charge → List Text
 texts_of c =
     option_to_list (option_map (λ d. d.id) c.discount)
     ++ (option_to_list c.unit ++ (option_to_list c.sku ++ (option_to_list c.sub_account ++ texts_of_tags c.tags)))
+
+-- the greatest number of texts of a row: id, unit, SKU and sub-account, and the key and the value of each tag
+abbrev pub most_texts : ℕ
+most_texts = 4 + 2 * most_tags
 
 -- the names of rows: each of their texts once, in the order in which it first occurs when the rows are read in turn
 unfoldable pub names_of : List Charge → List Text

@@ -1,11 +1,10 @@
-//! What columns hold in place of texts and words, and what it stands for.
+//! What columns hold in place of texts, discounts and tags, and what it stands for.
 ghost use Rattle.std.specs.Prelude.{◌≡◌, ◌<◌, ◌≤◌, length, option_copied, option_map, string_bytes, IfOk};
-ghost use Rattle.fw_charge.specs.Codes.{category_code, class_code};
 ghost use Rattle.fw_columns.specs.Codes.{text_code};
-ghost use Rattle.fw_columns.specs.Table.{category_of, text_of, text_at, discount_code, discount_of, tag_places, tag_of};
+ghost use Rattle.fw_columns.specs.Table.{text_of, text_at, discount_code, discount_of, tag_places, tag_of};
 
 use crate::names::Names;
-use fw_charge::{Category, Discount, DiscountKind, DiscountStatus, Tag};
+use fw_charge::{Discount, DiscountKind, DiscountStatus, Tag};
 use std::alloc::{AllocError, Global};
 
 /// A commitment discount, its id by its place in the names.
@@ -21,34 +20,6 @@ pub struct DiscountCode {
 pub struct TagCode {
     pub key: u32,
     pub value: u32,
-}
-
-/// The code of a category, from 1 on.
-#[tactic(auto, unfolding(fw_charge::specs::Codes::category_code))]
-pub fn category_code(category: Category) -> u8
-    ensures { result ≡ category_code category }
-{
-    match category {
-        Category::Usage => 1,
-        Category::Purchase => 2,
-        Category::Tax => 3,
-        Category::Credit => 4,
-        Category::Adjustment => 5,
-    }
-}
-
-/// The category of a code.
-#[tactic(auto, unfolding(crate::specs::Table::category_of))]
-pub fn category_of(code: u8) -> Category
-    ensures { result ≡ category_of code }
-{
-    match code {
-        1 => Category::Usage,
-        2 => Category::Purchase,
-        3 => Category::Tax,
-        4 => Category::Credit,
-        _ => Category::Adjustment,
-    }
 }
 
 /// The code of a text: 0 where it is null, else 1 more than its place.

@@ -7,11 +7,11 @@ ghost use Rattle.fw_charge.specs.Codes.{category_code, class_code};
 ghost use Rattle.fw_columns.specs.Codes.{text_code};
 ghost use Rattle.fw_columns.specs.Table.{AreColumns, discount_code, tag_places, ends_from};
 
-use crate::codes::{DiscountCode, TagCode, category_code, discount_code, tag_places, text_code};
+use crate::codes::{DiscountCode, TagCode, discount_code, tag_places, text_code};
 use crate::names::Names;
 use crate::naming::names_of;
 use crate::table::Table;
-use fw_charge::{Row, Tag};
+use fw_charge::{Row, Tag, class_code};
 use fw_money::Nanos;
 use std::alloc::{AllocError, Global};
 
@@ -70,19 +70,18 @@ fn categories_of(alloc: Global, rows: &[Row]) -> Result<Vec<u8>, AllocError>
 {
     let mut column = Vec::with_capacity(alloc, rows.len())?;
     for row in rows {
-        column.push(category_code(row.category()))?;
+        column.push(row.category().code())?;
     }
     Ok(column)
 }
 
 /// The codes of the classes.
-#[tactic(auto, unfolding(fw_charge::specs::Codes::class_code))]
 fn classes_of(alloc: Global, rows: &[Row]) -> Result<Vec<u8>, AllocError>
     ensures { IfOk result (λ column. column.items ≡ map (λ c. class_code c.is_correction) rows.now) }
 {
     let mut column = Vec::with_capacity(alloc, rows.len())?;
     for row in rows {
-        column.push(u8::from(row.is_correction()))?;
+        column.push(class_code(row.is_correction()))?;
     }
     Ok(column)
 }

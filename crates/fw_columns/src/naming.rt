@@ -2,7 +2,7 @@
 ghost use Rattle.std.specs.Prelude.{◌≡◌, ◌+◌, ◌*◌, ◌^◌, ◌<◌, ◌≤◌, [], length, map, option_copied, option_map, option_to_list, All, IfOk, OnOk};
 ghost use Rattle.fw_charge.specs.Charge.{IsCharge};
 ghost use Rattle.fw_columns.specs.Names.{place_of};
-ghost use Rattle.fw_columns.specs.Texts.{with_texts, texts_of_tags, texts_of, names_of};
+ghost use Rattle.fw_columns.specs.Texts.{with_texts, texts_of_tags, texts_of, names_of, most_texts};
 
 use crate::names::Names;
 use fw_charge::{Discount, Row, Tag};
@@ -12,7 +12,7 @@ use std::alloc::{AllocError, Global};
 pub fn names_of(alloc: Global, rows: &[Row]) -> Result<Names, AllocError>
     requires { length rows.now ≤ 65536 }
     ensures names { IfOk result (λ names. names ≡ names_of rows.now) }
-    ensures few { IfOk result (λ names. length names ≤ 516 * length rows.now) }
+    ensures few { IfOk result (λ names. length names ≤ most_texts * length rows.now) }
     ensures valid { OnOk result (All IsCharge rows.now) }
 {
     let mut names = Names::new(alloc);
@@ -60,9 +60,9 @@ pub fn places_in(alloc: Global, names: &Names, other: &Names) -> Result<Vec<u32>
 
 /// Adds the texts of a row that are new.
 fn see_row(names: &mut Names, row: &Row) -> Result<(), AllocError>
-    requires { length names.old + 516 ≤ 2 ^ 30 }
+    requires { length names.old + most_texts ≤ 2 ^ 30 }
     ensures seen { OnOk result (names.new ≡ with_texts names.old (texts_of row.now)) }
-    ensures few { OnOk result (length names.new ≤ length names.old + 516) }
+    ensures few { OnOk result (length names.new ≤ length names.old + most_texts) }
     ensures valid { IsCharge row.now }
 {
     let tags = row.tags().as_slice();

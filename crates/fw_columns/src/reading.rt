@@ -3,14 +3,14 @@ ghost use Rattle.std.specs.Prelude.{◌≡◌, ◌<◌, ◌≤◌, length, map, 
 ghost use Rattle.fw_money.specs.Amount.{most_nanos};
 ghost use Rattle.fw_charge.specs.Tags.{IsTags};
 ghost use Rattle.fw_charge.specs.ChargeView.{charge_of};
-ghost use Rattle.fw_columns.specs.Table.{charge_at, text_of, discount_of, tag_of, tags_start, tags_end};
+ghost use Rattle.fw_columns.specs.Table.{charge_at, category_at, class_at, text_of, discount_of, tag_of, tags_start, tags_end};
 ghost use Rattle.fw_columns.specs.Joining.{IsTagBelow};
 ghost use Rattle.fw_columns.specs.Reading.{HasRow};
 
-use crate::codes::{DiscountCode, TagCode, category_of, discount_of, tag_of, text_of};
+use crate::codes::{DiscountCode, TagCode, discount_of, tag_of, text_of};
 use crate::names::Names;
 use crate::table::Table;
-use fw_charge::{Discount, RowFields, Tags};
+use fw_charge::{Category, Discount, RowFields, Tags, class_from_code};
 use fw_money::Nanos;
 use std::alloc::{AllocError, Global};
 
@@ -28,8 +28,8 @@ pub fn fields_at(alloc: Global, table: &Table, place: usize) -> Result<RowFields
     Ok(RowFields {
         billed: amount_at(table.billed.as_slice(), place),
         effective: amount_at(table.effective.as_slice(), place),
-        category: category_of(table.categories[place]),
-        is_correction: table.classes[place] == 1,
+        category: category_at(table.categories.as_slice(), place),
+        is_correction: class_at(table.classes.as_slice(), place),
         start: second_at(table.starts.as_slice(), place),
         end: table.ends[place],
         discount,
@@ -48,6 +48,22 @@ fn amount_at(column: &[i64], place: usize) -> Nanos
     ensures { result ≡ slice_index_or column.now place (pos 0) }
 {
     Nanos::of_fields(column[place])
+}
+
+/// The category at a place. The column has the codes of categories alone; any other code counts as an adjustment.
+fn category_at(column: &[u8], place: usize) -> Category
+    requires { place < length column.now }
+    ensures { result ≡ category_at (slice_index_or column.now place 0) }
+{
+    Category::from_code(column[place]).unwrap_or(Category::Adjustment)
+}
+
+/// Whether the class at a place is that of a correction. The column has the codes of classes alone; any other code counts as none.
+fn class_at(column: &[u8], place: usize) -> bool
+    requires { place < length column.now }
+    ensures { result ≡ class_at (slice_index_or column.now place 0) }
+{
+    class_from_code(column[place]).unwrap_or(false)
 }
 
 /// The second at a place.

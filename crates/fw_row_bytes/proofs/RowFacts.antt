@@ -7,7 +7,7 @@ use Rattle.std.proofs.lemmas.List.Elements.{All-cons, All-nil}
 use Rattle.fw_bytes.specs.Spelling.{FitsOptional, within}
 use Rattle.fw_bytes.proofs.Rising.{sorted_from_rise, rise_from_sorted}
 use Rattle.fw_charge.specs.Charge.{DiscountText, IsShortText, IsDiscountOf}
-use Rattle.fw_charge.specs.Tags.{TagText, IsTagSized, IsTags}
+use Rattle.fw_charge.specs.Tags.{TagText, IsTagSized, IsTags, most_tags}
 use Rattle.fw_charge.specs.declared.category.Category.{Category}
 use Rattle.fw_charge.specs.declared.category.Category.TheVariants as category
 use Rattle.fw_charge.specs.declared.discount.DiscountKind.{DiscountKind}
@@ -22,8 +22,8 @@ not_above true high e = absurd cc
 not_above false true e = absurd cc
 not_above false false e = refl
 
-few : (n : ℕ) → within 0 256 n ≡ true → n ≤ 256
-few n e = ltb-false 256 n (not_above (ltb n 0) (ltb 256 n) e)
+few : (n : ℕ) → within 0 most_tags n ≡ true → n ≤ most_tags
+few n e = ltb-false most_tags n (not_above (ltb n 0) (ltb most_tags n) e)
 
 sized : (ts : List TagText) → AllByRecursion FitsTag ts → All IsTagSized ts
 sized [] h = All-nil IsTagSized

@@ -7,10 +7,11 @@ use Rattle.fw_bytes.specs.declared.fault.ReadError.{ReadError}
 use Rattle.fw_bytes.specs.declared.fault.ReadError.TheVariants as errors
 use Rattle.fw_bytes.proofs.Laws.{IsBytes, Takes, IsFormat, checked_format, seen_format, both_format, code_format, optional_format}
 use Rattle.fw_charge.specs.Charge.{Charge, DiscountText, last_second}
-use Rattle.fw_charge.specs.Codes.{category_code, class_code, kind_code, status_code}
+use Rattle.fw_charge.specs.Codes.{category_code, category_of, class_code, class_of, kind_code, status_code}
+use Rattle.fw_charge.proofs.CodeFacts.{category_back, category_there, class_back, class_there}
 use Rattle.fw_charge.specs.Spelling.{nanos, tags, amounts, period, discount, consumed, row, FitsNanos, FitsSecond, FitsShortText, FitsTags, keys_rise, IsRow}
-use Rattle.fw_row_bytes.specs.Reading.{category_of, class_of, kind_of, status_of, Fields, DiscountParts, amounts_at, period_at, discount_at, consumed_at, fields_at, discount_agrees, fields_agree, row_from, row_at}
-use Rattle.fw_row_bytes.proofs.FieldFormats.{nanos_format, second_format, short_text_format, tags_format, category_back, category_there, class_back, class_there, kind_back, kind_there, status_back, status_there}
+use Rattle.fw_row_bytes.specs.Reading.{Fields, DiscountParts, amounts_at, period_at, discount_at, consumed_at, fields_at, discount_agrees, fields_agree, row_from, row_at}
+use Rattle.fw_row_bytes.proofs.FieldFormats.{nanos_format, second_format, short_text_format, tags_format, kind_format, status_format}
 use Rattle.fw_row_bytes.proofs.RowFacts.{is_tags, tags_rise, are_short_texts, parts_of, same_parts, same_discount, is_discount_from, fits_discount_from, fits_parts, parts_agree}
 
 -- ---- the fields, spelled one after another, and their ranges
@@ -35,7 +36,7 @@ unfolding fields_at amounts_at period_at discount_at consumed_at
 fields_format =
     both_format (both_format nanos_format (both_format nanos_format (both_format (code_format category_of category_code category_back category_there) (code_format class_of class_code class_back class_there))))
     (both_format (both_format second_format second_format)
-    (both_format (both_format (optional_format short_text_format) (both_format (code_format kind_of kind_code kind_back kind_there) (code_format status_of status_code status_back status_there)))
+    (both_format (both_format (optional_format short_text_format) (both_format kind_format status_format))
     (both_format (both_format (optional_format nanos_format) (both_format (optional_format short_text_format) (both_format (optional_format short_text_format) (optional_format short_text_format)))) tags_format)))
 
 -- ---- the fields of a row

@@ -1,47 +1,20 @@
 -- How a row reads.
-use Rattle.std.specs.Prelude.{ℕ, zero, suc, Bool, true, false, ◌&&◌, List, Option, Some, None, nat_le, ℤ}
+use Rattle.std.specs.Prelude.{ℕ, zero, suc, Bool, true, false, ◌&&◌, List, Option, Some, None, option_map, nat_le, ℤ}
 use Rattle.std.specs.Int.{w64}
 use Rattle.fw_bytes.specs.Reading.{Reading, number_at, signed64_at, text_at, code_at, optional_at, checked, both, seen, list_at}
 use Rattle.fw_charge.specs.Charge.{Charge, DiscountText}
-use Rattle.fw_charge.specs.Tags.{TagText}
+use Rattle.fw_charge.specs.Codes.{category_of, class_of, kind_of, status_of}
+use Rattle.fw_charge.specs.Tags.{TagText, most_tags}
 use Rattle.fw_charge.specs.declared.category.Category.{Category}
 use Rattle.fw_charge.specs.declared.category.Category.TheVariants as category
 use Rattle.fw_charge.specs.declared.discount.DiscountKind.{DiscountKind}
-use Rattle.fw_charge.specs.declared.discount.DiscountKind.TheVariants as kind
 use Rattle.fw_charge.specs.declared.discount.DiscountStatus.{DiscountStatus}
-use Rattle.fw_charge.specs.declared.discount.DiscountStatus.TheVariants as status
 use Rattle.fw_charge.specs.Spelling.{is_nanos, is_second, is_short, is_tag_text, keys_rise}
 
--- ---- what a code stands for
-
-abbrev pub category_of : ℕ → Option Category
-category_of zero = None
-category_of (suc zero) = Some category.Usage
-category_of (suc (suc zero)) = Some category.Purchase
-category_of (suc (suc (suc zero))) = Some category.Tax
-category_of (suc (suc (suc (suc zero)))) = Some category.Credit
-category_of (suc (suc (suc (suc (suc zero))))) = Some category.Adjustment
-category_of (suc (suc (suc (suc (suc (suc b)))))) = None
-
--- whether a row corrects an earlier one
-abbrev pub class_of : ℕ → Option Bool
-class_of zero = Some false
-class_of (suc zero) = Some true
-class_of (suc (suc b)) = None
-
--- a discount's kind, which may be null
-abbrev pub kind_of : ℕ → Option (Option DiscountKind)
-kind_of zero = Some None
-kind_of (suc zero) = Some (Some kind.Usage)
-kind_of (suc (suc zero)) = Some (Some kind.Spend)
-kind_of (suc (suc (suc b))) = None
-
--- a discount's status, which may be null
-abbrev pub status_of : ℕ → Option (Option DiscountStatus)
-status_of zero = Some None
-status_of (suc zero) = Some (Some status.Used)
-status_of (suc (suc zero)) = Some (Some status.Unused)
-status_of (suc (suc (suc b))) = None
+-- what a code stands for that may be null: 0 is null
+abbrev pub null_or : {A : Type 0} → (ℕ → Option A) → ℕ → Option (Option A)
+null_or meaning zero = Some None
+null_or meaning (suc b) = option_map (λ x. Some x) (meaning (suc b))
 
 -- ---- fields, each with its range
 
@@ -64,7 +37,7 @@ unfoldable pub tag_at : Reading TagText
 tag_at = seen tag_from (both tag_text_at tag_text_at)
 
 unfoldable pub tags_at : Reading (List TagText)
-tags_at = list_at 0 256 tag_at
+tags_at = list_at 0 most_tags tag_at
 
 -- ---- the fields of a row, in turn, in four groups and the tags
 
@@ -88,7 +61,7 @@ unfoldable pub period_at : Reading (ℕ × ℕ)
 period_at = both second_at second_at
 
 unfoldable pub discount_at : Reading DiscountParts
-discount_at = both (optional_at short_text_at) (both (code_at kind_of) (code_at status_of))
+discount_at = both (optional_at short_text_at) (both (code_at (null_or kind_of)) (code_at (null_or status_of)))
 
 unfoldable pub consumed_at : Reading Consumed
 consumed_at = both (optional_at nanos_at) (both (optional_at short_text_at) (both (optional_at short_text_at) (optional_at short_text_at)))

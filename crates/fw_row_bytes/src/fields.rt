@@ -4,24 +4,15 @@ ghost use Rattle.fw_money.specs.Amount.{most_nanos};
 ghost use Rattle.fw_bytes.specs.Order.{rise_from};
 ghost use Rattle.fw_bytes.specs.Reading.{Gives, code_at, optional_at, times};
 ghost use Rattle.fw_charge.specs.Spelling.{FitsTags, keys_rise};
-ghost use Rattle.fw_row_bytes.specs.Reading.{nanos_at, second_at, short_text_at, tag_text_at, tag_at, tags_at, category_of, class_of, kind_of, status_of};
+ghost use Rattle.fw_charge.specs.Codes.{category_of, class_of, kind_of, status_of};
+ghost use Rattle.fw_row_bytes.specs.Reading.{nanos_at, second_at, short_text_at, tag_text_at, tag_at, tags_at, null_or};
 
 use fw_bytes::{ReadError, i64_at, str_at, u32_at, u64_at};
-use fw_charge::{Category, DiscountKind, DiscountStatus, Tag, Tags};
+use fw_charge::{
+    Category, DiscountKind, DiscountStatus, LAST_SECOND, Tag, Tags, class_from_code, is_short_text,
+};
 use fw_money::Nanos;
 use std::alloc::Global;
-
-/// The last second of the year 9999, counted from 1970.
-const LAST_SECOND: u64 = 253_402_300_799;
-
-/// The greatest number of bytes of a short text.
-const LONGEST_SHORT_TEXT: usize = 256;
-
-/// The greatest number of bytes of a tag's key, and of its text.
-const LONGEST_TAG_TEXT: usize = 1024;
-
-/// The greatest number of tags.
-const MOST_TAGS: u32 = 256;
 
 /// An amount: how many nanos it has. It is within the range of [`Nanos`]. Takes no memory.
 ///
@@ -64,7 +55,7 @@ pub fn short_text_of(alloc: Global, bytes: &[u8]) -> Result<(String, &[u8]), Rea
     ensures { Gives (λ x. (string_bytes x.0, x.1.now)) result (short_text_at bytes.now) }
 {
     let (text, rest) = str_at(bytes)?;
-    if text.is_empty() || text.len() > LONGEST_SHORT_TEXT {
+    if !is_short_text(text) {
         return Err(ReadError::Corrupt(bytes.len()));
     }
     Ok((String::from_str(alloc, text)?, rest))
@@ -80,7 +71,7 @@ pub fn tag_text_of(alloc: Global, bytes: &[u8]) -> Result<(String, &[u8]), ReadE
     ensures { Gives (λ x. (string_bytes x.0, x.1.now)) result (tag_text_at bytes.now) }
 {
     let (text, rest) = str_at(bytes)?;
-    if text.len() > LONGEST_TAG_TEXT {
+    if text.len() > Tag::LONGEST {
         return Err(ReadError::Corrupt(bytes.len()));
     }
     Ok((String::from_str(alloc, text)?, rest))
@@ -132,14 +123,9 @@ pub fn optional_nanos_of(bytes: &[u8]) -> Result<(Option<i64>, &[u8]), ReadError
 pub(crate) fn category_of(bytes: &[u8]) -> Result<(Category, &[u8]), ReadError>
     ensures { Gives (λ x. (x.0, x.1.now)) result (code_at category_of bytes.now) }
 {
-    match bytes {
-        [1, rest @ ..] => Ok((Category::Usage, rest)),
-        [2, rest @ ..] => Ok((Category::Purchase, rest)),
-        [3, rest @ ..] => Ok((Category::Tax, rest)),
-        [4, rest @ ..] => Ok((Category::Credit, rest)),
-        [5, rest @ ..] => Ok((Category::Adjustment, rest)),
-        _ => Err(ReadError::Corrupt(bytes.len())),
-    }
+    let (code, rest) = bytes.split_first().ok_or(ReadError::Corrupt(0))?;
+    let category = Category::from_code(*code).ok_or(ReadError::Corrupt(bytes.len()))?;
+    Ok((category, rest))
 }
 
 /// Whether the row is a correction.
@@ -147,37 +133,35 @@ pub(crate) fn category_of(bytes: &[u8]) -> Result<(Category, &[u8]), ReadError>
 pub(crate) fn class_of(bytes: &[u8]) -> Result<(bool, &[u8]), ReadError>
     ensures { Gives (λ x. (x.0, x.1.now)) result (code_at class_of bytes.now) }
 {
-    match bytes {
-        [0, rest @ ..] => Ok((false, rest)),
-        [1, rest @ ..] => Ok((true, rest)),
-        _ => Err(ReadError::Corrupt(bytes.len())),
-    }
+    let (code, rest) = bytes.split_first().ok_or(ReadError::Corrupt(0))?;
+    let is_correction = class_from_code(*code).ok_or(ReadError::Corrupt(bytes.len()))?;
+    Ok((is_correction, rest))
 }
 
 /// The kind of a discount, which may be null.
 #[tactic(auto, unfolding(fw_bytes::specs::Reading::code_at))]
 pub(crate) fn kind_of(bytes: &[u8]) -> Result<(Option<DiscountKind>, &[u8]), ReadError>
-    ensures { Gives (λ x. (x.0, x.1.now)) result (code_at kind_of bytes.now) }
+    ensures { Gives (λ x. (x.0, x.1.now)) result (code_at (null_or kind_of) bytes.now) }
 {
-    match bytes {
-        [0, rest @ ..] => Ok((None, rest)),
-        [1, rest @ ..] => Ok((Some(DiscountKind::Usage), rest)),
-        [2, rest @ ..] => Ok((Some(DiscountKind::Spend), rest)),
-        _ => Err(ReadError::Corrupt(bytes.len())),
+    let (code, rest) = bytes.split_first().ok_or(ReadError::Corrupt(0))?;
+    if *code == 0 {
+        return Ok((None, rest));
     }
+    let kind = DiscountKind::from_code(*code).ok_or(ReadError::Corrupt(bytes.len()))?;
+    Ok((Some(kind), rest))
 }
 
 /// The status of a discount, which may be null.
 #[tactic(auto, unfolding(fw_bytes::specs::Reading::code_at))]
 pub(crate) fn status_of(bytes: &[u8]) -> Result<(Option<DiscountStatus>, &[u8]), ReadError>
-    ensures { Gives (λ x. (x.0, x.1.now)) result (code_at status_of bytes.now) }
+    ensures { Gives (λ x. (x.0, x.1.now)) result (code_at (null_or status_of) bytes.now) }
 {
-    match bytes {
-        [0, rest @ ..] => Ok((None, rest)),
-        [1, rest @ ..] => Ok((Some(DiscountStatus::Used), rest)),
-        [2, rest @ ..] => Ok((Some(DiscountStatus::Unused), rest)),
-        _ => Err(ReadError::Corrupt(bytes.len())),
+    let (code, rest) = bytes.split_first().ok_or(ReadError::Corrupt(0))?;
+    if *code == 0 {
+        return Ok((None, rest));
     }
+    let status = DiscountStatus::from_code(*code).ok_or(ReadError::Corrupt(bytes.len()))?;
+    Ok((Some(status), rest))
 }
 
 /// A tag.
@@ -216,7 +200,7 @@ pub fn tags_of(alloc: Global, bytes: &[u8]) -> Result<(Vec<Tag>, &[u8]), ReadErr
     ensures within { IfOk result (λ x. FitsTags x.0.items) }
 {
     let (count, rest) = u32_at(bytes)?;
-    if count > MOST_TAGS {
+    if count > Tags::MOST as u32 {
         return Err(ReadError::Corrupt(bytes.len()));
     }
     let (tags, rest) = tags_after(alloc, count, rest)?;

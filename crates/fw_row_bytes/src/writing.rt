@@ -4,52 +4,13 @@
 ghost use Rattle.std.specs.Prelude.{◌≡◌, ◌++◌, ◌∷◌, [], OnOk, IfSome, option_copied};
 ghost use Rattle.fw_bytes.specs.Spelling.{text, optional};
 ghost use Rattle.fw_charge.specs.Charge.{IsShortText};
-ghost use Rattle.fw_charge.specs.Codes.{category_code, kind_code, status_code};
 ghost use Rattle.fw_charge.specs.Tags.{IsTagSized};
 ghost use Rattle.fw_charge.specs.Spelling.{nanos, tag, tags, amounts, period, discount, consumed, row};
 
 use fw_bytes::{put_byte, put_i64, put_text, put_u32, put_u64};
-use fw_charge::{Category, DiscountKind, DiscountStatus, Row, Tag, Tags};
+use fw_charge::{Row, Tag, Tags, class_code};
 use fw_money::Nanos;
 use std::alloc::AllocError;
-
-/// The code of a category.
-#[tactic(auto, unfolding(fw_charge::specs::Codes::category_code))]
-fn category_code(category: Category) -> u8
-    ensures { result ≡ category_code category }
-{
-    match category {
-        Category::Usage => 1,
-        Category::Purchase => 2,
-        Category::Tax => 3,
-        Category::Credit => 4,
-        Category::Adjustment => 5,
-    }
-}
-
-/// The code of a discount's kind, and 0 for none.
-#[tactic(auto, unfolding(fw_charge::specs::Codes::kind_code))]
-fn kind_code(kind: Option<DiscountKind>) -> u8
-    ensures { result ≡ kind_code kind }
-{
-    match kind {
-        None => 0,
-        Some(DiscountKind::Usage) => 1,
-        Some(DiscountKind::Spend) => 2,
-    }
-}
-
-/// The code of a discount's status, and 0 for none.
-#[tactic(auto, unfolding(fw_charge::specs::Codes::status_code))]
-fn status_code(status: Option<DiscountStatus>) -> u8
-    ensures { result ≡ status_code status }
-{
-    match status {
-        None => 0,
-        Some(DiscountStatus::Used) => 1,
-        Some(DiscountStatus::Unused) => 2,
-    }
-}
 
 /// Writes an amount.
 pub fn put_nanos(out: &mut Vec<u8>, amount: Nanos) -> Result<(), AllocError>
@@ -107,14 +68,14 @@ pub fn put_tags(out: &mut Vec<u8>, all: &Tags) -> Result<(), AllocError>
 }
 
 /// Writes costs, category and class.
-#[tactic(auto, unfolding(fw_charge::specs::Spelling::amounts, fw_charge::specs::Codes::class_code))]
+#[tactic(auto, unfolding(fw_charge::specs::Spelling::amounts))]
 fn put_amounts(out: &mut Vec<u8>, one: &Row) -> Result<(), AllocError>
     ensures { OnOk result (out.new.items ≡ out.old.items ++ amounts one.now) }
 {
     put_nanos(out, one.billed())?;
     put_nanos(out, one.effective())?;
-    put_byte(out, category_code(one.category()))?;
-    put_byte(out, u8::from(one.is_correction()))?;
+    put_byte(out, one.category().code())?;
+    put_byte(out, class_code(one.is_correction()))?;
     Ok(())
 }
 
@@ -129,21 +90,21 @@ fn put_period(out: &mut Vec<u8>, one: &Row) -> Result<(), AllocError>
 }
 
 /// Writes the discount: id, kind and status, all three null where there is none.
-#[tactic(auto, unfolding(fw_charge::specs::Spelling::discount))]
+#[tactic(auto, unfolding(fw_charge::specs::Spelling::discount, fw_charge::specs::Codes::kind_code, fw_charge::specs::Codes::status_code))]
 fn put_discount(out: &mut Vec<u8>, one: &Row) -> Result<(), AllocError>
     ensures { OnOk result (out.new.items ≡ out.old.items ++ discount one.now.discount) }
 {
     match one.discount() {
         None => {
             put_optional_text(out, None)?;
-            put_byte(out, kind_code(None))?;
-            put_byte(out, status_code(None))?;
+            put_byte(out, 0)?;
+            put_byte(out, 0)?;
             Ok(())
         }
         Some(discount) => {
             put_optional_text(out, Some(discount.id()))?;
-            put_byte(out, kind_code(Some(discount.kind())))?;
-            put_byte(out, status_code(discount.status()))?;
+            put_byte(out, discount.kind().code())?;
+            put_byte(out, discount.status().map_or(0, |status| status.code()))?;
             Ok(())
         }
     }
@@ -154,7 +115,7 @@ fn put_discount(out: &mut Vec<u8>, one: &Row) -> Result<(), AllocError>
 fn put_consumed(out: &mut Vec<u8>, one: &Row) -> Result<(), AllocError>
     ensures { OnOk result (out.new.items ≡ out.old.items ++ consumed one.now) }
 {
-    // Tells that the texts are short.
+    // Proves that the texts are short.
     let _start = one.start();
     put_optional_nanos(out, one.quantity())?;
     put_optional_text(out, one.unit())?;

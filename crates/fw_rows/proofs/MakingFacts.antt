@@ -1,7 +1,8 @@
 -- The row that comes of a record.
 use Rattle.std.proofs.Common.{◌≡◌, ◌≢◌, ◌≤◌, ℕ, List, [], ◌∷◌, length, Option, Some, None, Result, Ok, Err, refl, sym, ◌∙◌, ap, arith, subst, inr}
 use Rattle.std.specs.Prelude.{IfSome, IsSome}
-use Rattle.fw_charge.specs.Charge.{Charge, DiscountText, IsDiscountOf, IsShortText, category_word}
+use Rattle.fw_charge.specs.Charge.{Charge, DiscountText, IsDiscountOf, IsShortText, longest_short_text}
+use Rattle.fw_charge.specs.Codes.{category_word}
 use Rattle.fw_charge.specs.declared.category.Category.{Category}
 use Rattle.fw_charge.specs.declared.category.Category.TheVariants as category
 use Rattle.fw_charge.specs.declared.discount.DiscountStatus.{DiscountStatus}
@@ -12,7 +13,7 @@ use Rattle.fw_rows.specs.Parts.{AreCells, charged_rules, detail_rules, NamedOrNu
 use Rattle.fw_rows.specs.Rules.{KindReads, Stands, StatusReads, Texts, form_rules, not_null, rules_of, text_rules}
 use Rattle.fw_rows.specs.declared.cells.Cells.{Cells}
 use Rattle.fw_rows.specs.declared.column.Column.TheVariants as column
-use Rattle.fw_rows.specs.declared.details.Named.{Named}
+use Rattle.fw_rows.specs.declared.details.NamedDiscount.{NamedDiscount}
 use Rattle.fw_rows.specs.declared.fault.Refusal.{Refusal}
 use Rattle.fw_rows.specs.declared.fault.Refusal.TheVariants as refusal
 use Rattle.fw_rows.proofs.JudgedFacts.{first-back, rules_parted}
@@ -20,28 +21,28 @@ use Rattle.fw_rows.proofs.JudgedFacts.{first-back, rules_parted}
 -- ---- what the row keeps
 
 -- a text that isn't null and isn't too long
-short_text : (t : List ℕ) → t ≢ [] → length t ≤ 256 → IsShortText t
+short_text : (t : List ℕ) → t ≢ [] → length t ≤ longest_short_text → IsShortText t
 short_text [] some few = absurd (some refl)
 short_text (b ∷ t) some few = record { some = omega arith; few = few }
 
-pub short_or_null : (t : List ℕ) (o : Option (List ℕ)) → o ≡ not_null t → length t ≤ 256 → IfSome o IsShortText
+pub short_or_null : (t : List ℕ) (o : Option (List ℕ)) → o ≡ not_null t → length t ≤ longest_short_text → IfSome o IsShortText
 unfolding not_null
 short_or_null [] o is few = rw is tt
 short_or_null (b ∷ t) o is few = rw is (record { some = omega arith; few = few })
 
 -- a usage row's discount has a status
 has_status : (c : Category) (text id status : List ℕ) (s : Option DiscountStatus) → text ≡ category_word c → id ≢ [] → StatusReads text id status s → c ≡ category.Usage → IsSome s
-unfolding StatusReads category_word
+unfolding StatusReads
 has_status c text id status None word some reads usage = absurd (reads.1 some (word ∙ ap category_word usage))
 has_status c text id status (Some s) word some reads usage = refl
 
 -- the id of a kind
-id_some : (id kind : List ℕ) (n : Named) → KindReads id kind (Some n.kind) → id ≢ []
+id_some : (id kind : List ℕ) (n : NamedDiscount) → KindReads id kind (Some n.kind) → id ≢ []
 unfolding KindReads
 id_some id kind n reads = reads.0
 
-pub discount_kept : (at : Texts) (c : Category) (named : Option Named) (o : Option DiscountText) → o ≡ discount_text named → at column.ChargeCategory ≡ category_word c
-    → length (at column.CommitmentDiscountId) ≤ 256 → NamedOrNull at named → IfSome o (IsDiscountOf c)
+pub discount_kept : (at : Texts) (c : Category) (named : Option NamedDiscount) (o : Option DiscountText) → o ≡ discount_text named → at column.ChargeCategory ≡ category_word c
+    → length (at column.CommitmentDiscountId) ≤ longest_short_text → NamedOrNull at named → IfSome o (IsDiscountOf c)
 discount_kept at c None o is word few stands = rw is tt
 discount_kept at c (Some n) o is word few stands =
     let some = id_some (at column.CommitmentDiscountId) (at column.CommitmentDiscountCategory) n stands.kind in

@@ -1,8 +1,9 @@
--- A text reads as one thing under a currency, want of memory aside.
+-- A text reads as one thing under a currency, unless memory runs out.
 use Rattle.std.proofs.Common.{◌≡◌, ◌≢◌, ℕ, ℤ, suc, ◌<◌, List, [], ◌∷◌, ◌++◌, length, Option, Some, None, Result, Ok, Err, refl, sym, ap, ◌∙◌, arith, get_or, length-append, subst, Bool, true, false, inl, inr}
 use Rattle.std.specs.Prelude.{if◌then◌else◌, ◌==◌, MatchOption}
 use Rattle.std.specs.List.{AllZip, All}
-use Rattle.fw_charge.specs.Charge.{Charge, DiscountText, category_word, kind_word, status_word}
+use Rattle.fw_charge.specs.Charge.{Charge, DiscountText}
+use Rattle.fw_charge.specs.Codes.{category_word, class_word, kind_word, status_word}
 use Rattle.fw_charge.specs.Tags.{TagText}
 use Rattle.fw_charge.specs.declared.category.Category.{Category}
 use Rattle.fw_charge.specs.declared.category.Category.TheVariants as category
@@ -15,7 +16,7 @@ use Rattle.fw_money.specs.Reading.{Reads}
 use Rattle.fw_money.specs.declared.nanos.MoneyFault.TheVariants as money
 use Rattle.fw_rules.proofs.TableLaws.{first-one, first-not_none}
 use Rattle.fw_rows.specs.Columns.{Record, text_in, missing_column, double_column}
-use Rattle.fw_rows.specs.Rules.{BreaksNoRule, DiscountStands, KindReads, QuantityReads, RecordReads, Stands, StatusReads, Texts, class_word, rules_of, tags_stated}
+use Rattle.fw_rows.specs.Rules.{BreaksNoRule, DiscountStands, KindReads, QuantityReads, RecordReads, Stands, StatusReads, Texts, rules_of, tags_stated}
 use Rattle.fw_rows.specs.Rows.{RecordsRead, RowsRead, IsHeader, records_of, header_of, body_of}
 use Rattle.fw_rows.specs.declared.column.Column.{Column}
 use Rattle.fw_rows.specs.declared.column.Column.TheVariants as column

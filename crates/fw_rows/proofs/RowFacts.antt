@@ -87,7 +87,7 @@ header_reads currency text new f e finds bad =
     text_reads currency text f (records_from default_config 4097 finds.0 finds.1) (Err e) (records_more 4097 st.StartRecord finds.0 (strip_bom text) finds.1 f finds.3)
     (bad currency (records_from default_config 4097 finds.0 finds.1))
 
--- memory may be wanting at any place
+-- memory may run out at any place
 pub memory_reads : (currency text : List ℕ) → RowsRead currency text (Err fault.NoMemory)
 unfolding RowsRead
 memory_reads currency text = tt

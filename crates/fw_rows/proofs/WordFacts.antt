@@ -30,13 +30,13 @@ second-one text s t a b =
     let same : s * nanos_per_second ≡ t * nanos_per_second = grind arith in
     omega (arith, same)
 
--- ---- what a test has told
+-- ---- what a test says
 
-pub told-yes : (b : Bool) (P : Type 0) → IsTrue b ↔ P → b ≡ true → P
-told-yes b P told is = told.0 (search rules)
+pub test-yes : (b : Bool) (P : Type 0) → IsTrue b ↔ P → b ≡ true → P
+test-yes b P says is = says.0 (search rules)
 
-pub told-no : (b : Bool) (P : Type 0) → IsTrue b ↔ P → b ≡ false → ¬ P
-told-no b P told is = λ p. let yes_ = told.1 p in search rules
+pub test-no : (b : Bool) (P : Type 0) → IsTrue b ↔ P → b ≡ false → ¬ P
+test-no b P says is = λ p. let yes_ = says.1 p in search rules
 
 -- a text that isn't empty
 pub some-from_length : (t : List ℕ) (b : Bool) → b ≡ (length t == 0) → b ≡ false → t ≢ []

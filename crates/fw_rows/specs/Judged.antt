@@ -11,7 +11,7 @@ abbrev pub Judged : {A : Type 0} → List Rule → (A → Type 0) → Result A R
 Judged rules P (Ok x) = NoneBroken rules × P x
 Judged rules P (Err f) = FirstBroken rules f
 
--- the same where memory may be wanting
+-- the same where memory may run out
 abbrev pub JudgedWithin : {A : Type 0} → List Rule → (A → Type 0) → Result A Refusal → Type 0
 JudgedWithin rules P (Ok x) = NoneBroken rules × P x
 JudgedWithin rules P (Err (refusal.Broken f)) = FirstBroken rules f

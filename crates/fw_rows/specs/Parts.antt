@@ -1,6 +1,7 @@
 -- The parts of a record as the reader takes them out. Its private functions cite it.
 use Rattle.std.specs.Prelude.{◌≡◌, ◌≤◌, ◌++◌, List, [], ℕ, map, slice_index_or, Option, Some, None, Result, Ok, Err, MatchOption}
-use Rattle.fw_charge.specs.Charge.{DiscountText, category_word, last_second}
+use Rattle.fw_charge.specs.Charge.{DiscountText, last_second}
+use Rattle.fw_charge.specs.Codes.{category_word, class_word}
 use Rattle.fw_charge.specs.Tags.{TagText, IsTags}
 use Rattle.fw_instants.specs.Instants.{IsSecond}
 use Rattle.fw_money.specs.Reading.{Reads}
@@ -8,16 +9,16 @@ use Rattle.fw_tags.specs.Reading.{AreSized}
 use Rattle.fw_tags.specs.declared.fault.TagFault.{TagFault}
 use Rattle.fw_tags.specs.declared.fault.TagFault.TheVariants as tag_fault
 use Rattle.fw_rows.specs.Columns.{Record, text_in, index_of}
-use Rattle.fw_rows.specs.Rules.{HasNonText, Texts, Rule, IsShort, AreShort, word_rules, cost_rules, period_rules, kind_rules, status_rules, quantity_rules, length_rules, class_word, KindReads, StatusReads, QuantityReads, tags_stated}
+use Rattle.fw_rows.specs.Rules.{HasNonText, Texts, Rule, IsShort, AreShort, word_rules, cost_rules, period_rules, kind_rules, status_rules, quantity_rules, length_rules, KindReads, StatusReads, QuantityReads, tags_stated}
 use Rattle.fw_rows.specs.declared.column.Column.{Column}
 use Rattle.fw_rows.specs.declared.column.Column.TheVariants as column
 use Rattle.fw_rows.specs.declared.cells.Cells.{Cells}
-use Rattle.fw_rows.specs.declared.parts.Words.{Words}
-use Rattle.fw_rows.specs.declared.parts.Costs.{Costs}
-use Rattle.fw_rows.specs.declared.parts.Period.{Period}
+use Rattle.fw_rows.specs.declared.charged.Words.{Words}
+use Rattle.fw_rows.specs.declared.charged.Costs.{Costs}
+use Rattle.fw_rows.specs.declared.charged.Period.{Period}
 use Rattle.fw_rows.specs.declared.details.Details.{Details}
-use Rattle.fw_rows.specs.declared.details.Charged.{Charged}
-use Rattle.fw_rows.specs.declared.details.Named.{Named}
+use Rattle.fw_rows.specs.declared.charged.Charged.{Charged}
+use Rattle.fw_rows.specs.declared.details.NamedDiscount.{NamedDiscount}
 
 -- the texts that the reader has taken out
 abbrev pub texts_of : Cells → Texts
@@ -56,20 +57,20 @@ unfoldable pub discount_rules : Texts → List Rule
 discount_rules at = kind_rules at ++ status_rules at
 
 -- the id, and what kind and status are where it isn't null
-pub record NamedStands (at : Texts) (named : Named) : Type 0 where
+pub record NamedStands (at : Texts) (named : NamedDiscount) : Type 0 where
   pub id : named.id.now ≡ at column.CommitmentDiscountId
   pub kind : KindReads (at column.CommitmentDiscountId) (at column.CommitmentDiscountCategory) (Some named.kind)
   pub status : StatusReads (at column.ChargeCategory) (at column.CommitmentDiscountId) (at column.CommitmentDiscountStatus) named.status
 
 -- the discount that is named
-abbrev pub discount_text : Option Named → Option DiscountText
+abbrev pub discount_text : Option NamedDiscount → Option DiscountText
 discount_text None = None
 discount_text (Some named) = Some (record { id = named.id.now; kind = named.kind; status = named.status })
 
-abbrev pub NamedOrNull : Texts → Option Named → Type 0
+abbrev pub NamedOrNull : Texts → Option NamedDiscount → Type 0
 NamedOrNull at named = MatchOption named (at column.CommitmentDiscountId ≡ []) (NamedStands at)
 
--- what reading the tags answers, want of memory aside
+-- what reading the tags answers; it may run out of memory on any text
 abbrev pub TagsAnswer : List ℕ → Result (List TagText) TagFault → Type 0
 TagsAnswer text (Ok tags) = (tags_stated text ≡ Some tags) × AreSized tags
 TagsAnswer text (Err tag_fault.NotTags) = tags_stated text ≡ None

@@ -47,6 +47,6 @@ RecordsRead currency header body (Ok rows) =
     IsHeader header × (0 < length body) × (length body ≤ most_rows) × AllZip (λ fields row. RecordReads currency header fields (Ok row)) body rows
 RecordsRead currency header body (Err fault.NoMemory) = ⊤
 
--- what a text reads as under a currency: its rows, or its first fault. Want of memory may come in place of either
+-- what a text reads as under a currency: its rows, or its first fault. Memory may run out on any text
 unfoldable pub RowsRead : List ℕ → List ℕ → Result (List Charge) RowFault → Type 0
 RowsRead currency text r = let records = records_of text in RecordsRead currency (header_of records) (body_of records) r

@@ -1,8 +1,10 @@
 -- The rules of a record, in order, and the row that a record stands for.
-use Rattle.std.specs.Prelude.{◌≡◌, ◌≢◌, ◌⊎◌, ◌<◌, ◌≤◌, ℕ, ℤ, Bool, true, false, List, [], ◌∷◌, ◌++◌, length, Any, Option, Some, None, Result, Ok, Err, IfSome, MatchOption, IsUtf8, codes}
-use Rattle.fw_charge.specs.Charge.{Charge, DiscountText, category_word, kind_word, status_word}
+use Rattle.std.specs.Prelude.{◌≡◌, ◌≢◌, ◌⊎◌, ◌<◌, ◌≤◌, ℕ, ℤ, Bool, List, [], ◌∷◌, ◌++◌, length, Any, Option, Some, None, Result, Ok, Err, IfSome, MatchOption, IsUtf8}
+use Rattle.fw_charge.specs.Charge.{Charge, DiscountText, longest_short_text}
+use Rattle.fw_charge.specs.Codes.{category_word, class_word, kind_word, status_word}
 use Rattle.fw_charge.specs.Tags.{TagText}
 use Rattle.fw_charge.specs.declared.category.Category.{Category}
+use Rattle.fw_charge.specs.declared.category.Category.TheVariants as category
 use Rattle.fw_charge.specs.declared.discount.DiscountKind.{DiscountKind}
 use Rattle.fw_charge.specs.declared.discount.DiscountStatus.{DiscountStatus}
 use Rattle.fw_instants.specs.Instants.{IsSecond}
@@ -16,7 +18,7 @@ use Rattle.fw_rows.specs.declared.column.Column.TheVariants as column
 use Rattle.fw_rows.specs.declared.fault.RecordFault.{RecordFault}
 use Rattle.fw_rows.specs.declared.fault.RecordFault.TheVariants as fault
 
--- a rule: the fault that is told where it is broken, and when it is broken
+-- a rule: the fault where it is broken, and when it is broken
 abbrev pub Rule : Type 1
 Rule = RecordFault × Type 0
 
@@ -29,11 +31,6 @@ abbrev pub HasNonText : Record → Record → Type 0
 HasNonText header fields = Any (λ c. ¬ IsUtf8 (text_in header fields c)) columns
 
 -- ---- what the texts read as
-
--- the word of a charge class: null, or a correction
-unfoldable pub class_word : Bool → List ℕ
-class_word false = []
-class_word true = codes "Correction"
 
 -- a text reads as an amount
 abbrev pub IsAmount : List ℕ → Type 0
@@ -49,9 +46,9 @@ KindReads id kind None = (id ≡ []) × (kind ≡ [])
 KindReads id kind (Some k) = (id ≢ []) × (kind ≡ kind_word k)
 
 -- the status of a commitment discount: it is null where the id is, and isn't null where a usage row has an id
-unfoldable pub StatusReads : (category id status : List ℕ) → Option DiscountStatus → Type 0
-StatusReads category id status None = (status ≡ []) × (id ≢ [] → category ≢ codes "Usage")
-StatusReads category id status (Some s) = (id ≢ []) × (status ≡ status_word s)
+unfoldable pub StatusReads : (word id status : List ℕ) → Option DiscountStatus → Type 0
+StatusReads word id status None = (status ≡ []) × (id ≢ [] → word ≢ category_word category.Usage)
+StatusReads word id status (Some s) = (id ≢ []) × (status ≡ status_word s)
 
 -- a quantity: null, an amount, or a number past the greatest amount, which counts as null
 unfoldable pub QuantityReads : List ℕ → Option ℤ → Type 0
@@ -65,7 +62,7 @@ tags_stated (b ∷ text) = tags_in (b ∷ text)
 
 -- an id, a unit, a SKU, a sub-account have at most 256 bytes
 abbrev pub IsShort : List ℕ → Type 0
-IsShort text = length text ≤ 256
+IsShort text = length text ≤ longest_short_text
 
 -- texts and tags are within their limits
 pub record AreShort (at : Texts) : Type 0 where

@@ -1,38 +1,24 @@
-//! Discount, quantity and tags of a record, each held against its rules.
-ghost use Rattle.std.specs.Prelude.{◌≡◌, [], ◌↔◌, Some, IsTrue, codes};
+//! What is charged for: discount, quantity and tags of a record, each checked against its rules.
+ghost use Rattle.std.specs.Prelude.{◌≡◌, [], ◌↔◌, Some, IsTrue};
+ghost use Rattle.fw_charge.specs.Codes.{category_word};
 ghost use Rattle.fw_charge.specs.Tags.{IsTags};
 ghost use Rattle.fw_rows.specs.Judged.{Judged, JudgedWithin};
-ghost use Rattle.fw_rows.specs.Parts.{texts_of, charged_rules, detail_rules, discount_rules, ChargedStands, DetailsStand, NamedOrNull, TagsAnswer, TextsAreShort};
+ghost use Rattle.fw_rows.specs.Parts.{texts_of, detail_rules, discount_rules, DetailsStand, NamedOrNull, TagsAnswer, TextsAreShort};
 ghost use Rattle.fw_rows.specs.Rules.{AreShort, IsShort, KindReads, StatusReads, QuantityReads, kind_rules, length_rules, quantity_rules, status_rules, tags_stated};
 ghost use Rattle.fw_rows.specs.declared.column.Column.TheVariants as column;
 
 use crate::cells::Cells;
 use crate::column::Column;
 use crate::fault::{RecordFault, Refusal};
-use crate::parts::{Costs, Period, Words};
-use crate::words::{kind_of, quantity_of, status_of};
-use fw_charge::{Currency, DiscountKind, DiscountStatus, Tags};
+use crate::values::quantity_of;
+use fw_charge::{Category, DiscountKind, DiscountStatus, LONGEST_SHORT_TEXT, Tags};
 use fw_money::Nanos;
 use fw_tags::{TagFault, read_tags};
 use std::alloc::Global;
 
-/// The greatest number of bytes of an id, a unit, a SKU and a sub-account.
-const MOST_BYTES: usize = 256;
-
-/// The greatest number of tags.
-const MOST_TAGS: usize = 256;
-
-/// What is charged: the kind of charge, the costs and the period.
-#[derive(Clone, Copy, Drop)]
-pub(crate) struct Charged {
-    pub(crate) words: Words,
-    pub(crate) costs: Costs,
-    pub(crate) period: Period,
-}
-
 /// The commitment discount that a record names.
 #[derive(Clone, Copy, Drop)]
-pub(crate) struct Named<'a> {
+pub(crate) struct NamedDiscount<'a> {
     pub(crate) id: &'a str,
     pub(crate) kind: DiscountKind,
     pub(crate) status: Option<DiscountStatus>,
@@ -41,26 +27,12 @@ pub(crate) struct Named<'a> {
 /// What it is charged for: discount, quantity and tags.
 #[derive(Drop)]
 pub(crate) struct Details<'a> {
-    pub(crate) discount: Option<Named<'a>>,
+    pub(crate) discount: Option<NamedDiscount<'a>>,
     pub(crate) quantity: Option<Nanos>,
     pub(crate) tags: Tags,
 }
 
 impl<'a> Cells<'a> {
-    /// What is charged.
-    pub(crate) fn charged(&self, currency: Currency) -> Result<Charged, RecordFault>
-        ensures { let at = texts_of self.now in Judged (charged_rules currency at) (ChargedStands at) result }
-    {
-        let words = self.words()?;
-        let costs = self.costs(currency)?;
-        let period = self.period()?;
-        Ok(Charged {
-            words,
-            costs,
-            period,
-        })
-    }
-
     /// Whether a column is null.
     fn is_null(&self, column: Column) -> bool
         ensures { IsTrue result ↔ (texts_of self.now column ≡ []) }
@@ -79,7 +51,7 @@ impl<'a> Cells<'a> {
                 Err(RecordFault::Commitment)
             };
         }
-        match kind_of(self.text(Column::CommitmentDiscountCategory)) {
+        match DiscountKind::from_word(self.text(Column::CommitmentDiscountCategory)) {
             Some(kind) => Ok(Some(kind)),
             None => Err(RecordFault::Commitment),
         }
@@ -87,9 +59,9 @@ impl<'a> Cells<'a> {
 
     /// Whether it is a usage row.
     fn is_usage(&self) -> bool
-        ensures { IsTrue result ↔ (texts_of self.now column.ChargeCategory ≡ codes "Usage") }
+        ensures { IsTrue result ↔ (texts_of self.now column.ChargeCategory ≡ category_word Category.Usage) }
     {
-        self.text(Column::ChargeCategory) == "Usage"
+        self.text(Column::ChargeCategory) == Category::Usage.word()
     }
 
     /// The status of the commitment discount, which stands beside its id alone, and must in a usage row with an id.
@@ -110,20 +82,20 @@ impl<'a> Cells<'a> {
                 Ok(None)
             };
         }
-        match status_of(self.text(Column::CommitmentDiscountStatus)) {
+        match DiscountStatus::from_word(self.text(Column::CommitmentDiscountStatus)) {
             Some(status) => Ok(Some(status)),
             None => Err(RecordFault::Status),
         }
     }
 
     /// The commitment discount.
-    fn discount(&self) -> Result<Option<Named<'a>>, RecordFault>
+    fn discount(&self) -> Result<Option<NamedDiscount<'a>>, RecordFault>
         ensures { let at = texts_of self.now in Judged (discount_rules at) (NamedOrNull at) result }
     {
         let kind = self.kind()?;
         let status = self.status()?;
         match kind {
-            Some(kind) => Ok(Some(Named {
+            Some(kind) => Ok(Some(NamedDiscount {
                 id: self.text(Column::CommitmentDiscountId),
                 kind,
                 status,
@@ -156,7 +128,7 @@ impl<'a> Cells<'a> {
     fn is_short(&self, column: Column) -> bool
         ensures { IsTrue result ↔ IsShort (texts_of self.now column) }
     {
-        self.text(column).len() <= MOST_BYTES
+        self.text(column).len() <= LONGEST_SHORT_TEXT
     }
 
     /// Whether id, unit, SKU and sub-account are short enough.
@@ -174,7 +146,7 @@ impl<'a> Cells<'a> {
         ensures { let at = texts_of self.now in JudgedWithin (length_rules at) (λ tags. (tags_stated (at column.Tags) ≡ Some tags) × AreShort at × IsTags tags) result }
     {
         let tags = self.tags(alloc)?;
-        prove!(tags.as_slice().len() <= MOST_TAGS);
+        prove!(tags.as_slice().len() <= Tags::MOST);
         if !self.are_short() {
             return Err(Refusal::Broken(RecordFault::TooLong));
         }

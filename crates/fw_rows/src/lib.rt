@@ -5,16 +5,16 @@
 #![tactic(auto)]
 
 mod cells;
+mod charged;
 mod column;
 mod details;
 mod fault;
 mod header;
 mod laws;
-mod making;
-mod parts;
 mod reading;
 mod records;
-mod words;
+mod row;
+mod values;
 
 pub use column::Column;
 pub use fault::{RecordFault, RowFault};

@@ -19,7 +19,8 @@ pub(crate) fn open<'a>(alloc: Global, text: &'a [u8]) -> Reader<&'a [u8]>
         .from_reader(alloc, text)
 }
 
-/// Reads the next record into `fields`, and says whether there is one. A text in memory is always read, so memory alone can be wanting.
+/// Reads the next record into `fields`, and says whether there is one. A text in memory is always read, so
+/// it fails only where memory runs out.
 pub(crate) fn advance<'a>(
     reader: &mut Reader<&'a [u8]>,
     fields: &mut ByteRecord,

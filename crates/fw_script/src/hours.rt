@@ -4,11 +4,12 @@ ghost use Rattle.fw_script.specs.Hours.{IsHourText, hour_nanoseconds};
 
 use jiff::Timestamp;
 
+/// How many nanoseconds an hour has.
 const HOUR_NANOSECONDS: u128 = 3_600_000_000_000;
 
 /// The hour that begins at the instant of a text, in hours since 1970, or `None` where the text is no instant, where the
 /// instant isn't on a whole hour and where it lies before 1970.
-pub fn hour_of(text: &[u8]) -> Option<u64>
+pub fn read_hour(text: &[u8]) -> Option<u64>
     ensures { MatchOption result ((hour : ℕ) → ¬ IsHourText text.now hour) (IsHourText text.now) }
 {
     let Ok(text) = str::from_utf8(text) else {

@@ -5,7 +5,7 @@ ghost use Rattle.fw_script.specs.declared.commands.EntryKind.{EntryKind};
 ghost use Rattle.fw_script.specs.Plain.{plain_command};
 
 use crate::commands::{Command, EntryKind};
-use crate::hours::hour_of;
+use crate::hours::read_hour;
 use crate::lines::{next_line, split_lines};
 use crate::words::{arguments_of, line_count, split_at_first, split_at_last};
 use std::marker::Model;
@@ -160,8 +160,8 @@ fn report_line(line: &[u8]) -> Option<ReportLine<'_>>
     let (rest, to) = split_at_last(b' ', arguments)?;
     let (key, from) = split_at_last(b' ', rest)?;
     let key = str::from_utf8(key).ok()?;
-    let from = hour_of(from)?;
-    let to = hour_of(to)?;
+    let from = read_hour(from)?;
+    let to = read_hour(to)?;
     Some(ReportLine { key, from, to })
 }
 
@@ -176,8 +176,8 @@ fn lines_line(line: &[u8]) -> Option<(u64, u64)>
     if !is_word(word, "lines") {
         return None;
     }
-    let from = hour_of(from)?;
-    let to = hour_of(to)?;
+    let from = read_hour(from)?;
+    let to = read_hour(to)?;
     Some((from, to))
 }
 

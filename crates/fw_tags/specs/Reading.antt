@@ -3,7 +3,7 @@ use Rattle.std.specs.Prelude.{◌≡◌, ◌≤◌, ℕ, List, [], ◌∷◌, le
 use Rattle.serde_json.specs.Data as json
 use Rattle.serde_json.specs.Find.{as_object}
 use Rattle.serde_json.specs.Read.{read}
-use Rattle.fw_charge.specs.Tags.{TagText, IsTagSized}
+use Rattle.fw_charge.specs.Tags.{TagText, IsTagSized, most_tags}
 use Rattle.fw_tags.specs.declared.fault.TagFault.{TagFault}
 use Rattle.fw_tags.specs.declared.fault.TagFault.TheVariants as fault
 
@@ -33,10 +33,10 @@ tags_in text = option_and_then tags_of (members_in text)
 
 -- at most 256 tags, with keys and texts of at most 1,024 bytes
 pub record AreSized (tags : List TagText) : Type 0 where
-  pub few : length tags ≤ 256
+  pub few : length tags ≤ most_tags
   pub sized : All IsTagSized tags
 
--- what reading a text answers, want of memory aside
+-- what reading a text answers; it may run out of memory on any text
 unfoldable pub TagsRead : List ℕ → Result (List TagText) TagFault → Type 0
 TagsRead text (Ok tags) = (tags_in text ≡ Some tags) × AreSized tags
 TagsRead text (Err fault.NotTags) = tags_in text ≡ None

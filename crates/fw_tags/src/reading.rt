@@ -13,12 +13,6 @@ use fw_charge::{Tag, Tags};
 use serde_json::{Map, Value};
 use std::alloc::{AllocError, Global};
 
-/// The greatest number of tags.
-const MOST_TAGS: usize = 256;
-
-/// The greatest number of bytes of a key and of a value.
-const MOST_BYTES: usize = 1024;
-
 /// Reads the tags that a JSON object states: a member's name is the key and its text the value; `true` and `false` are read as these
 /// words, and null as the empty text. Of a name that stands twice the last value counts.
 ///
@@ -101,6 +95,7 @@ fn text_of(alloc: Global, value: Value) -> Result<Option<String>, AllocError>
 fn are_sized(tags: &[Tag]) -> bool
     ensures { IsTrue result ↔ AreSized tags.now }
 {
-    tags.len() <= MOST_TAGS
-        && tags.iter().all(|tag| tag.key().len() <= MOST_BYTES && tag.value().len() <= MOST_BYTES)
+    tags.len() <= Tags::MOST
+        && tags.iter().all(|tag| tag.key().len() <= Tag::LONGEST
+            && tag.value().len() <= Tag::LONGEST)
 }

@@ -5,6 +5,7 @@ use Rattle.fw_columns.specs.declared.codes.TagCode.{TagCode}
 use Rattle.fw_columns.specs.Codes.{tag_code}
 use Rattle.fw_columns.specs.Joining.{IsTagBelow}
 use Rattle.fw_columns.specs.Table.{rows_of, charge_at}
+use Rattle.fw_columns.specs.Texts.{most_texts}
 use Rattle.fw_columns.proofs.GroupFacts.{group_shown, column_within}
 use Rattle.fw_columns.proofs.RowFacts.{has_row}
 use Rattle.fw_columns.proofs.grouping.group_codes.Goals as goal
@@ -23,7 +24,7 @@ group_code-requires c =
     let rows = rows_of t in
     let Below : ℕ → Type 0 = λ n. c.loop-place.place < n in
     let h : c.loop-place.place < length rows = column_within t rows c.requires c.loop-place.place (subst Below c.len-place-end.ensures c.loop-place-test.true) in
-    let few : length t.names ≤ 2 ^ 30 = (let a : length t.names ≤ 516 * length rows = c.requires.names_few in let b : length rows ≤ 65536 = c.requires.few in omega (arith, a, b)) in
+    let few : length t.names ≤ 2 ^ 30 = (let a : length t.names ≤ most_texts * length rows = c.requires.names_few in let b : length rows ≤ 65536 = c.requires.few in omega (arith, a, b)) in
     All-same (λ (x : TagCode). x.value ≤ 2 ^ 30) c.tags_at.result.now _ c.tags_at.ensures
     (All-weaker (IsTagBelow (length t.names)) (λ (x : TagCode). x.value ≤ 2 ^ 30) (λ x b. let v : x.value < length t.names = b.value in omega (arith, v, few)) _ (has_row t rows c.requires c.loop-place.place h).tags_within)
 

@@ -4,13 +4,14 @@ use Rattle.fw_columns.specs.Joining.{AreCodedOf, AreTagsOf}
 use Rattle.std.proofs.lemmas.List.{length-map}
 use Rattle.fw_columns.specs.Names.{place_of}
 use Rattle.fw_columns.specs.Table.{rows_of}
+use Rattle.fw_columns.specs.Texts.{most_texts}
 use Rattle.fw_columns.proofs.JoinFacts.{codes_below, tags_below, joined_columns}
 use Rattle.fw_columns.proofs.joining.joined.Goals as goal
 
 pub joined_names-requires : goal.joined_names-requires
 joined_names-requires c =
-    let a : length c.args.first.now.names ≤ 516 * length (rows_of c.args.first.now) = c.requires.first.names_few in
-    let b : length c.args.second.now.names ≤ 516 * length (rows_of c.args.second.now) = c.requires.second.names_few in
+    let a : length c.args.first.now.names ≤ most_texts * length (rows_of c.args.first.now) = c.requires.first.names_few in
+    let b : length c.args.second.now.names ≤ most_texts * length (rows_of c.args.second.now) = c.requires.second.names_few in
     omega (arith, a, b, c.requires.few)
 
 pub joined_coded-requires-clause-first : goal.joined_coded-requires-clause-first

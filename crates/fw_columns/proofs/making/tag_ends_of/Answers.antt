@@ -1,6 +1,7 @@
 use Rattle.std.proofs.Common.{◌≡◌, ◌≤◌, refl, ap, ◌∙◌, arith, length, get_or}
 use Rattle.fw_charge.specs.Charge.{Charge}
 use Rattle.fw_columns.specs.Table.{ends_from}
+use Rattle.fw_charge.specs.Tags.{most_tags}
 use Rattle.fw_columns.proofs.TableFacts.{ends_more, total_more}
 use Rattle.fw_columns.proofs.making.tag_ends_of.Goals as goal
 
@@ -19,5 +20,5 @@ loop-row-preserved c =
       column =
           rw (ends_more count c.args.rows.now i item c.loop-row-test.true, c.in_ok-push.ensures.items, c.loop-row.invariant.column, c.loop-row.invariant.last, same) refl;
       last = rw (total_more count c.args.rows.now i item c.loop-row-test.true, c.loop-row.invariant.last, same) refl;
-      few = let n : length c.as_slice.result.now ≤ 256 = rw (c.as_slice.ensures.value) c.as_slice.ensures.valid.few in omega (arith, n, c.loop-row.invariant.few);
+      few = let n : length c.as_slice.result.now ≤ most_tags = rw (c.as_slice.ensures.value) c.as_slice.ensures.valid.few in omega (arith, n, c.loop-row.invariant.few);
     }

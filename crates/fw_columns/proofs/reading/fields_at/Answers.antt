@@ -1,7 +1,7 @@
 use Rattle.std.proofs.Common.{◌∙◌, ap, get_or, ℕ, List, None, map, option_map}
-use Rattle.std.specs.Prelude.{◌==◌, ℤ, pos, nat_abs}
+use Rattle.std.specs.Prelude.{ℤ, pos, nat_abs}
 use Rattle.std.proofs.lemmas.List.{get_or_read}
-use Rattle.fw_columns.specs.Table.{charge_at, category_of, text_of, discount_of, tag_of}
+use Rattle.fw_columns.specs.Table.{charge_at, category_at, class_at, text_of, discount_of, tag_of}
 use Rattle.fw_columns.proofs.reading.fields_at.Goals as goal
 
 pub returns : goal.returns
@@ -12,12 +12,12 @@ returns c =
     let there = λ (xs : List ℤ). get_or xs i (pos 0) in
     let e1 = c.amount_at.ensures ∙ ap there c.as_slice.ensures.value in
     let e2 = c.amount_at-2.ensures ∙ ap there c.as_slice-2.ensures.value in
-    let e3 = c.category_of.ensures ∙ ap category_of (get_or_read t.categories.items i _ c.requires.categories c.index-5.ensures 0) in
-    let e4 = ap (λ (n : ℕ). n == 1) (get_or_read t.classes.items i _ c.requires.classes c.index-6.ensures 0) in
-    let e5 = c.second_at.ensures ∙ ap nat_abs (ap there c.as_slice-3.ensures.value) in
-    let e6 = get_or_read t.ends.items i _ c.requires.ends c.index-7.ensures 0 in
+    let e3 = c.category_at.ensures ∙ ap (λ (codes : List ℕ). category_at (get_or codes i 0)) c.as_slice-3.ensures.value in
+    let e4 = c.class_at.ensures ∙ ap (λ (codes : List ℕ). class_at (get_or codes i 0)) c.as_slice-4.ensures.value in
+    let e5 = c.second_at.ensures ∙ ap nat_abs (ap there c.as_slice-5.ensures.value) in
+    let e6 = get_or_read t.ends.items i _ c.requires.ends c.index-5.ensures 0 in
     let e7 = c.in_ok-discount.ensures ∙ ap (option_map (discount_of t.names)) (get_or_read t.discounts.items i _ c.requires.discounts c.index.ensures None) in
-    let e8 = get_or_read t.quantities.items i _ c.requires.quantities c.index-8.ensures None in
+    let e8 = get_or_read t.quantities.items i _ c.requires.quantities c.index-6.ensures None in
     let e9 = c.in_ok-unit.ensures ∙ ap (text_of t.names) (get_or_read t.units.items i _ c.requires.units c.index-2.ensures 0) in
     let e10 = c.in_ok-sku.ensures ∙ ap (text_of t.names) (get_or_read t.skus.items i _ c.requires.skus c.index-3.ensures 0) in
     let e11 = c.in_ok-sub_account.ensures ∙ ap (text_of t.names) (get_or_read t.sub_accounts.items i _ c.requires.sub_accounts c.index-4.ensures 0) in

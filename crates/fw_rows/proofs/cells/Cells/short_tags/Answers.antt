@@ -5,7 +5,7 @@ use Rattle.fw_rules.specs.Table.{FirstBroken, NoneBroken}
 use Rattle.fw_rows.specs.Parts.{texts_of}
 use Rattle.fw_rows.specs.Rules.{length_rules}
 use Rattle.fw_rows.proofs.TagFacts.{all_short, tags_fault}
-use Rattle.fw_rows.proofs.WordFacts.{told-yes, told-no}
+use Rattle.fw_rows.proofs.WordFacts.{test-yes, test-no}
 use Rattle.fw_rows.proofs.cells.Cells.short_tags.Goals as goal
 
 pub returns-in_err-tags : goal.returns-in_err-tags
@@ -16,12 +16,12 @@ returns-in_err-tags c =
 pub returns-then-not-are_short : goal.returns-then-not-are_short
 unfolding FirstBroken length_rules
 returns-then-not-are_short c =
-    let long = told-no _ _ c.are_short.ensures c.if-not-are_short.true in
+    let long = test-no _ _ c.are_short.ensures c.if-not-are_short.true in
     inr ((λ none. let both = sym c.in_ok-tags.ensures.0 ∙ none in absurd (cc)), inl ((λ short. long (record { id = short.id; unit = short.unit; sku = short.sku; sub_account = short.sub_account })), refl))
 
 pub returns : goal.returns
 unfolding NoneBroken length_rules
 returns c =
-    let texts = told-yes _ _ c.are_short.ensures c.if-not-are_short.false in
+    let texts = test-yes _ _ c.are_short.ensures c.if-not-are_short.false in
     let short = all_short (texts_of c.args.self.now) c.in_ok-tags.tags c.in_ok-tags.ensures.0 c.in_ok-tags.ensures.1 texts in
     ((λ none. let both = sym c.in_ok-tags.ensures.0 ∙ none in absurd (cc), (λ long. long short, tt)), (c.in_ok-tags.ensures.0, short, c.as_slice.ensures.valid))

@@ -7,15 +7,15 @@ pub returns-in_default : goal.returns-in_default
 unfolding FirstBroken word_rules
 returns-in_default c = inl ((λ h. c.in_default.ensures h.0 (c.text.ensures ∙ h.1)), refl)
 
-pub returns-in_default-class_of : goal.returns-in_default-class_of
+pub returns-in_default-class_from_word : goal.returns-in_default-class_from_word
 unfolding FirstBroken word_rules
-returns-in_default-class_of c =
+returns-in_default-class_from_word c =
     let category = sym c.text.ensures ∙ c.in-Some.ensures in
-    inr ((λ none. none (c.in-Some.category, category)), inl ((λ h. c.in_default-class_of.ensures h.0 (c.text-2.ensures ∙ h.1)), refl))
+    inr ((λ none. none (c.in-Some.category, category)), inl ((λ h. c.in_default-class_from_word.ensures h.0 (c.text-2.ensures ∙ h.1)), refl))
 
 pub returns : goal.returns
 unfolding NoneBroken word_rules
 returns c =
     let category = sym c.text.ensures ∙ c.in-Some.ensures in
-    let class = sym c.text-2.ensures ∙ c.in-Some-class_of.ensures in
-    ((λ none. none (c.in-Some.category, category), (λ none. none (c.in-Some-class_of.is_correction, class), tt)), record { category = category; class = class })
+    let class = sym c.text-2.ensures ∙ c.in-Some-class_from_word.ensures in
+    ((λ none. none (c.in-Some.category, category), (λ none. none (c.in-Some-class_from_word.is_correction, class), tt)), record { category = category; class = class })

@@ -1,5 +1,5 @@
 use Rattle.fw_rows.proofs.WordFacts.{no_quantity, some-from_length}
-use Rattle.fw_rows.proofs.words.quantity_of.Goals as goal
+use Rattle.fw_rows.proofs.values.quantity_of.Goals as goal
 
 pub returns-else-eq : goal.returns-else-eq
 returns-else-eq c =

@@ -3,7 +3,7 @@ use Rattle.csv.specs.Records.{fields_of}
 use Rattle.fw_rules.specs.Table.{FirstBroken}
 use Rattle.fw_rows.specs.Rules.{rules_of, form_rules}
 use Rattle.fw_rows.proofs.MakingFacts.{record_judged}
-use Rattle.fw_rows.proofs.making.row_of.Goals as goal
+use Rattle.fw_rows.proofs.row.row_of.Goals as goal
 
 pub returns-then-len-places : goal.returns-then-len-places
 unfolding FirstBroken rules_of form_rules

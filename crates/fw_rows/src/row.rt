@@ -8,17 +8,21 @@ ghost use Rattle.fw_rows.specs.Parts.{texts_of, ChargedStands, DetailsStand, Nam
 ghost use Rattle.fw_rows.specs.Rules.{Stands, rules_of, text_rules};
 
 use crate::cells::Cells;
+use crate::charged::Charged;
 use crate::column::Column;
-use crate::details::{Charged, Details, Named};
+use crate::details::{Details, NamedDiscount};
 use crate::fault::{RecordFault, Refusal};
 use crate::header::Places;
-use crate::words::copy_of;
+use crate::values::copy_of;
 use csv::ByteRecord;
 use fw_charge::{Currency, Discount, Row, RowFields};
 use std::alloc::{AllocError, Global};
 
 /// A discount of its own, if one is named.
-fn discount_of(alloc: Global, named: Option<Named<'_>>) -> Result<Option<Discount>, AllocError>
+fn discount_of(
+    alloc: Global,
+    named: Option<NamedDiscount<'_>>,
+) -> Result<Option<Discount>, AllocError>
     ensures { IfOk result (λ discount. discount ≡ discount_text named.entry) }
 {
     let Some(named) = named else {

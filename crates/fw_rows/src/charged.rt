@@ -1,15 +1,15 @@
-//! The parts of a record, each held against its rules.
+//! What is charged: category and class, costs and period of a record, each checked against its rules.
 ghost use Rattle.std.specs.Prelude.{◌≡◌, ◌↔◌, IsTrue};
 ghost use Rattle.fw_rows.specs.Judged.{Judged};
-ghost use Rattle.fw_rows.specs.Parts.{texts_of, WordsStand, CostsStand, PeriodStands};
+ghost use Rattle.fw_rows.specs.Parts.{texts_of, charged_rules, ChargedStands, WordsStand, CostsStand, PeriodStands};
 ghost use Rattle.fw_rows.specs.Rules.{word_rules, cost_rules, period_rules};
 ghost use Rattle.fw_rows.specs.declared.column.Column.TheVariants as column;
 
 use crate::cells::Cells;
 use crate::column::Column;
 use crate::fault::RecordFault;
-use crate::words::{amount_of, category_of, class_of};
-use fw_charge::{Category, Currency};
+use crate::values::amount_of;
+use fw_charge::{Category, Currency, class_from_word};
 use fw_instants::second_of;
 use fw_money::Nanos;
 
@@ -34,15 +34,37 @@ pub(crate) struct Period {
     pub(crate) end: u64,
 }
 
+/// What is charged: the kind of charge, the costs and the period.
+#[derive(Clone, Copy, Drop)]
+pub(crate) struct Charged {
+    pub(crate) words: Words,
+    pub(crate) costs: Costs,
+    pub(crate) period: Period,
+}
+
 impl<'a> Cells<'a> {
+    /// What is charged.
+    pub(crate) fn charged(&self, currency: Currency) -> Result<Charged, RecordFault>
+        ensures { let at = texts_of self.now in Judged (charged_rules currency at) (ChargedStands at) result }
+    {
+        let words = self.words()?;
+        let costs = self.costs(currency)?;
+        let period = self.period()?;
+        Ok(Charged {
+            words,
+            costs,
+            period,
+        })
+    }
+
     /// What kind of charge it is.
     pub(crate) fn words(&self) -> Result<Words, RecordFault>
         ensures { let at = texts_of self.now in Judged (word_rules at) (WordsStand at) result }
     {
-        let Some(category) = category_of(self.text(Column::ChargeCategory)) else {
+        let Some(category) = Category::from_word(self.text(Column::ChargeCategory)) else {
             return Err(RecordFault::Category);
         };
-        let Some(is_correction) = class_of(self.text(Column::ChargeClass)) else {
+        let Some(is_correction) = class_from_word(self.text(Column::ChargeClass)) else {
             return Err(RecordFault::Class);
         };
         Ok(Words {

@@ -3,7 +3,7 @@ use Rattle.std.proofs.lemmas.Int.{to_z-of_z}
 use Rattle.std.specs.Int.{w128}
 use Rattle.fw_script.specs.Hours.{IsHourText}
 use Rattle.fw_script.proofs.HoursLaws.{hour_from}
-use Rattle.fw_script.proofs.hours.hour_of.Goals as goal
+use Rattle.fw_script.proofs.hours.read_hour.Goals as goal
 
 pub returns-in_default : goal.returns-in_default
 unfolding IsHourText
