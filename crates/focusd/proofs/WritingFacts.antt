@@ -10,18 +10,18 @@ use Rattle.focusd.specs.Writing.{WritesPart}
 -- a text before it was written whole
 pub WritesPart-after : (a b c : Option (List ℕ)) (xs ys : List ℕ) → Appends a b xs → WritesPart b c ys → WritesPart a c (xs ++ ys)
 WritesPart-after a b c xs ys first part = record {
-  told = xs ++ part.told;
-  untold = part.untold;
-  whole = ap (λ l. xs ++ l) part.whole ∙ sym (append_assoc xs part.told part.untold);
-  writes = Appends-trans a b c xs part.told first part.writes;
+  written = xs ++ part.written;
+  unwritten = part.unwritten;
+  whole = ap (λ l. xs ++ l) part.whole ∙ sym (append_assoc xs part.written part.unwritten);
+  writes = Appends-trans a b c xs part.written first part.writes;
 }
 
 -- a text after it was not reached
 pub WritesPart-before : (a b : Option (List ℕ)) (xs ys : List ℕ) → WritesPart a b xs → WritesPart a b (xs ++ ys)
 WritesPart-before a b xs ys part = record {
-  told = part.told;
-  untold = part.untold ++ ys;
-  whole = ap (λ l. l ++ ys) part.whole ∙ append_assoc part.told part.untold ys;
+  written = part.written;
+  unwritten = part.unwritten ++ ys;
+  whole = ap (λ l. l ++ ys) part.whole ∙ append_assoc part.written part.unwritten ys;
   writes = part.writes;
 }
 

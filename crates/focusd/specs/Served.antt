@@ -7,7 +7,7 @@ use Rattle.fw_snapshot.specs.History.{History}
 use Rattle.fw_desk.specs.Answers.{Answer, Answers}
 use Rattle.focusd.specs.Writing.{WritesPart}
 
--- each command of the script is done, and the writer, where its bytes are known, got their answers and nothing else
+-- each command of the script is run, and the writer, where its bytes are known, got their answers and nothing else
 pub record Serves (script : List ℕ) (before after : History) (held holds : Option (List ℕ)) : Type 0 where
   pub commands : List PlainCommand
   pub reads : CommandsOf script commands
@@ -20,7 +20,7 @@ unfoldable pub StartsWithCommands : List ℕ → List PlainCommand → List ℕ 
 StartsWithCommands text [] rest = rest ≡ text
 StartsWithCommands text (command ∷ commands) rest = (next : List ℕ) × FirstCommand text command next × StartsWithCommands next commands rest
 
--- the commands that come first in the script are done, `left` is what follows them, and the writer got their answers
+-- the commands that come first in the script are run, `left` is what follows them, and the writer got their answers
 pub record ServesSoFar (script left : List ℕ) (before after : History) (held holds : Option (List ℕ)) : Type 0 where
   pub commands : List PlainCommand
   pub reads : StartsWithCommands script commands left
@@ -28,7 +28,7 @@ pub record ServesSoFar (script left : List ℕ) (before after : History) (held h
   pub answered : Answers before commands answers after
   pub writes : Appends held holds answers
 
--- the first command of what is left is done, and the writer got its answer up to some place
+-- the first command of what is left is run, and the writer got its answer up to some place
 pub record AnswersPart (left : List ℕ) (before after : History) (held holds : Option (List ℕ)) : Type 0 where
   pub command : PlainCommand
   pub rest : List ℕ
@@ -37,7 +37,7 @@ pub record AnswersPart (left : List ℕ) (before after : History) (held holds : 
   pub answered : Answer before command answer after
   pub writes : WritesPart held holds answer
 
--- the commands that come first in the script are done, and no others: those whose answers the writer got whole, and at most one
+-- the commands that come first in the script are run, and no others: those whose answers the writer got whole, and at most one
 -- more, whose answer it got up to some place. Nothing else was written
 pub record ServesInPart (script : List ℕ) (before after : History) (held holds : Option (List ℕ)) : Type 0 where
   pub left : List ℕ
@@ -49,6 +49,10 @@ pub record ServesInPart (script : List ℕ) (before after : History) (held holds
 -- the most bytes of a script
 abbrev pub most_bytes : ℕ
 most_bytes = 2 ^ 30
+
+-- the most workers
+abbrev pub most_workers : ℕ
+most_workers = 64
 
 -- the script is all the bytes that the reader had, where these are known, and isn't too long
 abbrev pub IsScriptOf : Option (List ℕ) → List ℕ → Type 0

@@ -4,7 +4,7 @@ use Rattle.std.specs.Io.KnownBytes.{Appends}
 
 -- the writer, where its bytes are known, got the text up to some place
 pub record WritesPart (held holds : Option (List ℕ)) (text : List ℕ) : Type 0 where
-  pub told : List ℕ
-  pub untold : List ℕ
-  pub whole : text ≡ told ++ untold
-  pub writes : Appends held holds told
+  pub written : List ℕ
+  pub unwritten : List ℕ
+  pub whole : text ≡ written ++ unwritten
+  pub writes : Appends held holds written

@@ -7,13 +7,13 @@ use std::alloc::AllocError;
 /// Why a script was not served to its end.
 #[derive(Clone, Copy, Debug, Drop, PartialEq, Eq, thiserror::Error)]
 pub enum ServeFault {
-    /// The reader failed. No command was done.
+    /// The reader failed. No command was run.
     #[error("F1 Read")]
     Read,
-    /// The writer failed. The commands before stay done.
+    /// The writer failed. The commands before were run, and stay so.
     #[error("F2 Write")]
     Write,
-    /// The script has more than 2^30 bytes, or took more than 2^30 reads. No command was done.
+    /// The script has more than 2^30 bytes, or took more than 2^30 reads. No command was run.
     #[error("F3 TooLong")]
     TooLong,
     /// Out of memory while reading the script. No command was run.

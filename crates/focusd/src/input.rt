@@ -1,4 +1,4 @@
-//! The whole script, read before any of its commands is done.
+//! The whole script, read before any of its commands is run.
 ghost use Rattle.std.specs.Prelude.{◌≡◌, ◌≢◌, ◌⊎◌, ◌++◌, ◌≤◌, ℕ, List, length, IfOk, IfErr, IfSome, Err};
 ghost use Rattle.std.specs.Io.KnownBytes.{Consumes, IsAtEnd};
 ghost use Rattle.focusd.specs.Served.{most_bytes};

@@ -1,6 +1,6 @@
-//! Scripts that are served: read, done command by command, and answered.
+//! Scripts that are served: read, run command by command, and answered.
 ghost use Rattle.std.specs.Prelude.{◌≡◌, ◌≢◌, ◌≤◌, length, OnOk, IfErr, IfSome, Err};
-ghost use Rattle.focusd.specs.Served.{IsServed, IsServedInPart, Serves, ServesInPart, most_bytes};
+ghost use Rattle.focusd.specs.Served.{IsServed, IsServedInPart, Serves, ServesInPart, most_bytes, most_workers};
 
 use crate::fault::ServeFault;
 use crate::input::read_script;
@@ -10,14 +10,14 @@ use fw_script::Script;
 use std::alloc::Global;
 use std::io::{Read, Write};
 
-/// Reads a script to its end, does its commands at the desk in order, writes their answers, and flushes the writer.
+/// Reads a script to its end, runs its commands at the desk in order, writes their answers, and flushes the writer.
 ///
 /// A script has at most 2^30 bytes, and is read in at most 2^30 reads: beyond these it is `TooLong`. On `Read`, `TooLong`
-/// and `NoMemory` no command was done and nothing written. On `Write` the commands before stay done, and the last of
-/// them may have its answer written in part, or not at all. A command that runs out of memory is answered
+/// and `NoMemory` no command was run and nothing written. On `Write` the commands before were run and stay so, and the last
+/// of them may have its answer written in part, or not at all. A command that runs out of memory is answered
 /// `no memory` and changes nothing, and the script goes on.
 ///
-/// The number of workers is not looked at yet: it will be 1 to 64.
+/// There are 1 to 64 workers. Their number has no effect yet.
 pub fn serve<R: Read, W: Write>(
     alloc: Global,
     reader: &mut R,
@@ -25,6 +25,8 @@ pub fn serve<R: Read, W: Write>(
     desk: &mut Desk,
     _workers: u32,
 ) -> Result<(), ServeFault>
+    requires some_worker { 1 ≤ _workers }
+    requires few_workers { _workers ≤ most_workers }
     ensures done { OnOk result (IsServed (R.remaining reader.old) desk.old desk.new (W.contents writer.old) (W.contents writer.new)) }
     ensures write { result ≡ Err ServeFault.Write → IsServedInPart (R.remaining reader.old) desk.old desk.new (W.contents writer.old) (W.contents writer.new) }
     ensures untouched { IfErr result (λ why. (why ≢ ServeFault.Write) → (desk.new ≡ desk.old) × (writer.new ≡ writer.old)) }
@@ -34,7 +36,7 @@ pub fn serve<R: Read, W: Write>(
     answer_all(text.as_slice(), writer, desk)
 }
 
-// Does the commands of a script, and writes their answers.
+// Runs the commands of a script, and writes their answers.
 fn answer_all<W: Write>(text: &[u8], writer: &mut W, desk: &mut Desk) -> Result<(), ServeFault>
     ensures done { OnOk result (Serves text.now desk.old desk.new (W.contents writer.old) (W.contents writer.new)) }
     ensures write { IfErr result (λ why. (why ≡ ServeFault.Write) × ServesInPart text.now desk.old desk.new (W.contents writer.old) (W.contents writer.new)) }

@@ -30,7 +30,7 @@ use Rattle.fw_snapshot.specs.declared.verdict.Verdict.TheVariants as verdict
 use Rattle.fw_snapshot.specs.declared.verdict.Conflict.{Conflict}
 use Rattle.fw_desk.specs.Contents.{ContentReads}
 use Rattle.fw_desk.specs.Answers.{Entered, SequenceReads, parts_entry, entry_made, after_judging, judged_line, after_making, made_line, after_reading, reading_line}
-use Rattle.fw_desk.specs.Outcomes.{Takes, Judges, Wants}
+use Rattle.fw_desk.specs.Outcomes.{Takes, Judges, RanOut}
 use Rattle.std.specs.Prelude.{Vec, Option, Result, MatchOption, IfOk, IfErr, unwrap_or, ◌==◌, if◌then◌else◌}
 use Rattle.std.proofs.lemmas.Slice.Zip.{AllZip-long}
 use Rattle.fw_charge.specs.Charge.{Charge}
@@ -46,31 +46,31 @@ use Rattle.fw_desk.specs.Questions.{ReportAnswer, LinesAnswer, IsReportText, IsL
 pub ReportAnswer-text : (held : History) (key : List ℕ) (from to : ℕ) (text : Vec ℕ Global) → IsReportText held key from to (Ok text)
     → ReportAnswer held key from to (counted text.items)
 unfolding IsReportText report_answer
-ReportAnswer-text held key from to text told = record { outcome = Ok told.0; is_outcome = told.1; says = ap counted told.2 }
+ReportAnswer-text held key from to text given = record { outcome = Ok given.0; is_outcome = given.1; says = ap counted given.2 }
 
 -- a report that wasn't
 pub ReportAnswer-none : (held : History) (key : List ℕ) (from to : ℕ) (why : QueryFault) → IsReportText held key from to (Err why)
     → ReportAnswer held key from to (query_fault_line why)
 unfolding IsReportText report_answer
-ReportAnswer-none held key from to why told = record { outcome = Err why; is_outcome = told; says = refl }
+ReportAnswer-none held key from to why given = record { outcome = Err why; is_outcome = given; says = refl }
 
 -- lines that were written
 pub LinesAnswer-text : (held : History) (from to : ℕ) (text : Vec ℕ Global) → IsLinesText held from to (Ok text) → LinesAnswer held from to (counted text.items)
 unfolding IsLinesText lines_answer
-LinesAnswer-text held from to text told = record { outcome = Ok told.0; are_outcome = told.1; says = ap counted told.2 }
+LinesAnswer-text held from to text given = record { outcome = Ok given.0; are_outcome = given.1; says = ap counted given.2 }
 
 -- lines that weren't
 pub LinesAnswer-none : (held : History) (from to : ℕ) (why : QueryFault) → IsLinesText held from to (Err why) → LinesAnswer held from to (query_fault_line why)
 unfolding IsLinesText lines_answer
-LinesAnswer-none held from to why told = record { outcome = Err why; are_outcome = told; says = refl }
+LinesAnswer-none held from to why given = record { outcome = Err why; are_outcome = given; says = refl }
 
 -- what lines came to
 pub IsLinesText-of : (held : History) (from to : ℕ) (r : Result (Vec ℕ Global) QueryFault) → IfOk r (λ _. IsRange from to)
     → IfOk r (λ text. (lines : List LineValue) × AreRangeLines (commitments_of held.entries) (rows_of held.entries) from to lines × (text.items ≡ lines_text lines))
     → IfErr r (AreRefused from to) → IsLinesText held from to r
 unfolding IsLinesText AreOutcome
-IsLinesText-of held from to (Ok text) range told refused = (told.0, (range, told.1), told.2)
-IsLinesText-of held from to (Err why) range told refused = refused
+IsLinesText-of held from to (Ok text) range given refused = (given.0, (range, given.1), given.2)
+IsLinesText-of held from to (Err why) range given refused = refused
 
 -- whether there is a policy, as a number
 pub policy_counted : (policy : Option (Bor PolicyValue)) → (if is_some policy then 1 else 0) ≡ policy_count (option_copied policy)
@@ -82,9 +82,9 @@ policy_counted (Some policy) = refl
 pub Judges-accepted : (before : History) (e : EntryValue) (text : List ℕ) (after state : History) → judged before.entries e ≡ verdict.Accept → after ≡ state
     → state ≡ record { currency = before.currency; entries = before.entries ++ e ∷ [] } → text ≡ accepted_line (length state.entries) → Judges before e text after
 unfolding Judges
-Judges-accepted before e text after state j held same told =
+Judges-accepted before e text after state j held same given =
     let count : length state.entries ≡ length before.entries + 1 = ap (λ (h : History). length h.entries) same ∙ length-append before.entries (e ∷ []) in
-    inl (held ∙ same ∙ sym (ap (after_judging before e) j), told ∙ ap accepted_line count ∙ sym (ap (judged_line before) j))
+    inl (held ∙ same ∙ sym (ap (after_judging before e) j), given ∙ ap accepted_line count ∙ sym (ap (judged_line before) j))
 
 pub Judges-already : (before : History) (e : EntryValue) (last : ℕ) → judged before.entries e ≡ verdict.Already last → Judges before e (already_line last) before
 unfolding Judges
@@ -133,9 +133,9 @@ made_is e keeps =
 
 pub Takes-judged : (before : History) (e : EntryValue) (text : List ℕ) (after : History) → IsEntry e → Judges before e text after → Takes before e.origin e.seq e.command text after
 unfolding Takes Judges after_reading reading_line
-Takes-judged before e text after keeps (inl told) =
-    inl (told.0 ∙ sym (ap (after_making before) (made_is e keeps)), told.1 ∙ sym (ap (made_line before) (made_is e keeps)))
-Takes-judged before e text after keeps (inr told) = inr told
+Takes-judged before e text after keeps (inl given) =
+    inl (given.0 ∙ sym (ap (after_making before) (made_is e keeps)), given.1 ∙ sym (ap (made_line before) (made_is e keeps)))
+Takes-judged before e text after keeps (inr given) = inr given
 
 -- there is no entry for a reason
 pub Takes-refused : (before : History) (origin : List ℕ) (seq : ℕ) (command : CommandValue) (why : EntryFault) → IsRefused origin seq command why
@@ -153,7 +153,7 @@ Takes-refused before origin seq command entry_fault.TooLarge refused =
     inl (sym (ap (after_making before) made), sym (ap (made_line before) made))
 Takes-refused before origin seq command entry_fault.NoMemory refused = inr (refl, refl)
 
--- want of memory may come in place of any reading
+-- a failed allocation may come in place of any reading
 reads_none : (k : EntryKind) (currency content : List ℕ) → ContentReads k currency content (Err no_memory_line)
 unfolding ContentReads RowsRead CommitmentReads PolicyReads row_fault_line commitment_fault_line policy_fault_line
 reads_none kind.Post currency content = (row_fault.NoMemory, refl, tt)
@@ -165,10 +165,10 @@ pub Entered-taken : (before : History) (k : EntryKind) (origin sequence content 
     → SequenceReads sequence number → ContentReads k before.currency content (Ok command) → Takes before origin number command text after
     → Entered before k origin sequence content text after
 unfolding Takes after_reading reading_line
-Entered-taken before k origin sequence content number command text after numbers reads (inl told) =
-    record { reading = Ok command; reads = reads; number = number; numbers = numbers; leaves = told.0; says = told.1 }
-Entered-taken before k origin sequence content number command text after numbers reads (inr told) =
-    record { reading = Err no_memory_line; reads = reads_none k before.currency content; number = number; numbers = numbers; leaves = told.0; says = told.1 }
+Entered-taken before k origin sequence content number command text after numbers reads (inl given) =
+    record { reading = Ok command; reads = reads; number = number; numbers = numbers; leaves = given.0; says = given.1 }
+Entered-taken before k origin sequence content number command text after numbers reads (inr given) =
+    record { reading = Err no_memory_line; reads = reads_none k before.currency content; number = number; numbers = numbers; leaves = given.0; says = given.1 }
 
 -- a content that can't be read
 pub Entered-refused : (before : History) (k : EntryKind) (origin sequence content : List ℕ) (number : ℕ) (line : List ℕ)

@@ -16,7 +16,7 @@ use Rattle.fw_entry.specs.Entry.CommandValue.{post, commit, set_policy}
 use Rattle.fw_desk.specs.Replies.{row_fault_line, commitment_fault_line, policy_fault_line}
 
 -- the content of an entry of a kind reads, under a currency, as this command, or as the line that refuses it: the line of its first
--- fault, or of want of memory, which may come in place of either
+-- fault, or of a failed allocation, which may come in place of either
 unfoldable pub ContentReads : EntryKind → List ℕ → List ℕ → Result CommandValue (List ℕ) → Type 0
 ContentReads kind.Post currency content (Ok command) = (rows : List Charge) × (command ≡ post rows) × RowsRead currency content (Ok rows)
 ContentReads kind.Post currency content (Err line) = (fault : RowFault) × (line ≡ row_fault_line fault) × RowsRead currency content (Err fault)

@@ -14,7 +14,7 @@ use fw_rows::{Currency, read_rows};
 use fw_script::EntryKind;
 use std::alloc::Global;
 
-/// Reads the content of an entry of a kind, or tells why it can't be read.
+/// Reads the content of an entry of a kind, or answers why it can't be read.
 pub(crate) fn read_content(
     alloc: Global,
     kind: EntryKind,

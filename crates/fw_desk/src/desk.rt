@@ -56,8 +56,8 @@ impl Desk {
         &self.state
     }
 
-    /// Does a command, and tells the reply. Only an entry that is accepted changes the state. Where the content of an entry is refused, where it
-    /// was accepted before, leaves a gap or is refused, or where memory is wanting, the desk stays as it was.
+    /// Runs a command, and returns the reply. Only an entry that is accepted changes the state. Where the content of an entry is refused, where
+    /// it was accepted before, leaves a gap or is refused, or out of memory, the desk stays as it was.
     pub fn answer(&mut self, command: Command<'_>) -> Reply
         ensures { Answer self.old (plain_command command.entry) (reply_text result) self.new }
     {
@@ -68,15 +68,15 @@ impl Desk {
                 sequence,
                 content,
             } => self.enter(kind, origin, sequence, content),
-            Command::Report { key, from, to } => self.tell_report(key, from, to),
-            Command::Lines { from, to } => self.tell_lines(from, to),
-            Command::State => self.tell_state(),
+            Command::Report { key, from, to } => self.answer_report(key, from, to),
+            Command::Lines { from, to } => self.answer_lines(from, to),
+            Command::State => self.answer_state(),
             Command::BadCommand => Reply::BadCommand,
             Command::BadEnd => Reply::BadEnd,
         }
     }
 
-    // Reads the content of an entry, and then sees to the entry.
+    // Reads the content of an entry, and then takes the entry.
     fn enter(&mut self, kind: EntryKind, origin: &[u8], sequence: &[u8], content: &[u8]) -> Reply
         ensures { Entered self.old kind origin.now sequence.now content.now (reply_text result) self.new }
     {
@@ -87,7 +87,7 @@ impl Desk {
         }
     }
 
-    // Makes the entry, and accepts it, or tells why not. A number 0 is that of no entry.
+    // Makes the entry, and accepts it, or answers why not. A number 0 is that of no entry.
     fn take(&mut self, origin: &[u8], number: u64, command: EntryCommand) -> Reply
         requires { HasRowCount (command_view command) }
         ensures { Takes self.old origin.now number (command_view command) (reply_text result) self.new }
@@ -98,7 +98,7 @@ impl Desk {
         }
     }
 
-    // Accepts an entry, or tells why not. An entry keeps its limits.
+    // Accepts an entry, or answers why not. An entry keeps its limits.
     fn submit(&mut self, entry: &Entry) -> Reply
         ensures judges { Judges self.old entry.now (reply_text result) self.new }
         ensures valid { IsEntry entry.now }
@@ -115,17 +115,17 @@ impl Desk {
         }
     }
 
-    // Holds another state from now on, and tells the number of its last entry.
+    // Holds another state from now on, and answers the number of its last entry.
     fn hold(&mut self, state: State) -> Reply
         ensures held { self.new ≡ state }
-        ensures told { reply_text result ≡ accepted_line (length state.entries) }
+        ensures reply { reply_text result ≡ accepted_line (length state.entries) }
     {
         self.state = state;
         Reply::Accepted(self.state.entries() as u64)
     }
 
     // The counts of the state.
-    fn tell_state(&self) -> Reply
+    fn answer_state(&self) -> Reply
         ensures { reply_text result ≡ state_line self.now }
     {
         Reply::State {
@@ -137,7 +137,7 @@ impl Desk {
     }
 
     // The report under a key over the hours from `from` up to, and not including, `to`.
-    fn tell_report(&self, key: &str, from: u64, to: u64) -> Reply
+    fn answer_report(&self, key: &str, from: u64, to: u64) -> Reply
         ensures { ReportAnswer self.now key.now from to (reply_text result) }
     {
         match self.report_text(key, from, to) {
@@ -161,7 +161,7 @@ impl Desk {
     }
 
     // The lines of the hours from `from` up to, and not including, `to`.
-    fn tell_lines(&self, from: u64, to: u64) -> Reply
+    fn answer_lines(&self, from: u64, to: u64) -> Reply
         ensures { LinesAnswer self.now from to (reply_text result) }
     {
         match self.lines_text(from, to) {

@@ -24,9 +24,9 @@ pub struct Refusal {
 pub enum Reply {
     /// The content is the entry of this number, counted from 1.
     Accepted(u64),
-    /// The origin has had an entry of this number accepted: nothing is done again. Its last entry has the number told.
+    /// The origin has had an entry of this number accepted: nothing is done again. The number is that of its last entry.
     Already(u64),
-    /// The number isn't the next one of its origin, which is told.
+    /// The entry's number isn't the next one of its origin, which is this.
     Gap(u64),
     /// The command was refused.
     Refused(Refusal),
@@ -39,7 +39,7 @@ pub enum Reply {
         commitments: u64,
         has_policy: bool,
     },
-    /// Memory was wanting.
+    /// Out of memory.
     NoMemory,
     /// The line was no command.
     BadCommand,

@@ -17,8 +17,8 @@ use Rattle.fw_entry_bytes.specs.declared.form.Form.TheVariants.{One}
 use Rattle.fw_entry_bytes.specs.Whole.{whole}
 use Rattle.fw_entry_bytes.proofs.Facts.{name_fits}
 use Rattle.fw_snapshot.specs.Heads.{HeadValue, head_of, content_of, entries_of, row_counts, segment_rows}
-use Rattle.fw_snapshot.specs.History.{History, rows_of, posted}
-use Rattle.fw_snapshot.proofs.HeadFacts.{row_counts_cons, row_count_back, rows_of_entries, heads_of_entries, length_entries}
+use Rattle.fw_snapshot.specs.History.{History, rows_posted, posted}
+use Rattle.fw_snapshot.proofs.HeadFacts.{row_counts_cons, row_count_back, rows_posted_entries, heads_of_entries, length_entries}
 use Rattle.fw_segment.specs.declared.kind.Kind.TheVariants.{Rows}
 use Rattle.fw_segment.specs.Segments.{segment, IsSegment}
 use Rattle.fw_segment.specs.Heads.{heads, IsContent, IsHead}
@@ -87,17 +87,17 @@ state_taken form bytes h is e =
       cut = c.cut;
       count = c.segments.0;
       segments = fits.2;
-      rows = c.rows ∙ sym (rows_of_entries p.1.0 p.1.1 s.0);
+      rows = c.rows ∙ sym (rows_posted_entries p.1.0 p.1.1 s.0);
       history = record { currency = c.code; count = count; each = g.each; legal = g.legal };
       spelled = spelled;
     })
 
 -- as many rows as the heads of the entries say
-as_many : (es : List EntryValue) → length (rows_of es) ≡ row_counts (map head_of es)
-unfolding rows_of
+as_many : (es : List EntryValue) → length (rows_posted es) ≡ row_counts (map head_of es)
+unfolding rows_posted
 as_many [] = sym no_row_counts
 as_many (e ∷ es) =
-    let rows = length-append (posted e.command) (rows_of es) in
+    let rows = length-append (posted e.command) (rows_posted es) in
     let own = row_count_back e.command in
     let said = row_counts_cons (head_of e) (map head_of es) in
     let others = as_many es in

@@ -12,7 +12,7 @@ use Rattle.fw_entry.specs.Entry.{EntryValue, CommandValue}
 use Rattle.fw_entry.specs.Spelling.{entry, most_entry_bytes, IsCommand, IsEntry}
 use Rattle.fw_snapshot.specs.Heads.{ContentValue, HeadValue, head_of, content_of, command_of, entry_of, entries_of, row_count, row_counts}
 use Rattle.fw_snapshot.specs.Heads.ContentValue.{posted_rows, committed_to, policy_set}
-use Rattle.fw_snapshot.specs.History.{History, rows_of, posted}
+use Rattle.fw_snapshot.specs.History.{History, rows_posted, posted}
 use Rattle.fw_snapshot.specs.Judging.{judged, IsLegalAfter}
 use Rattle.fw_snapshot.specs.declared.verdict.Verdict.{Verdict}
 use Rattle.fw_snapshot.specs.declared.verdict.Verdict.TheVariants as verdict
@@ -73,12 +73,12 @@ replay_taken left first (h ∷ hs) rows es e heads each read =
     record { is = rest.is ∙ append_assoc first (one ∷ []) (entries_of hs (drop n rows)); legal = (parts.1, rest.legal); each = All-cons IsEntry one (entries_of hs (drop n rows)) is rest.each }
 
 -- entries that are accepted in turn are replayed from their heads and rows
-pub replay_again : (left : ℕ) (first es : List EntryValue) → All IsEntry es → IsLegalAfter first es → replayed left first (map head_of es) (rows_of es) ≡ Ok (first ++ es)
-unfolding replayed rows_of IsLegalAfter
+pub replay_again : (left : ℕ) (first es : List EntryValue) → All IsEntry es → IsLegalAfter first es → replayed left first (map head_of es) (rows_posted es) ≡ Ok (first ++ es)
+unfolding replayed rows_posted IsLegalAfter
 replay_again left first [] each legal = ap (λ (x : List EntryValue). Ok x) (sym (append-nil first))
 replay_again left first (e ∷ es) each legal =
     let n = row_count (content_of e.command) in
-    let rest = rows_of es in
+    let rest = rows_posted es in
     let seam : n ≡ length (posted e.command) = row_count_back e.command in
     let front : take n (posted e.command ++ rest) ≡ posted e.command = rw seam (take-append_seam (posted e.command) rest) in
     let back : drop n (posted e.command ++ rest) ≡ rest = rw seam (drop-append_seam (posted e.command) rest) in

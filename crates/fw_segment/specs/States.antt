@@ -11,7 +11,7 @@ use Rattle.fw_entry.specs.Spelling.{entry, IsEntry, most_entry_bytes}
 use Rattle.fw_entry_bytes.specs.declared.form.Form.{Form}
 use Rattle.fw_entry_bytes.specs.Whole.{whole}
 use Rattle.fw_snapshot.specs.Heads.{HeadValue, head_of, entry_of, row_count, row_counts, segment_rows}
-use Rattle.fw_snapshot.specs.History.{History, rows_of}
+use Rattle.fw_snapshot.specs.History.{History, rows_posted}
 use Rattle.fw_snapshot.specs.Judging.{judged, IsLegal}
 use Rattle.fw_snapshot.specs.declared.verdict.Verdict.{Verdict}
 use Rattle.fw_snapshot.specs.declared.verdict.Verdict.TheVariants as verdict
@@ -32,12 +32,12 @@ pub record IsHistory (h : History) : Type 0 where
   pub each : All IsEntry h.entries
   pub legal : IsLegal h.entries
 
--- the bytes spell the state: they are what some cut of its rows gives
+-- the bytes spell the state: they are what some cut of the rows that were ever posted gives
 pub record Spells (bytes : List ℕ) (h : History) : Type 0 where
   pub cut : List (List Charge)
   pub count : Fits32 (length cut)
   pub segments : All IsSegment cut
-  pub rows : segment_rows cut ≡ rows_of h.entries
+  pub rows : segment_rows cut ≡ rows_posted h.entries
   pub history : IsHistory h
   pub spelled : bytes ≡ state h.currency (map head_of h.entries) cut
 

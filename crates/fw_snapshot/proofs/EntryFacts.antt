@@ -1,10 +1,11 @@
 -- What lists of entries come to with one more at their end.
-use Rattle.std.proofs.Common.{◌≡◌, ◌+◌, ◌≤◌, ◌||◌, ◌<◌, ℕ, List, [], ◌∷◌, ◌++◌, Option, Some, None, Bool, true, false, cond, if◌then◌else◌, length, filter, take, get_or, nat_lt, refl, sym, ap, ◌∙◌, arith, Bor, IfOk}
+use Rattle.std.proofs.Common.{◌≡◌, ◌+◌, ◌≤◌, ◌||◌, ◌&&◌, ◌<◌, ℕ, List, [], ◌∷◌, ◌++◌, Option, Some, None, Bool, true, false, cond, if◌then◌else◌, length, filter, take, get_or, nat_lt, nat_le, refl, sym, ap, ◌∙◌, arith, Bor, IfOk}
 use Rattle.std.specs.List.{list_any}
 use Rattle.std.specs.Option.{option_copied, option_to_list}
 use Rattle.std.specs.Str.{bytes_eq}
 use Rattle.std.specs.declared.result.Result.{Result}
-use Rattle.std.proofs.Math.Bool.{or-false, or_assoc}
+use Rattle.std.proofs.Math.Bool.{or-false}
+use Rattle.std.proofs.lemmas.Bool.Decides.{nat_tests}
 use Rattle.std.proofs.lemmas.Result.{IfOk-weaker}
 use Rattle.std.proofs.lemmas.List.{flat_map_more, length-append, take_more}
 use Rattle.std.proofs.lemmas.List.Elements.{filter-append}
@@ -14,12 +15,18 @@ use Rattle.fw_charge.specs.Charge.{Charge}
 use Rattle.fw_persistent.specs.Counts.{Counts, count_of}
 use Rattle.fw_terms.specs.Commitment.{CommitmentValue}
 use Rattle.fw_entry.specs.Entry.{EntryValue}
-use Rattle.fw_snapshot.specs.History.{posted, committed, policy_after, rows_of, commitments_of, policy_of, entries_from}
+use Rattle.fw_snapshot.specs.History.{posted, committed, policy_after, rows_posted, rows_of, commitments_of, policy_of, entries_from}
 use Rattle.fw_snapshot.specs.Judging.{has_id, carries, is_registered}
+use Rattle.fw_snapshot.specs.Uses.{posts_with, commitments_with}
 
-pub rows_of_more : (es : List EntryValue) (e : EntryValue) → rows_of (es ++ e ∷ []) ≡ rows_of es ++ posted e.command
+-- each posted row counts
+pub rows_count : (es : List EntryValue) → rows_posted es ≡ rows_of es
 unfolding rows_of
-rows_of_more es e = sym (flat_map_more (λ e. posted e.command) [] es e)
+rows_count es = refl
+
+pub rows_posted_more : (es : List EntryValue) (e : EntryValue) → rows_posted (es ++ e ∷ []) ≡ rows_posted es ++ posted e.command
+unfolding rows_posted
+rows_posted_more es e = sym (flat_map_more (λ e. posted e.command) [] es e)
 
 pub commitments_of_more : (es : List EntryValue) (e : EntryValue) → commitments_of (es ++ e ∷ []) ≡ commitments_of es ++ committed e.command
 unfolding commitments_of
@@ -29,9 +36,9 @@ pub policy_of_more : (es : List EntryValue) (e : EntryValue) → policy_of (es +
 unfolding policy_of
 policy_of_more es e = fold-append (λ before e. policy_after before e.command) None es (e ∷ [])
 
-one_or_none : (b : Bool) (e : EntryValue) → length (cond b (e ∷ []) []) ≡ (if b then 1 else 0)
-one_or_none true e = refl
-one_or_none false e = refl
+one_or_none : {A : Type 0} (b : Bool) (x : A) → length (cond b (x ∷ []) []) ≡ (if b then 1 else 0)
+one_or_none true x = refl
+one_or_none false x = refl
 
 pub entries_from_more : (origin : List ℕ) (es : List EntryValue) (e : EntryValue) → entries_from origin (es ++ e ∷ []) ≡ entries_from origin es + (if bytes_eq origin e.origin then 1 else 0)
 unfolding entries_from
@@ -48,13 +55,41 @@ entries_from_grows origin first more =
     let sum = length-append (filter (λ e. bytes_eq origin e.origin) first) (filter (λ e. bytes_eq origin e.origin) more) in
     omega arith
 
-pub carries_append : (id : List ℕ) (rows more : List Charge) → carries id (rows ++ more) ≡ (carries id rows || carries id more)
-unfolding carries
-carries_append id rows more = list_any-append (has_id id) rows more
+-- one entry more is a post more with the ids that its rows carry
+pub posts_with_more : (id : List ℕ) (es : List EntryValue) (e : EntryValue) → posts_with id (es ++ e ∷ []) ≡ posts_with id es + (if carries id (posted e.command) then 1 else 0)
+unfolding posts_with
+posts_with_more id es e =
+    let those = filter (λ e. carries id (posted e.command)) es in
+    let split = ap length (filter-append (λ e. carries id (posted e.command)) es (e ∷ [])) in
+    split ∙ length-append those (cond (carries id (posted e.command)) (e ∷ []) []) ∙ ap (λ n. length those + n) (one_or_none (carries id (posted e.command)) e)
 
-pub is_registered_append : (id : List ℕ) (list more : List CommitmentValue) → is_registered id (list ++ more) ≡ (is_registered id list || is_registered id more)
-unfolding is_registered
-is_registered_append id list more = list_any-append (λ c. bytes_eq id c.id) list more
+pub commitments_with_append : (id : List ℕ) (list more : List CommitmentValue) → commitments_with id (list ++ more) ≡ commitments_with id list + commitments_with id more
+unfolding commitments_with
+commitments_with_append id list more =
+    ap length (filter-append (λ c. bytes_eq id c.id) list more) ∙ length-append (filter (λ c. bytes_eq id c.id) list) (filter (λ c. bytes_eq id c.id) more)
+
+-- an id is in use where its count is above 0
+some_kept : {A : Type 0} (p : A → Bool) (x : A) (xs : List A) (b c : Bool) → nat_lt 0 (length xs) ≡ c → nat_lt 0 (length (cond b (x ∷ xs) xs)) ≡ (b || c)
+some_kept p x xs true c same = grind (arith, nat_tests)
+some_kept p x xs false c same = same
+
+some_pass : {A : Type 0} (p : A → Bool) (xs : List A) → nat_lt 0 (length (filter p xs)) ≡ list_any p xs
+some_pass p [] = refl
+some_pass p (x ∷ xs) = some_kept p x (filter p xs) (p x) (list_any p xs) (some_pass p xs)
+
+pub commitments_in_use : (id : List ℕ) (list : List CommitmentValue) → nat_lt 0 (commitments_with id list) ≡ is_registered id list
+unfolding commitments_with is_registered
+commitments_in_use id list = some_pass (λ c. bytes_eq id c.id) list
+
+posts_carry : (id : List ℕ) (es : List EntryValue) → list_any (λ (e : EntryValue). carries id (posted e.command)) es ≡ carries id (rows_posted es)
+unfolding rows_posted carries
+posts_carry id [] = refl
+posts_carry id (e ∷ es) =
+    ap (λ b. carries id (posted e.command) || b) (posts_carry id es) ∙ sym (list_any-append (has_id id) (posted e.command) (rows_posted es))
+
+pub posts_in_use : (id : List ℕ) (es : List EntryValue) → nat_lt 0 (posts_with id es) ≡ carries id (rows_of es)
+unfolding posts_with
+posts_in_use id es = some_pass (λ e. carries id (posted e.command)) es ∙ posts_carry id es ∙ ap (carries id) (rows_count es)
 
 -- one row more carries its own id
 pub carries_more : (id : List ℕ) (rows : List Charge) (i : ℕ) (row : Charge) → i < length rows → get_or rows i row ≡ row → carries id (take (i + 1) rows) ≡ (carries id (take i rows) || has_id id row)
@@ -65,31 +100,35 @@ carries_more id rows i row within read =
     ∙ list_any-append (has_id id) (take i rows) (row ∷ [])
     ∙ ap (λ b. list_any (has_id id) (take i rows) || b) (or-false (has_id id row))
 
--- which ids are counted before the first of some rows, and after one row more
-pub counts_first : (start after : Counts) → after ≡ start → (id : List ℕ) → nat_lt 0 (count_of id after) ≡ (nat_lt 0 (count_of id start) || carries id [])
+-- how often ids are counted before the first row of a post, and after one row more
+pub counts_first : (start after : Counts) → after ≡ start → (id : List ℕ) → count_of id after ≡ count_of id start + (if carries id [] then 1 else 0)
 unfolding carries
-counts_first start after same id = ap (λ counts. nat_lt 0 (count_of id counts)) same ∙ sym (or-false (nat_lt 0 (count_of id start)))
+counts_first start after same id = ap (count_of id) same ∙ omega arith
 
-pub counts_next : (start before after : Counts) (rows : List Charge) (i : ℕ) (row : Charge) → i < length rows → row ≡ get_or rows i row → ((id : List ℕ) → nat_lt 0 (count_of id before) ≡ (nat_lt 0 (count_of id start) || carries id (take i rows))) → ((id : List ℕ) → nat_lt 0 (count_of id after) ≡ (nat_lt 0 (count_of id before) || has_id id row)) → (id : List ℕ) → nat_lt 0 (count_of id after) ≡ (nat_lt 0 (count_of id start) || carries id (take (i + 1) rows))
+counted_once : (start before after : ℕ) (seen has : Bool) → before ≡ start + (if seen then 1 else 0) → after ≡ before + (if has && nat_le before start then 1 else 0) → after ≡ start + (if seen || has then 1 else 0)
+counted_once start before after true true so_far step = grind (arith, nat_tests)
+counted_once start before after true false so_far step = omega (arith, so_far, step)
+counted_once start before after false true so_far step = grind (arith, nat_tests)
+counted_once start before after false false so_far step = omega (arith, so_far, step)
+
+pub counts_next : (start before after : Counts) (rows : List Charge) (i : ℕ) (row : Charge) → i < length rows → row ≡ get_or rows i row → ((id : List ℕ) → count_of id before ≡ count_of id start + (if carries id (take i rows) then 1 else 0)) → ((id : List ℕ) → count_of id after ≡ count_of id before + (if has_id id row && nat_le (count_of id before) (count_of id start) then 1 else 0)) → (id : List ℕ) → count_of id after ≡ count_of id start + (if carries id (take (i + 1) rows) then 1 else 0)
 counts_next start before after rows i row within read so_far step id =
-    step id
-    ∙ ap (λ b. b || has_id id row) (so_far id)
-    ∙ or_assoc (nat_lt 0 (count_of id start)) (carries id (take i rows)) (has_id id row)
-    ∙ ap (λ b. nat_lt 0 (count_of id start) || b) (sym (carries_more id rows i row within (sym read)))
+    counted_once (count_of id start) (count_of id before) (count_of id after) (carries id (take i rows)) (has_id id row) (so_far id) (step id)
+    ∙ ap (λ b. count_of id start + (if b then 1 else 0)) (sym (carries_more id rows i row within (sym read)))
 
--- the id of one commitment, or of none
-pub is_registered_option : (id : List ℕ) (more : Option (Bor CommitmentValue)) (c : Bor CommitmentValue) → more ≡ Some c → is_registered id (option_to_list (option_copied more)) ≡ bytes_eq id c.now.id
-unfolding is_registered
-is_registered_option id more c e = ap (λ o. is_registered id (option_to_list (option_copied o))) e ∙ or-false (bytes_eq id c.now.id)
+-- how many of one commitment, or of none, have an id
+pub commitments_with_option : (id : List ℕ) (more : Option (Bor CommitmentValue)) (c : Bor CommitmentValue) → more ≡ Some c → commitments_with id (option_to_list (option_copied more)) ≡ (if bytes_eq id c.now.id then 1 else 0)
+unfolding commitments_with
+commitments_with_option id more c e = ap (λ o. commitments_with id (option_to_list (option_copied o))) e ∙ one_or_none (bytes_eq id c.now.id) c.now
 
-pub is_registered_no_option : (id : List ℕ) (more : Option (Bor CommitmentValue)) → more ≡ None → is_registered id (option_to_list (option_copied more)) ≡ false
-unfolding is_registered
-is_registered_no_option id more e = ap (λ o. is_registered id (option_to_list (option_copied o))) e
+pub commitments_with_no_option : (id : List ℕ) (more : Option (Bor CommitmentValue)) → more ≡ None → commitments_with id (option_to_list (option_copied more)) ≡ 0
+unfolding commitments_with
+commitments_with_no_option id more e = ap (λ o. commitments_with id (option_to_list (option_copied o))) e
 
--- which ids are counted, of those that pass one test or another that agrees with it
-pub counts_same : {E : Type 0} (before : Counts) (found : Result Counts E) (p q : List ℕ → Bool) → ((id : List ℕ) → p id ≡ q id) → IfOk found (λ after. (id : List ℕ) → nat_lt 0 (count_of id after) ≡ (nat_lt 0 (count_of id before) || p id)) → IfOk found (λ after. (id : List ℕ) → nat_lt 0 (count_of id after) ≡ (nat_lt 0 (count_of id before) || q id))
-counts_same before found p q same h = IfOk-weaker found _ _ (λ after each id. each id ∙ ap (λ b. nat_lt 0 (count_of id before) || b) (same id)) h
+-- what is counted more, said in another way
+pub counts_same : {E : Type 0} (before : Counts) (found : Result Counts E) (p q : List ℕ → ℕ) → ((id : List ℕ) → p id ≡ q id) → IfOk found (λ after. (id : List ℕ) → count_of id after ≡ count_of id before + p id) → IfOk found (λ after. (id : List ℕ) → count_of id after ≡ count_of id before + q id)
+counts_same before found p q same h = IfOk-weaker found _ _ (λ after each id. each id ∙ ap (λ n. count_of id before + n) (same id)) h
 
-pub counts_kept : {E : Type 0} (before : Counts) (found : Result Counts E) (q : List ℕ → Bool) → ((id : List ℕ) → q id ≡ false) → IfOk found (λ after. after ≡ before) → IfOk found (λ after. (id : List ℕ) → nat_lt 0 (count_of id after) ≡ (nat_lt 0 (count_of id before) || q id))
+pub counts_kept : {E : Type 0} (before : Counts) (found : Result Counts E) (q : List ℕ → ℕ) → ((id : List ℕ) → q id ≡ 0) → IfOk found (λ after. after ≡ before) → IfOk found (λ after. (id : List ℕ) → count_of id after ≡ count_of id before + q id)
 counts_kept before found q none h =
-    IfOk-weaker found _ _ (λ after same id. ap (λ counts. nat_lt 0 (count_of id counts)) same ∙ sym (or-false (nat_lt 0 (count_of id before))) ∙ ap (λ b. nat_lt 0 (count_of id before) || b) (sym (none id))) h
+    IfOk-weaker found _ _ (λ after same id. let zero = none id in let kept = ap (count_of id) same in omega (arith, zero, kept)) h

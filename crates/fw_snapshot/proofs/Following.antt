@@ -1,5 +1,5 @@
 -- The state that follows another by one entry.
-use Rattle.std.proofs.Common.{◌≡◌, ◌+◌, ◌≤◌, ◌||◌, ℕ, List, [], ◌∷◌, ◌++◌, All, nat_lt, if◌then◌else◌, length, map, refl, sym, ap, subst, ◌∙◌, arith, length-append, Option, None}
+use Rattle.std.proofs.Common.{◌≡◌, ◌+◌, ◌≤◌, ℕ, List, [], ◌∷◌, ◌++◌, All, if◌then◌else◌, length, map, refl, sym, ap, subst, ◌∙◌, arith, length-append, Option, None}
 use Rattle.std.specs.Str.{bytes_eq}
 use Rattle.std.proofs.lemmas.List.Elements.{All-push, All-nil}
 use Rattle.fw_charge.specs.Charge.{Charge}
@@ -8,15 +8,16 @@ use Rattle.fw_entry.specs.Entry.CommandValue.{post, commit, set_policy}
 use Rattle.fw_terms.specs.Policy.{PolicyValue}
 use Rattle.fw_entry.specs.Spelling.{IsEntry}
 use Rattle.fw_persistent.specs.Counts.{count_of}
-use Rattle.fw_snapshot.specs.History.{History, posted, committed, policy_after, rows_of, commitments_of, policy_of, entries_from}
-use Rattle.fw_snapshot.specs.Judging.{judged, IsLegal, IsLegalAfter, carries, is_registered, most_rows, most_commitments}
+use Rattle.fw_snapshot.specs.History.{History, posted, committed, policy_after, rows_posted, commitments_of, policy_of, entries_from}
+use Rattle.fw_snapshot.specs.Judging.{judged, IsLegal, IsLegalAfter, carries, most_rows, most_commitments}
+use Rattle.fw_snapshot.specs.Uses.{posts_with, commitments_with}
 use Rattle.fw_snapshot.specs.Heads.{ContentValue, HeadValue, head_of, content_of, command_of, row_count, row_counts, segment_rows, entries_of}
 use Rattle.fw_snapshot.specs.Held.{held_commitments, held_policy}
 use Rattle.fw_snapshot.specs.StateView.{state_entries, state_view, KeepsState}
 use Rattle.fw_snapshot.specs.declared.state.State.TheInside.{Inside}
 use Rattle.fw_snapshot.specs.declared.verdict.Verdict.TheVariants as verdict
-use Rattle.fw_snapshot.proofs.EntryFacts.{rows_of_more, commitments_of_more, policy_of_more, entries_from_more, carries_append, is_registered_append}
-use Rattle.fw_snapshot.proofs.HeadFacts.{row_counts_cons, rows_of_entries, heads_of_entries, length_entries, entries_of_more, entry_back, row_count_back}
+use Rattle.fw_snapshot.proofs.EntryFacts.{commitments_of_more, policy_of_more, entries_from_more, posts_with_more, commitments_with_append}
+use Rattle.fw_snapshot.proofs.HeadFacts.{row_counts_cons, rows_posted_entries, heads_of_entries, length_entries, entries_of_more, entry_back, row_count_back}
 use Rattle.fw_snapshot.proofs.LegalFacts.{legal_more, accepted_rows, few_rows, few_commitments}
 
 -- each part of t is that of s with what an entry brings
@@ -28,8 +29,8 @@ pub record Follows (s t : Inside) (e : EntryValue) : Type 0 where
   pub commitments : held_commitments t.commitments ≡ held_commitments s.commitments ++ committed e.command
   pub policy : held_policy t.policy ≡ policy_after (held_policy s.policy) e.command
   pub origins : (origin : List ℕ) → count_of origin t.origins ≡ count_of origin s.origins + (if bytes_eq origin e.origin then 1 else 0)
-  pub registered : (id : List ℕ) → nat_lt 0 (count_of id t.registered) ≡ (nat_lt 0 (count_of id s.registered) || is_registered id (committed e.command))
-  pub carried : (id : List ℕ) → nat_lt 0 (count_of id t.carried) ≡ (nat_lt 0 (count_of id s.carried) || carries id (posted e.command))
+  pub registered : (id : List ℕ) → count_of id t.registered ≡ count_of id s.registered + commitments_with id (committed e.command)
+  pub carried : (id : List ℕ) → count_of id t.carried ≡ count_of id s.carried + (if carries id (posted e.command) then 1 else 0)
 
 -- then its entries are those of s and this one
 pub follows_entries : (s t : Inside) (e : EntryValue) → KeepsState s → Follows s t e → state_entries t ≡ state_entries s ++ e ∷ []
@@ -64,8 +65,8 @@ follows_keeps s t e keeps accepted entry follows =
       commitments = follows.commitments ∙ ap (λ list. list ++ committed e.command) keeps.commitments ∙ sym (commitments_of_more es e) ∙ ap commitments_of (sym same);
       policy = follows.policy ∙ ap (λ before. policy_after before e.command) keeps.policy ∙ sym (policy_of_more es e) ∙ ap policy_of (sym same);
       origins = λ origin. follows.origins origin ∙ ap (λ n. n + (if bytes_eq origin e.origin then 1 else 0)) (keeps.origins origin) ∙ sym (entries_from_more origin es e) ∙ ap (entries_from origin) (sym same);
-      registered = λ id. follows.registered id ∙ ap (λ b. b || is_registered id (committed e.command)) (keeps.registered id) ∙ sym (is_registered_append id (commitments_of es) (committed e.command)) ∙ ap (is_registered id) (sym (commitments_of_more es e) ∙ ap commitments_of (sym same));
-      carried = λ id. follows.carried id ∙ ap (λ b. b || carries id (posted e.command)) (keeps.carried id) ∙ sym (carries_append id (rows_of es) (posted e.command)) ∙ ap (carries id) (sym (rows_of_more es e) ∙ ap rows_of (sym same));
+      registered = λ id. follows.registered id ∙ ap (λ n. n + commitments_with id (committed e.command)) (keeps.registered id) ∙ sym (commitments_with_append id (commitments_of es) (committed e.command)) ∙ ap (commitments_with id) (sym (commitments_of_more es e) ∙ ap commitments_of (sym same));
+      carried = λ id. follows.carried id ∙ ap (λ n. n + (if carries id (posted e.command) then 1 else 0)) (keeps.carried id) ∙ sym (posts_with_more id es e) ∙ ap (posts_with id) (sym same);
     }
 
 -- and it is seen as the history with the entry behind the others
@@ -93,8 +94,8 @@ pub policy_by_content : (before : Option PolicyValue) (content : ContentValue) (
 policy_by_content before content c same = ap (λ x. policy_after before (command_of x [])) same ∙ by_content before c
 
 -- what a state keeps, as its readers want it
-pub kept_rows : (s : Inside) → KeepsState s → segment_rows s.segments ≡ rows_of (state_entries s)
-kept_rows s keeps = sym (rows_of_entries s.heads (segment_rows s.segments) keeps.rows)
+pub kept_rows : (s : Inside) → KeepsState s → segment_rows s.segments ≡ rows_posted (state_entries s)
+kept_rows s keeps = sym (rows_posted_entries s.heads (segment_rows s.segments) keeps.rows)
 
 pub kept_heads : (s : Inside) → KeepsState s → s.heads ≡ map head_of (state_entries s)
 kept_heads s keeps = sym (heads_of_entries s.heads (segment_rows s.segments) keeps.rows)
@@ -102,7 +103,7 @@ kept_heads s keeps = sym (heads_of_entries s.heads (segment_rows s.segments) kee
 pub kept_length : (s : Inside) → KeepsState s → length s.heads ≡ length (state_entries s)
 kept_length s keeps = sym (length_entries s.heads (segment_rows s.segments) keeps.rows)
 
-pub kept_row_count : (s : Inside) → KeepsState s → s.rows ≡ length (rows_of (state_entries s))
+pub kept_row_count : (s : Inside) → KeepsState s → s.rows ≡ length (rows_posted (state_entries s))
 kept_row_count s keeps = keeps.row_count ∙ ap length (kept_rows s keeps)
 
 pub kept_few : (s : Inside) → KeepsState s → s.rows ≤ most_rows
@@ -148,7 +149,7 @@ unfolding entries_of
 blank_entries t blank = ap (λ heads. entries_of heads (segment_rows t.segments)) blank.heads
 
 pub blank_keeps : (t : Inside) → IsBlank t → KeepsState t
-unfolding IsLegalAfter row_counts rows_of commitments_of policy_of entries_from is_registered carries
+unfolding IsLegalAfter row_counts rows_posted commitments_of policy_of entries_from posts_with commitments_with
 blank_keeps t blank =
     let none = blank_entries t blank in
     let rows : segment_rows t.segments ≡ [] = ap segment_rows blank.segments in
@@ -161,6 +162,6 @@ blank_keeps t blank =
       commitments = blank.commitments ∙ ap commitments_of (sym none);
       policy = blank.policy ∙ ap policy_of (sym none);
       origins = λ origin. ap (count_of origin) blank.origins ∙ ap (entries_from origin) (sym none);
-      registered = λ id. ap (λ counts. nat_lt 0 (count_of id counts)) blank.registered ∙ ap (λ es. is_registered id (commitments_of es)) (sym none);
-      carried = λ id. ap (λ counts. nat_lt 0 (count_of id counts)) blank.carried ∙ ap (λ es. carries id (rows_of es)) (sym none);
+      registered = λ id. ap (count_of id) blank.registered ∙ ap (λ es. commitments_with id (commitments_of es)) (sym none);
+      carried = λ id. ap (count_of id) blank.carried ∙ ap (posts_with id) (sym none);
     }

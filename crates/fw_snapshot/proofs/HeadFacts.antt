@@ -6,7 +6,7 @@ use Rattle.std.proofs.Math.Seq.{take-append_seam, drop-append_seam}
 use Rattle.fw_charge.specs.Charge.{Charge}
 use Rattle.fw_entry.specs.Entry.{CommandValue, EntryValue}
 use Rattle.fw_entry.specs.Entry.CommandValue.{post, commit, set_policy}
-use Rattle.fw_snapshot.specs.History.{posted, rows_of}
+use Rattle.fw_snapshot.specs.History.{posted, rows_posted}
 use Rattle.fw_snapshot.specs.Heads.{ContentValue, HeadValue, content_of, head_of, row_count, row_counts, command_of, entry_of, entries_of}
 use Rattle.fw_snapshot.specs.Heads.ContentValue.{posted_rows, committed_to, policy_set}
 
@@ -50,14 +50,14 @@ rest_fits h heads rows e =
     (omega arith, omega arith)
 
 -- the rows of the entries are the rows
-pub rows_of_entries : (heads : List HeadValue) (rows : List Charge) → length rows ≡ row_counts heads → rows_of (entries_of heads rows) ≡ rows
-unfolding rows_of entries_of
-rows_of_entries [] rows e = sym (nil_from_length rows (e ∙ no_row_counts))
-rows_of_entries (h ∷ heads) rows e =
+pub rows_posted_entries : (heads : List HeadValue) (rows : List Charge) → length rows ≡ row_counts heads → rows_posted (entries_of heads rows) ≡ rows
+unfolding rows_posted entries_of
+rows_posted_entries [] rows e = sym (nil_from_length rows (e ∙ no_row_counts))
+rows_posted_entries (h ∷ heads) rows e =
     let n = row_count h.content in
     let fits = rest_fits h heads rows e in
-    ap (λ xs. xs ++ rows_of (entries_of heads (drop n rows))) (posted_back h.content rows)
-    ∙ ap (λ ys. take n rows ++ ys) (rows_of_entries heads (drop n rows) fits.1)
+    ap (λ xs. xs ++ rows_posted (entries_of heads (drop n rows))) (posted_back h.content rows)
+    ∙ ap (λ ys. take n rows ++ ys) (rows_posted_entries heads (drop n rows) fits.1)
     ∙ take-append-drop n rows
 
 head_back : (h : HeadValue) (rows : List Charge) → row_count h.content ≤ length rows → head_of (entry_of h (take (row_count h.content) rows)) ≡ h
@@ -92,12 +92,12 @@ entries_of_more (g ∷ heads) rows h more e n =
     ∙ ap (λ es. entry_of g (take c rows) ∷ es) (entries_of_more heads (drop c rows) h more fits.1 n)
 
 -- the heads and the rows of entries stand for the entries
-pub entries_back : (es : List EntryValue) → entries_of (map head_of es) (rows_of es) ≡ es
-unfolding entries_of rows_of
+pub entries_back : (es : List EntryValue) → entries_of (map head_of es) (rows_posted es) ≡ es
+unfolding entries_of rows_posted
 entries_back [] = refl
 entries_back (e ∷ es) =
     let n = row_count (content_of e.command) in
-    let rest = rows_of es in
+    let rest = rows_posted es in
     let seam : n ≡ length (posted e.command) = row_count_back e.command in
     let front : take n (posted e.command ++ rest) ≡ posted e.command = rw seam (take-append_seam (posted e.command) rest) in
     let back : drop n (posted e.command ++ rest) ≡ rest = rw seam (drop-append_seam (posted e.command) rest) in

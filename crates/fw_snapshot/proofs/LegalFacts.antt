@@ -6,16 +6,14 @@ use Rattle.std.proofs.Math.Seq.{take-nil}
 use Rattle.std.proofs.lemmas.Option.{slice_get_within, get_or_from_slice_get}
 use Rattle.std.proofs.lemmas.Slice.Eq.{bytes_eq-Decides}
 use Rattle.std.proofs.lemmas.Bool.Decides.{nat_tests}
-use Rattle.fw_charge.specs.Charge.{Charge}
-use Rattle.fw_terms.specs.Commitment.{CommitmentValue}
 use Rattle.fw_entry.specs.Entry.{CommandValue, EntryValue}
 use Rattle.fw_entry.specs.Entry.CommandValue.{post, commit, set_policy}
-use Rattle.fw_snapshot.specs.History.{posted, committed, rows_of, commitments_of, entries_from}
+use Rattle.fw_snapshot.specs.History.{posted, committed, rows_posted, rows_of, commitments_of, entries_from}
 use Rattle.fw_snapshot.specs.Judging.{judged, IsLegal, IsLegalAfter, command_conflict, rows_conflict, commitment_conflict, most_rows, most_commitments, verdict_on, carries, is_registered}
 use Rattle.fw_snapshot.specs.declared.verdict.Conflict.{Conflict}
 use Rattle.fw_snapshot.specs.declared.verdict.Conflict.TheVariants as conflict
 use Rattle.fw_snapshot.specs.declared.verdict.Verdict.TheVariants as verdict
-use Rattle.fw_snapshot.proofs.EntryFacts.{rows_of_more, commitments_of_more, entries_from_more, entries_from_grows}
+use Rattle.fw_snapshot.proofs.EntryFacts.{rows_posted_more, commitments_of_more, entries_from_more, entries_from_grows}
 
 -- an entry is accepted where neither test of its number holds, and nothing stands against its command
 accepted_parts : (low high : Bool) (m n : ℕ) (why : Option Conflict) → (if low then verdict.Already m else (if high then verdict.Gap n else verdict_on why)) ≡ verdict.Accept → (low ≡ false) × (high ≡ false) × (why ≡ None)
@@ -34,7 +32,7 @@ accepted_number es e h =
     let parts = accepted_parts (nat_le e.seq (entries_from e.origin es)) (nat_lt (entries_from e.origin es + 1) e.seq) _ _ _ h in
     next_number (entries_from e.origin es) e.seq parts.0 parts.1
 
-accepted_command : (es : List EntryValue) (e : EntryValue) → judged es e ≡ verdict.Accept → command_conflict (rows_of es) (commitments_of es) e.command ≡ None
+accepted_command : (es : List EntryValue) (e : EntryValue) → judged es e ≡ verdict.Accept → command_conflict es e.command ≡ None
 unfolding judged
 accepted_command es e h =
     (accepted_parts (nat_le e.seq (entries_from e.origin es)) (nat_lt (entries_from e.origin es + 1) e.seq) _ _ _ h).2
@@ -56,27 +54,28 @@ at_most n m h = grind (arith, nat_tests)
 below : (n m : ℕ) → nat_le n m ≡ false → m < n
 below n m h = grind (arith, nat_tests)
 
-rows_room : (rows : List Charge) (list : List CommitmentValue) (c : CommandValue) → command_conflict rows list c ≡ None → length rows ≤ most_rows → length rows + length (posted c) ≤ most_rows
+rows_room : (es : List EntryValue) (c : CommandValue) → command_conflict es c ≡ None → length (rows_posted es) ≤ most_rows → length (rows_posted es) + length (posted c) ≤ most_rows
 unfolding command_conflict rows_conflict
-rows_room rows list (post more) h few = at_most _ _ (first_none (nat_lt most_rows (length rows + length more)) _ _ h).0
-rows_room rows list (commit c) h few = omega arith
-rows_room rows list (set_policy p) h few = omega arith
+rows_room es (post more) h few = at_most _ _ (first_none (nat_lt most_rows (length (rows_posted es) + length more)) _ _ h).0
+rows_room es (commit c) h few = omega arith
+rows_room es (set_policy p) h few = omega arith
 
-commitments_room : (rows : List Charge) (list : List CommitmentValue) (c : CommandValue) → command_conflict rows list c ≡ None → length list ≤ most_commitments → length list + length (committed c) ≤ most_commitments
+commitments_room : (es : List EntryValue) (c : CommandValue) → command_conflict es c ≡ None → length (commitments_of es) ≤ most_commitments → length (commitments_of es) + length (committed c) ≤ most_commitments
 unfolding command_conflict commitment_conflict
-commitments_room rows list (post more) h few = omega arith
-commitments_room rows list (commit c) h few =
-    let room = third_none (is_registered c.id list) (carries c.id rows) (nat_le most_commitments (length list)) h in
+commitments_room es (post more) h few = omega arith
+commitments_room es (commit c) h few =
+    let list = commitments_of es in
+    let room = third_none (is_registered c.id list) (carries c.id (rows_of es)) (nat_le most_commitments (length list)) h in
     let full = below most_commitments (length list) room in
     omega arith
-commitments_room rows list (set_policy p) h few = omega arith
+commitments_room es (set_policy p) h few = omega arith
 
 -- the rows of an accepted entry fit behind the others
-pub accepted_rows : (es : List EntryValue) (e : EntryValue) → judged es e ≡ verdict.Accept → length (rows_of es) ≤ most_rows → length (rows_of es) + length (posted e.command) ≤ most_rows
-accepted_rows es e h few = rows_room (rows_of es) (commitments_of es) e.command (accepted_command es e h) few
+pub accepted_rows : (es : List EntryValue) (e : EntryValue) → judged es e ≡ verdict.Accept → length (rows_posted es) ≤ most_rows → length (rows_posted es) + length (posted e.command) ≤ most_rows
+accepted_rows es e h few = rows_room es e.command (accepted_command es e h) few
 
 accepted_commitments : (es : List EntryValue) (e : EntryValue) → judged es e ≡ verdict.Accept → length (commitments_of es) ≤ most_commitments → length (commitments_of es) + length (committed e.command) ≤ most_commitments
-accepted_commitments es e h few = commitments_room (rows_of es) (commitments_of es) e.command (accepted_command es e h) few
+accepted_commitments es e h few = commitments_room es e.command (accepted_command es e h) few
 
 -- an accepted entry goes behind a legal list
 pub legal_more : (first es : List EntryValue) (e : EntryValue) → IsLegalAfter first es → judged (first ++ es) e ≡ verdict.Accept → IsLegalAfter first (es ++ e ∷ [])
@@ -94,11 +93,11 @@ legal_at first (x ∷ es) legal zero e h =
 legal_at first (x ∷ es) legal (suc place) e h = rw append_assoc at (legal_at (first ++ x ∷ []) es legal.1 place e h)
 
 -- a legal list has few rows and commitments
-legal_rows : (first es : List EntryValue) → length (rows_of first) ≤ most_rows → IsLegalAfter first es → length (rows_of (first ++ es)) ≤ most_rows
+legal_rows : (first es : List EntryValue) → length (rows_posted first) ≤ most_rows → IsLegalAfter first es → length (rows_posted (first ++ es)) ≤ most_rows
 unfolding IsLegalAfter
 legal_rows first [] few legal = rw append-nil few
 legal_rows first (x ∷ es) few legal =
-    let more : length (rows_of (first ++ x ∷ [])) ≤ most_rows = rw rows_of_more (rw length-append (accepted_rows first x legal.0 few)) in
+    let more : length (rows_posted (first ++ x ∷ [])) ≤ most_rows = rw rows_posted_more (rw length-append (accepted_rows first x legal.0 few)) in
     rw append_assoc at (legal_rows (first ++ x ∷ []) es more legal.1)
 
 legal_commitments : (first es : List EntryValue) → length (commitments_of first) ≤ most_commitments → IsLegalAfter first es → length (commitments_of (first ++ es)) ≤ most_commitments
@@ -108,8 +107,8 @@ legal_commitments first (x ∷ es) few legal =
     let more : length (commitments_of (first ++ x ∷ [])) ≤ most_commitments = rw commitments_of_more (rw length-append (accepted_commitments first x legal.0 few)) in
     rw append_assoc at (legal_commitments (first ++ x ∷ []) es more legal.1)
 
-pub few_rows : (es : List EntryValue) → IsLegal es → length (rows_of es) ≤ most_rows
-unfolding rows_of
+pub few_rows : (es : List EntryValue) → IsLegal es → length (rows_posted es) ≤ most_rows
+unfolding rows_posted
 few_rows es legal = legal_rows [] es (omega arith) legal
 
 pub few_commitments : (es : List EntryValue) → IsLegal es → length (commitments_of es) ≤ most_commitments

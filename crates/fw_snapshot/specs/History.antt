@@ -29,9 +29,13 @@ policy_after before (post rows) = before
 policy_after before (commit c) = before
 policy_after before (set_policy p) = Some p
 
--- the rows that count: those of the posts, in order
+-- the rows that were ever posted, in order: what the segments of a state hold, and what its limit of rows counts
+unfoldable pub rows_posted : List EntryValue → List Charge
+rows_posted entries = flat_map (λ e. posted e.command) entries
+
+-- the rows that count, in order: what reports sum, and whose ids are in use. Each posted row counts
 unfoldable pub rows_of : List EntryValue → List Charge
-rows_of entries = flat_map (λ e. posted e.command) entries
+rows_of entries = rows_posted entries
 
 -- the commitments that count: those that were committed to, in order
 unfoldable pub commitments_of : List EntryValue → List CommitmentValue

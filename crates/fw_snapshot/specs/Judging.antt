@@ -7,7 +7,7 @@ use Rattle.fw_charge.specs.Charge.{Charge}
 use Rattle.fw_terms.specs.Commitment.{CommitmentValue}
 use Rattle.fw_entry.specs.Entry.{CommandValue, EntryValue}
 use Rattle.fw_entry.specs.Entry.CommandValue.{post, commit, set_policy}
-use Rattle.fw_snapshot.specs.History.{rows_of, commitments_of, entries_from}
+use Rattle.fw_snapshot.specs.History.{rows_posted, rows_of, commitments_of, entries_from}
 use Rattle.fw_snapshot.specs.declared.verdict.Conflict.{Conflict}
 use Rattle.fw_snapshot.specs.declared.verdict.Conflict.TheVariants as conflict
 use Rattle.fw_snapshot.specs.declared.verdict.Verdict.{Verdict}
@@ -41,24 +41,24 @@ has_registered_id commitments row = option_map_or (λ d. is_registered d.id comm
 unfoldable pub carries_any : List Charge → List CommitmentValue → Bool
 carries_any rows commitments = list_any (has_registered_id commitments) rows
 
--- why rows can't follow these rows and commitments: there would be too many, or one carries the id of a commitment
+-- why rows can't follow these posted rows and commitments: there would be too many, or one carries the id of a commitment
 unfoldable pub rows_conflict : List Charge → List CommitmentValue → List Charge → Option Conflict
-rows_conflict rows commitments more =
-    if nat_lt most_rows (length rows + length more) then Some conflict.Full
+rows_conflict posted commitments more =
+    if nat_lt most_rows (length posted + length more) then Some conflict.Full
     else (if carries_any more commitments then Some conflict.OwnCommitment else None)
 
--- why a commitment can't follow these rows and commitments: its id is registered, or carried by a row, or there would be too many
+-- why a commitment can't follow these rows that count and commitments: its id is registered, or carried by a row, or there would be too many
 unfoldable pub commitment_conflict : List Charge → List CommitmentValue → CommitmentValue → Option Conflict
 commitment_conflict rows commitments more =
     if is_registered more.id commitments then Some conflict.DoubleId
     else (if carries more.id rows then Some conflict.IdInUse
     else (if nat_le most_commitments (length commitments) then Some conflict.TooManyCommitments else None))
 
--- why what a command brings can't follow, if it can't; a policy always can
-unfoldable pub command_conflict : List Charge → List CommitmentValue → CommandValue → Option Conflict
-command_conflict rows commitments (post more) = rows_conflict rows commitments more
-command_conflict rows commitments (commit more) = commitment_conflict rows commitments more
-command_conflict rows commitments (set_policy p) = None
+-- why what a command brings can't follow these entries, if it can't; a policy always can
+unfoldable pub command_conflict : List EntryValue → CommandValue → Option Conflict
+command_conflict entries (post more) = rows_conflict (rows_posted entries) (commitments_of entries) more
+command_conflict entries (commit more) = commitment_conflict (rows_of entries) (commitments_of entries) more
+command_conflict entries (set_policy p) = None
 
 abbrev pub verdict_on : Option Conflict → Verdict
 verdict_on None = verdict.Accept
@@ -70,7 +70,7 @@ unfoldable pub judged : List EntryValue → EntryValue → Verdict
 judged entries e =
     if nat_le e.seq (entries_from e.origin entries) then verdict.Already (entries_from e.origin entries)
     else (if nat_lt (entries_from e.origin entries + 1) e.seq then verdict.Gap (entries_from e.origin entries + 1)
-    else verdict_on (command_conflict (rows_of entries) (commitments_of entries) e.command))
+    else verdict_on (command_conflict entries e.command))
 
 -- each of these entries was accepted after those before it, and all of them after the ones that came first
 unfoldable pub IsLegalAfter : List EntryValue → List EntryValue → Type 0

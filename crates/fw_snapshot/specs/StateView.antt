@@ -1,10 +1,11 @@
 -- The history that a state stands for, and what its parts keep.
-use Rattle.std.specs.Prelude.{◌≡◌, ◌≤◌, ℕ, List, length, All, nat_lt}
+use Rattle.std.specs.Prelude.{◌≡◌, ◌≤◌, ℕ, List, length, All}
 use Rattle.fw_entry.specs.Entry.{EntryValue}
 use Rattle.fw_entry.specs.Spelling.{IsEntry}
 use Rattle.fw_persistent.specs.Counts.{count_of}
-use Rattle.fw_snapshot.specs.History.{History, rows_of, commitments_of, policy_of, entries_from}
-use Rattle.fw_snapshot.specs.Judging.{IsLegal, carries, is_registered}
+use Rattle.fw_snapshot.specs.History.{History, commitments_of, policy_of, entries_from}
+use Rattle.fw_snapshot.specs.Judging.{IsLegal}
+use Rattle.fw_snapshot.specs.Uses.{posts_with, commitments_with}
 use Rattle.fw_snapshot.specs.Heads.{entries_of, row_counts, segment_rows}
 use Rattle.fw_snapshot.specs.Held.{held_commitments, held_policy}
 use Rattle.fw_snapshot.specs.declared.state.State.TheInside.{Inside}
@@ -27,5 +28,5 @@ pub record KeepsState (s : Inside) : Type 0 where
   pub commitments : held_commitments s.commitments ≡ commitments_of (state_entries s)
   pub policy : held_policy s.policy ≡ policy_of (state_entries s)
   pub origins : (origin : List ℕ) → count_of origin s.origins ≡ entries_from origin (state_entries s)
-  pub registered : (id : List ℕ) → nat_lt 0 (count_of id s.registered) ≡ is_registered id (commitments_of (state_entries s))
-  pub carried : (id : List ℕ) → nat_lt 0 (count_of id s.carried) ≡ carries id (rows_of (state_entries s))
+  pub registered : (id : List ℕ) → count_of id s.registered ≡ commitments_with id (commitments_of (state_entries s))
+  pub carried : (id : List ℕ) → count_of id s.carried ≡ posts_with id (state_entries s)

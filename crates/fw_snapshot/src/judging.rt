@@ -1,7 +1,7 @@
 //! The verdict on an entry.
 ghost use Rattle.std.specs.Prelude.{◌≡◌};
 ghost use Rattle.fw_entry.specs.View.{command_view};
-ghost use Rattle.fw_snapshot.specs.History.{rows_of, commitments_of};
+ghost use Rattle.fw_snapshot.specs.History.{rows_posted, rows_of, commitments_of};
 ghost use Rattle.fw_snapshot.specs.Judging.{judged, command_conflict, rows_conflict, commitment_conflict, carries_any, has_registered_id};
 
 use crate::state::State;
@@ -10,7 +10,7 @@ use fw_charge::Row;
 use fw_entry::{Command, Entry};
 use fw_terms::Commitment;
 
-/// The most rows of a warehouse.
+/// The most rows that a warehouse may ever have had posted.
 const MOST_ROWS: usize = 4_194_304;
 
 /// The most commitments of a warehouse.
@@ -38,7 +38,7 @@ pub fn judge(state: &State, entry: &Entry) -> Verdict
 /// Why what a command brings can't follow what was accepted, if it can't.
 #[tactic(auto, unfolding(crate::specs::Judging::command_conflict))]
 fn command_conflict(state: &State, command: &Command) -> Option<Conflict>
-    ensures { result ≡ command_conflict (rows_of state.now.entries) (commitments_of state.now.entries) (command_view command.now) }
+    ensures { result ≡ command_conflict state.now.entries (command_view command.now) }
 {
     match command {
         Command::Post(rows) => rows_conflict(state, rows),
@@ -50,9 +50,9 @@ fn command_conflict(state: &State, command: &Command) -> Option<Conflict>
 /// Why these rows can't follow, if they can't.
 #[tactic(auto, using(std::proofs::lemmas::Bool::Decides::nat_tests), unfolding(crate::specs::Judging::rows_conflict))]
 fn rows_conflict(state: &State, rows: &[Row]) -> Option<Conflict>
-    ensures { result ≡ rows_conflict (rows_of state.now.entries) (commitments_of state.now.entries) rows.now }
+    ensures { result ≡ rows_conflict (rows_posted state.now.entries) (commitments_of state.now.entries) rows.now }
 {
-    if rows.len() > MOST_ROWS - state.rows() {
+    if rows.len() > MOST_ROWS - state.rows_posted() {
         return Some(Conflict::Full);
     }
     if carry_registered(state, rows) {

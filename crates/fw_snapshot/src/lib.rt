@@ -3,19 +3,21 @@
 //! [`judge`] and [`State::apply`] cost the same in a warehouse of ten entries and in one of a million, but for a logarithm, and what an entry
 //! itself brings. Nothing is copied for each row or entry that was accepted: heads and segments are persistent sequences, to which a push adds two
 //! blocks at most, and a new state shares the rest with the old one. No row is read again: beside the entries a state keeps counters, which
-//! say how many entries each origin sent, which ids are registered and which ids rows carry, and the verdict asks nothing else of the
-//! warehouse than these and two lengths. The counters are balanced trees, of which a new count copies one path. Commitments alone are copied
-//! when one more comes, and there are at most 256 of them.
+//! say how many entries each origin sent, how many commitments have each id and how many posts use it, and the verdict asks nothing else of
+//! the warehouse than these and two lengths. A post counts once for each id that its rows carry, so each count can be taken back. The counters
+//! are balanced trees, of which a new count copies one path. Commitments alone are copied when one more comes, and there are at most 256 of
+//! them.
 #![tactic(auto)]
 
-mod after;
 mod head;
 mod judging;
 mod laws;
+mod parts;
 mod snapshot;
 mod state;
 mod verdict;
 
+pub use fw_entry::{Command, Entry, EntryFault};
 pub use head::{Content, Head};
 pub use judging::judge;
 pub use laws::{each_entry_once, numbers_are_in_turn};

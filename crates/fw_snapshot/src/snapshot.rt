@@ -23,7 +23,7 @@ impl Model for Snapshot {
 }
 
 impl Snapshot {
-    /// The snapshot of a state. For want of memory the state is handed back.
+    /// The snapshot of a state. Out of memory, the state is handed back.
     pub fn new(state: State) -> Result<Snapshot, State>
         ensures shared { IfOk result (λ snapshot. snapshot ≡ state) }
         ensures handed_back { IfErr result (λ same. same ≡ state) }

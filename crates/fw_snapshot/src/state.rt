@@ -3,15 +3,15 @@ ghost use Rattle.std.specs.Prelude.{◌≡◌, ◌<◌, ◌≤◌, ◌++◌, ◌
 ghost use Rattle.std.specs.Option.{option_copied};
 ghost use Rattle.fw_entry.specs.Spelling.{IsEntry};
 ghost use Rattle.fw_snapshot.specs.Heads.{head_of, segment_rows};
-ghost use Rattle.fw_snapshot.specs.History.{rows_of, commitments_of, policy_of, entries_from};
+ghost use Rattle.fw_snapshot.specs.History.{rows_posted, rows_of, commitments_of, policy_of, entries_from};
 ghost use Rattle.fw_snapshot.specs.Judging.{judged, IsLegal, carries, is_registered, most_rows, most_commitments};
 ghost use Rattle.fw_snapshot.specs.declared.verdict.Verdict.TheVariants as verdict;
 
-use crate::after::{
-    carried_after, commitments_after, committed, content_of, listed, policy_after, posted,
-    registered_after, segments_after, share_list, share_policy, shared_origin,
-};
 use crate::head::Head;
+use crate::parts::{
+    carried_after, commitments_after, committed, content_of, listed, policy_after, posted,
+    registered_after, segments_after, share_list, share_policy, shared_text,
+};
 use fw_charge::Currency;
 use fw_columns::Columns;
 use fw_entry::Entry;
@@ -31,14 +31,15 @@ pub struct State {
     currency: Currency,
     heads: Sequence<Head>,
     segments: Sequence<Columns>,
+    // how many rows were posted
     rows: usize,
     commitments: Option<Arc<Vec<Commitment>>>,
     policy: Option<Arc<Policy>>,
     // how many entries of each origin were accepted
     origins: Counters,
-    // the ids of the commitments
+    // how many commitments have each id
     registered: Counters,
-    // the ids of commitments that rows carry
+    // how many posts have a row that carries each id
     carried: Counters,
 }
 
@@ -83,7 +84,7 @@ impl State {
         let command = entry.command();
         let rows = posted(command);
         let commitment = committed(command);
-        let origin = shared_origin(alloc, &self.origins, entry.origin())?;
+        let origin = shared_text(alloc, &self.origins, entry.origin())?;
         let content = content_of(alloc, command)?;
         let policy = policy_after(&self.policy, &content)?;
         let commitments = commitments_after(alloc, &self.commitments, commitment)?;
@@ -154,6 +155,14 @@ impl State {
         self.heads.len()
     }
 
+    /// How many rows were ever posted: at most 4,194,304.
+    pub(crate) fn rows_posted(&self) -> usize
+        ensures count { result ≡ length (rows_posted self.now.entries) }
+        ensures few { result ≤ most_rows }
+    {
+        self.rows
+    }
+
     /// How many rows count: at most 4,194,304.
     pub fn rows(&self) -> usize
         ensures count { result ≡ length (rows_of self.now.entries) }
@@ -185,8 +194,10 @@ impl State {
         &self.heads
     }
 
-    /// The rows of the posts, in order, in segments of 1 to 65,536 rows each, and so in at most 4,194,304 segments.
+    /// The rows that were ever posted, in order, in segments of 1 to 65,536 rows each, and so in at most 4,194,304 segments. Each of them
+    /// counts.
     pub fn segments(&self) -> &Sequence<Columns>
+        ensures posted { segment_rows result.now ≡ rows_posted self.now.entries }
         ensures rows { segment_rows result.now ≡ rows_of self.now.entries }
         ensures few { length result.now ≤ most_rows }
     {
@@ -225,14 +236,14 @@ impl State {
         self.origins.count(origin)
     }
 
-    /// Whether a commitment of this id was accepted.
+    /// Whether there is a commitment of this id.
     pub(crate) fn is_registered(&self, id: &str) -> bool
         ensures { result ≡ is_registered id.now (commitments_of self.now.entries) }
     {
         self.registered.count(id) > 0
     }
 
-    /// Whether a row that was accepted carries this id.
+    /// Whether a row that counts carries this id.
     pub(crate) fn is_carried(&self, id: &str) -> bool
         ensures { result ≡ carries id.now (rows_of self.now.entries) }
     {

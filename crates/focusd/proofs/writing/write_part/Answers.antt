@@ -5,5 +5,5 @@ use Rattle.focusd.proofs.writing.write_part.Goals as goal
 
 pub loop-rest-preserved : goal.loop-rest-preserved
 loop-rest-preserved g c =
-    let (told, split, wrote) = c.loop-rest.invariant in
-    (told ++ take c.in-Ok.count c.loop-rest.rest.now, moves_front _ told _ _ split, Appends-trans _ _ _ _ _ wrote c.in-Ok.ensures.bytes)
+    let (written, split, wrote) = c.loop-rest.invariant in
+    (written ++ take c.in-Ok.count c.loop-rest.rest.now, moves_front _ written _ _ split, Appends-trans _ _ _ _ _ wrote c.in-Ok.ensures.bytes)

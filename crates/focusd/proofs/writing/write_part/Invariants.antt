@@ -4,7 +4,7 @@ use Rattle.focusd.proofs.writing.write_part.Given as goal
 
 -- what is written and what is left are the part
 abbrev pub invariant-loop-rest : goal.invariant-loop-rest
-invariant-loop-rest g l = (told : List ℕ) × (l.part ≡ told ++ l.rest) × Appends (g.W.Write.contents l.fn.writer) (g.W.Write.contents l.writer) told
+invariant-loop-rest g l = (written : List ℕ) × (l.part ≡ written ++ l.rest) × Appends (g.W.Write.contents l.fn.writer) (g.W.Write.contents l.writer) written
 
 abbrev pub decreases-loop-rest : goal.decreases-loop-rest
 decreases-loop-rest g l = length l.rest

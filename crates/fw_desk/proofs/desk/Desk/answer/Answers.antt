@@ -9,15 +9,15 @@ returns-in-Entry c = rw c.in-Entry.is c.enter.ensures
 
 pub returns-in-Report : goal.returns-in-Report
 unfolding Answer
-returns-in-Report c = rw c.in-Report.is (c.tell_report.ensures, refl)
+returns-in-Report c = rw c.in-Report.is (c.answer_report.ensures, refl)
 
 pub returns-in-Lines : goal.returns-in-Lines
 unfolding Answer
-returns-in-Lines c = rw c.in-Lines.is (c.tell_lines.ensures, refl)
+returns-in-Lines c = rw c.in-Lines.is (c.answer_lines.ensures, refl)
 
 pub returns-in-State : goal.returns-in-State
 unfolding Answer
-returns-in-State c = rw c.in-State.is (c.tell_state.ensures, refl)
+returns-in-State c = rw c.in-State.is (c.answer_state.ensures, refl)
 
 pub returns-in-BadCommand : goal.returns-in-BadCommand
 unfolding Answer reply_text

@@ -2,6 +2,6 @@ use Rattle.std.proofs.Common.{refl}
 use Rattle.fw_desk.specs.ReplyText.{reply_text}
 use Rattle.fw_desk.proofs.desk.Desk.hold.Goals as goal
 
-pub returns-clause-told : goal.returns-clause-told
+pub returns-clause-reply : goal.returns-clause-reply
 unfolding reply_text
-returns-clause-told c = rw c.entries.ensures.count refl
+returns-clause-reply c = rw c.entries.ensures.count refl

@@ -6,7 +6,7 @@ use Rattle.fw_desk.proofs.desk.Desk.submit.Goals as goal
 pub returns-in-Ok-clause-judges : goal.returns-in-Ok-clause-judges
 returns-in-Ok-clause-judges c =
     let same : c.self.inside.state ≡ c.args.self.now = c.self.view_is in
-    Judges-accepted _ _ _ _ c.in-Ok.state (rw same at (sym c.in-Accept.ensures)) c.hold.ensures.held (rw same at c.in-Ok.ensures) c.hold.ensures.told
+    Judges-accepted _ _ _ _ c.in-Ok.state (rw same at (sym c.in-Accept.ensures)) c.hold.ensures.held (rw same at c.in-Ok.ensures) c.hold.ensures.reply
 
 pub returns-in-Err-clause-judges : goal.returns-in-Err-clause-judges
 unfolding reply_text

@@ -1,10 +1,11 @@
-use Rattle.std.proofs.Common.{◌+◌, ◌++◌, ◌∷◌, [], ◌||◌, nat_lt, if◌then◌else◌, length, refl, ap, ◌∙◌, arith}
+use Rattle.std.proofs.Common.{◌+◌, ◌++◌, ◌∷◌, [], if◌then◌else◌, length, refl, ap, ◌∙◌, arith}
 use Rattle.std.specs.Str.{bytes_eq}
 use Rattle.fw_persistent.specs.Counts.{count_of}
 use Rattle.fw_snapshot.specs.Heads.{content_of, segment_rows}
 use Rattle.fw_snapshot.specs.Held.{held_commitments, held_policy}
 use Rattle.fw_snapshot.specs.History.{posted, committed}
-use Rattle.fw_snapshot.specs.Judging.{judged, carries, is_registered}
+use Rattle.fw_snapshot.specs.Judging.{judged, carries}
+use Rattle.fw_snapshot.specs.Uses.{commitments_with}
 use Rattle.fw_snapshot.specs.declared.state.State.TheInside.{Inside}
 use Rattle.fw_snapshot.proofs.Following.{Follows, follows_keeps, follows_view, follows_fits, head_made, policy_by_content}
 use Rattle.fw_snapshot.proofs.state.State.apply.Goals as goal
@@ -35,8 +36,8 @@ invariant_of-result c =
       commitments = c.in_ok-commitments.ensures ∙ ap (λ xs. held_commitments s.commitments ++ xs) committed_is;
       policy = c.in_ok-policy.ensures ∙ policy_by_content (held_policy s.policy) _ e.command content_is;
       origins = λ o. c.in_ok-origins.ensures.counts o ∙ ap (λ text. count_of o s.origins + (if bytes_eq o text then 1 else 0)) origin_is;
-      registered = λ id. c.in_ok-registered.ensures id ∙ ap (λ xs. nat_lt 0 (count_of id s.registered) || is_registered id xs) committed_is;
-      carried = λ id. c.in_ok-carried.ensures id ∙ ap (λ xs. nat_lt 0 (count_of id s.carried) || carries id xs) posted_is;
+      registered = λ id. c.in_ok-registered.ensures id ∙ ap (λ xs. count_of id s.registered + commitments_with id xs) committed_is;
+      carried = λ id. c.in_ok-carried.ensures id ∙ ap (λ xs. count_of id s.carried + (if carries id xs then 1 else 0)) posted_is;
     })
 
 pub returns : goal.returns
@@ -68,7 +69,7 @@ returns c =
       commitments = c.in_ok-commitments.ensures ∙ ap (λ xs. held_commitments s.commitments ++ xs) committed_is;
       policy = c.in_ok-policy.ensures ∙ policy_by_content (held_policy s.policy) _ e.command content_is;
       origins = λ o. c.in_ok-origins.ensures.counts o ∙ ap (λ text. count_of o s.origins + (if bytes_eq o text then 1 else 0)) origin_is;
-      registered = λ id. c.in_ok-registered.ensures id ∙ ap (λ xs. nat_lt 0 (count_of id s.registered) || is_registered id xs) committed_is;
-      carried = λ id. c.in_ok-carried.ensures id ∙ ap (λ xs. nat_lt 0 (count_of id s.carried) || carries id xs) posted_is;
+      registered = λ id. c.in_ok-registered.ensures id ∙ ap (λ xs. count_of id s.registered + commitments_with id xs) committed_is;
+      carried = λ id. c.in_ok-carried.ensures id ∙ ap (λ xs. count_of id s.carried + (if carries id xs then 1 else 0)) posted_is;
     } in
     follows_view s made c.args.self.now e c.self.view_is c.self.invariant refl follows

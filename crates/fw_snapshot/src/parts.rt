@@ -1,5 +1,5 @@
-//! The parts of a state after a command.
-ghost use Rattle.std.specs.Prelude.{◌≡◌, ◌<◌, ◌≤◌, ◌+◌, ◌++◌, ◌∷◌, [], ◌||◌, ℕ, List, length, nat_lt, option_map, string_bytes, IfOk, if◌then◌else◌};
+//! The parts of a state, and what each of them is after a command.
+ghost use Rattle.std.specs.Prelude.{◌≡◌, ◌<◌, ◌≤◌, ◌+◌, ◌++◌, ◌∷◌, [], ◌&&◌, ℕ, List, length, nat_le, option_map, string_bytes, IfOk, if◌then◌else◌};
 ghost use Rattle.std.specs.Str.{bytes_eq};
 ghost use Rattle.std.specs.Option.{option_copied, option_to_list};
 ghost use Rattle.fw_entry.specs.View.{command_view};
@@ -7,7 +7,8 @@ ghost use Rattle.fw_persistent.specs.Counts.{count_of};
 ghost use Rattle.fw_snapshot.specs.Heads.{command_of, content_of, segment_rows};
 ghost use Rattle.fw_snapshot.specs.HeadView.{content_view};
 ghost use Rattle.fw_snapshot.specs.History.{posted, committed, policy_after};
-ghost use Rattle.fw_snapshot.specs.Judging.{carries, has_id, is_registered};
+ghost use Rattle.fw_snapshot.specs.Judging.{carries, has_id};
+ghost use Rattle.fw_snapshot.specs.Uses.{commitments_with};
 ghost use Rattle.fw_snapshot.specs.Held.{held_commitments, held_policy};
 
 use crate::head::Content;
@@ -53,17 +54,17 @@ pub(crate) fn content_of(alloc: Global, command: &Command) -> Result<Content, Al
     }
 }
 
-/// The text of an origin: the one that is shared by all its entries, or a new one where it has none.
-pub(crate) fn shared_origin(
+/// The text that the counters have for this one, for all to share, or a new one where they have none.
+pub(crate) fn shared_text(
     alloc: Global,
-    origins: &Counters,
-    origin: &str,
+    counters: &Counters,
+    text: &str,
 ) -> Result<Arc<String>, AllocError>
-    ensures { IfOk result (λ text. string_bytes text.value ≡ origin.now) }
+    ensures { IfOk result (λ shared. string_bytes shared.value ≡ text.now) }
 {
-    match origins.key(origin) {
-        Some(text) => Arc::try_clone(text),
-        None => Ok(Arc::new(alloc, String::from_str(alloc, origin)?)?),
+    match counters.key(text) {
+        Some(shared) => Arc::try_clone(shared),
+        None => Ok(Arc::new(alloc, String::from_str(alloc, text)?)?),
     }
 }
 
@@ -162,52 +163,70 @@ pub(crate) fn share_policy(policy: &Option<Arc<Policy>>) -> Result<Option<Arc<Po
     }
 }
 
-/// The ids of commitments with that of one more, if there is one more.
+/// How many commitments have each id, with one commitment more, if there is one more.
 pub(crate) fn registered_after(
     alloc: Global,
     registered: &Counters,
     more: Option<&Commitment>,
 ) -> Result<Counters, AllocError>
-    ensures { IfOk result (λ after. (id : List ℕ) → nat_lt 0 (count_of id after) ≡ (nat_lt 0 (count_of id registered.now) || is_registered id (option_to_list (option_copied more.entry)))) }
+    ensures { IfOk result (λ after. (id : List ℕ) → count_of id after ≡ count_of id registered.now + commitments_with id (option_to_list (option_copied more.entry))) }
 {
     match more {
-        Some(more) => with_id(alloc, registered, more.id()),
+        Some(more) => counted(alloc, registered, more.id()),
         None => registered.copy(),
     }
 }
 
-/// The ids that rows carry, with those that these rows carry.
+/// How many posts have a row that carries each id, with one post of these rows more.
 pub(crate) fn carried_after(
     alloc: Global,
     carried: &Counters,
     rows: &[Row],
 ) -> Result<Counters, AllocError>
-    ensures { IfOk result (λ after. (id : List ℕ) → nat_lt 0 (count_of id after) ≡ (nat_lt 0 (count_of id carried.now) || carries id rows.now)) }
+    ensures { IfOk result (λ after. (id : List ℕ) → count_of id after ≡ count_of id carried.now + (if carries id rows.now then 1 else 0)) }
 {
     let mut after = carried.copy()?;
     for row in rows {
-        after = carried_with(alloc, &after, row)?;
+        after = carried_with(alloc, carried, &after, row)?;
     }
     Ok(after)
 }
 
-/// The ids that rows carry, with that of one more row.
-fn carried_with(alloc: Global, carried: &Counters, row: &Row) -> Result<Counters, AllocError>
-    ensures { IfOk result (λ after. (id : List ℕ) → nat_lt 0 (count_of id after) ≡ (nat_lt 0 (count_of id carried.now) || has_id id row.now)) }
+/// The counts `after`, in which the post is counted for some of its rows, with the post counted for the id of this row too: where its count
+/// is above the one `before` the post, an earlier row of the post has the same id.
+fn carried_with(
+    alloc: Global,
+    before: &Counters,
+    after: &Counters,
+    row: &Row,
+) -> Result<Counters, AllocError>
+    ensures { IfOk result (λ next. (id : List ℕ) → count_of id next ≡ count_of id after.now + (if has_id id row.now && nat_le (count_of id after.now) (count_of id before.now) then 1 else 0)) }
 {
     match row.discount() {
-        Some(discount) => with_id(alloc, carried, discount.id()),
-        None => carried.copy(),
+        Some(discount) => counted_unless_above(alloc, before, after, discount.id()),
+        None => after.copy(),
     }
 }
 
-/// The ids with one more, which is counted when it is first seen.
-fn with_id(alloc: Global, ids: &Counters, id: &str) -> Result<Counters, AllocError>
-    ensures { IfOk result (λ after. (other : List ℕ) → nat_lt 0 (count_of other after) ≡ (nat_lt 0 (count_of other ids.now) || bytes_eq other id.now)) }
+/// The counts `after` with an id counted once more, unless its count is above the one `before`.
+fn counted_unless_above(
+    alloc: Global,
+    before: &Counters,
+    after: &Counters,
+    id: &str,
+) -> Result<Counters, AllocError>
+    ensures { IfOk result (λ next. (other : List ℕ) → count_of other next ≡ count_of other after.now + (if bytes_eq other id.now && nat_le (count_of other after.now) (count_of other before.now) then 1 else 0)) }
 {
-    if ids.count(id) > 0 {
-        return ids.copy();
+    if after.count(id) > before.count(id) {
+        return after.copy();
     }
-    let text = Arc::new(alloc, String::from_str(alloc, id)?)?;
-    ids.raised(alloc, &text)
+    counted(alloc, after, id)
+}
+
+/// The counts with an id counted once more.
+fn counted(alloc: Global, counts: &Counters, id: &str) -> Result<Counters, AllocError>
+    ensures { IfOk result (λ after. (other : List ℕ) → count_of other after ≡ count_of other counts.now + (if bytes_eq other id.now then 1 else 0)) }
+{
+    let text = shared_text(alloc, counts, id)?;
+    counts.raised(alloc, &text)
 }

@@ -2,7 +2,7 @@ use Rattle.std.proofs.Common.{◌≡◌, refl}
 use Rattle.fw_desk.specs.Replies.{state_line}
 use Rattle.fw_desk.specs.ReplyText.{reply_text}
 use Rattle.fw_desk.proofs.AnswerFacts.{policy_counted}
-use Rattle.fw_desk.proofs.desk.Desk.tell_state.Goals as goal
+use Rattle.fw_desk.proofs.desk.Desk.answer_state.Goals as goal
 
 pub returns : goal.returns
 unfolding reply_text state_line

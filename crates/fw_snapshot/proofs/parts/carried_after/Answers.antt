@@ -1,5 +1,5 @@
 use Rattle.fw_snapshot.proofs.EntryFacts.{counts_first, counts_next}
-use Rattle.fw_snapshot.proofs.after.carried_after.Goals as goal
+use Rattle.fw_snapshot.proofs.parts.carried_after.Goals as goal
 
 pub loop-row-init : goal.loop-row-init
 loop-row-init c = counts_first c.args.carried.now c.in_ok-after.after c.in_ok-after.ensures

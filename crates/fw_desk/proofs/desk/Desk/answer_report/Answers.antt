@@ -1,6 +1,6 @@
 use Rattle.fw_desk.specs.ReplyText.{reply_text}
 use Rattle.fw_desk.proofs.AnswerFacts.{ReportAnswer-text, ReportAnswer-none}
-use Rattle.fw_desk.proofs.desk.Desk.tell_report.Goals as goal
+use Rattle.fw_desk.proofs.desk.Desk.answer_report.Goals as goal
 
 pub returns-in-Ok : goal.returns-in-Ok
 unfolding reply_text
