@@ -12,8 +12,8 @@ use Rattle.fw_segment.specs.States.{state_at}
 use Rattle.fw_snapshot.specs.History.{History}
 use Rattle.fw_snapshot.specs.Verdicts.{with_more}
 use Rattle.fw_recover.specs.Sides.{generation_of, body_of, log_start_of, HasMagic, IsOpen, IsSound}
-use Rattle.fw_recover.specs.Stands.{joined, SideTells, IsNewest, StandsFor, StandsForNone}
-use Rattle.fw_recover.specs.Corrupt.{LacksAt, Lacks, AreTwins, BodyBreaks, BreaksBehind, Breaks, CorruptAt}
+use Rattle.fw_recover.specs.Stands.{joined, SideTells, IsNewest, StandsFor, StandsForNone, StandsForEither}
+use Rattle.fw_recover.specs.Corrupt.{LacksAt, Lacks, AreTwins, BodyBreaks, BreaksBehind, Breaks, CorruptAt, IsRecovered}
 use Rattle.fw_recover.proofs.Files.{form_one, made_magic, made_body}
 use Rattle.fw_recover.proofs.Walks.{Walks, walks_one, tells_walks, breaks_walks}
 
@@ -162,3 +162,24 @@ corrupt_one c s t p q (inr (inl a)) (inr (inr b)) = absurd (newest_has_no_twin c
 corrupt_one c s t p q (inr (inr a)) (inl b) = absurd (newest_lacks_nothing c s t q a.newest b)
 corrupt_one c s t p q (inr (inr a)) (inr (inl b)) = absurd (newest_has_no_twin c s t q a.newest b)
 corrupt_one c s t p q (inr (inr a)) (inr (inr b)) = breaks_breaks c s t p q a b
+
+-- ---- recovery
+
+-- one of two warehouses for which an image stands
+either_of : (h : History) (more : List EntryValue) (c : Image) (g : History) → StandsFor g c → StandsForEither h more c → (g ≡ h) ⊎ (g ≡ with_more h more)
+either_of h more c g s (inl was) = inl (stands_one c g h s was)
+either_of h more c g s (inr with_it) = inr (stands_one c g (with_more h more) s with_it)
+
+some_history : (h : History) (more : List EntryValue) (c : Image) → StandsForEither h more c → (g : History) × StandsFor g c
+some_history h more c (inl was) = (h, was)
+some_history h more c (inr with_it) = (with_more h more, with_it)
+
+pub recovered : (h : History) (more : List EntryValue) (c : Image) → StandsForEither h more c → IsRecovered h more c
+recovered h more c either =
+    let one = some_history h more c either in
+    record {
+      one_of_both = λ g s. either_of h more c g s either;
+      some = either;
+      not_none = stands_not_none c one.0 one.1;
+      not_corrupt = λ side at. stands_not_corrupt c one.0 side at one.1;
+    }

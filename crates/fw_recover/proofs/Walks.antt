@@ -97,11 +97,11 @@ goes_one form entries [] (h ∷ hs) x y bytes a b is also = absurd (no_groups fo
 goes_one form entries (g ∷ gs) [] x y bytes a b is also = absurd (no_groups form entries g gs y x bytes b a also is)
 goes_one form entries (g ∷ gs) (h ∷ hs) x y bytes a b is also =
     let first = frame_one (group g) (group h) (spelled (map group gs) ++ x) (spelled (map group hs) ++ y) bytes a.fit.0 b.fit.0
-        (is ∙ spelled-cons (group g) (map group gs) x) (also ∙ spelled-cons (group h) (map group hs) y) in
+    (is ∙ spelled-cons (group g) (map group gs) x) (also ∙ spelled-cons (group h) (map group hs) y) in
     let same : g ≡ h = group_one form g h (All-head IsGroup g gs a.each) (All-head IsGroup h hs b.each) first.0 in
     let others = goes_one form (entries ++ g) gs hs x y (spelled (map group gs) ++ x) (goes_tail form entries g gs x a)
-        (subst (λ (es : List EntryValue). Goes form (entries ++ es) hs y) (sym same) (goes_tail form entries h hs y b))
-        refl first.1 in
+    (subst (λ (es : List EntryValue). Goes form (entries ++ es) hs y) (sym same) (goes_tail form entries h hs y b))
+    refl first.1 in
     (cc (same, others.0), others.1)
 
 -- ---- a file
@@ -118,7 +118,7 @@ walks_same form s t gs hs x y file a b =
     let both : Ok s ≡ Ok t = sym a.read ∙ b.read in
     let same : s ≡ t = cc in
     let rest = goes_one form s.entries gs hs x y (drop (log_start_of file) file) a.goes
-        (subst (λ (h : History). Goes form h.entries hs y) (sym same) b.goes) a.is b.is in
+    (subst (λ (h : History). Goes form h.entries hs y) (sym same) b.goes) a.is b.is in
     (same, rest.0, rest.1)
 
 pub walks_one : (f g : Form) (s t : History) (gs hs : List (List EntryValue)) (x y file : List ℕ) → Walks f s gs x file → Walks g t hs y file → (s ≡ t) × (gs ≡ hs) × (x ≡ y)

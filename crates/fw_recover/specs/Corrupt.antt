@@ -13,8 +13,9 @@ use Rattle.fw_segment.specs.Groups.{group, group_at, IsGroup}
 use Rattle.fw_segment.specs.States.{state_at}
 use Rattle.fw_snapshot.specs.History.{History}
 use Rattle.fw_snapshot.specs.Judging.{IsLegal, IsLegalAfter}
+use Rattle.fw_snapshot.specs.Verdicts.{with_more}
 use Rattle.fw_recover.specs.Sides.{generation_of, body_of, log_start_of, HasMagic, IsOpen, IsSound}
-use Rattle.fw_recover.specs.Stands.{joined, IsNewest}
+use Rattle.fw_recover.specs.Stands.{joined, IsNewest, StandsFor, StandsForNone, StandsForEither}
 
 -- the magic word is that of a form
 abbrev pub IsSigned : List ℕ → Type 0
@@ -76,3 +77,10 @@ pub record Breaks (c : Image) (side : Side) (at : ℕ) : Type 0 where
 -- the two files are corrupt at this offset of this side
 abbrev pub CorruptAt : Image → Side → ℕ → Type 0
 CorruptAt c side at = Lacks c side at ⊎ (AreTwins c side at ⊎ Breaks c side at)
+
+-- the files can be opened as the warehouse, or as it with all of these entries, and as nothing else
+pub record IsRecovered (h : History) (more : List EntryValue) (c : Image) : Type 0 where
+  pub one_of_both : (g : History) → StandsFor g c → (g ≡ h) ⊎ (g ≡ with_more h more)
+  pub some : StandsForEither h more c
+  pub not_none : StandsForNone c → ⊥
+  pub not_corrupt : (side : Side) (at : ℕ) → CorruptAt c side at → ⊥

@@ -6,5 +6,10 @@
 #![tactic(auto)]
 
 mod laws;
+mod sides;
 
-pub use laws::images_have_one_meaning;
+pub use laws::{
+    an_append_adds_a_group_or_nothing, each_moment_is_recovered, images_have_one_meaning,
+    making_a_side_keeps_the_warehouse,
+};
+pub use sides::{close_side, fill_side, make_side, open_side};
