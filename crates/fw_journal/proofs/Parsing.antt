@@ -52,21 +52,31 @@ four (a ∷ b ∷ c ∷ []) long = absurd (omega arith)
 four (a ∷ b ∷ c ∷ d ∷ []) long = absurd (omega arith)
 four (a ∷ b ∷ c ∷ d ∷ e ∷ rest) long = refl
 
--- the first byte, read alone
-pub gate_read : (bytes into : List ℕ) → length into ≡ 1 → into ≡ take (length into) bytes → get_or bytes 0 0 ≡ get_or into 0 0
-gate_read bytes into one is = go bytes (is ∙ ap (λ (k : ℕ). take k bytes) one)
-  where
-    go : (bs : List ℕ) → into ≡ take 1 bs → get_or bs 0 0 ≡ get_or into 0 0
-    go [] same = sym (ap (λ (l : List ℕ). get_or l 0 0) same)
-    go (b ∷ bs) same = sym (ap (λ (l : List ℕ). get_or l 0 0) same)
+-- the first byte, where it was read with others into the front of a list
+pub gate_read : (bytes into more : List ℕ) → 1 ≤ length into → into ≡ take (length into) bytes → get_or bytes 0 0 ≡ get_or (into ++ more) 0 0
+gate_read bytes [] more some is = absurd (omega arith)
+gate_read [] (x ∷ into) more some is = absurd (cc)
+gate_read (b ∷ bytes) (x ∷ into) more some is =
+    let same : b ≡ x = cc in
+    same
+
+five : (into more : List ℕ) → 5 ≤ length into
+    → get_or into 1 0 ∷ get_or into 2 0 ∷ get_or into 3 0 ∷ get_or into 4 0 ∷ [] ≡ get_or (into ++ more) 1 0 ∷ get_or (into ++ more) 2 0 ∷ get_or (into ++ more) 3 0 ∷ get_or (into ++ more) 4 0 ∷ []
+five [] more long = absurd (omega arith)
+five (a ∷ []) more long = absurd (omega arith)
+five (a ∷ b ∷ []) more long = absurd (omega arith)
+five (a ∷ b ∷ c ∷ []) more long = absurd (omega arith)
+five (a ∷ b ∷ c ∷ d ∷ []) more long = absurd (omega arith)
+five (a ∷ b ∷ c ∷ d ∷ e ∷ rest) more long = refl
 
 -- the four bytes behind it
-pub size_read : (file seen size : List ℕ) (gate : ℕ) → seen ≡ file → length size ≡ 4 → size ≡ take (length size) (drop (gate + 1) seen) → take 4 (drop 1 (drop gate file)) ≡ size
-size_read file seen size gate same four_long is =
-    ap (λ (l : List ℕ). take 4 l) (drop-drop 1 gate file)
-    ∙ ap (λ (l : List ℕ). take 4 (drop (gate + 1) l)) (sym same)
-    ∙ ap (λ (k : ℕ). take k (drop (gate + 1) seen)) (sym four_long)
-    ∙ sym is
+pub size_read : (bytes into more : List ℕ) → length into ≡ 5 → into ≡ take (length into) bytes
+    → take 4 (drop 1 bytes) ≡ get_or (into ++ more) 1 0 ∷ get_or (into ++ more) 2 0 ∷ get_or (into ++ more) 3 0 ∷ get_or (into ++ more) 4 0 ∷ []
+size_read bytes into more long is =
+    let same : into ≡ take 5 bytes = is ∙ ap (λ (k : ℕ). take k bytes) long in
+    four bytes (omega (arith, ap (λ (l : List ℕ). length l) same, length-take 5 bytes))
+    ∙ ap (λ (l : List ℕ). get_or l 1 0 ∷ get_or l 2 0 ∷ get_or l 3 0 ∷ get_or l 4 0 ∷ []) (sym same)
+    ∙ five into more (omega (arith, long))
 
 open_gate : (bytes : List ℕ) → get_or bytes 0 0 ≡ 1 → (gate : ℕ) (rest : List ℕ) → bytes ≡ gate ∷ rest → gate ≡ 1
 open_gate bytes is_open gate rest is = sym (ap (λ (l : List ℕ). get_or l 0 0) is) ∙ is_open
@@ -77,3 +87,24 @@ broken_short bytes is_open short = record { no_closed_gate = open_gate bytes is_
 pub broken_unfit : (bytes : List ℕ) → get_or bytes 0 0 ≡ 1
     → ((n : ℕ) → 1 ≤ n → n ≤ 8388608 → n ≤ length (drop 5 bytes) → take 4 (drop 1 bytes) ≡ to_le_bytes w32 n → ⊥) → IsBroken bytes
 broken_unfit bytes is_open unfit = record { no_closed_gate = open_gate bytes is_open; no_frame = unfit_no_frame bytes unfit }
+
+-- the payload behind the gate and its length
+pub payload_read : (file seen payload rest into : List ℕ) (gate : ℕ) → seen ≡ file → drop gate file ≡ open_frame payload ++ rest
+    → length into ≡ length payload → into ≡ take (length into) (drop (gate + 5) seen) → into ≡ payload
+unfolding sized
+payload_read file seen payload rest into gate same frame long is =
+    let size : List ℕ = to_le_bytes w32 (length payload) in
+    let behind : drop (gate + 5) file ≡ payload ++ rest =
+    sym (drop-drop 5 gate file)
+    ∙ ap (λ (l : List ℕ). drop 5 l) frame
+    ∙ ap (λ (l : List ℕ). drop 4 l) (append_assoc size payload rest)
+    ∙ drop_at size (payload ++ rest) 4 refl in
+    is
+    ∙ ap (λ (k : ℕ). take k (drop (gate + 5) seen)) long
+    ∙ ap (λ (l : List ℕ). take (length payload) (drop (gate + 5) l)) same
+    ∙ ap (λ (l : List ℕ). take (length payload) l) behind
+    ∙ take_at payload rest (length payload) refl
+
+-- bytes that take the place of all of a list
+pub written_back : (into items : List ℕ) (n : ℕ) → length into ≡ n → take n (into ++ drop (length into) items) ≡ into
+written_back into items n long = take_at into (drop (length into) items) n long

@@ -1,5 +1,6 @@
 -- What a log is on its volume, and what an append leaves of it.
-use Rattle.std.specs.Prelude.{◌≡◌, ◌≢◌, ◌⊎◌, ℕ, ◌+◌, ◌<◌, ◌≤◌, Bool, false, IsTrue, List, [], ◌∷◌, ◌++◌, length, take, drop, Option, Some, None, max}
+use Rattle.std.specs.Prelude.{◌≡◌, ◌≢◌, ◌⊎◌, ℕ, ◌+◌, ◌<◌, ◌≤◌, Bool, false, IsTrue, List, [], ◌∷◌, ◌++◌, length, take, drop, Option, Some, None, Vec, max}
+use Rattle.std.specs.declared.alloc.Global.{Global}
 use Rattle.fw_disk.specs.declared.volume.Side.{Side}
 use Rattle.fw_disk.specs.Volume.{Image, View, Settled, other}
 use Rattle.fw_journal.specs.Frames.{open_frame, spelled, IsFit, Tells}
@@ -63,3 +64,8 @@ pub record Framed (side : Side) (gate : ℕ) (frame : List ℕ) (old new : View)
 abbrev pub LeadsTo : ℕ → List ℕ → Option ℕ → Type 0
 LeadsTo gate bytes None = (byte : ℕ) × (rest : List ℕ) × (bytes ≡ byte ∷ rest) × (byte ≢ 1)
 LeadsTo gate bytes (Some next) = (payload : List ℕ) × (rest : List ℕ) × IsFit payload × (bytes ≡ open_frame payload ++ rest) × (next ≡ gate + 5 + length payload)
+
+-- what stands at a gate: it is closed, or the payload of its frame, and the gate behind the frame
+abbrev pub IsFrameAt : ℕ → List ℕ → Option (Vec ℕ Global × ℕ) → Type 0
+IsFrameAt gate bytes None = (byte : ℕ) × (rest : List ℕ) × (bytes ≡ byte ∷ rest) × (byte ≢ 1)
+IsFrameAt gate bytes (Some frame) = (rest : List ℕ) × IsFit frame.0.items × (bytes ≡ open_frame frame.0.items ++ rest) × (frame.1 ≡ gate + 5 + length frame.0.items)

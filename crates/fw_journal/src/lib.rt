@@ -9,12 +9,14 @@
 
 mod fault;
 mod frame;
+mod gate;
 mod laws;
 mod log;
 mod reading;
 mod writing;
 
 pub use fault::LogFault;
+pub use gate::frame_at;
 pub use laws::one_reading;
 pub use log::Log;
 pub use reading::replay;

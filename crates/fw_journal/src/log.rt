@@ -1,13 +1,13 @@
 //! A log that stands on its volume, and grows by one payload at a time.
-ghost use Rattle.std.specs.Option.{ForSome};
 ghost use Rattle.std.specs.Prelude.{◌≡◌, ◌⊎◌, ◌↔◌, ◌+◌, ◌^◌, ◌<◌, ◌≤◌, ◌++◌, ◌∷◌, [], List, ℕ, length, drop, false, true, IfOk, OnOk, OnErr, IsErrOf, IsTrue, max};
 ghost use Rattle.fw_disk.specs.Volume.{Rose, LeavesOnly, Settled, SameSizes, Calm, other};
 ghost use Rattle.fw_journal.specs.declared.fault.LogFault.TheVariants.{Device, Corrupt, Failed, TooLarge, NoMemory};
-ghost use Rattle.fw_journal.specs.Frames.{BreaksAt, IsBroken, IsFit};
-ghost use Rattle.fw_journal.specs.Log.{Stands, IsReady, Appends, Lengthens, LeadsTo};
+ghost use Rattle.fw_journal.specs.Frames.{BreaksAt, IsFit};
+ghost use Rattle.fw_journal.specs.Log.{Stands, IsReady, Appends, Lengthens};
 
 use crate::LogFault;
-use crate::frame::{fit_len, framed};
+use crate::frame::framed;
+use crate::gate::next_gate;
 use crate::writing::write_frame;
 use fw_disk::{Side, Volume};
 use std::alloc::Global;
@@ -56,15 +56,21 @@ impl Log {
             match next_gate(volume, side, gate) {
                 Err(fault) => return Err(fault),
                 Ok(Some(next)) => gate = next,
-                Ok(None) => {
-                    return Ok(Log {
-                        side,
-                        start,
-                        end: gate,
-                        failed: false,
-                    });
-                }
+                Ok(None) => return Ok(Log::at(side, start, gate)),
             }
+        }
+    }
+
+    /// The log on a side whose first gate is at `start` and whose first closed gate is at `end`, for a caller that has
+    /// walked from the one to the other, or has just written them. It reads nothing and takes no memory.
+    pub fn at(side: Side, start: u64, end: u64) -> Log
+        ensures { result ≡ record { side = side; start = start; end = end; failed = false } }
+    {
+        Log {
+            side,
+            start,
+            end,
+            failed: false,
         }
     }
 
@@ -149,44 +155,5 @@ impl Log {
         ensures { result ≡ self.now.failed }
     {
         self.failed
-    }
-}
-
-/// The gate behind the frame at an open gate; none at a closed one.
-fn next_gate<V: Volume>(volume: &mut V, side: Side, gate: u64) -> Result<Option<u64>, LogFault>
-    ensures found { IfOk result (λ next. IsTrue V.tells → LeadsTo gate (drop gate ((V.view volume.old).seen side)) next) }
-    ensures within { IfOk result (λ next. gate < (V.view volume.old).size side) }
-    ensures ahead { IfOk result (λ next. ForSome next (λ next. (gate < next) × (next ≤ (V.view volume.old).size side))) }
-    ensures corrupt { (at : ℕ) → IsErrOf result (Corrupt at) → (at ≡ gate) × (IsTrue V.tells → IsBroken (drop gate ((V.view volume.old).seen side))) }
-
-    ensures calm { IsTrue V.tells → Calm (V.view volume.old) (V.view volume.new) }
-    ensures sizes { SameSizes (V.view volume.old) (V.view volume.new) }
-    ensures later { (V.view volume.old).failures ≤ (V.view volume.new).failures }
-    ensures device { IsErrOf result Device → Rose (V.view volume.old).failures (V.view volume.new).failures }
-    ensures not_failed { IsErrOf result Failed → ⊥ }
-    ensures not_too_large { IsErrOf result TooLarge → ⊥ }
-    ensures not_no_memory { IsErrOf result NoMemory → ⊥ }
-{
-    let len = volume.len(side);
-    if gate >= len {
-        return Err(LogFault::Corrupt { at: gate });
-    }
-    let mut byte = [0];
-    let Ok(()) = volume.read(side, gate, &mut byte) else {
-        return Err(LogFault::Device);
-    };
-    if byte[0] != 1 {
-        return Ok(None);
-    }
-    if len - gate < 5 {
-        return Err(LogFault::Corrupt { at: gate });
-    }
-    let mut size = [0; 4];
-    let Ok(()) = volume.read(side, gate + 1, &mut size) else {
-        return Err(LogFault::Device);
-    };
-    match fit_len(size, len - gate - 5) {
-        Some(payload) => Ok(Some(gate + 5 + payload)),
-        None => Err(LogFault::Corrupt { at: gate }),
     }
 }

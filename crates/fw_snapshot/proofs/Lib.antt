@@ -2,3 +2,4 @@ pub mod EntryFacts
 pub mod HeadFacts
 pub mod LegalFacts
 pub mod Following
+pub mod VerdictFacts

@@ -6,3 +6,4 @@ pub mod HeadView
 pub mod Held
 pub mod StateView
 pub mod SnapshotView
+pub mod Verdicts

@@ -20,7 +20,7 @@ mod verdict;
 pub use fw_entry::{Command, Entry, EntryFault};
 pub use head::{Content, Head};
 pub use judging::judge;
-pub use laws::{each_entry_once, numbers_are_in_turn};
+pub use laws::{each_entry_once, entries_are_judged_in_turn, numbers_are_in_turn};
 pub use snapshot::Snapshot;
 pub use state::State;
 pub use verdict::{Conflict, Verdict};

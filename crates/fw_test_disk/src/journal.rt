@@ -101,6 +101,38 @@ fn a_frame_has_its_bytes(rt: HostRuntime) -> Result<(), Fail> {
     Ok(())
 }
 
+// A frame whose length has a byte too many ends at the end of the file: its own payload is found before the gate that
+// is missing behind it.
+#[test]
+fn a_frame_is_read_before_the_next_gate(rt: HostRuntime) -> Result<(), Fail> {
+    let alloc = rt.alloc();
+    let mut volume = with_left(alloc, 100, Choice::Old, &EMPTY_LOG)?;
+    write_synced(&mut volume, Side::Left, 44, &FRAME)?;
+    match frame_at(alloc, &mut volume, Side::Left, 44)? {
+        Some((payload, next)) => {
+            assert_eq!(rt; payload.as_slice(), PAYLOAD.as_slice());
+            assert_eq!(rt; next, 76);
+        }
+        None => assert!(rt; false),
+    }
+    assert!(rt; frame_at(alloc, &mut volume, Side::Left, 76)?.is_none());
+    write_synced(&mut volume, Side::Left, 45, &[28])?;
+    let opened = Log::open(&mut volume, Side::Left, 44);
+    assert_eq!(rt; opened.err(), Some(LogFault::Corrupt { at: 77 }));
+    match frame_at(alloc, &mut volume, Side::Left, 44)? {
+        Some((payload, next)) => {
+            assert_eq!(rt; payload.len(), 28);
+            assert_eq!(rt; next, 77);
+        }
+        None => assert!(rt; false),
+    }
+    match frame_at(alloc, &mut volume, Side::Left, 77) {
+        Ok(_) => assert!(rt; false),
+        Err(fault) => assert_eq!(rt; fault, LogFault::Corrupt { at: 77 }),
+    }
+    Ok(())
+}
+
 // Without a fault or a crash, the old payloads and then the new one.
 #[test]
 fn what_is_appended_is_replayed(rt: HostRuntime) -> Result<(), Fail> {

@@ -1,0 +1,5 @@
+pub mod Files
+pub mod Walks
+pub mod Places
+pub mod Standing
+pub mod Appending

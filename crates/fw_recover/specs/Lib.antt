@@ -1,0 +1,5 @@
+pub mod Sides
+pub mod Stands
+pub mod Corrupt
+pub mod Store
+pub mod Making

@@ -1,0 +1,15 @@
+//! A warehouse on the two sides of a volume: what two files stand for, and where they are corrupt.
+//!
+//! A side has a state and a log of the groups that were committed after it. Of the two the open one of greater generation
+//! counts, so the next state is made on the other side while this one stands, and opening its gate is the step from the one
+//! to the other.
+#![tactic(auto)]
+
+mod laws;
+mod sides;
+
+pub use laws::{
+    an_append_adds_a_group_or_nothing, each_moment_is_recovered, images_have_one_meaning,
+    making_a_side_keeps_the_warehouse,
+};
+pub use sides::{close_side, fill_side, make_side, open_side};

@@ -1,0 +1,42 @@
+-- Entries that are judged one after the other: each after those that a warehouse has, and those before it that were accepted.
+use Rattle.std.specs.Prelude.{Bool, true, false, List, [], ◌∷◌, ◌++◌, if◌then◌else◌}
+use Rattle.fw_entry.specs.Entry.{EntryValue}
+use Rattle.fw_snapshot.specs.History.{History}
+use Rattle.fw_snapshot.specs.Judging.{judged}
+use Rattle.fw_snapshot.specs.declared.verdict.Verdict.{Verdict}
+use Rattle.fw_snapshot.specs.declared.verdict.Verdict.TheVariants as verdict
+
+-- whether a verdict accepts its entry
+abbrev pub is_accept : Verdict → Bool
+is_accept verdict.Accept = true
+is_accept (verdict.Already n) = false
+is_accept (verdict.Gap n) = false
+is_accept (verdict.Refused why) = false
+
+-- an entry alone, where its verdict accepts it, and else nothing
+abbrev pub kept_by : Verdict → EntryValue → List EntryValue
+kept_by v e = if is_accept v then e ∷ [] else []
+
+-- an entry alone, where it is accepted after these
+abbrev pub taken : List EntryValue → EntryValue → List EntryValue
+taken before e = kept_by (judged before e) e
+
+-- the verdict on each of these entries, in their order
+unfoldable pub verdicts_on : List EntryValue → List EntryValue → List Verdict
+verdicts_on before [] = []
+verdicts_on before (e ∷ es) = judged before e ∷ verdicts_on (before ++ taken before e) es
+
+-- those of the entries that are accepted, in their order
+unfoldable pub accepted_of : List EntryValue → List EntryValue → List EntryValue
+accepted_of before [] = []
+accepted_of before (e ∷ es) = taken before e ++ accepted_of (before ++ taken before e) es
+
+-- those of the entries that the verdicts accept, where each entry has the verdict at its place
+unfoldable pub chosen : List EntryValue → List Verdict → List EntryValue
+chosen [] vs = []
+chosen (e ∷ es) [] = []
+chosen (e ∷ es) (v ∷ vs) = kept_by v e ++ chosen es vs
+
+-- a warehouse after more entries
+abbrev pub with_more : History → List EntryValue → History
+with_more h es = record { currency = h.currency; entries = h.entries ++ es }
