@@ -1,6 +1,7 @@
--- Each code stands for one category, class, kind or status, and each of them has one code.
-use Rattle.std.proofs.Common.{◌≡◌, ℕ, zero, suc, Bool, true, false, Some, refl}
-use Rattle.fw_charge.specs.Codes.{category_code, category_of, class_code, class_of, kind_code, kind_of, status_code, status_of}
+-- Each code stands for one category, class, kind or status, and each of them has one code; no two of them have one word.
+use Rattle.std.proofs.Common.{◌≡◌, ℕ, zero, suc, Bool, true, false, Some, length, get_or, refl, sym, ap, ◌∙◌, arith}
+use Rattle.std.specs.Prelude.{if◌then◌else◌, ◌==◌}
+use Rattle.fw_charge.specs.Codes.{category_word, category_code, category_of, class_word, class_code, class_of, kind_word, kind_code, kind_of, status_word, status_code, status_of}
 use Rattle.fw_charge.specs.declared.category.Category.{Category}
 use Rattle.fw_charge.specs.declared.category.Category.TheVariants as category
 use Rattle.fw_charge.specs.declared.discount.DiscountKind.{DiscountKind}
@@ -64,3 +65,41 @@ pub status_there : (x : DiscountStatus) → status_of (status_code (Some x)) ≡
 unfolding status_code
 status_there status.Used = refl
 status_there status.Unused = refl
+
+-- ---- words
+
+-- the words of the categories differ in their lengths
+of_length : ℕ → Category
+of_length n = if n == 5 then category.Usage else (if n == 8 then category.Purchase else (if n == 3 then category.Tax else (if n == 6 then category.Credit else category.Adjustment)))
+
+length_back : (k : Category) → of_length (length (category_word k)) ≡ k
+unfolding category_word of_length
+length_back category.Usage = refl
+length_back category.Purchase = refl
+length_back category.Tax = refl
+length_back category.Credit = refl
+length_back category.Adjustment = refl
+
+pub category_word-one : (j k : Category) → category_word j ≡ category_word k → j ≡ k
+category_word-one j k same = sym (length_back j) ∙ (ap (λ word. of_length (length word)) same ∙ length_back k)
+
+pub class_word-one : (c d : Bool) → class_word c ≡ class_word d → c ≡ d
+unfolding class_word
+class_word-one false false same = refl
+class_word-one false true same = absurd (cc)
+class_word-one true false same = absurd (cc)
+class_word-one true true same = refl
+
+pub kind_word-one : (j k : DiscountKind) → kind_word j ≡ kind_word k → j ≡ k
+unfolding kind_word
+kind_word-one kind.Usage kind.Usage same = refl
+kind_word-one kind.Usage kind.Spend same = let letter : 85 ≡ 83 = ap (λ word. get_or word 0 0) same in absurd (omega (arith, letter))
+kind_word-one kind.Spend kind.Usage same = let letter : 83 ≡ 85 = ap (λ word. get_or word 0 0) same in absurd (omega (arith, letter))
+kind_word-one kind.Spend kind.Spend same = refl
+
+pub status_word-one : (s t : DiscountStatus) → status_word s ≡ status_word t → s ≡ t
+unfolding status_word
+status_word-one status.Used status.Used same = refl
+status_word-one status.Used status.Unused same = absurd (cc)
+status_word-one status.Unused status.Used same = absurd (cc)
+status_word-one status.Unused status.Unused same = refl

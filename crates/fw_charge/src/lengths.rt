@@ -60,7 +60,7 @@ fn consumed_len(one: &Row) -> usize
     ensures value { result ≡ length (consumed one.now) }
     ensures few { result ≤ 792 }
 {
-    // Tells that the texts are short.
+    // Proves that the texts are short.
     let _start = one.start();
     let quantity = match one.quantity() {
         None => 1,

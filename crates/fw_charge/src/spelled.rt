@@ -1,4 +1,4 @@
-//! Each row, and each of its fields, has a spelling: functions that tell so of a value, and do nothing else.
+//! Proof-only functions: each row, and each of its fields, has a spelling.
 ghost use Rattle.std.specs.Prelude.{option_copied, IfSome};
 ghost use Rattle.fw_bytes.specs.Spelling.{FitsOptional};
 ghost use Rattle.fw_charge.specs.Charge.{IsShortText};
@@ -66,7 +66,7 @@ fn discount_has_spelling(one: &Row)
 pub fn row_has_spelling(one: &Row)
     ensures { IsRow one.now }
 {
-    // Tells that the row keeps its rules.
+    // Proves that the row keeps its rules.
     let _start = one.start();
     nanos_has_spelling(one.billed());
     nanos_has_spelling(one.effective());

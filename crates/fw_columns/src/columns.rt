@@ -96,14 +96,14 @@ impl Columns {
         self.table.starts.as_slice()
     }
 
-    /// The code of each row's category: 1 for Usage, 2 for Purchase, 3 for Tax, 4 for Credit, 5 for Adjustment.
+    /// The code of each row's category, as `Category::code` returns it.
     pub fn categories(&self) -> &[u8]
         ensures { result.now ≡ map (λ c. category_code c.category) self.now }
     {
         self.table.categories.as_slice()
     }
 
-    /// The code of each row's class: 1 for a correction, 0 for none.
+    /// The code of each row's class, as `class_code` returns it: 1 for a correction, 0 for none.
     pub fn classes(&self) -> &[u8]
         ensures { result.now ≡ map (λ c. class_code c.is_correction) self.now }
     {

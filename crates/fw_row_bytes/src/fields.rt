@@ -1,4 +1,4 @@
-//! Readers of the fields of a row. Each answers the value and the bytes after it.
+//! Readers of the fields of a row. Each returns the value and the bytes after it.
 ghost use Rattle.std.specs.Prelude.{◌≡◌, ◌≤◌, string_bytes, option_map, nat_abs, map, IfOk, IfSome, IsTrue};
 ghost use Rattle.fw_money.specs.Amount.{most_nanos};
 ghost use Rattle.fw_bytes.specs.Order.{rise_from};

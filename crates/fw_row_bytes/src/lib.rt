@@ -1,7 +1,7 @@
 //! Rows as bytes: how each field of a charge row is read and written, and a whole row.
 //!
-//! A row is read from the front of a slice. A fault is told by the number of bytes from its place to the end: a field that is cut off or
-//! out of its range is a fault at that field, and fields that break a rule together are a fault at the first byte of the row, told once
+//! A row is read from the front of a slice. A fault is reported as the number of bytes from its place to the end: a field that is cut off or
+//! out of its range is a fault at that field, and fields that break a rule together are a fault at the first byte of the row, reported once
 //! all of them were read. What is read is spelled so, and each row that keeps the rules is read from its spelling. `fw_charge` defines how a
 //! row is spelled.
 #![tactic(auto)]

@@ -189,7 +189,7 @@ impl ReadFields {
 /// # Errors
 /// [`ReadError::Corrupt`] at the first field that is cut off or out of its range; where there is none, at the row's first byte where its
 /// period ends before it starts, where a null id of a discount stands beside a kind or a status, where an id has no kind or, in a usage
-/// row, no status, or where the keys of the tags don't rise. [`ReadError::NoMemory`] where there is no memory for the row, told where it
+/// row, no status, or where the keys of the tags don't rise. [`ReadError::NoMemory`] where there is no memory for the row, reported where it
 /// runs out: a fault of a later field isn't looked for.
 pub fn row_of(alloc: Global, bytes: &[u8]) -> Result<(Row, &[u8]), ReadError>
     ensures { Gives (λ x. (x.0, x.1.now)) result (row_at bytes.now) }

@@ -28,7 +28,7 @@ fn rows_after(alloc: Global, count: u32, bytes: &[u8]) -> Result<(Vec<Row>, &[u8
 /// Rows behind their number of four bytes, from one on and at most so many, and the bytes after them.
 ///
 /// # Errors
-/// [`ReadError::Corrupt`] at the number where it is cut off, 0 or too great, before any row is read, and then as [`row_of`] tells of the first row
+/// [`ReadError::Corrupt`] at the number where it is cut off, 0 or too great, before any row is read, and then as [`row_of`] reports the first row
 /// that isn't one; [`ReadError::NoMemory`] where there is no memory for the rows.
 #[tactic(auto, unfolding(fw_bytes::specs::Reading::list_at))]
 pub fn rows_of(alloc: Global, most: u32, bytes: &[u8]) -> Result<(Vec<Row>, &[u8]), ReadError>

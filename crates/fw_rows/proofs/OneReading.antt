@@ -1,14 +1,13 @@
 -- A text reads as one thing under a currency, unless memory runs out.
-use Rattle.std.proofs.Common.{◌≡◌, ◌≢◌, ℕ, ℤ, suc, ◌<◌, List, [], ◌∷◌, ◌++◌, length, Option, Some, None, Result, Ok, Err, refl, sym, ap, ◌∙◌, arith, get_or, length-append, subst, Bool, true, false, inl, inr}
-use Rattle.std.specs.Prelude.{if◌then◌else◌, ◌==◌, MatchOption}
+use Rattle.std.proofs.Common.{◌≡◌, ◌≢◌, ℕ, ℤ, suc, ◌<◌, List, [], ◌∷◌, ◌++◌, length, Option, Some, None, Result, Ok, Err, refl, sym, ap, ◌∙◌, arith, length-append, subst, Bool, inl, inr}
+use Rattle.std.specs.Prelude.{MatchOption}
 use Rattle.std.specs.List.{AllZip, All}
 use Rattle.fw_charge.specs.Charge.{Charge, DiscountText}
-use Rattle.fw_charge.specs.Codes.{category_word, class_word, kind_word, status_word}
+use Rattle.fw_charge.specs.Codes.{category_word, class_word, status_word}
+use Rattle.fw_charge.proofs.CodeFacts.{category_word-one, class_word-one, kind_word-one, status_word-one}
 use Rattle.fw_charge.specs.Tags.{TagText}
 use Rattle.fw_charge.specs.declared.category.Category.{Category}
-use Rattle.fw_charge.specs.declared.category.Category.TheVariants as category
 use Rattle.fw_charge.specs.declared.discount.DiscountKind.{DiscountKind}
-use Rattle.fw_charge.specs.declared.discount.DiscountKind.TheVariants as kind
 use Rattle.fw_charge.specs.declared.discount.DiscountStatus.{DiscountStatus}
 use Rattle.fw_charge.specs.declared.discount.DiscountStatus.TheVariants as status
 use Rattle.fw_money.proofs.ReadingLaws.{reads-apart, reads-one}
@@ -27,29 +26,11 @@ use Rattle.fw_rows.proofs.WordFacts.{second-one}
 
 -- ---- a record stands for one row
 
--- the words of the categories differ in their lengths
-of_length : ℕ → Category
-of_length n = if n == 5 then category.Usage else (if n == 8 then category.Purchase else (if n == 3 then category.Tax else (if n == 6 then category.Credit else category.Adjustment)))
-
-category_back : (k : Category) → of_length (length (category_word k)) ≡ k
-unfolding category_word of_length
-category_back category.Usage = refl
-category_back category.Purchase = refl
-category_back category.Tax = refl
-category_back category.Credit = refl
-category_back category.Adjustment = refl
-
 category-one : (text : List ℕ) (j k : Category) → text ≡ category_word j → text ≡ category_word k → j ≡ k
-category-one text j k a b =
-    let words = sym a ∙ b in
-    sym (category_back j) ∙ (ap (λ w. of_length (length w)) words ∙ category_back k)
+category-one text j k a b = category_word-one j k (sym a ∙ b)
 
 class-one : (text : List ℕ) (c d : Bool) → text ≡ class_word c → text ≡ class_word d → c ≡ d
-unfolding class_word
-class-one text false false a b = refl
-class-one text false true a b = let both = sym a ∙ b in absurd (cc)
-class-one text true false a b = let both = sym a ∙ b in absurd (cc)
-class-one text true true a b = refl
+class-one text c d a b = class_word-one c d (sym a ∙ b)
 
 amount-one : (text : List ℕ) (m n : ℤ) → Reads text (Ok m) → Reads text (Ok n) → m ≡ n
 amount-one text m n a b = let same = reads-one text (Ok m) (Ok n) a b in cc
@@ -63,23 +44,9 @@ quantity-one text (Some m) None a (inl null) = absurd (a.0 null)
 quantity-one text (Some m) None a (inr past) = absurd (reads-apart text m money.Range a.1 past)
 quantity-one text (Some m) (Some n) a b = ap Some (amount-one text m n a.1 b.1)
 
-kind_word-one : (j k : DiscountKind) → kind_word j ≡ kind_word k → j ≡ k
-unfolding kind_word
-kind_word-one kind.Usage kind.Usage same = refl
-kind_word-one kind.Usage kind.Spend same = let letter : 85 ≡ 83 = ap (λ word. get_or word 0 0) same in absurd (omega (arith, letter))
-kind_word-one kind.Spend kind.Usage same = let letter : 83 ≡ 85 = ap (λ word. get_or word 0 0) same in absurd (omega (arith, letter))
-kind_word-one kind.Spend kind.Spend same = refl
-
 kind-one : (id text : List ℕ) (j k : DiscountKind) → KindReads id text (Some j) → KindReads id text (Some k) → j ≡ k
 unfolding KindReads
 kind-one id text j k a b = kind_word-one j k (sym a.1 ∙ b.1)
-
-status_word-one : (s t : DiscountStatus) → status_word s ≡ status_word t → s ≡ t
-unfolding status_word
-status_word-one status.Used status.Used same = refl
-status_word-one status.Used status.Unused same = absurd (cc)
-status_word-one status.Unused status.Used same = absurd (cc)
-status_word-one status.Unused status.Unused same = refl
 
 status_word-some : (s : DiscountStatus) → ¬ ([] ≡ status_word s)
 unfolding status_word
