@@ -3,3 +3,4 @@ pub mod Walks
 pub mod Places
 pub mod Standing
 pub mod Appending
+pub mod Headers

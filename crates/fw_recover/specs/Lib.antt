@@ -3,3 +3,4 @@ pub mod Stands
 pub mod Corrupt
 pub mod Store
 pub mod Making
+pub mod Headers

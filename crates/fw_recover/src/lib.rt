@@ -5,9 +5,13 @@
 //! to the other.
 #![tactic(auto)]
 
+mod fault;
+mod header;
 mod laws;
 mod sides;
 
+pub use fault::StoreFault;
+pub use header::{Header, side_in_use};
 pub use laws::{
     an_append_adds_a_group_or_nothing, each_moment_is_recovered, images_have_one_meaning,
     making_a_side_keeps_the_warehouse,

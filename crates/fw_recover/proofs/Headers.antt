@@ -1,0 +1,38 @@
+-- A header, read from the front of a file.
+use Rattle.std.proofs.Common.{◌≡◌, ◌⊎◌, inl, inr, ℕ, ◌+◌, ◌-◌, ◌<◌, ◌≤◌, List, length, take, drop, get_or, refl, sym, ◌∙◌, ap, subst, arith}
+use Rattle.std.proofs.lemmas.List.{get_or-take, drop-take, take-take}
+use Rattle.std.specs.Int.{from_le_bytes}
+use Rattle.std.specs.Int.Width.{w64}
+use Rattle.fw_entry_bytes.specs.declared.form.Form.TheVariants.{One}
+use Rattle.fw_recover.specs.Sides.{magic, generation_of, body_len_of, HasMagic, IsOpen}
+
+pub header_is : (file into : List ℕ) → length into ≡ 25 → into ≡ take (length into) (drop 0 file) → into ≡ take 25 file
+header_is file into long is = is ∙ ap (λ (n : ℕ). take n file) long
+
+-- eight bytes of a header are those of the file
+field : (file : List ℕ) (k m : ℕ) → 8 ≤ m → k + m ≡ 25 → take 8 (drop k (take 25 file)) ≡ take 8 (drop k file)
+field file k m some all =
+    ap (λ (n : ℕ). take 8 (drop k (take n file))) (sym all)
+    ∙ ap (λ (l : List ℕ). take 8 l) (drop-take k m file)
+    ∙ take-take 8 m (drop k file) some
+
+module _ (file header : List ℕ) (is : header ≡ take 25 file) where
+  gate_is : get_or header 0 0 ≡ get_or file 0 0
+  gate_is = ap (λ (l : List ℕ). get_or l 0 0) is ∙ get_or-take 25 file 0 0 (omega arith)
+
+  word_is : take 8 (drop 1 header) ≡ take 8 (drop 1 file)
+  word_is = ap (λ (l : List ℕ). take 8 (drop 1 l)) is ∙ field file 1 24 (omega arith) (omega arith)
+
+  pub generation_is : from_le_bytes w64 (take 8 (drop 9 header)) ≡ generation_of file
+  unfolding generation_of
+  generation_is = ap (λ (l : List ℕ). from_le_bytes w64 l) (ap (λ (l : List ℕ). take 8 (drop 9 l)) is ∙ field file 9 16 (omega arith) (omega arith))
+
+  pub body_len_is : from_le_bytes w64 (take 8 (drop 17 header)) ≡ body_len_of file
+  unfolding body_len_of
+  body_len_is = ap (λ (l : List ℕ). from_le_bytes w64 l) (ap (λ (l : List ℕ). take 8 (drop 17 l)) is ∙ field file 17 8 (omega arith) (omega arith))
+
+  pub opened : get_or header 0 0 ≡ 1 → 26 ≤ length file → IsOpen file
+  opened gate long = record { long = long; gate = sym gate_is ∙ gate }
+
+  pub signed : take 8 (drop 1 header) ≡ magic One → HasMagic One file
+  signed word = sym word_is ∙ word

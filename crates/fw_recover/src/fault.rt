@@ -1,0 +1,17 @@
+//! Why a call of a store was refused.
+use fw_disk::Side;
+use thiserror::Error;
+
+/// Why a call of a store was refused. The text of each is its code and its name, as programs print them.
+#[derive(Clone, Copy, Debug, PartialEq, Eq, Error)]
+pub enum StoreFault {
+    /// There is no warehouse: neither side is open.
+    #[error("S1 NoHouse")]
+    NoHouse,
+    /// A side is corrupt: the first fault stands in the file of this side, `at` bytes from its start.
+    #[error("S2 Corrupt")]
+    Corrupt { side: Side, at: u64 },
+    /// A read, a write or a sync of the volume has failed.
+    #[error("S3 Device")]
+    Device,
+}

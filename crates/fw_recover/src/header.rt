@@ -1,0 +1,127 @@
+//! The headers of the two sides, and which side is in use.
+ghost use Rattle.std.specs.Prelude.{◌≡◌, ◌⊎◌, ◌↔◌, ◌+◌, ◌≤◌, ℕ, length, take, drop, IfOk, IfErr, IsErrOf, IsTrue};
+ghost use Rattle.std.specs.Int.{from_le_bytes};
+ghost use Rattle.std.specs.Int.Width.{w64};
+ghost use Rattle.fw_disk.specs.declared.volume.Side.{Side};
+ghost use Rattle.fw_disk.specs.Volume.{Rose, SameSizes, Calm};
+ghost use Rattle.fw_entry_bytes.specs.declared.form.Form.TheVariants.{One};
+ghost use Rattle.fw_recover.specs.declared.fault.StoreFault.TheVariants.{NoHouse, Corrupt, Device};
+ghost use Rattle.fw_recover.specs.Sides.{magic, IsOpen};
+ghost use Rattle.fw_recover.specs.Stands.{IsNewest, StandsForNone};
+ghost use Rattle.fw_recover.specs.Corrupt.{LacksAt, CorruptAt};
+ghost use Rattle.fw_recover.specs.Headers.{HasHeader, IsHeader};
+
+use crate::StoreFault;
+use fw_disk::{Side, Volume};
+
+/// The magic word of a side.
+const MAGIC: [u8; 8] = *b"FWHOUSE1";
+
+/// What the header of an open side says.
+#[derive(Clone, Copy, Debug)]
+pub struct Header {
+    /// Its generation, from 1 on: a side that is made anew has a greater one than the side in use.
+    pub generation: u64,
+    /// The length of the body, in bytes. The first gate of the log is 25 bytes further on in the file.
+    pub body_len: u64,
+}
+
+/// The side in use and its header: of the open sides the one of greater generation. It reads the two headers and nothing
+/// else.
+///
+/// `Device` where a read failed; `Corrupt` where an open side has no sound header, Left first, or both sides have one
+/// generation; `NoHouse` where no side is open. Whatever is answered, no byte changes, and a crash leaves nothing that it
+/// could not leave before.
+pub fn side_in_use<V: Volume>(volume: &mut V) -> Result<(Side, Header), StoreFault>
+    ensures found { IfOk result (λ r. IsTrue V.tells → IsNewest (V.view volume.old).seen r.0 × HasHeader r.1.generation r.1.body_len ((V.view volume.old).seen r.0)) }
+    ensures none { IsErrOf result NoHouse → IsTrue V.tells → StandsForNone (V.view volume.old).seen }
+    ensures corrupt { (side : Side) (at : ℕ) → IsErrOf result (Corrupt side at) → IsTrue V.tells → CorruptAt (V.view volume.old).seen side at }
+
+    ensures calm { IsTrue V.tells → Calm (V.view volume.old) (V.view volume.new) }
+    ensures sizes { SameSizes (V.view volume.old) (V.view volume.new) }
+    ensures later { (V.view volume.old).failures ≤ (V.view volume.new).failures }
+    ensures device { IsErrOf result Device → Rose (V.view volume.old).failures (V.view volume.new).failures }
+{
+    let left = header_of(volume, Side::Left)?;
+    let right = header_of(volume, Side::Right)?;
+    match (left, right) {
+        (None, None) => Err(StoreFault::NoHouse),
+        (Some(header), None) => Ok((Side::Left, header)),
+        (None, Some(header)) => Ok((Side::Right, header)),
+        (Some(left), Some(right)) => {
+            if left.generation == right.generation {
+                return Err(StoreFault::Corrupt {
+                    side: Side::Right,
+                    at: 9,
+                });
+            }
+            if left.generation > right.generation {
+                Ok((Side::Left, left))
+            } else {
+                Ok((Side::Right, right))
+            }
+        }
+    }
+}
+
+/// The header of a side; none where the side isn't open.
+fn header_of<V: Volume>(volume: &mut V, side: Side) -> Result<Option<Header>, StoreFault>
+    ensures found { IfOk result (λ header. IsTrue V.tells → IsHeader header ((V.view volume.old).seen side)) }
+    ensures corrupt { (at_side : Side) (at : ℕ) → IsErrOf result (Corrupt at_side at)
+        → (at_side ≡ side) × (IsTrue V.tells → IsOpen ((V.view volume.old).seen side) × LacksAt ((V.view volume.old).seen side) at) }
+    ensures not_no_house { IsErrOf result NoHouse → ⊥ }
+
+    ensures calm { IsTrue V.tells → Calm (V.view volume.old) (V.view volume.new) }
+    ensures sizes { SameSizes (V.view volume.old) (V.view volume.new) }
+    ensures later { (V.view volume.old).failures ≤ (V.view volume.new).failures }
+    ensures device { IsErrOf result Device → Rose (V.view volume.old).failures (V.view volume.new).failures }
+{
+    let len = volume.len(side);
+    if len < 26 {
+        return Ok(None);
+    }
+    let mut header = [0; 25];
+    let Ok(()) = volume.read(side, 0, &mut header) else {
+        return Err(StoreFault::Device);
+    };
+    if header[0] != 1 {
+        return Ok(None);
+    }
+    if !is_signed(&header) {
+        return Err(StoreFault::Corrupt { side, at: 1 });
+    }
+    let generation = number_in(&header, 9);
+    if generation == 0 {
+        return Err(StoreFault::Corrupt { side, at: 9 });
+    }
+    let body_len = number_in(&header, 17);
+    if body_len >= len - 25 {
+        return Err(StoreFault::Corrupt { side, at: 17 });
+    }
+    Ok(Some(Header {
+        generation,
+        body_len,
+    }))
+}
+
+/// Whether a header has the magic word.
+fn is_signed(header: &[u8]) -> bool
+    requires { 9 ≤ length header.now }
+    ensures { IsTrue result ↔ (take 8 (drop 1 header.now) ≡ magic One) }
+{
+    let (_, behind) = header.split_at(1);
+    let (word, _) = behind.split_at(8);
+    word == MAGIC.as_slice()
+}
+
+/// The number in the eight bytes from an offset on, the lowest first.
+fn number_in(header: &[u8], at: usize) -> u64
+    requires { at + 8 ≤ length header.now }
+    ensures { result ≡ from_le_bytes w64 (take 8 (drop at header.now)) }
+{
+    let (_, behind) = header.split_at(at);
+    let (number, _) = behind.split_at(8);
+    u64::from_le_bytes([
+        number[0], number[1], number[2], number[3], number[4], number[5], number[6], number[7],
+    ])
+}

@@ -1,0 +1,7 @@
+//! Tests of recovery, over its public calls.
+//!
+//! They stand in a crate of their own so that the crates which they test are proved once.
+#![tactic(auto)]
+
+#[cfg(test)]
+mod sides;
