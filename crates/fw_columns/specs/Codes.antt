@@ -1,5 +1,5 @@
 -- What columns hold in place of a text, a category and a class.
-use Rattle.std.specs.Prelude.{◌≡◌, ◌↔◌, ℕ, ◌+◌, Bool, true, false, List, [], ◌∷◌, slice_get, slice_index_or, Option, Some, None}
+use Rattle.std.specs.Prelude.{◌≡◌, ◌↔◌, ℕ, ◌+◌, List, [], ◌∷◌, slice_get, slice_index_or, Option, Some, None}
 use Rattle.fw_charge.specs.Charge.{Charge}
 use Rattle.fw_charge.specs.Tags.{group_of}
 use Rattle.fw_columns.specs.Names.{Text, place_of}

@@ -1,4 +1,4 @@
-use Rattle.std.proofs.Common.{◌≡◌, ◌∙◌, [], sym}
+use Rattle.std.proofs.Common.{◌∙◌, [], sym}
 use Rattle.std.proofs.lemmas.Option.{get_or_from_slice_get}
 use Rattle.fw_columns.specs.Table.{text_at}
 use Rattle.fw_columns.proofs.GroupFacts.{text_here, text_later, text_nowhere}

@@ -1,4 +1,4 @@
-use Rattle.std.proofs.Common.{◌≡◌, ◌<◌, ℕ, List, Bor, subst, ◌∙◌, length, get_or, map, refl}
+use Rattle.std.proofs.Common.{◌≡◌, ◌<◌, ℕ, List, Bor, subst, ◌∙◌, length, get_or, refl}
 use Rattle.std.proofs.lemmas.List.{map_more, map_push}
 use Rattle.std.proofs.lemmas.List.Elements.{All-same}
 use Rattle.fw_charge.specs.Charge.{Charge}
