@@ -1,5 +1,5 @@
 -- While a group is appended to the log in use, each image stands for the warehouse, or for it with the group.
-use Rattle.std.proofs.Common.{◌≡◌, ◌⊎◌, inl, inr, ℕ, ◌+◌, ◌<◌, List, [], ◌∷◌, ◌++◌, length, take, drop, get_or, map, refl, sym, ◌∙◌, ap, subst, arith, append_assoc, length-append, take-append-drop, All}
+use Rattle.std.proofs.Common.{◌≡◌, ◌⊎◌, inl, inr, ℕ, ◌+◌, ◌<◌, List, [], ◌∷◌, ◌++◌, length, take, drop, get_or, map, sym, ◌∙◌, ap, subst, arith, append_assoc, length-append, take-append-drop, All}
 use Rattle.std.proofs.lemmas.List.{append-nil, take_at}
 use Rattle.std.proofs.lemmas.List.Elements.{All-push}
 use Rattle.fw_disk.specs.declared.volume.Side.{Side}
@@ -11,7 +11,7 @@ use Rattle.fw_snapshot.specs.History.{History}
 use Rattle.fw_snapshot.specs.Judging.{IsLegal, IsLegalAfter}
 use Rattle.fw_snapshot.specs.Verdicts.{with_more}
 use Rattle.fw_recover.specs.Sides.{made_of, generation_of, log_start_of, IsOpen, IsSound}
-use Rattle.fw_recover.specs.Stands.{joined, SideTells, StandsFor, StandsForEither}
+use Rattle.fw_recover.specs.Stands.{joined, StandsFor, StandsForEither}
 use Rattle.fw_recover.proofs.Files.{made_magic, made_len, same_generation, length-made}
 use Rattle.fw_recover.proofs.Standing.{by_side}
 

@@ -1,5 +1,5 @@
 -- Two files have one meaning at most, and are corrupt at one place at most.
-use Rattle.std.proofs.Common.{◌≡◌, ◌⊎◌, inl, inr, ℕ, ◌+◌, ◌-◌, ◌<◌, List, ◌∷◌, ◌++◌, length, drop, map, Ok, Err, refl, sym, ◌∙◌, ap, subst, arith}
+use Rattle.std.proofs.Common.{◌≡◌, ◌⊎◌, inl, inr, ℕ, ◌+◌, ◌-◌, List, ◌∷◌, length, drop, map, Ok, Err, refl, sym, ◌∙◌, ap, subst, arith}
 use Rattle.fw_disk.specs.declared.volume.Side.{Side}
 use Rattle.fw_disk.specs.declared.volume.Side.TheVariants.{Left, Right}
 use Rattle.fw_disk.specs.Volume.{Image}
@@ -11,11 +11,11 @@ use Rattle.fw_segment.specs.Groups.{group}
 use Rattle.fw_segment.specs.States.{state_at}
 use Rattle.fw_snapshot.specs.History.{History}
 use Rattle.fw_snapshot.specs.Verdicts.{with_more}
-use Rattle.fw_recover.specs.Sides.{generation_of, body_of, log_start_of, HasMagic, IsOpen, IsSound}
+use Rattle.fw_recover.specs.Sides.{generation_of, body_of, log_start_of, HasMagic, IsSound}
 use Rattle.fw_recover.specs.Stands.{joined, SideTells, IsNewest, StandsFor, StandsForNone, StandsForEither}
 use Rattle.fw_recover.specs.Corrupt.{LacksAt, Lacks, AreTwins, BodyBreaks, BreaksBehind, Breaks, CorruptAt, IsRecovered}
-use Rattle.fw_recover.proofs.Files.{form_one, made_magic, made_body}
-use Rattle.fw_recover.proofs.Walks.{Walks, walks_one, tells_walks, breaks_walks}
+use Rattle.fw_recover.proofs.Files.{form_one}
+use Rattle.fw_recover.proofs.Walks.{walks_one, tells_walks, breaks_walks}
 
 -- ---- the sides
 

@@ -1,9 +1,8 @@
 -- While one side is made anew, each image stands for the warehouse of the other.
-use Rattle.std.proofs.Common.{◌≡◌, ◌≢◌, ◌⊎◌, inl, inr, ℕ, ◌+◌, ◌^◌, ◌≤◌, ◌<◌, List, [], ◌∷◌, ◌++◌, length, take, drop, get_or, map, refl, sym, ◌∙◌, ap, subst, arith, append_assoc, length-append}
+use Rattle.std.proofs.Common.{◌≡◌, ◌≢◌, inl, inr, ℕ, ◌+◌, ◌^◌, ◌<◌, List, [], ◌∷◌, ◌++◌, length, take, drop, get_or, refl, sym, ◌∙◌, ap, subst, arith, append_assoc, length-append}
 use Rattle.std.proofs.lemmas.List.{drop-drop, append-nil}
 use Rattle.std.proofs.lemmas.List.Elements.{All-nil}
 use Rattle.std.proofs.lemmas.Bool.{cases_eq}
-use Rattle.std.proofs.lemmas.Nat.{from_le_bytes-to_le_bytes_8}
 use Rattle.std.specs.Int.{from_le_bytes}
 use Rattle.std.specs.Int.Width.{w64}
 use Rattle.fw_disk.specs.declared.volume.Side.{Side}
@@ -11,15 +10,14 @@ use Rattle.fw_disk.specs.declared.volume.Side.TheVariants.{Left, Right}
 use Rattle.fw_disk.specs.Volume.{Image, Torn, other}
 use Rattle.fw_entry.specs.Entry.{EntryValue}
 use Rattle.fw_entry_bytes.specs.declared.form.Form.{Form}
-use Rattle.fw_entry_bytes.specs.declared.form.Form.TheVariants.{One}
 use Rattle.fw_journal.proofs.Spelling.{spelled-none}
 use Rattle.fw_segment.specs.Groups.{IsGroup}
 use Rattle.fw_segment.specs.States.{Spells}
 use Rattle.fw_snapshot.specs.History.{History}
 use Rattle.fw_snapshot.specs.Verdicts.{with_more}
-use Rattle.fw_recover.specs.Sides.{made_of, generation_of, body_len_of, log_start_of, HasMagic, IsOpen, IsSound}
-use Rattle.fw_recover.specs.Stands.{SideTells, IsNewest, StandsFor}
-use Rattle.fw_recover.specs.Making.{Closing, Making, closing, shut, whole, HasBehind}
+use Rattle.fw_recover.specs.Sides.{made_of, generation_of, body_len_of, IsOpen, IsSound}
+use Rattle.fw_recover.specs.Stands.{SideTells, StandsFor}
+use Rattle.fw_recover.specs.Making.{Closing, Making, closing, shut, whole}
 use Rattle.fw_recover.proofs.Files.{made_magic, made_len, made_generation, length-made}
 
 pub by_side : (P : Side → Type 0) (u : Side) → P u → P (other u) → (s : Side) → P s

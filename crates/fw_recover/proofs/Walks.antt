@@ -1,5 +1,5 @@
 -- A log is walked in one way: group by group, up to where no group stands that goes behind those before it.
-use Rattle.std.proofs.Common.{◌≡◌, ◌≢◌, ◌⊎◌, inl, inr, ℕ, ◌+◌, List, [], ◌∷◌, ◌++◌, length, drop, map, All, Result, Ok, Err, refl, sym, ◌∙◌, ap, subst, append_assoc}
+use Rattle.std.proofs.Common.{◌≡◌, ◌≢◌, ◌⊎◌, inl, inr, ℕ, List, [], ◌∷◌, ◌++◌, drop, map, All, Ok, refl, sym, ◌∙◌, ap, subst, append_assoc}
 use Rattle.std.proofs.lemmas.List.{append-nil}
 use Rattle.std.proofs.lemmas.List.Elements.{All-head, All-tail}
 use Rattle.fw_entry.specs.Entry.{EntryValue}
@@ -15,7 +15,6 @@ use Rattle.fw_segment.proofs.Decoded.{one_spelling}
 use Rattle.fw_segment.proofs.Histories.{state_again}
 use Rattle.fw_snapshot.specs.History.{History}
 use Rattle.fw_snapshot.specs.Judging.{IsLegal, IsLegalAfter}
-use Rattle.fw_snapshot.specs.Verdicts.{with_more}
 use Rattle.fw_recover.specs.Sides.{body_of, log_start_of, HasMagic}
 use Rattle.fw_recover.specs.Stands.{joined, SideTells}
 use Rattle.fw_recover.specs.Corrupt.{IsBadFrame, BreaksBehind}

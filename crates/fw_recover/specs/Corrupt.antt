@@ -1,7 +1,7 @@
 -- Where two files are corrupt: they stand for a warehouse nowhere, but a side is open. The place is a side and an offset in its file: the first one, in
 -- the order in which the files are read. That is the header of Left, the header of Right, the two generations, and then of the newer side alone the
 -- body and the log, frame by frame.
-use Rattle.std.specs.Prelude.{◌≡◌, ◌⊎◌, ℕ, ◌+◌, ◌-◌, ◌<◌, ◌≤◌, List, ◌++◌, length, drop, map, All, Result, Ok, Err}
+use Rattle.std.specs.Prelude.{◌≡◌, ◌⊎◌, ℕ, ◌+◌, ◌-◌, ◌<◌, ◌≤◌, List, ◌++◌, length, drop, map, All, Ok, Err}
 use Rattle.fw_disk.specs.declared.volume.Side.{Side}
 use Rattle.fw_disk.specs.declared.volume.Side.TheVariants.{Left, Right}
 use Rattle.fw_disk.specs.Volume.{Image}

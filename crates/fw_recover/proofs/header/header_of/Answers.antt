@@ -1,6 +1,6 @@
-use Rattle.std.proofs.Common.{◌≡◌, ◌≤◌, ◌<◌, ℕ, List, inl, inr, length, take, drop, refl, sym, ◌∙◌, arith}
+use Rattle.std.proofs.Common.{◌≡◌, ◌≤◌, ◌<◌, inl, inr, length, refl, sym, ◌∙◌, arith}
 use Rattle.fw_entry_bytes.specs.declared.form.Form.TheVariants.{One}
-use Rattle.fw_recover.specs.Sides.{magic, generation_of, body_len_of, log_start_of}
+use Rattle.fw_recover.specs.Sides.{generation_of, body_len_of, log_start_of}
 use Rattle.fw_recover.proofs.Headers.{header_is, opened, signed, generation_is, body_len_is}
 use Rattle.fw_recover.proofs.header.header_of.Goals as goal
 
