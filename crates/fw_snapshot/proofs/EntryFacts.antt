@@ -69,13 +69,13 @@ commitments_with_append id list more =
     ap length (filter-append (λ c. bytes_eq id c.id) list more) ∙ length-append (filter (λ c. bytes_eq id c.id) list) (filter (λ c. bytes_eq id c.id) more)
 
 -- an id is in use where its count is above 0
-some_kept : {A : Type 0} (p : A → Bool) (x : A) (xs : List A) (b c : Bool) → nat_lt 0 (length xs) ≡ c → nat_lt 0 (length (cond b (x ∷ xs) xs)) ≡ (b || c)
-some_kept p x xs true c same = grind (arith, nat_tests)
-some_kept p x xs false c same = same
+some_kept : {A : Type 0} (x : A) (xs : List A) (b c : Bool) → nat_lt 0 (length xs) ≡ c → nat_lt 0 (length (cond b (x ∷ xs) xs)) ≡ (b || c)
+some_kept x xs true c same = grind (arith, nat_tests)
+some_kept x xs false c same = same
 
 some_pass : {A : Type 0} (p : A → Bool) (xs : List A) → nat_lt 0 (length (filter p xs)) ≡ list_any p xs
 some_pass p [] = refl
-some_pass p (x ∷ xs) = some_kept p x (filter p xs) (p x) (list_any p xs) (some_pass p xs)
+some_pass p (x ∷ xs) = some_kept x (filter p xs) (p x) (list_any p xs) (some_pass p xs)
 
 pub commitments_in_use : (id : List ℕ) (list : List CommitmentValue) → nat_lt 0 (commitments_with id list) ≡ is_registered id list
 unfolding commitments_with is_registered

@@ -1,12 +1,13 @@
 //! The state of a warehouse as a value that is never changed: what was accepted, and the verdict on what comes next.
 //!
-//! [`judge`] and [`State::apply`] cost the same in a warehouse of ten entries and in one of a million, but for a logarithm, and what an entry
-//! itself brings. Nothing is copied for each row or entry that was accepted: heads and segments are persistent sequences, to which a push adds two
-//! blocks at most, and a new state shares the rest with the old one. No row is read again: beside the entries a state keeps counters, which
-//! say how many entries each origin sent, how many commitments have each id and how many posts use it, and the verdict asks nothing else of
-//! the warehouse than these and two lengths. A post counts once for each id that its rows carry, so each count can be taken back. The counters
-//! are balanced trees, of which a new count copies one path. Commitments alone are copied when one more comes, and there are at most 256 of
-//! them.
+//! [`judge`] and [`State::apply`] cost the same in a warehouse of ten entries and in one of a million, but for a
+//! logarithm, and what an entry itself brings. Nothing is copied for each row or entry that was accepted: heads and
+//! segments are persistent sequences, to which a push adds two blocks at most, and a new state shares the rest with the
+//! old one. No row is read again: beside the entries a state keeps counters, which say how many entries each origin sent,
+//! how many commitments have each id and how many posts use it, and the verdict asks nothing else of the warehouse than
+//! these and two lengths. A post counts once for each id that its rows carry, so each count can be taken back. The
+//! counters are balanced trees, of which a new count copies one path. Commitments alone are copied when one more comes,
+//! and there are at most 256 of them.
 #![tactic(auto)]
 
 mod head;

@@ -89,7 +89,7 @@ pub(crate) fn segments_after(
 }
 
 /// The commitments of a list that is there once there is one.
-pub(crate) fn listed(list: &Option<Arc<Vec<Commitment>>>) -> &[Commitment]
+pub(crate) fn commitments_in(list: &Option<Arc<Vec<Commitment>>>) -> &[Commitment]
     ensures { result.now ≡ held_commitments list.now }
 {
     match list {
@@ -107,7 +107,7 @@ pub(crate) fn commitments_after(
     ensures { IfOk result (λ after. held_commitments after ≡ held_commitments list.now ++ option_to_list (option_copied more.entry)) }
 {
     match more {
-        Some(more) => Ok(Some(Arc::new(alloc, with_one_more(alloc, listed(list), more)?)?)),
+        Some(more) => Ok(Some(Arc::new(alloc, with_one_more(alloc, commitments_in(list), more)?)?)),
         None => share_list(list),
     }
 }
@@ -192,8 +192,8 @@ pub(crate) fn carried_after(
     Ok(after)
 }
 
-/// The counts `after`, in which the post is counted for some of its rows, with the post counted for the id of this row too: where its count
-/// is above the one `before` the post, an earlier row of the post has the same id.
+/// The counts `after`, in which a post is counted for the ids of some of its rows, with the post counted for the id of
+/// this row too. Where the count is above the one `before` the post, an earlier row has counted the post for this id.
 fn carried_with(
     alloc: Global,
     before: &Counters,

@@ -9,7 +9,7 @@ ghost use Rattle.fw_snapshot.specs.declared.verdict.Verdict.TheVariants as verdi
 
 use crate::head::Head;
 use crate::parts::{
-    carried_after, commitments_after, committed, content_of, listed, policy_after, posted,
+    carried_after, commitments_after, commitments_in, committed, content_of, policy_after, posted,
     registered_after, segments_after, share_list, share_policy, shared_text,
 };
 use fw_charge::Currency;
@@ -176,7 +176,7 @@ impl State {
         ensures count { result ≡ length (commitments_of self.now.entries) }
         ensures few { result ≤ most_commitments }
     {
-        listed(&self.commitments).len()
+        commitments_in(&self.commitments).len()
     }
 
     /// The head of the entry at a place, counted from 0.
@@ -194,8 +194,8 @@ impl State {
         &self.heads
     }
 
-    /// The rows that were ever posted, in order, in segments of 1 to 65,536 rows each, and so in at most 4,194,304 segments. Each of them
-    /// counts.
+    /// The rows that were ever posted, in order, in segments of 1 to 65,536 rows each, and so in at most 4,194,304
+    /// segments. Each of the rows counts.
     pub fn segments(&self) -> &Sequence<Columns>
         ensures posted { segment_rows result.now ≡ rows_posted self.now.entries }
         ensures rows { segment_rows result.now ≡ rows_of self.now.entries }
@@ -216,7 +216,7 @@ impl State {
     pub fn commitment_list(&self) -> &[Commitment]
         ensures { result.now ≡ commitments_of self.now.entries }
     {
-        listed(&self.commitments)
+        commitments_in(&self.commitments)
     }
 
     /// The policy that was set last, if one was.

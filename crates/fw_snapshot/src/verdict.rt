@@ -3,20 +3,20 @@
 /// Why what an entry brings doesn't go with what was accepted before.
 #[derive(Clone, Copy, Debug, Drop, PartialEq, Eq)]
 pub enum Conflict {
-    /// The warehouse would have more than 4,194,304 rows.
+    /// More than 4,194,304 rows would have been posted to the warehouse.
     Full,
-    /// A commitment of this id was accepted before.
+    /// There is a commitment of this id.
     DoubleId,
-    /// A row that was accepted before carries the id of the commitment.
+    /// A row that counts carries the id of the commitment.
     IdInUse,
-    /// A row carries the id of a commitment that was accepted before.
+    /// A row carries the id of a commitment that there is.
     OwnCommitment,
     /// The warehouse would have more than 256 commitments.
     TooManyCommitments,
 }
 
-/// What becomes of an entry. The number is looked at first, so an entry that is sent once more is told apart from one that is refused. Only an
-/// accepted entry uses its number up.
+/// What becomes of an entry. The number is looked at first, so an entry that is sent once more is never taken for one
+/// that is refused. Only an accepted entry uses its number up.
 #[derive(Clone, Copy, Debug, Drop, PartialEq, Eq)]
 pub enum Verdict {
     /// The entry is the next of its origin, and goes with what was accepted before.

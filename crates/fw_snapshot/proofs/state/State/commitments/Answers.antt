@@ -5,5 +5,5 @@ use Rattle.fw_snapshot.proofs.state.State.commitments.Goals as goal
 pub returns-clause-few : goal.returns-clause-few
 returns-clause-few c =
     let few = kept_few_commitments c.self.inside c.self.invariant in
-    let list = ap length c.listed.ensures in
+    let list = ap length c.commitments_in.ensures in
     omega arith
