@@ -3,6 +3,7 @@ pub mod Stepping
 pub mod Weights
 pub mod Places
 pub mod Sharing
+pub mod Runs
 pub mod OneList
 pub mod Purchases
 pub mod Carrying

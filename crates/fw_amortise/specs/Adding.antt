@@ -1,9 +1,8 @@
 -- Lines that are added to the end of others. The private functions of `lines` cite it; what the lines are is said without it.
-use Rattle.std.specs.Prelude.{◌≡◌, ◌<◌, ◌≤◌, ◌^◌, ℕ, List, ◌++◌, map, filter, All}
+use Rattle.std.specs.Prelude.{◌≡◌, ◌<◌, ◌≤◌, ◌^◌, ℕ, List, ◌++◌, All}
 use Rattle.std.specs.List.{flat_map, AllZip}
 use Rattle.fw_charge.specs.Charge.{Charge}
 use Rattle.fw_terms.specs.Commitment.{CommitmentValue}
-use Rattle.fw_cover.specs.Applies.{is_in_term}
 use Rattle.fw_cover.specs.declared.taken.Taken.{Taken}
 use Rattle.fw_amortise.specs.LineValue.{LineValue}
 use Rattle.fw_amortise.specs.Lines.{AreCommitmentLines, AreLinesAt}
@@ -15,10 +14,6 @@ pub record IsTakeOf (rows : ℕ) (t : Taken) : Type 0 where
 
 abbrev pub AreTakesOf : ℕ → List Taken → Type 0
 AreTakesOf rows takes = All (IsTakeOf rows) takes
-
--- the places of those commitments whose term has the hour
-abbrev pub places_running : ℕ → List (ℕ × CommitmentValue) → List ℕ
-places_running hour cs = map (λ c. c.0) (filter (λ c. is_in_term c.1 hour) cs)
 
 -- the lines of a commitment were added
 pub record AddsCommitment (hour : ℕ) (c : CommitmentValue) (rows : List Charge) (takes : List Taken) (unused : ℕ) (old new : List LineValue) : Type 0 where

@@ -1,18 +1,20 @@
 //! The lines of an hour.
-ghost use Rattle.std.specs.Prelude.{◌≡◌, ◌≤◌, ◌<◌, ◌+◌, ◌++◌, ℕ, length, map, slice_index, slice_get, true, ◌∷◌, [], All, IfOk, OnOk};
+ghost use Rattle.std.specs.Prelude.{◌≡◌, ◌≤◌, ◌<◌, ◌+◌, ◌++◌, ◌==◌, ℕ, length, map, filter, slice_index, slice_get, ◌∷◌, [], All, IfOk, OnOk};
+ghost use Rattle.std.specs.List.{flat_map, prefix_len};
 ghost use Rattle.fw_cover.specs.Eligible.{is_of_hour};
 ghost use Rattle.fw_terms.specs.Commitment.{CommitmentValue};
 ghost use Rattle.fw_cover.specs.Applies.{is_in_term};
 ghost use Rattle.fw_cover.specs.Cover.{IsTakeWithin, taken_of_row, used_of};
+ghost use Rattle.fw_cover.specs.Order.{commitments_in_order};
 ghost use Rattle.fw_cover.specs.Hour.{quantity_of, quantities_of, capacities_of, takes_of, unused_of};
 ghost use Rattle.fw_amortise.specs.Lines.{AreHourLines, AreLines, rows_in, purchase_lines, purchase_lines_of, given_lines, rest_of, rest_lines, running};
-ghost use Rattle.fw_amortise.specs.Adding.{places_running, AddsCommitment, AddsShared};
+ghost use Rattle.fw_amortise.specs.Adding.{AddsShared};
 
 use crate::line::Line;
-use crate::shared::{push_commitment, takes_of};
+use crate::shared::push_commitment;
 use crate::single::{given_line, is_in_hour, purchase_line, rest_line};
 use fw_charge::Row;
-use fw_cover::{HourCover, cover_hour, in_order, is_eligible, is_in_term};
+use fw_cover::{HourCover, Roster, Taken, is_eligible, is_in_term};
 use fw_terms::Commitment;
 use std::alloc::{AllocError, Global};
 
@@ -95,36 +97,18 @@ fn push_rests<'a>(
     Ok(())
 }
 
-/// Adds the place of a commitment, if its term has the hour.
-fn push_running(
-    places: &mut Vec<usize>,
-    commitments: &[Commitment],
-    place: usize,
-    hour: u32,
-) -> Result<(), AllocError>
-    requires { place < length commitments.now }
-    ensures { OnOk result ((c : CommitmentValue) → slice_get commitments.now place ≡ Some c → places.new.items ≡ places.old.items ++ places_running hour ((place, c) ∷ [])) }
+/// How many takes from the first on are those of the commitment at a place.
+fn run_of(takes: &[Taken], place: usize) -> usize
+    ensures run { result ≡ prefix_len (λ t. t.commitment == place) takes.now }
+    ensures within { result ≤ length takes.now }
 {
-    if is_in_term(&commitments[place], hour) {
-        places.push(place)?;
-    }
-    Ok(())
+    takes
+        .iter()
+        .take_while(|take| take.commitment == place)
+        .count()
 }
 
-/// The places of the commitments whose term has the hour, in their order.
-#[tactic(auto, unfolding(crate::specs::Lines::running))]
-fn running(alloc: Global, commitments: &[Commitment], hour: u32) -> Result<Vec<usize>, AllocError>
-    ensures { IfOk result (λ v. v.items ≡ map (λ c. c.0) (running commitments.now hour)) }
-{
-    let places = in_order(alloc, commitments)?;
-    let mut found = Vec::new(alloc);
-    for place in &places {
-        push_running(&mut found, commitments, *place, hour)?;
-    }
-    Ok(found)
-}
-
-/// Adds the lines of the commitment at a place, whose term has the hour.
+/// Adds the lines of the commitment at a place, which took this, if its term has the hour.
 fn push_shared_at<'a>(
     alloc: Global,
     lines: &mut Vec<Line<'a>>,
@@ -132,45 +116,53 @@ fn push_shared_at<'a>(
     place: usize,
     rows: &[&'a Row],
     cover: &HourCover,
+    takes: &[Taken],
     hour: u32,
 ) -> Result<(), AllocError>
     requires place { place < length commitments.now }
-    requires term { (c : CommitmentValue) → slice_get commitments.now place ≡ Some c → is_in_term c hour ≡ true }
     requires commitments { length cover.now.unused.items ≡ length commitments.now }
-    requires takes { All (IsTakeWithin (length commitments.now) (length rows.now)) cover.now.taken.items }
+    requires within { All (IsTakeWithin (length commitments.now) (length rows.now)) cover.now.taken.items }
+    requires takes { takes.now ≡ takes_of place cover.now.taken.items }
     requires unused { (c : ℕ) → used_of c cover.now.taken.items + slice_index cover.now.unused.items c ≡ slice_index (capacities_of commitments.now) c }
-    ensures { OnOk result ((c : CommitmentValue) → slice_get commitments.now place ≡ Some c → AddsCommitment hour c (map (λ r. r.now) rows.now) (takes_of place cover.now.taken.items) (unused_of commitments.now cover.now.taken.items place) lines.old.items lines.new.items) }
+    ensures { OnOk result ((c : CommitmentValue) → slice_get commitments.now place ≡ Some c → AddsShared commitments.now (map (λ r. r.now) rows.now) cover.now.taken.items hour (filter (λ c. is_in_term c.1 hour) ((place, c) ∷ [])) lines.old.items lines.new.items) }
 {
     let commitment = &commitments[place];
-    let takes = takes_of(alloc, &cover.taken, place)?;
+    if !is_in_term(commitment, hour) {
+        return Ok(());
+    }
     push_commitment(
         alloc,
         lines,
         commitment,
         rows,
-        &takes,
+        takes,
         cover.unused[place],
         hour,
     )
 }
 
-/// Adds the lines of each commitment whose term has the hour, in their order.
+/// Adds the lines of each commitment whose term has the hour, in their order. What they took stands commitment by commitment in the same
+/// order, so the takes are gone through once.
 fn push_shared<'a>(
     alloc: Global,
     lines: &mut Vec<Line<'a>>,
-    commitments: &'a [Commitment],
+    roster: &Roster<'a>,
     rows: &[&'a Row],
     cover: &HourCover,
     hour: u32,
 ) -> Result<(), AllocError>
-    requires commitments { length cover.now.unused.items ≡ length commitments.now }
-    requires takes { All (IsTakeWithin (length commitments.now) (length rows.now)) cover.now.taken.items }
-    requires unused { (c : ℕ) → used_of c cover.now.taken.items + slice_index cover.now.unused.items c ≡ slice_index (capacities_of commitments.now) c }
-    ensures { OnOk result (AddsShared commitments.now (map (λ r. r.now) rows.now) cover.now.taken.items hour (running commitments.now hour) lines.old.items lines.new.items) }
+    requires commitments { length cover.now.unused.items ≡ length roster.now }
+    requires takes { All (IsTakeWithin (length roster.now) (length rows.now)) cover.now.taken.items }
+    requires runs { cover.now.taken.items ≡ flat_map (λ c. takes_of c.0 cover.now.taken.items) (commitments_in_order roster.now) }
+    requires unused { (c : ℕ) → used_of c cover.now.taken.items + slice_index cover.now.unused.items c ≡ slice_index (capacities_of roster.now) c }
+    ensures { OnOk result (AddsShared roster.now (map (λ r. r.now) rows.now) cover.now.taken.items hour (running roster.now hour) lines.old.items lines.new.items) }
 {
-    let places = running(alloc, commitments, hour)?;
-    for place in &places {
-        push_shared_at(alloc, lines, commitments, *place, rows, cover, hour)?;
+    let commitments = roster.commitments();
+    let mut left: &[Taken] = &cover.taken;
+    for place in roster.order() {
+        let (takes, later) = left.split_at(run_of(left, *place));
+        push_shared_at(alloc, lines, commitments, *place, rows, cover, takes, hour)?;
+        left = later;
     }
     Ok(())
 }
@@ -189,11 +181,33 @@ fn rows_in<'a>(alloc: Global, rows: &'a [Row], hour: u32) -> Result<Vec<&'a Row>
     Ok(found)
 }
 
-/// The lines of an hour, counted from 1970, of rows that are all of that hour.
+/// The lines of an hour, counted from 1970, of rows that are all of that hour, under the commitments of a roster.
 ///
 /// First come the purchases of the hour, then the rows that no commitment may cover, then for each commitment that runs what it covered of
 /// the rows and what it left unused, and last what is left of the rows that commitments may cover. The lines lend the texts and tags of the
 /// rows and commitments.
+///
+/// # Errors
+/// The one error is that memory ran out.
+pub fn lines_by_roster<'a>(
+    alloc: Global,
+    roster: &Roster<'a>,
+    rows: &[&'a Row],
+    hour: u32,
+) -> Result<Vec<Line<'a>>, AllocError>
+    ensures { IfOk result (λ v. AreHourLines roster.now (map (λ r. r.now) rows.now) hour v.items) }
+{
+    let cover = roster.cover(alloc, rows, hour)?;
+    let mut lines = Vec::with_capacity(alloc, rows.len())?;
+    push_purchases(&mut lines, roster.commitments(), hour)?;
+    push_given(&mut lines, rows, hour)?;
+    push_shared(alloc, &mut lines, roster, rows, &cover, hour)?;
+    push_rests(&mut lines, rows, &cover, hour)?;
+    Ok(lines)
+}
+
+/// The lines of an hour, counted from 1970, of rows that are all of that hour: those of [`lines_by_roster`] for a roster of the commitments.
+/// For many hours make the [`Roster`] once.
 ///
 /// # Errors
 /// The one error is that memory ran out.
@@ -205,13 +219,8 @@ pub fn lines_of_hour<'a>(
 ) -> Result<Vec<Line<'a>>, AllocError>
     ensures { IfOk result (λ v. AreHourLines commitments.now (map (λ r. r.now) rows.now) hour v.items) }
 {
-    let cover = cover_hour(alloc, commitments, rows, hour)?;
-    let mut lines = Vec::with_capacity(alloc, rows.len())?;
-    push_purchases(&mut lines, commitments, hour)?;
-    push_given(&mut lines, rows, hour)?;
-    push_shared(alloc, &mut lines, commitments, rows, &cover, hour)?;
-    push_rests(&mut lines, rows, &cover, hour)?;
-    Ok(lines)
+    let roster = Roster::new(alloc, commitments)?;
+    lines_by_roster(alloc, &roster, rows, hour)
 }
 
 /// The lines of an hour, counted from 1970, among rows of any hours; rows of other hours are passed over. They are those of

@@ -1,9 +1,8 @@
 //! A line of an hour.
-ghost use Rattle.std.specs.Prelude.{◌≡◌, option_map, option_copied, IfOk};
+ghost use Rattle.std.specs.Prelude.{◌≡◌, option_map, option_copied};
 
 use fw_charge::{Category, DiscountKind, DiscountStatus, Tags};
 use fw_money::Nanos;
-use std::alloc::{AllocError, Global};
 use std::marker::Model;
 
 /// Where a line comes from.
@@ -164,36 +163,5 @@ impl<'a> Line<'a> {
         ensures { result.now ≡ self.now.tags }
     {
         self.fields.tags
-    }
-
-    /// An equal line, which lends from the same row or commitment. It takes no memory.
-    pub fn copy(&self, _alloc: Global) -> Result<Line<'a>, AllocError>
-        ensures { IfOk result (λ line. line ≡ self.now) }
-    {
-        Ok(Line {
-            fields: self.fields.copy(),
-        })
-    }
-}
-
-impl<'a> LineFields<'a> {
-    ghost use Rattle.fw_amortise.specs.LineView.{line_of};
-
-    /// Equal fields.
-    fn copy(&self) -> LineFields<'a>
-        ensures { line_of result ≡ line_of self.now }
-    {
-        LineFields {
-            hour: self.hour,
-            kind: self.kind,
-            category: self.category,
-            commitment: self.commitment,
-            billed: self.billed,
-            effective: self.effective,
-            quantity: self.quantity,
-            sku: self.sku,
-            sub_account: self.sub_account,
-            tags: self.tags,
-        }
     }
 }

@@ -4,7 +4,6 @@ ghost use Rattle.std.specs.List.{zip};
 ghost use Rattle.fw_terms.specs.Commitment.{cost_of, IsCommitment};
 ghost use Rattle.fw_shares.specs.Shares.{IsShares};
 ghost use Rattle.fw_cover.specs.Applies.{is_in_term};
-ghost use Rattle.fw_cover.specs.Hour.{takes_of};
 ghost use Rattle.fw_amortise.specs.Lines.{amount_in, weights_of, used_line, unused_line, shared_lines};
 ghost use Rattle.fw_amortise.specs.Adding.{AreTakesOf, AddsCommitment};
 
@@ -114,22 +113,6 @@ fn push_unused<'a>(
         lines.push(unused_line(commitment, *share, hour))?;
     }
     Ok(())
-}
-
-/// What the commitment at a place took, in order.
-#[tactic(auto, unfolding(fw_cover::specs::Hour::takes_of))]
-pub(crate) fn takes_of(
-    alloc: Global,
-    taken: &[Taken],
-    place: usize,
-) -> Result<Vec<Taken>, AllocError>
-    ensures { IfOk result (λ v. v.items ≡ takes_of place taken.now) }
-{
-    taken
-        .iter()
-        .filter(|t| t.commitment == place)
-        .copied()
-        .collect(alloc)
 }
 
 /// Adds the lines by which a commitment's amount of the hour is shared over what it took and what it left unused.

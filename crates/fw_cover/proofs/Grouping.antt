@@ -132,7 +132,7 @@ grouped (k ∷ ks) ts apart all h =
     split k ks ts h ∙ ap (λ l. of_place k ts ++ l) (by_rest ∙ same)
 
 -- ---- the places of the order
-abbrev PlacesApart : List (ℕ × CommitmentValue) → Type 0
+abbrev pub PlacesApart : List (ℕ × CommitmentValue) → Type 0
 PlacesApart [] = Unit {0}
 PlacesApart (x ∷ xs) = All (λ y. (y.0 == x.0) ≡ false) xs × PlacesApart xs
 
@@ -157,6 +157,11 @@ enumerate_apart n (c ∷ cs) = (
   enumerate_apart (n + 1) cs,
 )
 
+-- each commitment of the order stands at a place of its own
+pub order_places_apart : (cs : List CommitmentValue) → PlacesApart (commitments_in_order cs)
+unfolding commitments_in_order
+order_places_apart cs = order_apart commitment_before (enumerate_from 0 cs) (enumerate_apart 0 cs)
+
 map_apart : (xs : List (ℕ × CommitmentValue)) → PlacesApart xs → AreApart (map (λ c. c.0) xs)
 map_apart [] h = tt
 map_apart (x ∷ xs) h = (All-map (λ y. (y == x.0) ≡ false) (λ c. c.0) xs h.0, map_apart xs h.1)
@@ -165,8 +170,7 @@ abbrev places : List CommitmentValue → List ℕ
 places cs = map (λ c. c.0) (commitments_in_order cs)
 
 places_apart : (cs : List CommitmentValue) → AreApart (places cs)
-unfolding commitments_in_order
-places_apart cs = map_apart (commitments_in_order cs) (order_apart commitment_before (enumerate_from 0 cs) (enumerate_apart 0 cs))
+places_apart cs = map_apart (commitments_in_order cs) (order_places_apart cs)
 
 position_at : (order : List ℕ) (k d : ℕ) → AreApart order → k < length order → position order (get_or order k d) ≡ k
 position_at [] k d apart lt = absurd (omega (arith, lt))

@@ -1,9 +1,11 @@
 -- The offers of a row's SKU make the row's pairs.
 use Rattle.std.proofs.Common.{◌≡◌, ℕ, zero, suc, ◌+◌, ◌-◌, ◌<◌, ◌≤◌, Bool, true, false, not, ◌&&◌, cond, List, [], ◌∷◌, ◌++◌, length, get_or, take, drop, map, filter, find, All, Option, Some, None, option_map, refl, sym, ap, ◌∙◌, arith, ltb, ⊎_elim}
 use Rattle.std.proofs.lemmas.Bool.{cases_lt}
-use Rattle.std.specs.List.{enumerate_from, filter_map, flat_map, cons_option, AllByRecursion}
+use Rattle.std.proofs.lemmas.List.{get_or-drop, length-drop}
+use Rattle.std.proofs.lemmas.List.Sums.{prefix_len_passes, prefix_len_stops}
+use Rattle.std.specs.List.{enumerate_from, filter_map, flat_map, cons_option, prefix_len, AllByRecursion}
 use Rattle.std.specs.Option.{option_map_or}
-use Rattle.std.specs.List.Sorted.{IsStrictlySortedBy, ties, IsSortedBy, IsNonDecreasingBy, IsPartitionedBy}
+use Rattle.std.specs.List.Sorted.{IsStrictlySortedBy, ties, IsSortedBy, IsNonDecreasingBy, IsPartitionedBy, IsPartitionPoint}
 use Rattle.std.specs.Cmp.{IsStrictWeakOrder}
 use Rattle.std.specs.declared.cmp.Ordering.{Ordering}
 use Rattle.std.specs.declared.cmp.Ordering.TheVariants.{Less, Equal, Greater}
@@ -19,7 +21,7 @@ use Rattle.fw_terms.specs.Commitment.{CommitmentValue, TermsValue, RateValue, Is
 use Rattle.fw_terms.specs.Commitment.TermsValue.{usage, spend}
 use Rattle.fw_cover.specs.Applies.{Listing, listings, fits, applied, is_open}
 use Rattle.fw_cover.specs.Order.{in_order, pair_for, pairs_at}
-use Rattle.fw_cover.specs.Offers.{OfferValue, offer_for, offers_by, offers_of, offer_before, index_of, offered, pair_by, pairs_with, offer_of, standing_to, ArePoints}
+use Rattle.fw_cover.specs.Offers.{OfferValue, offer_for, offers_by, offers_of, offer_before, index_of, offered, pair_by, pairs_with, offer_of, standing_to}
 use Rattle.fw_cover.specs.declared.offers.Offer.{Offer}
 use Rattle.fw_cover.specs.declared.pair.Pair.{Pair}
 use Rattle.fw_cover.proofs.Sorting.{two_ways, in_order_stable}
@@ -221,10 +223,20 @@ between Less h i = sym h
 between Equal h i = refl
 between Greater h i = i
 
-lt_le : (o : Ordering) → is_lt o ≡ true → is_le o ≡ false → ⊥
-lt_le Less h i = let clash : true ≡ false = i in cc
-lt_le Equal h i = let clash : false ≡ true = h in cc
-lt_le Greater h i = let clash : false ≡ true = h in cc
+lt_is_le : (o : Ordering) → is_lt o ≡ true → is_le o ≡ true
+lt_is_le Less h = refl
+lt_is_le Equal h = refl
+lt_is_le Greater h = h
+
+eq_is_le : (o : Ordering) → is_eq o ≡ true → is_le o ≡ true
+eq_is_le Less h = refl
+eq_is_le Equal h = refl
+eq_is_le Greater h = h
+
+neither_le : (o : Ordering) → is_lt o ≡ false → is_eq o ≡ false → is_le o ≡ false
+neither_le Less h i = h
+neither_le Equal h i = i
+neither_le Greater h i = refl
 
 rising_to : (sku : List ℕ) (xs : List Offer) → IsSortedBy (λ a b. offer_before (offer_of a) (offer_of b)) xs → IsNonDecreasingBy (λ o. ordering_index (standing_to sku o)) xs
 rising_to sku xs sorted = searchable_from_sorted nat_list_cmp_total (λ o. o.sku.now) xs sku sorted
@@ -233,26 +245,45 @@ pub parted_below : (sku : List ℕ) (xs : List Offer) → IsSortedBy (λ a b. of
 parted_below sku xs sorted = λ i j d le lt h.
     lt_number (standing_to sku (get_or xs i d)) ∙ IsPartitionedBy-ltb (λ o. ordering_index (standing_to sku o)) xs 1 (rising_to sku xs sorted) i j d le lt (sym (lt_number (standing_to sku (get_or xs j d))) ∙ h)
 
-pub parted_upto : (sku : List ℕ) (xs : List Offer) → IsSortedBy (λ a b. offer_before (offer_of a) (offer_of b)) xs → IsPartitionedBy (λ o. is_le (standing_to sku o)) xs
+parted_upto : (sku : List ℕ) (xs : List Offer) → IsSortedBy (λ a b. offer_before (offer_of a) (offer_of b)) xs → IsPartitionedBy (λ o. is_le (standing_to sku o)) xs
 parted_upto sku xs sorted = λ i j d le lt h.
     le_number (standing_to sku (get_or xs i d)) ∙ IsPartitionedBy-ltb (λ o. ordering_index (standing_to sku o)) xs 2 (rising_to sku xs sorted) i j d le lt (sym (le_number (standing_to sku (get_or xs j d))) ∙ h)
 
-pub points_rise : (sku : List ℕ) (xs : List Offer) (from to : ℕ) → ArePoints sku xs from to → from ≤ to
-points_rise sku [] from to h = omega (arith, h.from_within)
-points_rise sku (x ∷ xs) from to h = ⊎_elim
-    (λ less. absurd (lt_le (standing_to sku (get_or (x ∷ xs) to x)) (h.below.0 to x (omega arith) less) (h.upto.1 to x (omega arith) (omega (arith, less, h.from_within)))))
-    (λ rise. rise)
-    (cases_lt to from)
+-- from the first offer of a SKU on the next ones are those of the same SKU, and all others are of higher ones
+run_upto : (sku : List ℕ) (xs : List Offer) (from n : ℕ) → IsSortedBy (λ a b. offer_before (offer_of a) (offer_of b)) xs → IsPartitionPoint (λ o. is_lt (standing_to sku o) ≡ true) (λ o. is_lt (standing_to sku o) ≡ false) xs from
+    → n ≡ prefix_len (λ o. bytes_eq o.sku.now sku) (drop from xs) → IsPartitionPoint (λ o. is_le (standing_to sku o) ≡ true) (λ o. is_le (standing_to sku o) ≡ false) xs (from + n)
+run_upto sku xs from n sorted below run =
+    let e : Offer → Bool = λ o. bytes_eq o.sku.now sku in (
+      (λ k d z lt. ⊎_elim
+          (λ early. lt_is_le (standing_to sku (get_or xs k d)) (below.0 k d z early))
+          (λ late.
+          let here : e (get_or (drop from xs) (k - from) d) ≡ true = prefix_len_passes e (drop from xs) (k - from) d (omega (arith, lt, late, run)) in
+          let k' : from + (k - from) ≡ k = omega (arith, late) in
+          let at : get_or (drop from xs) (k - from) d ≡ get_or xs k d = get_or-drop from xs (k - from) d ∙ ap (λ m. get_or xs m d) k' in
+          eq_is_le (standing_to sku (get_or xs k d)) (is_eq-slice_cmp (get_or xs k d).sku.now sku ∙ (ap e (sym at) ∙ here)))
+          (cases_lt k from)),
+      (λ k d le lt. two_ways (is_le (standing_to sku (get_or xs k d)))
+          (λ holds.
+          let short : prefix_len e (drop from xs) < length (drop from xs) = omega (arith, le, lt, run, length-drop from xs) in
+          let at : get_or (drop from xs) (prefix_len e (drop from xs)) d ≡ get_or xs (from + n) d = get_or-drop from xs (prefix_len e (drop from xs)) d ∙ ap (λ m. get_or xs (from + m) d) (sym run) in
+          let other : e (get_or xs (from + n) d) ≡ false = ap e (sym at) ∙ prefix_len_stops e (drop from xs) d short in
+          let stop : is_le (standing_to sku (get_or xs (from + n) d)) ≡ false =
+          neither_le (standing_to sku (get_or xs (from + n) d)) (below.1 (from + n) d (omega arith) (omega (arith, le, lt))) (is_eq-slice_cmp (get_or xs (from + n) d).sku.now sku ∙ other) in
+          holds ∙ (sym (parted_upto sku xs sorted (from + n) k d le lt holds) ∙ stop))
+          (λ fails. fails)),
+    )
 
-pub offers_between : (sku : List ℕ) (xs : List Offer) (from to : ℕ) → from ≤ to → ArePoints sku xs from to → map offer_of (take (to - from) (drop from xs)) ≡ offered sku (map offer_of xs)
-offers_between sku xs from to rise h =
+pub offers_run : (sku : List ℕ) (xs : List Offer) (from n : ℕ) → IsSortedBy (λ a b. offer_before (offer_of a) (offer_of b)) xs → IsPartitionPoint (λ o. is_lt (standing_to sku o) ≡ true) (λ o. is_lt (standing_to sku o) ≡ false) xs from
+    → n ≡ prefix_len (λ o. bytes_eq o.sku.now sku) (drop from xs) → map offer_of (take n (drop from xs)) ≡ offered sku (map offer_of xs)
+offers_run sku xs from n sorted below run =
     let e : Offer → Bool = λ o. bytes_eq o.sku.now sku in
     let same = λ (o : Offer). is_eq-slice_cmp o.sku.now sku in
-    let mid : take (to - from) (drop from xs) ≡ filter e xs = mid_filter (λ o. is_lt (standing_to sku o)) (λ o. is_le (standing_to sku o)) e
+    let upto = run_upto sku xs from n sorted below run in
+    let mid : take n (drop from xs) ≡ filter e xs = mid_filter (λ o. is_lt (standing_to sku o)) (λ o. is_le (standing_to sku o)) e
     (λ o t. sym (same o) ∙ lt_apart (standing_to sku o) t) (λ o t. sym (same o) ∙ gt_apart (standing_to sku o) t) (λ o t u. sym (same o) ∙ between (standing_to sku o) t u)
-    xs from (to - from)
-    (λ k d lt l. h.below.0 k d (omega arith) lt)
-    (λ k d le l. h.below.1 k d le l)
-    (λ k d lt l. h.upto.0 k d (omega arith) (omega (arith, lt, rise)))
-    (λ k d le l. h.upto.1 k d (omega (arith, le, rise)) l) in
+    xs from n
+    (λ k d lt l. below.0 k d (omega arith) lt)
+    (λ k d le l. below.1 k d le l)
+    (λ k d lt l. upto.0 k d (omega arith) lt)
+    (λ k d le l. upto.1 k d le l) in
     ap (map offer_of) mid ∙ sym (filter_map_of offer_of (λ o. bytes_eq o.sku sku) xs)

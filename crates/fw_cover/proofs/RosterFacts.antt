@@ -10,8 +10,8 @@ use Rattle.fw_cover.specs.declared.offers.Offer.{Offer}
 use Rattle.fw_cover.proofs.Index.{pairs_by_row_index}
 use Rattle.fw_cover.proofs.Within.{ordered_valid}
 
-pub pairs_are : (cs : List CommitmentValue) (ks : List ℕ) (index : List Offer) (rows : List Charge) (hour : ℕ) → IsRoster cs ks index
+pub pairs_are : (cs : List CommitmentValue) (places ks : List ℕ) (index : List Offer) (rows : List Charge) (hour : ℕ) → IsRoster cs places ks index
     → in_order pair_before (flat_map (pairs_with hour (map offer_of index)) (enumerate_from 0 rows)) ≡ pairs_of cs rows hour
 unfolding pairs_of pairs_by_row
-pairs_are cs ks index rows hour is = ap (λ i. in_order pair_before (flat_map (pairs_with hour i) (enumerate_from 0 rows))) is.index_is
+pairs_are cs places ks index rows hour is = ap (λ i. in_order pair_before (flat_map (pairs_with hour i) (enumerate_from 0 rows))) is.index_is
     ∙ ap (in_order pair_before) (pairs_by_row_index hour (enumerate_from 0 rows) (commitments_in_order cs) (ordered_valid cs is.valid))

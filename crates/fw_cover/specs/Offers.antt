@@ -1,10 +1,9 @@
 -- The SKUs that the commitments of an order list, put in the order of their bytes. The private functions that look a row's SKU up cite it.
-use Rattle.std.specs.Prelude.{◌≡◌, ◌≤◌, ℕ, length, Bool, true, false, List, [], Option, Some, None, if◌then◌else◌, map, filter}
+use Rattle.std.specs.Prelude.{ℕ, Bool, true, false, List, [], Option, Some, None, if◌then◌else◌, map, filter}
 use Rattle.std.specs.Option.{option_map_or}
 use Rattle.std.specs.List.{enumerate_from, flat_map, filter_map}
 use Rattle.std.specs.declared.cmp.Ordering.{Ordering}
-use Rattle.std.specs.List.Sorted.{IsPartitionPoint}
-use Rattle.std.specs.Ordering.{is_lt, is_le, nat_cmp}
+use Rattle.std.specs.Ordering.{is_lt, nat_cmp}
 use Rattle.std.specs.Cmp.Lexicographic.{slice_cmp}
 use Rattle.std.specs.Str.{bytes_eq}
 use Rattle.fw_charge.specs.Charge.{Charge}
@@ -48,13 +47,6 @@ offered sku offers = filter (λ o. bytes_eq o.sku sku) offers
 -- how an offer's SKU stands to one in the order of bytes
 abbrev pub standing_to : List ℕ → Offer → Ordering
 standing_to sku o = slice_cmp nat_cmp o.sku.now sku
-
--- in an index the offers of lower SKUs stand before the first place, and those of higher ones from the second on
-pub record ArePoints (sku : List ℕ) (xs : List Offer) (from to : ℕ) : Type 0 where
-  pub from_within : from ≤ length xs
-  pub to_within : to ≤ length xs
-  pub below : IsPartitionPoint (λ o. is_lt (standing_to sku o) ≡ true) (λ o. is_lt (standing_to sku o) ≡ false) xs from
-  pub upto : IsPartitionPoint (λ o. is_le (standing_to sku o) ≡ true) (λ o. is_le (standing_to sku o) ≡ false) xs to
 
 -- the pair that an offer makes with a row that commitments may cover in the hour
 abbrev pub pair_by : ℕ → ℕ × Charge → OfferValue → Option Pair

@@ -1,11 +1,13 @@
 //! The SKUs that commitments list, in the order of their bytes, so that a row finds the commitments that list its own.
-ghost use Rattle.std.specs.Prelude.{◌≡◌, ◌++◌, ◌∷◌, [], ◌<◌, ◌≤◌, map, string_bytes, OnOk, IfOk};
+ghost use Rattle.std.specs.Prelude.{◌≡◌, ◌++◌, ◌∷◌, [], ◌≤◌, length, map, string_bytes, OnOk, IfOk};
 ghost use Rattle.std.specs.Ordering.{nat_cmp};
 ghost use Rattle.std.specs.Cmp.Lexicographic.{slice_cmp};
+ghost use Rattle.std.specs.List.{prefix_len};
 ghost use Rattle.std.specs.List.Sorted.{IsSortedBy};
+ghost use Rattle.std.specs.Str.{bytes_eq};
 ghost use Rattle.fw_terms.specs.TermsView.{terms_view};
 ghost use Rattle.fw_cover.specs.Applies.{listings};
-ghost use Rattle.fw_cover.specs.Offers.{offer_of, offer_for, offers_by, offers_of, offer_before, index_of, offered, ArePoints};
+ghost use Rattle.fw_cover.specs.Offers.{offer_of, offer_for, offers_by, offers_of, offer_before, index_of, offered};
 ghost use Rattle.fw_cover.specs.PlacedView.{placed_of};
 
 use crate::order::Placed;
@@ -96,22 +98,21 @@ pub(crate) fn index<'a>(alloc: Global, ordered: &[Placed<'a>]) -> Result<Vec<Off
     Ok(offers)
 }
 
-/// Where the offers of a SKU stand in an index: from the first place up to the second.
-fn points(index: &[Offer], sku: &str) -> (usize, usize)
-    requires { IsSortedBy (λ a b. offer_before (offer_of a) (offer_of b)) index.now }
-    ensures points { ArePoints sku.now index.now result.0 result.1 }
-    ensures rise { result.0 ≤ result.1 }
+/// How many offers from the first on are of a SKU.
+fn run_of(offers: &[Offer], sku: &str) -> usize
+    ensures run { result ≡ prefix_len (λ o. bytes_eq o.sku.now sku.now) offers.now }
+    ensures within { result ≤ length offers.now }
 {
-    let from = index.partition_point(|offer| offer.sku.cmp(sku).is_lt());
-    let to = index.partition_point(|offer| offer.sku.cmp(sku).is_le());
-    (from, to)
+    offers.iter().take_while(|offer| offer.sku == sku).count()
 }
 
-/// The offers of a SKU in an index.
+/// The offers of a SKU in an index: found by a search for the first, and then by going on as long as the SKU is the same.
 pub(crate) fn offered<'i, 'a>(index: &'i [Offer<'a>], sku: &str) -> &'i [Offer<'a>]
     requires { IsSortedBy (λ a b. offer_before (offer_of a) (offer_of b)) index.now }
     ensures { map offer_of result.now ≡ offered sku.now (map offer_of index.now) }
 {
-    let (from, to) = points(index, sku);
-    &index[from..to]
+    let from = index.partition_point(|offer| offer.sku.cmp(sku).is_lt());
+    let (_, later) = index.split_at(from);
+    let (run, _) = later.split_at(run_of(later, sku));
+    run
 }

@@ -82,7 +82,8 @@ pub fn in_order(alloc: Global, commitments: &[Commitment]) -> Result<Vec<usize>,
     places(alloc, &ordered)
 }
 
-fn places(alloc: Global, placed: &[Placed]) -> Result<Vec<usize>, AllocError>
+/// The places of placed commitments, in turn.
+pub(crate) fn places(alloc: Global, placed: &[Placed]) -> Result<Vec<usize>, AllocError>
     ensures { IfOk result (λ v. v.items ≡ map (λ p. p.place) placed.now) }
 {
     placed.iter().map(|placed| placed.place).collect(alloc)

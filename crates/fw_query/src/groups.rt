@@ -8,10 +8,10 @@ ghost use Rattle.fw_query.specs.Sums.{AddsLine, AreAmounts, AreEntries, AreSums,
 use crate::entries::Entry;
 use crate::hours::{RowPlace, is_touched};
 use crate::segments::{Grouped, lend, rows_at};
-use fw_amortise::{Line, lines_of_hour};
+use fw_amortise::{Line, lines_by_roster};
 use fw_charge::Row;
+use fw_cover::Roster;
 use fw_money::Nanos;
-use fw_terms::Commitment;
 use indexmap::IndexMap;
 use std::alloc::{AllocError, Global};
 
@@ -70,19 +70,19 @@ impl Groups {
     pub(crate) fn of_hours(
         alloc: Global,
         grouped: &Grouped<'_, '_>,
-        commitments: &[Commitment],
+        roster: &Roster<'_>,
         by_hour: &[Vec<RowPlace>],
         from: u64,
     ) -> Result<Groups, AllocError>
         requires fits { from + length by_hour.now < 2 ^ 64 }
         requires grouped { IsGrouped grouped.now }
         requires there { All (AreThere (lent grouped.now.segments.now)) by_hour.now }
-        ensures { IfOk result (λ groups. CountsHours groups grouped.now.key.now commitments.now (map (rows_of_list (lent grouped.now.segments.now)) by_hour.now) from) }
+        ensures { IfOk result (λ groups. CountsHours groups grouped.now.key.now roster.now (map (rows_of_list (lent grouped.now.segments.now)) by_hour.now) from) }
     {
         let mut groups = Groups::new(alloc);
         let mut hour = from;
         for places in by_hour {
-            groups.add_hour(grouped, commitments, places.as_slice(), hour)?;
+            groups.add_hour(grouped, roster, places.as_slice(), hour)?;
             hour += 1;
         }
         Ok(groups)
@@ -93,35 +93,35 @@ impl Groups {
     fn add_hour(
         &mut self,
         grouped: &Grouped<'_, '_>,
-        commitments: &[Commitment],
+        roster: &Roster<'_>,
         places: &[RowPlace],
         hour: u64,
     ) -> Result<(), AllocError>
         requires counts { (costs : List Cost) × Counts self.old costs }
         requires grouped { IsGrouped grouped.now }
         requires there { All (IsThere (lent grouped.now.segments.now)) places.now }
-        ensures { OnOk result ((costs : List Cost) → Counts self.old costs → CountsHour self.new costs grouped.now.key.now commitments.now (rows_at (lent grouped.now.segments.now) places.now) hour) }
+        ensures { OnOk result ((costs : List Cost) → Counts self.old costs → CountsHour self.new costs grouped.now.key.now roster.now (rows_at (lent grouped.now.segments.now) places.now) hour) }
     {
-        if !is_touched(commitments, hour) {
+        if !is_touched(roster.commitments(), hour) {
             return self.add_rows(grouped, places);
         }
         let rows = rows_at(self.alloc, grouped.segments, places)?;
-        self.add_touched(grouped.key, commitments, rows.as_slice(), hour as u32)
+        self.add_touched(grouped.key, roster, rows.as_slice(), hour as u32)
     }
 
     // Counts the lines of an hour whose rows are these.
     fn add_touched(
         &mut self,
         key: &str,
-        commitments: &[Commitment],
+        roster: &Roster<'_>,
         rows: &[Row],
         hour: u32,
     ) -> Result<(), AllocError>
         requires { (costs : List Cost) × Counts self.old costs }
-        ensures { OnOk result ((costs : List Cost) → Counts self.old costs → CountsHour self.new costs key.now commitments.now rows.now hour) }
+        ensures { OnOk result ((costs : List Cost) → Counts self.old costs → CountsHour self.new costs key.now roster.now rows.now hour) }
     {
         let rows = lend(self.alloc, rows)?;
-        let lines = lines_of_hour(self.alloc, commitments, rows.as_slice(), hour)?;
+        let lines = lines_by_roster(self.alloc, roster, rows.as_slice(), hour)?;
         self.add_lines(key, lines.as_slice())
     }
 

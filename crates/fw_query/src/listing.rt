@@ -17,9 +17,10 @@ use crate::line_text::{write_lines, write_names};
 use crate::query::MOST_HOURS;
 use crate::segments::{lend, rows_at, segments_of};
 use csv::{Writer, WriterBuilder};
-use fw_amortise::lines_of_hour;
+use fw_amortise::lines_by_roster;
 use fw_charge::Row;
 use fw_columns::Columns;
+use fw_cover::Roster;
 use fw_snapshot::{Snapshot, State};
 use fw_terms::Commitment;
 use std::alloc::{AllocError, Global};
@@ -73,13 +74,14 @@ fn listed(
     ensures { IfOk result (λ text. IsListing commitments.now (all_rows (lent segments.now)) from hours text.items) }
 {
     let by_hour = rows_by_hour(alloc, segments, from, hours)?;
+    let roster = Roster::new(alloc, commitments)?;
     let mut writer = WriterBuilder::new().from_writer(Vec::new(alloc));
     write_names(&mut writer)?;
     write_hours(
         alloc,
         &mut writer,
         segments,
-        commitments,
+        &roster,
         by_hour.as_slice(),
         from,
     )?;
@@ -94,18 +96,18 @@ fn write_hours(
     alloc: Global,
     writer: &mut Writer<Vec<u8>>,
     segments: &[&Columns],
-    commitments: &[Commitment],
+    roster: &Roster<'_>,
     by_hour: &[Vec<RowPlace>],
     from: u64,
 ) -> Result<(), AllocError>
     requires fits { from + length by_hour.now < 2 ^ 64 }
     requires by_hour { (rows : List Charge) × AreByHour (lent segments.now) rows from (length by_hour.now) by_hour.now }
-    ensures { OnOk result ((text : List ℕ) → HasWritten writer.old text → WritesHours writer.new text commitments.now (map (rows_of_list (lent segments.now)) by_hour.now) from) }
+    ensures { OnOk result ((text : List ℕ) → HasWritten writer.old text → WritesHours writer.new text roster.now (map (rows_of_list (lent segments.now)) by_hour.now) from) }
 {
     let mut hour = from;
     for places in by_hour {
         let rows = rows_at(alloc, segments, places.as_slice())?;
-        write_hour(alloc, writer, commitments, rows.as_slice(), hour)?;
+        write_hour(alloc, writer, roster, rows.as_slice(), hour)?;
         hour += 1;
     }
     Ok(())
@@ -115,18 +117,18 @@ fn write_hours(
 fn write_hour(
     alloc: Global,
     writer: &mut Writer<Vec<u8>>,
-    commitments: &[Commitment],
+    roster: &Roster<'_>,
     rows: &[Row],
     hour: u64,
 ) -> Result<(), AllocError>
     requires { All (λ r. hour_of r.start ≡ hour) rows.now }
-    ensures { OnOk result ((text : List ℕ) → HasWritten writer.old text → WritesHour writer.new text commitments.now rows.now hour) }
+    ensures { OnOk result ((text : List ℕ) → HasWritten writer.old text → WritesHour writer.new text roster.now rows.now hour) }
 {
-    let Some(hour) = line_hour(commitments, rows, hour) else {
+    let Some(hour) = line_hour(roster.commitments(), rows, hour) else {
         return Ok(());
     };
     let rows = lend(alloc, rows)?;
-    let lines = lines_of_hour(alloc, commitments, rows.as_slice(), hour)?;
+    let lines = lines_by_roster(alloc, roster, rows.as_slice(), hour)?;
     write_lines(alloc, writer, lines.as_slice())
 }
 

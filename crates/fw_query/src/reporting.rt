@@ -17,6 +17,7 @@ use crate::query::Query;
 use crate::segments::{Grouped, segments_of};
 use crate::total::first_past;
 use fw_columns::Columns;
+use fw_cover::Roster;
 use fw_snapshot::{Snapshot, State};
 use fw_terms::{Commitment, Policy};
 use std::alloc::{AllocError, Global};
@@ -101,5 +102,6 @@ fn direct_entries(
     let hours = (query.to_hour - from) as usize;
     let by_hour = rows_by_hour(alloc, segments, from, hours)?;
     let grouped = Grouped::new(alloc, query.key, segments)?;
-    Groups::of_hours(alloc, &grouped, commitments, by_hour.as_slice(), from)?.into_entries()
+    let roster = Roster::new(alloc, commitments)?;
+    Groups::of_hours(alloc, &grouped, &roster, by_hour.as_slice(), from)?.into_entries()
 }

@@ -21,11 +21,11 @@ pub returns-in-Ok : goal.returns-in-Ok
 returns-in-Ok c =
     let made = c.from_writer-writer.ensures in
     let start : HasWritten c.from_writer-writer.result [] = record {
-      setup = made.cfg ∙ c.new.ensures;
+      setup = made.cfg ∙ c.new-2.ensures;
       fields = made.fields;
       wrote = made.wrote;
-      text_is = λ j. Some ((ap (λ v. v.items) made.wtr ∙ c.new-2.ensures.items) j ++ made.empty j);
+      text_is = λ j. Some ((ap (λ v. v.items) made.wtr ∙ c.new-3.ensures.items) j ++ made.empty j);
     } in
     let done : WritesHours c.write_hours.new.writer (record_line line_header) c.args.commitments.now (map (rows_of_list (lent c.args.segments.now)) c.in_ok-by_hour.by_hour.items) c.args.from =
-    rw c.as_slice.ensures.value at (c.in_ok-write_hours.ensures _ (c.in_ok-write_names.ensures [] start)) in
+    rw (c.in_ok-roster.ensures, c.as_slice.ensures.value) at (c.in_ok-write_hours.ensures _ (c.in_ok-write_names.ensures [] start)) in
     listing_of _ c.in-Ok.text _ (all_rows (lent c.args.segments.now)) _ _ c.args.hours done c.in_ok-by_hour.ensures.each c.in-Ok.ensures.ok

@@ -35,9 +35,9 @@ loop-places-preserved c =
     record {
       wrote = λ text has.
           let before = kept.wrote text has in
-          let added : WritesHour c.write_hour.new.writer (text ++ records (joined before.hourly)) c.args.commitments.now (found c.places-item.result) c.loop-places.hour =
+          let added : WritesHour c.write_hour.new.writer (text ++ records (joined before.hourly)) c.args.roster.now (found c.places-item.result) c.loop-places.hour =
           rw rows at (c.in_ok-write_hour.ensures _ before.wrote) in
-          rw more (WritesHours-more _ c.write_hour.new.writer text c.args.commitments.now _ (found c.places-item.result) c.args.from c.loop-places.hour before (kept.at ∙ ap (λ n. c.args.from + n) (sym long)) added);
+          rw more (WritesHours-more _ c.write_hour.new.writer text c.args.roster.now _ (found c.places-item.result) c.args.from c.loop-places.hour before (kept.at ∙ ap (λ n. c.args.from + n) (sym long)) added);
       at = let h = kept.at in omega arith;
     }
 

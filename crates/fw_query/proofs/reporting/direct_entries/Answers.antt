@@ -25,7 +25,7 @@ returns c =
     let key = c.args.query.now.key.now in
     let segments = lent c.args.segments.now in
     let counted : CountsHours c.in_ok-of_hours.field-0 key c.args.commitments.now (map (rows_of_list segments) c.in_ok-by_hour.by_hour.items) from =
-    rw (c.as_slice.ensures.value, c.in_ok-grouped.ensures.segments, c.in_ok-grouped.ensures.key) at c.in_ok-of_hours.ensures in
+    rw (c.in_ok-roster.ensures, c.as_slice.ensures.value, c.in_ok-grouped.ensures.segments, c.in_ok-grouped.ensures.key) at c.in_ok-of_hours.ensures in
     IfOk-weaker c.into_entries.result (λ entries. (costs : List Cost) → AreSums c.in_ok-of_hours.field-0 costs → AreEntries costs entries.items)
     (λ entries. HasDirect c.args.commitments.now (all_rows segments) key from to entries.items)
     (λ entries made. record {

@@ -10,7 +10,7 @@ cover_pairs-requires-clause-pairs c =
     let cs = c.self.inside.commitments.now in
     let rows = map (λ r. r.now) c.args.rows.now in
     let pairs : c.deref-2.result.now ≡ pairs_of cs rows c.args.hour = c.deref-2.ensures.value ∙ (c.in_ok-pairs.ensures
-    ∙ (rw c.deref.ensures.value (pairs_are cs c.self.inside.capacities.items c.self.inside.index.items rows c.args.hour c.self.invariant))) in
+    ∙ (rw c.deref.ensures.value (pairs_are cs c.self.inside.order.items c.self.inside.capacities.items c.self.inside.index.items rows c.args.hour c.self.invariant))) in
     let billed : c.deref-3.result.now ≡ billed_of rows = c.deref-3.ensures.value ∙ c.in_ok-billed.ensures.values in
     let quantities : c.deref-4.result.now ≡ quantities_of rows = c.deref-4.ensures.value ∙ c.in_ok-quantities.ensures.values in
     let capacities : c.deref-5.result.now ≡ capacities_of cs = c.deref-5.ensures.value ∙ c.self.invariant.capacities in
@@ -22,7 +22,7 @@ returns-clause-taken c =
     let cs = c.self.inside.commitments.now in
     let rows = map (λ r. r.now) c.args.rows.now in
     let pairs : c.deref-2.result.now ≡ pairs_of cs rows c.args.hour = c.deref-2.ensures.value ∙ (c.in_ok-pairs.ensures
-    ∙ (rw c.deref.ensures.value (pairs_are cs c.self.inside.capacities.items c.self.inside.index.items rows c.args.hour c.self.invariant))) in
+    ∙ (rw c.deref.ensures.value (pairs_are cs c.self.inside.order.items c.self.inside.capacities.items c.self.inside.index.items rows c.args.hour c.self.invariant))) in
     let billed : c.deref-3.result.now ≡ billed_of rows = c.deref-3.ensures.value ∙ c.in_ok-billed.ensures.values in
     let quantities : c.deref-4.result.now ≡ quantities_of rows = c.deref-4.ensures.value ∙ c.in_ok-quantities.ensures.values in
     let capacities : c.deref-5.result.now ≡ capacities_of cs = c.deref-5.ensures.value ∙ c.self.invariant.capacities in

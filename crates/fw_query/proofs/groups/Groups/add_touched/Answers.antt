@@ -11,7 +11,7 @@ returns c =
     let rows : map (λ (r : Bor Charge). r.now) c.as_slice.result.now ≡ c.args.rows.now = ap (map (λ (r : Bor Charge). r.now)) c.as_slice.ensures.value ∙ c.in_ok-rows.ensures in
     IfOk-weaker c.add_lines.result
     (λ _. (costs : List Cost) → Counts c.args.self.now costs → Counts c.add_lines.new.self (costs ++ costs_of c.args.key.now c.as_slice-2.result.now))
-    (λ _. (costs : List Cost) → Counts c.args.self.now costs → CountsHour c.add_lines.new.self costs c.args.key.now c.args.commitments.now c.args.rows.now c.args.hour)
+    (λ _. (costs : List Cost) → Counts c.args.self.now costs → CountsHour c.add_lines.new.self costs c.args.key.now c.args.roster.now c.args.rows.now c.args.hour)
     (λ _ counted costs counts. record {
       lines = c.in_ok-lines.lines.items;
       are_lines = rw rows at c.in_ok-lines.ensures;

@@ -23,9 +23,9 @@ loop-places-preserved c =
     let more : map found (take (c.loop-places.places-index + 1) c.args.by_hour.now) ≡ map found (take c.loop-places.places-index c.args.by_hour.now) ++ found c.places-item.result ∷ [] =
     map_more found c.args.by_hour.now c.loop-places.places-index c.places-item.result c.loop-places-test.true
     ∙ ap (λ v. map found (take c.loop-places.places-index c.args.by_hour.now) ++ found v ∷ []) (sym c.places-item.is) in
-    let added : CountsHour c.add_hour.new.self (costs_of key (joined kept.counted.hourly)) key c.args.commitments.now (found c.places-item.result) c.loop-places.hour =
+    let added : CountsHour c.add_hour.new.self (costs_of key (joined kept.counted.hourly)) key c.args.roster.now (found c.places-item.result) c.loop-places.hour =
     rw c.as_slice.ensures.value at (c.in_ok-add_hour.ensures _ kept.counted.counts) in
     record {
-      counted = rw more (CountsHours-more _ c.add_hour.new.self key c.args.commitments.now _ (found c.places-item.result) c.args.from c.loop-places.hour kept.counted (kept.at ∙ ap (λ n. c.args.from + n) (sym long)) added);
+      counted = rw more (CountsHours-more _ c.add_hour.new.self key c.args.roster.now _ (found c.places-item.result) c.args.from c.loop-places.hour kept.counted (kept.at ∙ ap (λ n. c.args.from + n) (sym long)) added);
       at = let h = kept.at in omega arith;
     }
