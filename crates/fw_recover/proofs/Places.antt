@@ -74,7 +74,7 @@ newest_has_no_twin c Right t q a b =
 
 -- ---- the body and the log
 
--- the log of a side that tells a warehouse breaks nowhere
+-- a side that holds a warehouse breaks nowhere
 tells_on : (generation : ℕ) (h : History) (file : List ℕ) (form : Form) (at : ℕ) → SideTells generation h file → HasMagic form file → BodyBreaks form at file ⊎ BreaksBehind form at file → ⊥
 tells_on generation h file form at t magic_is (inl b) =
     let walks = tells_walks generation h file t in

@@ -147,3 +147,11 @@ module _ (h : History) (old : Image) (used : StandsFor h old) where
       | inl one ↦ stands_new c same has.tail (has.is ∙ ap (λ (b : ℕ). b ∷ (bytes ++ has.tail)) one)
       | inr closed ↦ stands_beside c same (λ is. absurd (not_open (c (other u)) (λ e. closed (sym (ap (λ (l : List ℕ). get_or l 0 0) has.is) ∙ e)) is))
     ]
+
+-- an image that is what is read
+pub stands_same : (h : History) (old c : Image) → StandsFor h old → ((s : Side) → c s ≡ old s) → StandsFor h c
+stands_same h old c used same =
+    stands_beside h old used c (same used.side) (λ is.
+    let o = other used.side in
+    let was = as_it_was h old used (subst (λ (l : List ℕ). IsOpen l) (same o) is) in
+    subst (λ (l : List ℕ). IsSound l × (generation_of l < generation_of (old used.side))) (sym (same o)) was)

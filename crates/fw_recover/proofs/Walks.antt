@@ -124,7 +124,7 @@ pub walks_one : (f g : Form) (s t : History) (gs hs : List (List EntryValue)) (x
 walks_one f g s t gs hs x y file a b =
     walks_same f s t gs hs x y file a (subst (λ (k : Form). Walks k t hs y file) (sym (form_one file f g a.magic_is b.magic_is)) b)
 
--- a side that tells a warehouse walks to a closed gate
+-- the log of a side that holds a warehouse is walked to a closed gate
 pub tells_walks : (generation : ℕ) (h : History) (file : List ℕ) (t : SideTells generation h file) → Walks t.form t.state t.groups (t.tells.gate ∷ t.tells.rest) file
 tells_walks generation h file t =
     let legal : IsLegal (t.state.entries ++ joined t.groups) = subst (λ (k : History). IsLegal k.entries) t.is_history t.legal in

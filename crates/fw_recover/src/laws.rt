@@ -1,7 +1,7 @@
 //! What holds of all images: laws, each the contract of a function that does nothing.
 ghost use Rattle.std.specs.Prelude.{◌≡◌, ◌⊎◌, ◌^◌, ◌<◌, ◌++◌, ◌∷◌, [], ℕ, List, length, take, drop, map};
 ghost use Rattle.fw_disk.specs.declared.volume.Side.{Side};
-ghost use Rattle.fw_disk.specs.Volume.{Image, LeavesOnly, other};
+ghost use Rattle.fw_disk.specs.Volume.{Image, LeavesOnly, Settled, other};
 ghost use Rattle.fw_entry.specs.Entry.{EntryValue};
 ghost use Rattle.fw_entry_bytes.specs.declared.form.Form.{Form};
 ghost use Rattle.fw_journal.specs.Frames.{Tells};
@@ -10,7 +10,7 @@ ghost use Rattle.fw_segment.specs.States.{Spells};
 ghost use Rattle.fw_snapshot.specs.History.{History};
 ghost use Rattle.fw_snapshot.specs.Judging.{IsLegalAfter};
 ghost use Rattle.fw_recover.specs.Sides.{made_of, generation_of, log_start_of};
-ghost use Rattle.fw_recover.specs.Stands.{StandsFor, StandsForNone, StandsForEither};
+ghost use Rattle.fw_recover.specs.Stands.{StandsFor, StandsForNone, StandsForEither, EachStandsFor};
 ghost use Rattle.fw_recover.specs.Corrupt.{CorruptAt, IsRecovered};
 ghost use Rattle.fw_recover.specs.Making.{Making};
 
@@ -24,6 +24,11 @@ pub fn images_have_one_meaning()
     ensures not_corrupt { (c : Image) (h : History) (side : Side) (at : ℕ) → StandsFor h c → CorruptAt c side at → ⊥ }
     ensures one_place { (c : Image) (s t : Side) (p q : ℕ) → CorruptAt c s p → CorruptAt c t q → (s ≡ t) × (p ≡ q) }
     ensures corrupt_is_some { (c : Image) (side : Side) (at : ℕ) → CorruptAt c side at → StandsForNone c → ⊥ }
+{}
+
+/// Where nothing is pending, whatever a crash leaves stands for the warehouse that a reader finds.
+pub fn what_is_settled_stands_as_read<V: Volume>(volume: &V)
+    ensures { (h : History) → StandsFor h (V.view volume.now).seen → ((side : Side) → Settled side (V.view volume.now)) → EachStandsFor h (V.view volume.now) }
 {}
 
 /// While the side that isn't in use is made anew of the same warehouse, with a greater generation and a closed gate behind
