@@ -107,6 +107,7 @@ fn a_frame_has_its_bytes(rt: HostRuntime) -> Result<(), Fail> {
 fn a_frame_is_read_before_the_next_gate(rt: HostRuntime) -> Result<(), Fail> {
     let alloc = rt.alloc();
     let mut volume = with_left(alloc, 100, Choice::Old, &EMPTY_LOG)?;
+    assert!(rt; volume.len(Side::Left) == 45 && volume.limit() == 100);
     write_synced(&mut volume, Side::Left, 44, &FRAME)?;
     match frame_at(alloc, &mut volume, Side::Left, 44)? {
         Some((payload, next)) => {
@@ -116,6 +117,7 @@ fn a_frame_is_read_before_the_next_gate(rt: HostRuntime) -> Result<(), Fail> {
         None => assert!(rt; false),
     }
     assert!(rt; frame_at(alloc, &mut volume, Side::Left, 76)?.is_none());
+    assert!(rt; volume.len(Side::Left) == 77 && volume.limit() == 100);
     write_synced(&mut volume, Side::Left, 45, &[28])?;
     let opened = Log::open(&mut volume, Side::Left, 44);
     assert_eq!(rt; opened.err(), Some(LogFault::Corrupt { at: 77 }));
