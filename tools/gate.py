@@ -111,15 +111,23 @@ def edit_counts(files):
     return counts
 
 
+def is_gone_edit(status, path):
+    """Whether a change is no more than that an edit was removed: what the other edits of its crate show stays as it is."""
+    return status == "D" and re.fullmatch(r"crates/[^/]+/must-fail/[^/]+\.edit", path) is not None
+
+
 def changed_crates(top, commit):
-    """The crates whose folder, or whose line in crates.txt, is another than in this commit; None where it isn't here."""
+    """The crates whose folder, or whose line in crates.txt, is another than in this commit, but for edits that are gone; None where the
+    commit isn't here."""
     then = output_of(["git", "show", f"{commit}:crates.txt"], top)
-    named = output_of(["git", "diff", "--name-only", "-z", commit, "--", "crates"], top)
+    named = output_of(["git", "diff", "--name-status", "--no-renames", "-z", commit, "--", "crates"], top)
     new = output_of(["git", "ls-files", "-z", "--others", "--exclude-standard", "crates"], top)
     if then is None or named is None or new is None:
         return None
     then, now = crate_lines(then), crates_of(top)
-    changed = {path.split("/")[1] for path in (named + new).split("\0") if path.count("/") > 1}
+    words = named.split("\0")
+    paths = [path for status, path in zip(words[::2], words[1::2]) if not is_gone_edit(status, path)]
+    changed = {path.split("/")[1] for path in paths + new.split("\0") if path.count("/") > 1}
     return changed | {crate for crate, line in now.items() if then.get(crate) != line}
 
 

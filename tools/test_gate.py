@@ -71,6 +71,24 @@ class Kinds(unittest.TestCase):
         self.assertEqual(meter.kind_of(["rattle", "build", "--crate-name", "a"], "/r/crates/a"), "proof")
 
 
+class Changes(unittest.TestCase):
+    def test_an_edit_that_is_gone_leaves_its_crate_as_it_was(self):
+        with tempfile.TemporaryDirectory() as top:
+            repository = Repository(top)
+            repository.fill()
+            commit = repository.commit("all that the last full run saw")
+            self.assertEqual(gate.changed_crates(top, commit), set())
+            os.remove(os.path.join(top, "crates/same/must-fail/adds_two.edit"))
+            repository.commit("an edit goes")
+            self.assertEqual(gate.changed_crates(top, commit), set())
+            repository.write("crates/same/must-fail/adds_three.edit", REFUSED)
+            self.assertEqual(gate.changed_crates(top, commit), {"same"})
+            repository.write("crates/changed/src/lib.rt", SOURCE + "// a comment\n")
+            repository.commit("another edit, and code")
+            self.assertEqual(gate.changed_crates(top, commit), {"same", "changed"})
+            self.assertIsNone(gate.changed_crates(top, "0" * 40))
+
+
 class Refusals(unittest.TestCase):
     def test_each_allocation_is_refused_where_there_are_few(self):
         self.assertEqual(refuse_allocations.numbers(3, 400), [1, 2, 3])
@@ -129,6 +147,7 @@ class Repository:
         # the prover accepts this one, and a run that leaves the crate's edits doesn't see it
         self.write("crates/same/must-fail/adds_the_other_way.edit", ACCEPTED)
         kit = subprocess.run(["rt", "version"], check=True, capture_output=True, text=True).stdout.strip()
+        os.makedirs(os.path.join(self.top, "tools"))
         gate.Record(self.commit("all"), "2026-01-01", kit).write(self.top)
 
     def leave_same(self):
@@ -143,7 +162,6 @@ class Gate(unittest.TestCase):
     def test_a_wrong_edit_in_a_changed_crate_fails_the_run(self):
         with tempfile.TemporaryDirectory() as top:
             repository = Repository(top)
-            os.makedirs(os.path.join(top, "tools"))
             repository.fill()
             repository.write("crates/changed/must-fail/adds_the_other_way.edit", ACCEPTED)
             repository.leave_same()
