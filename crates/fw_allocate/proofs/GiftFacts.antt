@@ -8,7 +8,7 @@ use Rattle.std.proofs.lemmas.List.Sums.{sum_by-cons}
 use Rattle.std.proofs.lemmas.Int.{ints}
 use Rattle.fw_shares.specs.Shares.{IsSharesOf, magnitudes, signed_as}
 use Rattle.fw_shares.proofs.Signed.{shares_small}
-use Rattle.fw_terms.specs.Policy.{TargetValue, IsTarget, GiveValue, fixed, proportional, IsGive, RuleValue}
+use Rattle.fw_terms.specs.Policy.{most_targets, TargetValue, IsTarget, GiveValue, fixed, proportional, IsGive, RuleValue}
 use Rattle.fw_terms.specs.Texts.{IsRising}
 use Rattle.fw_allocate.specs.Charges.{receivers, takes_part, weights}
 use Rattle.fw_allocate.specs.Costs.{CostValue, amount_of, amounts_in, cost_in, groups_in, size_of}
@@ -40,7 +40,7 @@ proportional_sum p (c ∷ costs) = rw (sum_by-cons (λ (e : CostValue). unsigned
     go false rest = omega arith
 
 pub weights_small : (direct : List CostValue) (rules : List RuleValue) (give : GiveValue) → size_of direct ≤ 10 ^ 19 → IsGive give → sum (magnitudes (weights direct rules give)) ≤ 10 ^ 19
-weights_small direct rules (fixed targets) small is = let few : length targets ≤ 256 = is.few in omega (arith, fixed_sum targets is.each)
+weights_small direct rules (fixed targets) small is = let few : length targets ≤ most_targets = is.few in omega (arith, fixed_sum targets is.each)
 weights_small direct rules proportional small is = omega (arith, proportional_sum (takes_part rules) direct)
 
 -- ---- signs

@@ -1,7 +1,7 @@
 //! The lines of what a commitment covered in an hour of its term, and of what it left unused.
 ghost use Rattle.std.specs.Prelude.{◌≡◌, ◌+◌, ◌++◌, ◌<◌, ◌≤◌, ◌^◌, IsTrue, ℕ, length, map, pos, sum, sum_by, All, IfOk, OnOk, drop};
 ghost use Rattle.std.specs.List.{zip};
-ghost use Rattle.fw_terms.specs.Commitment.{cost_of, IsCommitment};
+ghost use Rattle.fw_terms.specs.Commitment.{IsCommitment};
 ghost use Rattle.fw_shares.specs.Shares.{IsShares};
 ghost use Rattle.fw_cover.specs.Applies.{is_in_term};
 ghost use Rattle.fw_amortise.specs.Lines.{amount_in, weights_of, used_line, unused_line, shared_lines};
@@ -12,23 +12,9 @@ use crate::line::Line;
 use crate::single::{unused_line, used_line};
 use fw_charge::Row;
 use fw_cover::Taken;
-use fw_money::Nanos;
 use fw_shares::share_counts;
-use fw_terms::{Commitment, Purchase};
+use fw_terms::Commitment;
 use std::alloc::{AllocError, Global};
-
-/// What purchases cost together, in nanos.
-#[tactic(auto, unfolding(fw_terms::specs::Commitment::cost_of))]
-fn cost_of(purchases: &[Purchase]) -> u64
-    requires { cost_of purchases.now ≤ 10 ^ 17 }
-    ensures { result ≡ cost_of purchases.now }
-{
-    let mut cost = 0;
-    for purchase in purchases {
-        cost += purchase.billed().count().unsigned_abs();
-    }
-    cost
-}
 
 /// What an hour of the term carries of the commitment's purchases.
 #[tactic(auto, unfolding(crate::specs::Lines::amount_in, fw_cover::specs::Applies::is_in_term))]
@@ -38,12 +24,10 @@ fn amount_in(commitment: &Commitment, hour: u32) -> u128
     ensures in_range { result ≤ 10 ^ 17 }
     ensures in_limits { IsCommitment commitment.now }
 {
-    let cost = cost_of(commitment.purchases());
-    let start = commitment.start();
     let amount = hour_amount(
-        Nanos::of_fields(cost as i64),
+        commitment.cost(),
         commitment.hours(),
-        hour - start,
+        hour - commitment.start(),
     );
     u128::from(amount.count().unsigned_abs())
 }

@@ -6,17 +6,16 @@ ghost use Rattle.fw_amortise.specs.LineView.{discount_of};
 ghost use Rattle.fw_amortise.specs.Lines.{purchase_line, given_line, used_line, unused_line, rest_line};
 
 use crate::line::{Line, LineDiscount, LineFields, LineKind};
-use fw_charge::{Category, DiscountStatus, Row};
+use fw_charge::{Category, DiscountStatus, Row, hour_of};
 use fw_cover::Taken;
 use fw_money::Nanos;
 use fw_terms::{Commitment, Purchase};
 
 /// Whether a second is one of an hour.
-#[tactic(auto, unfolding(fw_charge::specs::Charge::hour_of))]
 pub(crate) fn is_in_hour(second: u64, hour: u32) -> bool
     ensures { result ≡ (hour_of second == hour) }
 {
-    second / 3600 == u64::from(hour)
+    hour_of(second) == u64::from(hour)
 }
 
 /// No cost.

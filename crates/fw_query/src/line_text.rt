@@ -1,7 +1,6 @@
 //! The record of a line.
 ghost use Rattle.std.specs.Prelude.{◌≡◌, ◌++◌, List, ℕ, map, option_copied, option_map, IfOk, OnOk, string_bytes};
 ghost use Rattle.std.specs.List.{concat};
-ghost use Rattle.fw_charge.specs.Codes.{category_word, kind_word, status_word};
 ghost use Rattle.fw_money.specs.Writing.{text_of};
 ghost use Rattle.fw_amortise.specs.LineView.{discount_of};
 ghost use Rattle.fw_query.specs.Texts.{id_text, kind_text, line_fields, line_header, or_empty, record_line, status_text};
@@ -11,7 +10,6 @@ ghost use Rattle.fw_query.specs.Writers.{HasWritten};
 use crate::text::write_record;
 use csv::Writer;
 use fw_amortise::{Line, LineDiscount};
-use fw_charge::{Category, DiscountKind, DiscountStatus};
 use fw_money::Nanos;
 use std::alloc::{AllocError, Global};
 
@@ -64,7 +62,7 @@ fn write_line(
     let quantity = quantity_text(alloc, line.quantity())?;
     let charge = ChargeTexts::of(
         digits.format(line.hour()),
-        category_text(line.category()),
+        line.category().word(),
         id_of(commitment),
         kind_of(commitment),
         status_of(commitment),
@@ -189,42 +187,6 @@ fn or_empty(text: Option<&str>) -> &str
     }
 }
 
-// The word of a category.
-#[tactic(auto, unfolding(fw_charge::specs::Codes::category_word))]
-fn category_text(category: Category) -> &'static str
-    ensures { result.now ≡ category_word category }
-{
-    match category {
-        Category::Usage => "Usage",
-        Category::Purchase => "Purchase",
-        Category::Tax => "Tax",
-        Category::Credit => "Credit",
-        Category::Adjustment => "Adjustment",
-    }
-}
-
-// The word of a discount's kind.
-#[tactic(auto, unfolding(fw_charge::specs::Codes::kind_word))]
-fn kind_word(kind: DiscountKind) -> &'static str
-    ensures { result.now ≡ kind_word kind }
-{
-    match kind {
-        DiscountKind::Usage => "Usage",
-        DiscountKind::Spend => "Spend",
-    }
-}
-
-// The word of a discount's status.
-#[tactic(auto, unfolding(fw_charge::specs::Codes::status_word))]
-fn status_word(status: DiscountStatus) -> &'static str
-    ensures { result.now ≡ status_word status }
-{
-    match status {
-        DiscountStatus::Used => "Used",
-        DiscountStatus::Unused => "Unused",
-    }
-}
-
 // The id of a discount, which is empty where there is none.
 fn id_of(discount: Option<LineDiscount<'_>>) -> &str
     ensures { result.now ≡ id_text (option_map discount_of discount.entry) }
@@ -240,7 +202,7 @@ fn kind_of(discount: Option<LineDiscount<'_>>) -> &'static str
     ensures { result.now ≡ kind_text (option_map discount_of discount.entry) }
 {
     match discount {
-        Some(discount) => kind_word(discount.kind),
+        Some(discount) => discount.kind.word(),
         None => "",
     }
 }
@@ -255,7 +217,7 @@ fn status_of(discount: Option<LineDiscount<'_>>) -> &'static str
                 status: Some(status),
                 ..
             },
-        ) => status_word(status),
+        ) => status.word(),
         _ => "",
     }
 }
