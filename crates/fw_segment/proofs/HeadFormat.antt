@@ -1,23 +1,29 @@
 -- Heads: what is read is spelled so, and what is spelled so is read.
-use Rattle.std.proofs.Common.{◌≡◌, ◌<◌, ◌≤◌, ◌^◌, ℕ, zero, suc, true, List, [], ◌∷◌, ◌++◌, length, Ok, refl, sym, ap, subst, append_assoc, arith}
+use Rattle.std.proofs.Common.{◌≡◌, ◌<◌, ◌≤◌, ◌^◌, ℕ, true, List, ◌++◌, length, refl, sym, subst, append_assoc, arith}
 use Rattle.std.specs.Prelude.{nat_lt, nat_le}
 use Rattle.std.specs.Int.{w32, w64, to_le_bytes}
 use Rattle.std.specs.List.{flat_map, AllByRecursion}
 use Rattle.std.proofs.lemmas.Bool.{and_parts, ltb-true, lt-ltb, leb-true, le-leb}
 use Rattle.fw_bytes.specs.Spelling.{number32, number64, text, pair, FitsPair, Fits64}
 use Rattle.fw_bytes.specs.Reading.{number_at, seen, times}
-use Rattle.fw_bytes.proofs.Laws.{IsBytes, IsBytes-rest, IsFormat, Takes, Takes-behind, Takes-then, times_takes, times_again, bind_ok, ok_is, checked_format, seen_format, both_format, number_format, wide32, wide64}
+use Rattle.fw_bytes.proofs.Laws.{IsFormat, Takes, Takes-then, times_takes, times_again, bind_ok, checked_format, seen_format, both_format, number_format, wide32, wide64}
 use Rattle.fw_entry.specs.Entry.{most_post_rows}
+use Rattle.fw_entry.specs.Kinds.{kind_code, kind_meant}
+use Rattle.fw_entry.specs.declared.kind.CommandKind.{CommandKind}
+use Rattle.fw_entry.specs.declared.kind.CommandKind.TheVariants as kind
+use Rattle.fw_entry.proofs.KindFacts.{kind_back, kind_there}
 use Rattle.fw_entry_bytes.specs.declared.form.Form.{Form}
 use Rattle.fw_entry_bytes.specs.Reading.{IsOrigin, IsSeq}
 use Rattle.fw_entry_bytes.proofs.Facts.{origin_format, seq_format}
-use Rattle.fw_terms.specs.Spelling.{commitment, policy}
-use Rattle.fw_terms_bytes.specs.Reading.{commitment_at, policy_at}
+use Rattle.fw_terms.specs.Commitment.{CommitmentValue}
+use Rattle.fw_terms.specs.Policy.{PolicyValue}
+use Rattle.fw_terms.specs.Spelling.{IsSpelledCommitment, IsSpelledPolicy}
+use Rattle.fw_terms_bytes.proofs.Formats.{case_format, kind_format}
 use Rattle.fw_terms_bytes.proofs.CommitmentFormat.{commitment_format}
 use Rattle.fw_terms_bytes.proofs.PolicyFormat.{policy_format}
 use Rattle.fw_snapshot.specs.Heads.{ContentValue, HeadValue}
 use Rattle.fw_snapshot.specs.Heads.ContentValue.{posted_rows, committed_to, policy_set}
-use Rattle.fw_segment.specs.Heads.{content, head, heads, is_post_count, IsContent, IsHead, post_count_at, content_at, head_from, head_fields_at, head_at, heads_at}
+use Rattle.fw_segment.specs.Heads.{kind_of, brought, content, head, heads, is_post_count, IsContent, IsHead, post_count_at, brought_at, content_at, head_from, head_fields_at, head_at, heads_at}
 
 -- ---- what an entry brought
 
@@ -39,47 +45,34 @@ count_format =
       again = λ n rest h. f.again n rest (lt-ltb _ _ (omega (arith, h.1)), count_is n h);
     }
 
-post_takes : (rest : List ℕ) (x : ContentValue × List ℕ) → IsBytes rest → seen posted_rows post_count_at rest ≡ Ok x → Takes (1 ∷ rest) (content x.0) x.1 × IsContent x.0
-unfolding seen content
-post_takes rest x is e =
-    let b = bind_ok (post_count_at rest) (λ y. Ok (posted_rows y.0, y.1)) x e in
-    let t = count_format.takes rest b.0 is b.1 in
-    let made : ContentValue × List ℕ = (posted_rows b.0.0, b.0.1) in
-    subst (λ (z : ContentValue × List ℕ). Takes (1 ∷ rest) (content z.0) z.1 × IsContent z.0) (ok_is made x b.2) (Takes-behind 1 rest (number32 b.0.0) b.0.1 t.0, t.1)
+-- what an entry of a kind brought, within its limits
+abbrev IsOfKind : CommandKind → ContentValue → Type 0
+IsOfKind k c = (kind_of c ≡ k) × IsContent c
 
-commit_takes : (rest : List ℕ) (x : ContentValue × List ℕ) → IsBytes rest → seen committed_to commitment_at rest ≡ Ok x → Takes (2 ∷ rest) (content x.0) x.1 × IsContent x.0
-unfolding seen content
-commit_takes rest x is e =
-    let b = bind_ok (commitment_at rest) (λ y. Ok (committed_to y.0, y.1)) x e in
-    let t = commitment_format.takes rest b.0 is b.1 in
-    let made : ContentValue × List ℕ = (committed_to b.0.0, b.0.1) in
-    subst (λ (z : ContentValue × List ℕ). Takes (2 ∷ rest) (content z.0) z.1 × IsContent z.0) (ok_is made x b.2) (Takes-behind 2 rest (commitment b.0.0) b.0.1 t.0, t.1)
+post_back : (c : ContentValue) → IsOfKind kind.Post c → (n : ℕ) × (posted_rows n ≡ c) × IsPostCount n
+post_back (posted_rows n) h = (n, refl, h.1)
+post_back (committed_to c) h = let e = h.0 in absurd cc
+post_back (policy_set p) h = let e = h.0 in absurd cc
 
-set_policy_takes : (rest : List ℕ) (x : ContentValue × List ℕ) → IsBytes rest → seen policy_set policy_at rest ≡ Ok x → Takes (3 ∷ rest) (content x.0) x.1 × IsContent x.0
-unfolding seen content
-set_policy_takes rest x is e =
-    let b = bind_ok (policy_at rest) (λ y. Ok (policy_set y.0, y.1)) x e in
-    let t = policy_format.takes rest b.0 is b.1 in
-    let made : ContentValue × List ℕ = (policy_set b.0.0, b.0.1) in
-    subst (λ (z : ContentValue × List ℕ). Takes (3 ∷ rest) (content z.0) z.1 × IsContent z.0) (ok_is made x b.2) (Takes-behind 3 rest (policy b.0.0) b.0.1 t.0, t.1)
+commit_back : (c : ContentValue) → IsOfKind kind.Commit c → (one : CommitmentValue) × (committed_to one ≡ c) × IsSpelledCommitment one
+commit_back (posted_rows n) h = let e = h.0 in absurd cc
+commit_back (committed_to c) h = (c, refl, h.1)
+commit_back (policy_set p) h = let e = h.0 in absurd cc
 
-content_takes : (form : Form) (bytes : List ℕ) (x : ContentValue × List ℕ) → IsBytes bytes → content_at form bytes ≡ Ok x → Takes bytes (content x.0) x.1 × IsContent x.0
-unfolding content_at
-content_takes form [] x is e = absurd cc
-content_takes form (zero ∷ rest) x is e = absurd cc
-content_takes form (suc zero ∷ rest) x is e = post_takes rest x (IsBytes-rest 1 rest is) e
-content_takes form (suc (suc zero) ∷ rest) x is e = commit_takes rest x (IsBytes-rest 2 rest is) e
-content_takes form (suc (suc (suc zero)) ∷ rest) x is e = set_policy_takes rest x (IsBytes-rest 3 rest is) e
-content_takes form (suc (suc (suc (suc kind))) ∷ rest) x is e = absurd cc
+set_policy_back : (c : ContentValue) → IsOfKind kind.SetPolicy c → (one : PolicyValue) × (policy_set one ≡ c) × IsSpelledPolicy one
+set_policy_back (posted_rows n) h = let e = h.0 in absurd cc
+set_policy_back (committed_to c) h = let e = h.0 in absurd cc
+set_policy_back (policy_set p) h = (p, refl, h.1)
 
-content_again : (form : Form) (c : ContentValue) (rest : List ℕ) → IsContent c → content_at form (content c ++ rest) ≡ Ok (c, rest)
-unfolding content_at content seen
-content_again form (posted_rows n) rest h = rw (count_format.again n rest h) refl
-content_again form (committed_to c) rest h = rw (commitment_format.again c rest h) refl
-content_again form (policy_set p) rest h = rw (policy_format.again p rest h) refl
+brought_format : (k : CommandKind) → IsFormat (brought_at k) brought (IsOfKind k)
+unfolding brought_at brought
+brought_format kind.Post = case_format (λ (n : ℕ). posted_rows n) brought (IsOfKind kind.Post) (λ n. refl) (λ n h. (refl, h)) post_back count_format
+brought_format kind.Commit = case_format (λ (c : CommitmentValue). committed_to c) brought (IsOfKind kind.Commit) (λ c. refl) (λ c h. (refl, h)) commit_back commitment_format
+brought_format kind.SetPolicy = case_format (λ (p : PolicyValue). policy_set p) brought (IsOfKind kind.SetPolicy) (λ p. refl) (λ p h. (refl, h)) set_policy_back policy_format
 
 content_format : (form : Form) → IsFormat (content_at form) content IsContent
-content_format form = record { takes = content_takes form; again = content_again form }
+unfolding content_at content
+content_format form = kind_format kind_meant kind_code kind_of kind_back kind_there brought_format
 
 -- ---- a head
 

@@ -123,7 +123,7 @@ states_one bytes a b s t = ok_is a b (sym (state_again One bytes a s) ∙ state_
 -- ---- writing
 
 -- the three parts, written one behind the other
-pub spelled_in_turn : (currency : List ℕ) (hs : List HeadValue) (cut : List (List Charge)) (none one two three : List ℕ) → none ≡ [] → one ≡ none ++ text currency → two ≡ one ++ heads hs → three ≡ two ++ listed (segment Rows) cut → three ≡ state currency hs cut
+pub spelled_in_turn : (currency : List ℕ) (hs : List HeadValue) (cut : List (List Charge)) (first one two three : List ℕ) → one ≡ first ++ text currency → two ≡ one ++ heads hs → three ≡ two ++ listed (segment Rows) cut → three ≡ first ++ state currency hs cut
 unfolding state
-spelled_in_turn currency hs cut none one two three e a b c =
-    c ∙ (ap (λ (w : List ℕ). w ++ listed (segment Rows) cut) (b ∙ ap (λ (w : List ℕ). w ++ heads hs) (a ∙ ap (λ (w : List ℕ). w ++ text currency) e)) ∙ append_assoc (text currency) (heads hs) (listed (segment Rows) cut))
+spelled_in_turn currency hs cut first one two three a b c =
+    c ∙ (ap (λ (w : List ℕ). w ++ listed (segment Rows) cut) (b ∙ ap (λ (w : List ℕ). w ++ heads hs) a) ∙ (simp append_assoc))

@@ -1,5 +1,6 @@
 pub mod Joining
 pub mod Writing
+pub mod Chosen
 pub mod SegmentFormat
 pub mod HeadFormat
 pub mod StateFormat

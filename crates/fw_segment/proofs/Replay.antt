@@ -14,13 +14,14 @@ use Rattle.fw_snapshot.specs.Heads.{ContentValue, HeadValue, head_of, content_of
 use Rattle.fw_snapshot.specs.Heads.ContentValue.{posted_rows, committed_to, policy_set}
 use Rattle.fw_snapshot.specs.History.{History, rows_posted, posted}
 use Rattle.fw_snapshot.specs.Judging.{judged, IsLegalAfter}
+use Rattle.fw_snapshot.specs.Verdicts.{is_accept}
 use Rattle.fw_snapshot.specs.declared.verdict.Verdict.{Verdict}
 use Rattle.fw_snapshot.specs.declared.verdict.Verdict.TheVariants as verdict
 use Rattle.fw_snapshot.proofs.HeadFacts.{row_counts_cons, row_count_back, entry_back}
 use Rattle.fw_segment.specs.Heads.{head, IsContent, IsHead}
 use Rattle.fw_segment.specs.declared.heads.ReadHead.{ReadHead}
 use Rattle.fw_segment.specs.HeadView.{head_view}
-use Rattle.fw_segment.specs.States.{is_accept, goes_behind, followed, replayed, replayed_state}
+use Rattle.fw_segment.specs.States.{goes_behind, followed, replayed, replayed_state}
 
 accepted : (v : Verdict) → is_accept v ≡ true → v ≡ verdict.Accept
 accepted verdict.Accept e = refl

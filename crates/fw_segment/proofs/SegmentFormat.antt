@@ -1,5 +1,5 @@
 -- Groups and segments: what is read is spelled so, and what is spelled so is read.
-use Rattle.std.proofs.Common.{◌≡◌, ℕ, zero, suc, List, [], ◌∷◌, ◌++◌, Ok, ap, arith}
+use Rattle.std.proofs.Common.{◌≡◌, ℕ, zero, suc, List, [], ◌∷◌, ◌++◌, Ok, arith}
 use Rattle.fw_bytes.specs.Spelling.{listed, FitsList}
 use Rattle.fw_bytes.proofs.Laws.{IsBytes, IsBytes-rest, IsFormat, Takes, Takes-behind, list_format, list_parts, list_fits}
 use Rattle.fw_charge.specs.Charge.{Charge}

@@ -1,12 +1,15 @@
 -- The heads of a state's entries: the entries without their rows.
-use Rattle.std.specs.Prelude.{◌<◌, ◌≤◌, ℕ, zero, suc, Bool, ◌&&◌, List, [], ◌∷◌, ◌++◌, length, Err, nat_lt, nat_le}
+use Rattle.std.specs.Prelude.{◌<◌, ◌≤◌, ℕ, Bool, ◌&&◌, List, ◌∷◌, ◌++◌, length, nat_lt, nat_le}
 use Rattle.std.specs.Int.{w32, w64}
 use Rattle.std.specs.List.{flat_map}
 use Rattle.fw_bytes.specs.Spelling.{number32, number64, text}
 use Rattle.fw_bytes.specs.Reading.{Reading, ◌>>=◌, number_at, checked, both, seen, times}
 use Rattle.fw_terms.specs.Spelling.{commitment, policy, IsSpelledCommitment, IsSpelledPolicy}
-use Rattle.fw_terms_bytes.specs.Reading.{commitment_at, policy_at}
+use Rattle.fw_terms_bytes.specs.Reading.{of_kind, commitment_at, policy_at}
 use Rattle.fw_entry.specs.Entry.{most_post_rows}
+use Rattle.fw_entry.specs.Kinds.{kind_code, kind_meant}
+use Rattle.fw_entry.specs.declared.kind.CommandKind.{CommandKind}
+use Rattle.fw_entry.specs.declared.kind.CommandKind.TheVariants as kind
 use Rattle.fw_entry_bytes.specs.declared.form.Form.{Form}
 use Rattle.fw_entry_bytes.specs.Reading.{origin_at, seq_at, IsOrigin, IsSeq}
 use Rattle.fw_snapshot.specs.Heads.{ContentValue, HeadValue}
@@ -14,11 +17,21 @@ use Rattle.fw_snapshot.specs.Heads.ContentValue.{posted_rows, committed_to, poli
 
 -- ---- how a head is written
 
--- a byte for the kind, and the number of rows of a post, or what else the entry brought
+-- the kind of the entry's command
+abbrev pub kind_of : ContentValue → CommandKind
+kind_of (posted_rows n) = kind.Post
+kind_of (committed_to c) = kind.Commit
+kind_of (policy_set p) = kind.SetPolicy
+
+-- the number of rows of a post, or what else the entry brought
+unfoldable pub brought : ContentValue → List ℕ
+brought (posted_rows n) = number32 n
+brought (committed_to c) = commitment c
+brought (policy_set p) = policy p
+
+-- a byte for the kind, and what the entry brought
 unfoldable pub content : ContentValue → List ℕ
-content (posted_rows n) = 1 ∷ number32 n
-content (committed_to c) = 2 ∷ commitment c
-content (policy_set p) = 3 ∷ policy p
+content c = kind_code (kind_of c) ∷ brought c
 
 unfoldable pub head : HeadValue → List ℕ
 head h = text h.origin ++ (number64 h.seq ++ content h.content)
@@ -48,14 +61,15 @@ pub record IsHead (h : HeadValue) : Type 0 where
 unfoldable pub post_count_at : Reading ℕ
 post_count_at = checked is_post_count (number_at w32)
 
--- a kind that the form doesn't have is a fault at its byte
+-- what an entry of a kind brought
+unfoldable pub brought_at : CommandKind → Reading ContentValue
+brought_at kind.Post = seen posted_rows post_count_at
+brought_at kind.Commit = seen committed_to commitment_at
+brought_at kind.SetPolicy = seen policy_set policy_at
+
+-- a kind that the form doesn't have is a fault at its byte; the one form that there is has all kinds
 unfoldable pub content_at : Form → Reading ContentValue
-content_at form [] = Err 0
-content_at form (zero ∷ rest) = Err (suc (length rest))
-content_at form (suc zero ∷ rest) = seen posted_rows post_count_at rest
-content_at form (suc (suc zero) ∷ rest) = seen committed_to commitment_at rest
-content_at form (suc (suc (suc zero)) ∷ rest) = seen policy_set policy_at rest
-content_at form (suc (suc (suc (suc kind))) ∷ rest) = Err (suc (length rest))
+content_at form = of_kind kind_meant brought_at
 
 abbrev pub head_from : List ℕ × (ℕ × ContentValue) → HeadValue
 head_from f = record { origin = f.0; seq = f.1.0; content = f.1.1 }

@@ -1,5 +1,5 @@
 -- States: a currency, the heads of the entries, and their rows, cut into segments in any way.
-use Rattle.std.specs.Prelude.{◌≡◌, ◌-◌, ℕ, Bool, true, false, ◌&&◌, List, [], ◌∷◌, ◌++◌, length, take, drop, map, All, Option, Some, None, Result, Ok, Err, nat_le, ◌==◌, if◌then◌else◌}
+use Rattle.std.specs.Prelude.{◌≡◌, ◌-◌, ℕ, Bool, ◌&&◌, List, [], ◌∷◌, ◌++◌, length, take, drop, map, All, Option, Some, None, Result, Ok, Err, nat_le, ◌==◌, if◌then◌else◌}
 use Rattle.std.specs.List.{list_all}
 use Rattle.std.specs.Char.{is_ascii_uppercase}
 use Rattle.fw_bytes.specs.Spelling.{text, listed, Fits32, Fits64}
@@ -13,8 +13,7 @@ use Rattle.fw_entry_bytes.specs.Whole.{whole}
 use Rattle.fw_snapshot.specs.Heads.{HeadValue, head_of, entry_of, row_count, row_counts, segment_rows}
 use Rattle.fw_snapshot.specs.History.{History, rows_posted}
 use Rattle.fw_snapshot.specs.Judging.{judged, IsLegal}
-use Rattle.fw_snapshot.specs.declared.verdict.Verdict.{Verdict}
-use Rattle.fw_snapshot.specs.declared.verdict.Verdict.TheVariants as verdict
+use Rattle.fw_snapshot.specs.Verdicts.{is_accept}
 use Rattle.fw_segment.specs.declared.kind.Kind.TheVariants.{Rows}
 use Rattle.fw_segment.specs.Segments.{segment, segment_at, IsSegment}
 use Rattle.fw_segment.specs.Heads.{head, heads, heads_at}
@@ -63,12 +62,6 @@ Parts = List ℕ × (List HeadValue × List Charge)
 
 unfoldable pub parts_at : Form → Reading Parts
 parts_at form = both currency_at (both (heads_at form) rows_at)
-
-abbrev pub is_accept : Verdict → Bool
-is_accept verdict.Accept = true
-is_accept (verdict.Already n) = false
-is_accept (verdict.Gap n) = false
-is_accept (verdict.Refused why) = false
 
 -- an entry is written in at most 4,194,304 bytes, and is accepted after the others
 unfoldable pub goes_behind : List EntryValue → EntryValue → Bool

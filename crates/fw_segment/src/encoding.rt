@@ -8,7 +8,7 @@ ghost use Rattle.fw_segment.specs.States.{Spells};
 use crate::groups::put_group;
 use crate::kind::Kind;
 use crate::segments::put_segment;
-use crate::states::put_state;
+use crate::states::append_state;
 use fw_columns::Columns;
 use fw_entry::Entry;
 use fw_entry_bytes::put_entry;
@@ -49,6 +49,6 @@ pub fn encode_state(alloc: Global, one: &State) -> Result<Vec<u8>, AllocError>
     ensures { IfOk result (λ bytes. Spells bytes.items one.now) }
 {
     let mut out = Vec::new(alloc);
-    put_state(&mut out, one)?;
+    append_state(&mut out, one)?;
     Ok(out)
 }

@@ -3,18 +3,16 @@ ghost use Rattle.std.specs.Prelude.{◌≡◌, ◌++◌, ◌<◌, ◌^◌, lengt
 ghost use Rattle.fw_bytes.specs.Reading.{Gives, times};
 ghost use Rattle.fw_snapshot.specs.HeadView as stored;
 ghost use Rattle.fw_snapshot.specs.Heads.{row_count};
-ghost use Rattle.fw_segment.specs.Heads.{content, head, content_at, head_at, head_fields_at, heads_at, post_count_at, IsHead};
+ghost use Rattle.fw_segment.specs.Heads.{content, head, brought_at, content_at, head_at, head_fields_at, heads_at, post_count_at, IsHead};
 ghost use Rattle.fw_segment.specs.HeadView.{content_view, head_view};
 
 use fw_bytes::{ReadError, put_byte, put_text, put_u32, put_u64, u32_at, u64_at};
-use fw_entry_bytes::{Form, origin_of, seq_of};
+use fw_entry::{Command, CommandKind};
+use fw_entry_bytes::{Form, kind_of, origin_of, seq_of};
 use fw_snapshot::{Content, Head};
 use fw_terms::{Commitment, Policy, commitment_len, policy_len};
 use fw_terms_bytes::{commitment_of, policy_of, put_commitment, put_policy};
 use std::alloc::{AllocError, Global};
-
-/// The most rows of a post.
-const MOST_POST_ROWS: u32 = 4096;
 
 /// What an entry brought, as its head says.
 #[derive(Drop)]
@@ -47,7 +45,7 @@ impl ReadHead {
     }
 
     /// How many bytes the head is written in.
-    #[tactic(auto, unfolding(crate::specs::Heads::head, crate::specs::Heads::content))]
+    #[tactic(auto, unfolding(crate::specs::Heads::head, crate::specs::Heads::content, crate::specs::Heads::brought))]
     pub fn encoded_len(&self) -> usize
         requires { IsHead (head_view self.now) }
         ensures { result ≡ length (head (head_view self.now)) }
@@ -67,32 +65,44 @@ fn post_count_of(bytes: &[u8]) -> Result<(u32, &[u8]), ReadError>
     ensures { Gives (λ x. (x.0, x.1.now)) result (post_count_at bytes.now) }
 {
     let (count, rest) = u32_at(bytes)?;
-    if count == 0 || count > MOST_POST_ROWS {
+    if count == 0 || count > Command::MOST_POST_ROWS as u32 {
         return Err(ReadError::Corrupt(bytes.len()));
     }
     Ok((count, rest))
 }
 
-/// What an entry brought: its kind, and what an entry of this kind brings.
-#[tactic(auto, unfolding(crate::specs::Heads::content_at, fw_bytes::specs::Reading::seen))]
-fn content_of(alloc: Global, form: Form, bytes: &[u8]) -> Result<(ReadContent, &[u8]), ReadError>
-    ensures { Gives (λ x. (content_view x.0, x.1.now)) result (content_at form bytes.now) }
+/// What an entry of this kind brought.
+#[tactic(auto, unfolding(crate::specs::Heads::brought_at, fw_bytes::specs::Reading::seen))]
+fn brought_of(
+    alloc: Global,
+    kind: CommandKind,
+    bytes: &[u8],
+) -> Result<(ReadContent, &[u8]), ReadError>
+    ensures { Gives (λ x. (content_view x.0, x.1.now)) result (brought_at kind bytes.now) }
 {
-    match bytes {
-        [1, rest @ ..] => {
-            let (count, rest) = post_count_of(rest)?;
+    match kind {
+        CommandKind::Post => {
+            let (count, rest) = post_count_of(bytes)?;
             Ok((ReadContent::Post(count), rest))
         }
-        [2, rest @ ..] => match commitment_of(alloc, rest) {
+        CommandKind::Commit => match commitment_of(alloc, bytes) {
             Ok((commitment, rest)) => Ok((ReadContent::Commit(commitment), rest)),
             Err(e) => Err(e),
         },
-        [3, rest @ ..] => match policy_of(alloc, rest) {
+        CommandKind::SetPolicy => match policy_of(alloc, bytes) {
             Ok((policy, rest)) => Ok((ReadContent::SetPolicy(policy), rest)),
             Err(e) => Err(e),
         },
-        _ => Err(ReadError::Corrupt(bytes.len())),
     }
+}
+
+/// What an entry brought: its kind, and what an entry of this kind brings. The one form that there is has all kinds.
+#[tactic(auto, unfolding(crate::specs::Heads::content_at, fw_terms_bytes::specs::Reading::of_kind))]
+fn content_of(alloc: Global, _form: Form, bytes: &[u8]) -> Result<(ReadContent, &[u8]), ReadError>
+    ensures { Gives (λ x. (content_view x.0, x.1.now)) result (content_at _form bytes.now) }
+{
+    let (kind, rest) = kind_of(bytes)?;
+    brought_of(alloc, kind, rest)
 }
 
 /// A head, and the bytes after it.
@@ -151,22 +161,22 @@ pub fn heads_of(
     heads_after(alloc, form, count, rest)
 }
 
-/// Writes what an entry brought.
-#[tactic(auto, unfolding(crate::specs::Heads::content))]
+/// Writes what an entry brought: its kind, and what an entry of this kind brings.
+#[tactic(auto, unfolding(crate::specs::Heads::content, crate::specs::Heads::brought))]
 fn put_content(out: &mut Vec<u8>, one: &Content) -> Result<(), AllocError>
     ensures { OnOk result (out.new.items ≡ out.old.items ++ content (stored.content_view one.now)) }
 {
     match one {
         Content::Post { rows } => {
-            put_byte(out, 1)?;
+            put_byte(out, CommandKind::Post.code())?;
             put_u32(out, *rows)
         }
         Content::Commit(commitment) => {
-            put_byte(out, 2)?;
+            put_byte(out, CommandKind::Commit.code())?;
             put_commitment(out, commitment)
         }
         Content::SetPolicy(policy) => {
-            put_byte(out, 3)?;
+            put_byte(out, CommandKind::SetPolicy.code())?;
             put_policy(out, policy)
         }
     }

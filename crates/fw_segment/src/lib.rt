@@ -4,6 +4,7 @@
 //! exactly for its spellings; for all other bytes it reports where the first fault is, in the order in which they are read.
 #![tactic(auto)]
 
+mod accepted;
 mod decoding;
 mod encoding;
 mod fault;
@@ -14,8 +15,10 @@ mod laws;
 mod segments;
 mod states;
 
+pub use accepted::append_accepted;
 pub use decoding::{decode_entry, decode_group, decode_segment, decode_state};
 pub use encoding::{encode_entry, encode_group, encode_segment, encode_state};
 pub use fault::DecodeFault;
 pub use kind::Kind;
 pub use laws::{spellings_are_one, states_are_one};
+pub use states::append_state;

@@ -1,5 +1,5 @@
 //! The reader and the writer of a state.
-ghost use Rattle.std.specs.Prelude.{◌≡◌, ◌++◌, ◌==◌, ◌≤◌, [], length, map, take, drop, All, OnOk, IfOk};
+ghost use Rattle.std.specs.Prelude.{◌≡◌, ◌++◌, ◌==◌, ◌≤◌, ℕ, List, length, map, take, drop, All, OnOk, IfOk};
 ghost use Rattle.std.specs.Vec.Iter.{into_iter_items, into_iter_len};
 ghost use Rattle.fw_bytes.specs.Reading.{Gives};
 ghost use Rattle.fw_bytes.specs.Spelling.{listed, text, Fits64};
@@ -12,9 +12,10 @@ ghost use Rattle.fw_snapshot.specs.Heads.{command_of, entry_of, head_of, row_cou
 ghost use Rattle.fw_segment.specs.HeadView.{content_view, head_view};
 ghost use Rattle.fw_segment.specs.Heads.{IsHead, heads};
 ghost use Rattle.fw_segment.specs.Segments.{IsSegment, segment};
-ghost use Rattle.fw_segment.specs.States.{Spells, currency_at, followed, is_accept, parts_at, replayed_state, state_at};
+ghost use Rattle.fw_segment.specs.States.{Spells, currency_at, followed, parts_at, replayed_state, state_at};
 ghost use Rattle.fw_segment.specs.declared.kind.Kind.TheVariants.{Rows};
 
+use crate::accepted::is_accept;
 use crate::heads::{ReadContent, ReadHead, heads_of, put_head};
 use crate::kind::Kind;
 use crate::segments::{put_segment, segment_rows_of};
@@ -24,7 +25,7 @@ use fw_columns::Columns;
 use fw_entry::{Command, Entry, EntryFault};
 use fw_entry_bytes::Form;
 use fw_persistent::Sequence;
-use fw_snapshot::{State, Verdict, judge};
+use fw_snapshot::{State, judge};
 use std::alloc::{AllocError, Global};
 use std::vec::IntoIter;
 
@@ -141,12 +142,6 @@ fn command_of(
     }
 }
 
-fn is_accept(verdict: Verdict) -> bool
-    ensures { result ≡ is_accept verdict }
-{
-    matches!(verdict, Verdict::Accept)
-}
-
 /// The state after the entry of a head, or `None` where the entry is too large or isn't accepted.
 fn state_after(
     alloc: Global,
@@ -255,10 +250,12 @@ fn put_segments(out: &mut Vec<u8>, segments: &Sequence<Columns>) -> Result<(), A
     Ok(())
 }
 
-/// Writes a state at the end of the buffer, each of its segments as one.
-pub fn put_state(out: &mut Vec<u8>, one: &State) -> Result<(), AllocError>
-    requires { out.old.items ≡ [] }
-    ensures { OnOk result (Spells out.new.items one.now) }
+/// Appends the bytes of a state, each of its segments as one: a spelling of it, behind what the buffer holds.
+///
+/// # Errors
+/// [`AllocError`] where memory ran out. Then nothing is promised of what the buffer holds.
+pub fn append_state(out: &mut Vec<u8>, one: &State) -> Result<(), AllocError>
+    ensures { OnOk result ((body : List ℕ) × (out.new.items ≡ out.old.items ++ body) × Spells body one.now) }
 {
     put_currency(out, one.currency())?;
     put_heads(out, one)?;

@@ -6,8 +6,8 @@ use Rattle.fw_entry.specs.declared.fault.EntryFault.TheVariants as fault
 use Rattle.fw_entry.specs.Spelling.{entry, most_entry_bytes}
 use Rattle.fw_entry.specs.View.{command_view}
 use Rattle.fw_snapshot.specs.Heads.{entry_of, row_count}
+use Rattle.fw_snapshot.specs.Verdicts.{is_accept}
 use Rattle.fw_segment.specs.HeadView.{head_view}
-use Rattle.fw_segment.specs.States.{is_accept}
 use Rattle.fw_segment.proofs.Replay.{same_entry, follows, follows_not, follows_not_large}
 use Rattle.fw_segment.proofs.states.state_after.Goals as goal
 
