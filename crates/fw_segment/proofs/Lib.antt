@@ -1,4 +1,4 @@
-pub mod Joining
+pub mod Taking
 pub mod Writing
 pub mod Chosen
 pub mod SegmentFormat

@@ -4,4 +4,5 @@ pub mod Segments
 pub mod Heads
 pub mod HeadView
 pub mod States
+pub mod RowsLeft
 pub mod FaultPlace

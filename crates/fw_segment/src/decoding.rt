@@ -18,7 +18,6 @@ use crate::groups::group_of;
 use crate::segments::segment_of;
 use crate::states::state_of;
 use fw_bytes::ReadError;
-use fw_charge::Row;
 use fw_columns::Columns;
 use fw_entry::Entry;
 use fw_entry_bytes::{Form, entry_of};
@@ -49,24 +48,14 @@ fn whole_group(alloc: Global, form: Form, bytes: &[u8]) -> Result<Vec<Entry>, Re
     }
 }
 
-/// The rows of a segment that is all of the bytes.
-#[tactic(auto, unfolding(fw_entry_bytes::specs::Whole::whole))]
-fn whole_segment(alloc: Global, bytes: &[u8]) -> Result<Vec<Row>, ReadError>
-    ensures { Gives (λ v. v.items) result (whole segment_at bytes.now) }
-{
-    match segment_of(alloc, bytes) {
-        Ok((rows, [])) => Ok(rows),
-        Ok((_, rest)) => Err(ReadError::Corrupt(rest.len())),
-        Err(e) => Err(e),
-    }
-}
-
 /// The columns of a segment that is all of the bytes.
-fn whole_columns(alloc: Global, bytes: &[u8]) -> Result<Columns, ReadError>
+#[tactic(auto, unfolding(fw_entry_bytes::specs::Whole::whole))]
+fn whole_segment(alloc: Global, bytes: &[u8]) -> Result<Columns, ReadError>
     ensures { Gives (λ c. c) result (whole segment_at bytes.now) }
 {
-    match whole_segment(alloc, bytes) {
-        Ok(rows) => Ok(Columns::from_rows(alloc, &rows)?),
+    match segment_of(alloc, bytes) {
+        Ok((columns, [])) => Ok(columns),
+        Ok((_, rest)) => Err(ReadError::Corrupt(rest.len())),
         Err(e) => Err(e),
     }
 }
@@ -117,7 +106,7 @@ pub fn decode_segment(alloc: Global, bytes: &[u8]) -> Result<Columns, DecodeFaul
     ensures only { (kind : Kind) (rows : List Charge) → IsSegment rows → bytes.now ≡ segment kind rows → Decodes (λ v. v) (length bytes.now) result (Ok rows) }
     ensures exact { Decodes (λ v. v) (length bytes.now) result (whole segment_at bytes.now) }
 {
-    match whole_columns(alloc, bytes) {
+    match whole_segment(alloc, bytes) {
         Ok(columns) => Ok(columns),
         Err(e) => Err(DecodeFault::of(bytes.len(), e)),
     }

@@ -12,6 +12,7 @@ mod groups;
 mod heads;
 mod kind;
 mod laws;
+mod rows_left;
 mod segments;
 mod states;
 

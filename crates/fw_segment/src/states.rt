@@ -1,6 +1,5 @@
 //! The reader and the writer of a state.
 ghost use Rattle.std.specs.Prelude.{◌≡◌, ◌++◌, ◌==◌, ◌≤◌, ℕ, List, length, map, take, drop, All, OnOk, IfOk};
-ghost use Rattle.std.specs.Vec.Iter.{into_iter_items, into_iter_len};
 ghost use Rattle.fw_bytes.specs.Reading.{Gives};
 ghost use Rattle.fw_bytes.specs.Spelling.{listed, text, Fits64};
 ghost use Rattle.fw_charge.specs.Currencies.{IsCode};
@@ -8,26 +7,27 @@ ghost use Rattle.fw_entry.specs.Spelling.{IsEntry};
 ghost use Rattle.fw_entry.specs.View.{command_view};
 ghost use Rattle.fw_entry_bytes.specs.Whole.{whole};
 ghost use Rattle.fw_snapshot.specs.Judging.{most_rows, IsLegal};
-ghost use Rattle.fw_snapshot.specs.Heads.{command_of, entry_of, head_of, row_count, row_counts};
+ghost use Rattle.fw_snapshot.specs.Heads.{command_of, entry_of, head_of, row_count, row_counts, segment_rows};
 ghost use Rattle.fw_segment.specs.HeadView.{content_view, head_view};
 ghost use Rattle.fw_segment.specs.Heads.{IsHead, heads};
+ghost use Rattle.fw_segment.specs.RowsLeft.{rows_left, IsPlaced};
 ghost use Rattle.fw_segment.specs.Segments.{IsSegment, segment};
-ghost use Rattle.fw_segment.specs.States.{Spells, currency_at, followed, parts_at, replayed_state, state_at};
+ghost use Rattle.fw_segment.specs.States.{Spells, currency_at, followed, most_segments, parts_at, replayed_state, state_at};
 ghost use Rattle.fw_segment.specs.declared.kind.Kind.TheVariants.{Rows};
 
 use crate::accepted::is_accept;
 use crate::heads::{ReadContent, ReadHead, heads_of, put_head};
 use crate::kind::Kind;
-use crate::segments::{put_segment, segment_rows_of};
+use crate::rows_left::RowsLeft;
+use crate::segments::{put_segment, segments_of};
 use fw_bytes::{ReadError, put_u32, put_u64, str_at};
-use fw_charge::{Currency, Row};
+use fw_charge::Currency;
 use fw_columns::Columns;
 use fw_entry::{Command, Entry, EntryFault};
 use fw_entry_bytes::Form;
 use fw_persistent::Sequence;
 use fw_snapshot::{State, judge};
 use std::alloc::{AllocError, Global};
-use std::vec::IntoIter;
 
 /// The bytes before the first head: the length of the currency, its three letters, and the number of heads.
 const BYTES_BEFORE_HEADS: usize = 15;
@@ -44,28 +44,29 @@ fn currency_of(bytes: &[u8]) -> Result<(Currency, &[u8]), ReadError>
     }
 }
 
-/// The parts of a state: its currency, its heads, and the rows of all segments.
+/// The parts of a state: its currency, its heads, and its segments.
 #[derive(Drop)]
 struct Parts {
     currency: Currency,
     heads: Vec<ReadHead>,
-    rows: Vec<Row>,
+    segments: Vec<Columns>,
 }
 
 /// The parts of a state, in order.
 #[tactic(auto, unfolding(crate::specs::States::parts_at, fw_bytes::specs::Reading::both))]
 fn parts_of(alloc: Global, form: Form, bytes: &[u8]) -> Result<(Parts, &[u8]), ReadError>
-    ensures { Gives (λ x. ((x.0.currency, (map head_view x.0.heads.items, x.0.rows.items)), x.1.now)) result (parts_at form bytes.now) }
+    ensures parts { Gives (λ x. ((x.0.currency, (map head_view x.0.heads.items, segment_rows x.0.segments.items)), x.1.now)) result (parts_at form bytes.now) }
+    ensures few { IfOk result (λ x. length x.0.segments.items ≤ most_segments) }
 {
     match currency_of(bytes) {
         Ok((currency, rest)) => {
             let (heads, rest) = heads_of(alloc, form, rest)?;
-            match segment_rows_of(alloc, rest) {
-                Ok((rows, rest)) => Ok((
+            match segments_of(alloc, rest) {
+                Ok((segments, rest)) => Ok((
                     Parts {
                         currency,
                         heads,
-                        rows,
+                        segments,
                     },
                     rest,
                 )),
@@ -79,7 +80,8 @@ fn parts_of(alloc: Global, form: Form, bytes: &[u8]) -> Result<(Parts, &[u8]), R
 /// The parts of a state that is all of the bytes.
 #[tactic(auto, unfolding(fw_entry_bytes::specs::Whole::whole))]
 fn whole_parts_of(alloc: Global, form: Form, bytes: &[u8]) -> Result<Parts, ReadError>
-    ensures { Gives (λ x. (x.currency, (map head_view x.heads.items, x.rows.items))) result (whole (parts_at form) bytes.now) }
+    ensures parts { Gives (λ x. (x.currency, (map head_view x.heads.items, segment_rows x.segments.items))) result (whole (parts_at form) bytes.now) }
+    ensures few { IfOk result (λ x. length x.segments.items ≤ most_segments) }
 {
     match parts_of(alloc, form, bytes) {
         Ok((parts, rest)) => {
@@ -107,36 +109,31 @@ fn are_as_many(heads: &[ReadHead], rows: usize) -> bool
     left == 0
 }
 
-/// So many rows from the front, or all where there are fewer.
-fn front_rows(alloc: Global, rows: &mut IntoIter<Row>, count: u32) -> Result<Vec<Row>, AllocError>
-    requires { into_iter_len rows.old ≡ length (into_iter_items rows.old) }
-    ensures front { IfOk result (λ front. front.items ≡ take count (into_iter_items rows.old)) }
-    ensures rest { IfOk result (λ _. into_iter_items rows.new ≡ drop count (into_iter_items rows.old)) }
-    ensures counted { into_iter_len rows.new ≡ length (into_iter_items rows.new) }
+/// How many rows segments have.
+fn row_total(segments: &[Columns]) -> usize
+    requires { length segments.now ≤ most_segments }
+    ensures { result ≡ length (segment_rows segments.now) }
 {
-    let mut front = Vec::new(alloc);
-    for _ in 0..count {
-        match rows.next() {
-            Some(row) => front.push(row)?,
-            None => break,
-        }
+    let mut total = 0;
+    for columns in segments {
+        total += columns.len();
     }
-    Ok(front)
+    total
 }
 
 /// The command of a head. A post takes its rows from the front.
 fn command_of(
     alloc: Global,
     content: ReadContent,
-    rows: &mut IntoIter<Row>,
+    rows: &mut RowsLeft,
 ) -> Result<Command, AllocError>
-    requires { into_iter_len rows.old ≡ length (into_iter_items rows.old) }
-    ensures command { IfOk result (λ command. command_view command ≡ command_of (content_view content) (take (row_count (content_view content)) (into_iter_items rows.old))) }
-    ensures rest { IfOk result (λ _. into_iter_items rows.new ≡ drop (row_count (content_view content)) (into_iter_items rows.old)) }
-    ensures counted { into_iter_len rows.new ≡ length (into_iter_items rows.new) }
+    requires { IsPlaced rows.old }
+    ensures command { IfOk result (λ command. command_view command ≡ command_of (content_view content) (take (row_count (content_view content)) (rows_left rows.old))) }
+    ensures rest { IfOk result (λ _. rows_left rows.new ≡ drop (row_count (content_view content)) (rows_left rows.old)) }
+    ensures placed { IsPlaced rows.new }
 {
     match content {
-        ReadContent::Post(count) => Ok(Command::Post(front_rows(alloc, rows, count)?)),
+        ReadContent::Post(count) => Ok(Command::Post(rows.take_front(alloc, count)?)),
         ReadContent::Commit(commitment) => Ok(Command::Commit(commitment)),
         ReadContent::SetPolicy(policy) => Ok(Command::SetPolicy(policy)),
     }
@@ -147,14 +144,14 @@ fn state_after(
     alloc: Global,
     state: &State,
     head: ReadHead,
-    rows: &mut IntoIter<Row>,
+    rows: &mut RowsLeft,
 ) -> Result<Option<State>, AllocError>
     requires head { IsHead (head_view head) }
-    requires enough { row_count (content_view head.content) ≤ length (into_iter_items rows.old) }
-    requires counted { into_iter_len rows.old ≡ length (into_iter_items rows.old) }
-    ensures state { IfOk result (λ next. next ≡ followed state.now (entry_of (head_view head) (take (row_count (content_view head.content)) (into_iter_items rows.old)))) }
-    ensures rest { IfOk result (λ _. into_iter_items rows.new ≡ drop (row_count (content_view head.content)) (into_iter_items rows.old)) }
-    ensures counted { into_iter_len rows.new ≡ length (into_iter_items rows.new) }
+    requires enough { row_count (content_view head.content) ≤ length (rows_left rows.old) }
+    requires placed { IsPlaced rows.old }
+    ensures state { IfOk result (λ next. next ≡ followed state.now (entry_of (head_view head) (take (row_count (content_view head.content)) (rows_left rows.old)))) }
+    ensures rest { IfOk result (λ _. rows_left rows.new ≡ drop (row_count (content_view head.content)) (rows_left rows.old)) }
+    ensures placed { IsPlaced rows.new }
 {
     let ReadHead {
         origin,
@@ -182,15 +179,15 @@ fn replay(
     alloc: Global,
     currency: Currency,
     heads: Vec<ReadHead>,
-    rows: Vec<Row>,
+    segments: Vec<Columns>,
     left: usize,
 ) -> Result<State, ReadError>
     requires heads { All IsHead (map head_view heads.items) }
-    requires rows { length rows.items ≡ row_counts (map head_view heads.items) }
-    ensures { Gives (λ s. s) result (replayed_state left currency (map head_view heads.items) rows.items) }
+    requires rows { length (segment_rows segments.items) ≡ row_counts (map head_view heads.items) }
+    ensures { Gives (λ s. s) result (replayed_state left currency (map head_view heads.items) (segment_rows segments.items)) }
 {
     let mut state = State::empty(alloc, currency);
-    let mut rows = rows.into_iter();
+    let mut rows = RowsLeft::of(segments);
     let mut left = left;
     for head in heads {
         let len = head.encoded_len();
@@ -210,11 +207,11 @@ pub fn state_of(alloc: Global, form: Form, bytes: &[u8]) -> Result<State, ReadEr
 {
     match whole_parts_of(alloc, form, bytes) {
         Ok(parts) => {
-            if !are_as_many(&parts.heads, parts.rows.len()) {
+            if !are_as_many(&parts.heads, row_total(&parts.segments)) {
                 return Err(ReadError::Corrupt(bytes.len()));
             }
             let left = bytes.len().saturating_sub(BYTES_BEFORE_HEADS);
-            replay(alloc, parts.currency, parts.heads, parts.rows, left)
+            replay(alloc, parts.currency, parts.heads, parts.segments, left)
         }
         Err(e) => Err(e),
     }

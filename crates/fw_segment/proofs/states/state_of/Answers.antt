@@ -5,4 +5,4 @@ use Rattle.fw_segment.proofs.StateFormat.{parts_taken}
 use Rattle.fw_segment.proofs.states.state_of.Goals as goal
 
 pub replay-requires-clause-heads : goal.replay-requires-clause-heads
-replay-requires-clause-heads c = All-from_recursion IsHead _ (parts_taken c.args.form c.args.bytes.now _ (λ i. omega (arith, c.type_inv.bytes i)) c.in-Ok.ensures).heads.1
+replay-requires-clause-heads c = All-from_recursion IsHead _ (parts_taken c.args.form c.args.bytes.now _ (λ i. omega (arith, c.type_inv.bytes i)) c.in-Ok.ensures.parts).heads.1
