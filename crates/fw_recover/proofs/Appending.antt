@@ -16,7 +16,7 @@ use Rattle.fw_recover.proofs.Files.{made_magic, made_len, same_generation, lengt
 use Rattle.fw_recover.proofs.Standing.{by_side}
 
 -- a legal list behind a legal list
-legal_joined : (first xs ys : List EntryValue) → IsLegalAfter first xs → IsLegalAfter (first ++ xs) ys → IsLegalAfter first (xs ++ ys)
+pub legal_joined : (first xs ys : List EntryValue) → IsLegalAfter first xs → IsLegalAfter (first ++ xs) ys → IsLegalAfter first (xs ++ ys)
 unfolding IsLegalAfter
 legal_joined first [] ys front back = rw append-nil at back
 legal_joined first (x ∷ xs) ys front back =
@@ -28,7 +28,7 @@ joined-push [] g = append-nil g
 joined-push (x ∷ gs) g = ap (λ (l : List EntryValue). x ++ l) (joined-push gs g) ∙ sym (append_assoc x (joined gs) g)
 
 -- the warehouse with one group more
-more_history : (h state : History) (gs : List (List EntryValue)) (more : List EntryValue) → h ≡ with_more state (joined gs) → with_more h more ≡ with_more state (joined (gs ++ more ∷ []))
+pub more_history : (h state : History) (gs : List (List EntryValue)) (more : List EntryValue) → h ≡ with_more state (joined gs) → with_more h more ≡ with_more state (joined (gs ++ more ∷ []))
 more_history h state gs more is =
     ap (λ (k : History). with_more k more) is
     ∙ ap (λ (es : List EntryValue). let one : History = record { currency = state.currency; entries = es } in one)

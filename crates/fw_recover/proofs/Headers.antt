@@ -1,6 +1,7 @@
 -- A header, read from the front of a file.
-use Rattle.std.proofs.Common.{◌≡◌, ℕ, ◌+◌, ◌≤◌, List, length, take, drop, get_or, sym, ◌∙◌, ap, arith}
-use Rattle.std.proofs.lemmas.List.{get_or-take, drop-take, take-take}
+use Rattle.std.proofs.Common.{◌≡◌, ℕ, ◌+◌, ◌≤◌, ◌<◌, List, [], ◌∷◌, ◌++◌, length, take, drop, get_or, sym, ◌∙◌, ap, arith, take-append-drop}
+use Rattle.std.proofs.lemmas.List.{append-nil, drop_all, get_or-take, drop-drop, drop-take, take-take}
+use Rattle.fw_bytes.specs.Spelling.{number64}
 use Rattle.std.specs.Int.{from_le_bytes}
 use Rattle.std.specs.Int.Width.{w64}
 use Rattle.fw_entry_bytes.specs.declared.form.Form.TheVariants.{One}
@@ -15,6 +16,10 @@ field file k m some all =
     ap (λ (n : ℕ). take 8 (drop k (take n file))) (sym all)
     ∙ ap (λ (l : List ℕ). take 8 l) (drop-take k m file)
     ∙ take-take 8 m (drop k file) some
+
+first_is : (xs rest : List ℕ) → 0 < length xs → get_or xs 0 0 ≡ 1 → drop 1 xs ≡ rest → xs ≡ 1 ∷ rest
+first_is [] rest some gate behind = absurd (omega arith)
+first_is (x ∷ xs) rest some gate behind = cc
 
 module _ (file header : List ℕ) (is : header ≡ take 25 file) where
   gate_is : get_or header 0 0 ≡ get_or file 0 0
@@ -36,3 +41,19 @@ module _ (file header : List ℕ) (is : header ≡ take 25 file) where
 
   pub signed : take 8 (drop 1 header) ≡ magic One → HasMagic One file
   signed word = sym word_is ∙ word
+
+-- the first 25 bytes of a file: its gate, its magic word and two numbers
+pub front_is : (header : List ℕ) (g n : ℕ) → length header ≡ 25 → get_or header 0 0 ≡ 1 → take 8 (drop 1 header) ≡ magic One → number64 g ≡ take 8 (drop 9 header) → number64 n ≡ take 8 (drop 17 header)
+    → header ≡ 1 ∷ (magic One ++ (number64 g ++ number64 n))
+front_is header g n long gate word generation len =
+    let rest : drop 25 header ≡ [] = drop_all 25 header (omega (arith, long)) in
+    let last : drop 17 header ≡ number64 n =
+    sym (take-append-drop 8 (drop 17 header)) ∙ ap (λ (l : List ℕ). l ++ drop 8 (drop 17 header)) (sym len)
+    ∙ ap (λ (l : List ℕ). number64 n ++ l) (drop-drop 8 17 header ∙ rest) ∙ append-nil (number64 n) in
+    let third : drop 9 header ≡ number64 g ++ number64 n =
+    sym (take-append-drop 8 (drop 9 header)) ∙ ap (λ (l : List ℕ). l ++ drop 8 (drop 9 header)) (sym generation)
+    ∙ ap (λ (l : List ℕ). number64 g ++ l) (drop-drop 8 9 header ∙ last) in
+    let second : drop 1 header ≡ magic One ++ (number64 g ++ number64 n) =
+    sym (take-append-drop 8 (drop 1 header)) ∙ ap (λ (l : List ℕ). l ++ drop 8 (drop 1 header)) word
+    ∙ ap (λ (l : List ℕ). magic One ++ l) (drop-drop 8 1 header ∙ third) in
+    first_is header (magic One ++ (number64 g ++ number64 n)) (omega (arith, long)) gate second

@@ -4,3 +4,4 @@ pub mod Places
 pub mod Standing
 pub mod Appending
 pub mod Headers
+pub mod Found

@@ -101,7 +101,7 @@ breaks_same : (form : Form) (p q : ℕ) (file : List ℕ) → HasMagic form file
 breaks_same form p q file magic_is (inl a) (inl b) =
     let both : Err a.left ≡ Err b.left = sym a.read ∙ b.read in
     let left : a.left ≡ b.left = cc in
-    a.place ∙ ap (λ (n : ℕ). 25 + length (body_of file) - n) left ∙ sym b.place
+    a.place ∙ ap (λ (n : ℕ). 25 + (length (body_of file) - n)) left ∙ sym b.place
 breaks_same form p q file magic_is (inl a) (inr b) =
     let both : Err a.left ≡ Ok b.state = sym a.read ∙ b.read in
     absurd (cc)

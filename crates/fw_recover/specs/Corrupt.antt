@@ -59,7 +59,7 @@ pub record LogBreaks (form : Form) (state : History) (start at : ℕ) (file : Li
 pub record BodyBreaks (form : Form) (at : ℕ) (file : List ℕ) : Type 0 where
   pub left : ℕ
   pub read : state_at form (body_of file) ≡ Err left
-  pub place : at ≡ 25 + length (body_of file) - left
+  pub place : at ≡ 25 + (length (body_of file) - left)
 
 -- the body spells a state, and the log behind it breaks at `at`
 pub record BreaksBehind (form : Form) (at : ℕ) (file : List ℕ) : Type 0 where

@@ -4,3 +4,4 @@ pub mod Corrupt
 pub mod Store
 pub mod Making
 pub mod Headers
+pub mod Opening

@@ -1,7 +1,9 @@
 //! The headers of the two sides, and which side is in use.
-ghost use Rattle.std.specs.Prelude.{◌≡◌, ◌⊎◌, ◌↔◌, ◌+◌, ◌≤◌, ℕ, length, take, drop, IfOk, IfErr, IsErrOf, IsTrue};
+ghost use Rattle.std.specs.Option.{ForSome};
+ghost use Rattle.std.specs.Prelude.{◌≡◌, ◌⊎◌, ◌↔◌, ◌+◌, ◌<◌, ◌≤◌, ℕ, length, take, drop, IfOk, IfErr, IsErrOf, IsTrue};
 ghost use Rattle.std.specs.Int.{from_le_bytes};
 ghost use Rattle.std.specs.Int.Width.{w64};
+ghost use Rattle.fw_bytes.specs.Spelling.{number64};
 ghost use Rattle.fw_disk.specs.declared.volume.Side.{Side};
 ghost use Rattle.fw_disk.specs.Volume.{Rose, SameSizes, Calm};
 ghost use Rattle.fw_entry_bytes.specs.declared.form.Form.TheVariants.{One};
@@ -34,6 +36,7 @@ pub struct Header {
 /// could not leave before.
 pub fn side_in_use<V: Volume>(volume: &mut V) -> Result<(Side, Header), StoreFault>
     ensures found { IfOk result (λ r. IsTrue V.tells → IsNewest (V.view volume.old).seen r.0 × HasHeader r.1.generation r.1.body_len ((V.view volume.old).seen r.0)) }
+    ensures within { IfOk result (λ r. (0 < r.1.generation) × (25 + r.1.body_len < (V.view volume.old).size r.0)) }
     ensures none { IsErrOf result NoHouse → IsTrue V.tells → StandsForNone (V.view volume.old).seen }
     ensures corrupt { (side : Side) (at : ℕ) → IsErrOf result (Corrupt side at) → IsTrue V.tells → CorruptAt (V.view volume.old).seen side at }
 
@@ -67,6 +70,7 @@ pub fn side_in_use<V: Volume>(volume: &mut V) -> Result<(Side, Header), StoreFau
 /// The header of a side; none where the side isn't open.
 fn header_of<V: Volume>(volume: &mut V, side: Side) -> Result<Option<Header>, StoreFault>
     ensures found { IfOk result (λ header. IsTrue V.tells → IsHeader header ((V.view volume.old).seen side)) }
+    ensures within { IfOk result (λ header. ForSome header (λ h. (0 < h.generation) × (25 + h.body_len < (V.view volume.old).size side))) }
     ensures corrupt { (at_side : Side) (at : ℕ) → IsErrOf result (Corrupt at_side at)
         → (at_side ≡ side) × (IsTrue V.tells → IsOpen ((V.view volume.old).seen side) × LacksAt ((V.view volume.old).seen side) at) }
     ensures not_no_house { IsErrOf result NoHouse → ⊥ }
@@ -117,7 +121,8 @@ fn is_signed(header: &[u8]) -> bool
 /// The number in the eight bytes from an offset on, the lowest first.
 fn number_in(header: &[u8], at: usize) -> u64
     requires { at + 8 ≤ length header.now }
-    ensures { result ≡ from_le_bytes w64 (take 8 (drop at header.now)) }
+    ensures value { result ≡ from_le_bytes w64 (take 8 (drop at header.now)) }
+    ensures spelled { number64 result ≡ take 8 (drop at header.now) }
 {
     let (_, behind) = header.split_at(at);
     let (number, _) = behind.split_at(8);

@@ -1,6 +1,7 @@
 //! What holds of all images: laws, each the contract of a function that does nothing.
 ghost use Rattle.std.specs.Prelude.{◌≡◌, ◌⊎◌, ◌^◌, ◌<◌, ◌++◌, ◌∷◌, [], ℕ, List, length, take, drop, map};
 ghost use Rattle.fw_disk.specs.declared.volume.Side.{Side};
+ghost use Rattle.fw_disk.specs.declared.volume.Side.TheVariants.{Left, Right};
 ghost use Rattle.fw_disk.specs.Volume.{Image, LeavesOnly, Settled, other};
 ghost use Rattle.fw_entry.specs.Entry.{EntryValue};
 ghost use Rattle.fw_entry_bytes.specs.declared.form.Form.{Form};
@@ -29,6 +30,12 @@ pub fn images_have_one_meaning()
 /// Where nothing is pending, whatever a crash leaves stands for the warehouse that a reader finds.
 pub fn what_is_settled_stands_as_read<V: Volume>(volume: &V)
     ensures { (h : History) → StandsFor h (V.view volume.now).seen → ((side : Side) → Settled side (V.view volume.now)) → EachStandsFor h (V.view volume.now) }
+{}
+
+/// While a side is made where no warehouse stands, each image stands for none, or for the new one.
+pub fn a_first_side_adds_a_warehouse_or_nothing()
+    ensures { (h : History) (old : Image) → StandsForNone old → (form : Form) (body : List ℕ) → length body < 2 ^ 64 → Spells body h
+        → (c : Image) → c Right ≡ old Right → Making (made_of form 1 body ++ 0 ∷ []) (old Left) (c Left) → StandsForNone c ⊎ StandsFor h c }
 {}
 
 /// While the side that isn't in use is made anew of the same warehouse, with a greater generation and a closed gate behind

@@ -8,12 +8,17 @@
 mod fault;
 mod header;
 mod laws;
+mod opening;
 mod sides;
+mod store;
+mod walk;
 
 pub use fault::StoreFault;
 pub use header::{Header, side_in_use};
 pub use laws::{
-    an_append_adds_a_group_or_nothing, each_moment_is_recovered, images_have_one_meaning,
-    making_a_side_keeps_the_warehouse, what_is_settled_stands_as_read,
+    a_first_side_adds_a_warehouse_or_nothing, an_append_adds_a_group_or_nothing,
+    each_moment_is_recovered, images_have_one_meaning, making_a_side_keeps_the_warehouse,
+    what_is_settled_stands_as_read,
 };
 pub use sides::{close_side, fill_side, make_side, open_side};
+pub use store::Store;

@@ -1,6 +1,6 @@
 //! Making a side: it is closed, filled and opened, one write and sync each.
 ghost use Rattle.std.specs.Prelude.{◌≡◌, ◌≢◌, ◌⊎◌, ◌+◌, ◌<◌, ◌≤◌, length, get_or, IsTrue, OnOk, OnErr};
-ghost use Rattle.fw_disk.specs.Volume.{LeavesOnly, Settled, Rose};
+ghost use Rattle.fw_disk.specs.Volume.{LeavesOnly, Settled, Rose, other};
 ghost use Rattle.fw_recover.specs.Making.{Keeps, Closing, Filling, Opening, Making, Closed, AllSettled, Filled, Opened, Made};
 
 use fw_disk::{Side, Volume, VolumeFault, write_synced};
@@ -13,6 +13,7 @@ pub fn close_side<V: Volume>(volume: &mut V, side: Side) -> Result<(), VolumeFau
     ensures any_moment { IsTrue V.tells → AllSettled (V.view volume.old) → LeavesOnly (V.view volume.old) (V.view volume.new) (Keeps side (V.view volume.old) Closing) }
     ensures closed { OnOk result (IsTrue V.tells → AllSettled (V.view volume.old) → Closed side (V.view volume.old) (V.view volume.new)) }
     ensures size { OnOk result (1 ≤ (V.view volume.new).size side) }
+    ensures other_size { (V.view volume.new).size (other side) ≡ (V.view volume.old).size (other side) }
     ensures later { (V.view volume.old).failures ≤ (V.view volume.new).failures }
     ensures limit { (V.view volume.new).limit ≡ (V.view volume.old).limit }
     ensures cause { OnErr result (Rose (V.view volume.old).failures (V.view volume.new).failures) }
@@ -36,6 +37,7 @@ pub fn fill_side<V: Volume>(volume: &mut V, side: Side, bytes: &[u8]) -> Result<
     ensures any_moment { IsTrue V.tells → AllSettled (V.view volume.old) → LeavesOnly (V.view volume.old) (V.view volume.new) (Keeps side (V.view volume.old) Filling) }
     ensures filled { OnOk result (IsTrue V.tells → AllSettled (V.view volume.old) → Filled side bytes.now (V.view volume.old) (V.view volume.new)) }
     ensures sizes { OnOk result (1 + length bytes.now ≤ (V.view volume.new).size side) }
+    ensures other_size { (V.view volume.new).size (other side) ≡ (V.view volume.old).size (other side) }
     ensures later { (V.view volume.old).failures ≤ (V.view volume.new).failures }
     ensures limit { (V.view volume.new).limit ≡ (V.view volume.old).limit }
     ensures cause { OnErr result (Rose (V.view volume.old).failures (V.view volume.new).failures) }
@@ -51,6 +53,7 @@ pub fn open_side<V: Volume>(volume: &mut V, side: Side) -> Result<(), VolumeFaul
     ensures any_moment { IsTrue V.tells → AllSettled (V.view volume.old) → LeavesOnly (V.view volume.old) (V.view volume.new) (Keeps side (V.view volume.old) Opening) }
     ensures opened { OnOk result (IsTrue V.tells → AllSettled (V.view volume.old) → Opened side (V.view volume.old) (V.view volume.new)) }
     ensures no_shorter { (V.view volume.old).size side ≤ (V.view volume.new).size side }
+    ensures other_size { (V.view volume.new).size (other side) ≡ (V.view volume.old).size (other side) }
     ensures later { (V.view volume.old).failures ≤ (V.view volume.new).failures }
     ensures limit { (V.view volume.new).limit ≡ (V.view volume.old).limit }
     ensures cause { OnErr result (Rose (V.view volume.old).failures (V.view volume.new).failures) }
@@ -67,6 +70,7 @@ pub fn make_side<V: Volume>(volume: &mut V, side: Side, bytes: &[u8]) -> Result<
     ensures any_moment { IsTrue V.tells → AllSettled (V.view volume.old) → LeavesOnly (V.view volume.old) (V.view volume.new) (Keeps side (V.view volume.old) (Making bytes.now)) }
     ensures made { OnOk result (IsTrue V.tells → AllSettled (V.view volume.old) → Made side bytes.now (V.view volume.old) (V.view volume.new)) }
     ensures sizes { OnOk result (1 + length bytes.now ≤ (V.view volume.new).size side) }
+    ensures other_size { (V.view volume.new).size (other side) ≡ (V.view volume.old).size (other side) }
     ensures later { (V.view volume.old).failures ≤ (V.view volume.new).failures }
     ensures limit { (V.view volume.new).limit ≡ (V.view volume.old).limit }
     ensures cause { OnErr result (Rose (V.view volume.old).failures (V.view volume.new).failures) }

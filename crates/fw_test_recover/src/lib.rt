@@ -4,4 +4,6 @@
 #![tactic(auto)]
 
 #[cfg(test)]
+mod open;
+#[cfg(test)]
 mod sides;

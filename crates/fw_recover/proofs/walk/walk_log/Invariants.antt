@@ -1,0 +1,19 @@
+use Rattle.std.proofs.Common.{◌≤◌, ◌-◌, IsTrue}
+use Rattle.fw_disk.specs.Volume.{SameSizes, Calm}
+use Rattle.fw_recover.specs.Opening.{HasGroups}
+use Rattle.fw_recover.proofs.walk.walk_log.Given as goal
+
+-- the groups up to this gate are behind the state, and nothing has changed
+abbrev pub invariant-loop-state : goal.invariant-loop-state
+invariant-loop-state g l =
+    let old = g.V.Volume.view l.initial.volume in
+    let now = g.V.Volume.view l.volume in
+    record {
+      groups : IsTrue g.V.Volume.tells → HasGroups l.initial.state l.start l.gate (old.seen l.side) l.state;
+      calm : IsTrue g.V.Volume.tells → Calm old now;
+      sizes : SameSizes old now;
+      later : old.failures ≤ now.failures;
+    }
+
+abbrev pub decreases-loop-state : goal.decreases-loop-state
+decreases-loop-state g l = (g.V.Volume.view l.volume).size l.side - l.gate

@@ -1,0 +1,72 @@
+-- What is found while a warehouse is opened.
+use Rattle.std.specs.Prelude.{◌≡◌, ◌≢◌, ◌⊎◌, ℕ, ◌+◌, ◌-◌, List, ◌∷◌, ◌++◌, length, take, drop, map, All, Option, Some, None, Ok, Err}
+use Rattle.fw_disk.specs.declared.volume.Side.{Side}
+use Rattle.fw_entry.specs.Entry.{EntryValue}
+use Rattle.fw_entry_bytes.specs.declared.form.Form.TheVariants.{One}
+use Rattle.fw_entry_bytes.specs.Whole.{whole}
+use Rattle.fw_journal.specs.Frames.{spelled, AllFit}
+use Rattle.fw_journal.specs.declared.fault.LogFault.{LogFault}
+use Rattle.fw_journal.specs.declared.fault.LogFault.TheVariants as faults
+use Rattle.fw_segment.specs.Groups.{group, group_at, IsGroup}
+use Rattle.fw_segment.specs.States.{state_at}
+use Rattle.fw_snapshot.specs.History.{History}
+use Rattle.fw_snapshot.specs.Judging.{IsLegal, IsLegalAfter}
+use Rattle.fw_snapshot.specs.Verdicts.{with_more}
+use Rattle.fw_recover.specs.declared.fault.StoreFault.{StoreFault}
+use Rattle.fw_recover.specs.declared.fault.StoreFault.TheVariants.{Corrupt, Device, NoMemory}
+use Rattle.fw_recover.specs.Stands.{joined}
+
+-- the fault of a log that is read on a side, as that of a store
+abbrev pub log_fault : Side → LogFault → StoreFault
+log_fault side faults.Device = Device
+log_fault side (faults.Corrupt at) = Corrupt side at
+log_fault side faults.Failed = Device
+log_fault side faults.TooLarge = Device
+log_fault side faults.NoMemory = NoMemory
+
+-- the warehouse with these entries, and none where one of them isn't accepted after those before it
+abbrev pub IsAfter : History → List EntryValue → Option History → Type 0
+IsAfter h es None = IsLegalAfter h.entries es → ⊥
+IsAfter h es (Some next) = IsLegalAfter h.entries es × (next ≡ with_more h es)
+
+-- the payload is no group, or one with an entry that isn't accepted after those before it
+abbrev pub GoesNotBehind : List EntryValue → List ℕ → Type 0
+GoesNotBehind entries payload =
+    ((left : ℕ) × (whole (group_at One) payload ≡ Err left))
+    ⊎ ((es : List EntryValue) × (whole (group_at One) payload ≡ Ok es) × (IsLegalAfter entries es → ⊥))
+
+-- the payload is that of a group which goes behind the warehouse, and this is the warehouse with it
+pub record GoesBehind (h : History) (payload : List ℕ) (next : History) : Type 0 where
+  pub more : List EntryValue
+  pub is_group : IsGroup more
+  pub spelled : payload ≡ group more
+  pub legal : IsLegalAfter h.entries more
+  pub is : next ≡ with_more h more
+
+-- the warehouse with the group of a payload
+abbrev pub IsWithGroup : History → List ℕ → Option History → Type 0
+IsWithGroup h payload None = GoesNotBehind h.entries payload
+IsWithGroup h payload (Some next) = GoesBehind h payload next
+
+-- from the first gate of a log up to this one stand the frames of the groups that made a state into this warehouse
+pub record HasGroups (state : History) (start gate : ℕ) (file : List ℕ) (now : History) : Type 0 where
+  pub groups : List (List EntryValue)
+  pub each : All IsGroup groups
+  pub is : drop start file ≡ spelled (map group groups) ++ drop gate file
+  pub fit : AllFit (map group groups)
+  pub place : gate ≡ start + length (spelled (map group groups))
+  pub is_history : now ≡ with_more state (joined groups)
+  pub legal : IsLegal now.entries
+
+-- a closed gate stands here
+pub record IsClosedAt (gate : ℕ) (file : List ℕ) : Type 0 where
+  pub byte : ℕ
+  pub rest : List ℕ
+  pub is : drop gate file ≡ byte ∷ rest
+  pub shut : byte ≢ 1
+
+-- where a body of so many bytes spells no state: the first fault is at this offset of the file
+pub record HasBadBody (body_len at : ℕ) (file : List ℕ) : Type 0 where
+  pub left : ℕ
+  pub read : state_at One (take body_len (drop 25 file)) ≡ Err left
+  pub place : at ≡ 25 + (length (take body_len (drop 25 file)) - left)

@@ -1,0 +1,87 @@
+//! Opening a store: what files of a warehouse open as, and where they are corrupt.
+use fw_disk::{Choice, MemVolume, Side, Volume, VolumeFault, write_synced};
+use fw_recover::*;
+use std::alloc::Global;
+use std::process::Abort;
+use std::test::Fail;
+
+/// Left of a warehouse in dollars with one entry: a header, a body of 19 bytes, the gate of a frame of 27 bytes at 44, and
+/// a closed gate at 76. The entry is number 1 of the origin `a`, and sets a policy.
+const SIDE: [u8; 77] = [
+    0x01, 0x46, 0x57, 0x48, 0x4f, 0x55, 0x53, 0x45, 0x31, 1, 0, 0, 0, 0, 0, 0, 0, 0x13, 0, 0, 0, 0,
+    0, 0, 0, 3, 0, 0, 0, 0x55, 0x53, 0x44, 0, 0, 0, 0, 0, 0, 0, 0, 0, 0, 0, 0, 1, 0x1b, 0, 0, 0, 1,
+    0, 0, 0, 1, 0, 0, 0, 0x61, 1, 0, 0, 0, 0, 0, 0, 0, 3, 1, 0, 0, 0, 0x74, 0, 0, 0, 0, 0,
+];
+
+/// How many entries the warehouse of these files has, or why it can't be opened.
+fn opened(
+    alloc: Global,
+    left: &[u8],
+    right: &[u8],
+) -> Result<Result<usize, StoreFault>, VolumeFault> {
+    let mut volume = MemVolume::new(alloc, 100, Choice::Old);
+    for (side, bytes) in [(Side::Left, left), (Side::Right, right)] {
+        if bytes.len() as u64 > volume.limit() {
+            return Err(VolumeFault::TooLarge);
+        }
+        write_synced(&mut volume, side, 0, bytes)?;
+    }
+    match Store::open(alloc, volume) {
+        Ok(store) => Ok(Ok(store.state().state().entries())),
+        Err((_, fault)) => Ok(Err(fault)),
+    }
+}
+
+#[test]
+fn a_warehouse_opens_with_the_entries_of_its_log(rt: HostRuntime) -> Result<(), Fail> {
+    let mut closed = SIDE;
+    closed[44] = 0;
+    assert_eq!(rt; opened(rt.alloc(), &SIDE, &[])?, Ok(1));
+    assert_eq!(rt; opened(rt.alloc(), &closed, &[])?, Ok(0));
+    assert_eq!(rt; opened(rt.alloc(), &closed[..45], &[])?, Ok(0));
+    let mut newer = closed;
+    newer[9] = 2;
+    assert_eq!(rt; opened(rt.alloc(), &SIDE, &newer)?, Ok(0));
+    Ok(())
+}
+
+// How many bytes of Left are there, which byte is changed to what, and what is answered.
+#[test]
+fn each_corrupt_file_has_its_place(rt: HostRuntime) -> Result<(), Fail> {
+    let left = |at| StoreFault::Corrupt {
+        side: Side::Left,
+        at,
+    };
+    let cases: [(usize, usize, u8, StoreFault); 13] = [
+        (25, 0, 1, StoreFault::NoHouse),
+        (44, 0, 1, left(17)),
+        (77, 8, b'9', left(1)),
+        (77, 9, 0, left(9)),
+        (77, 24, 255, left(17)),
+        (77, 17, 18, left(40)),
+        (77, 29, b'u', left(25)),
+        (45, 44, 1, left(44)),
+        (77, 45, 0, left(44)),
+        (77, 58, 2, left(44)),
+        (77, 45, 28, left(44)),
+        (77, 45, 26, left(44)),
+        (77, 76, 1, left(76)),
+    ];
+    for (len, at, byte, fault) in cases {
+        assert!(rt; len <= 77 && at < 77);
+        let mut file = SIDE;
+        file[at] = byte;
+        assert_eq!(rt; opened(rt.alloc(), &file[..len], &[])?, Err(fault));
+    }
+    Ok(())
+}
+
+#[test]
+fn a_copy_of_left_is_corrupt_at_its_generation(rt: HostRuntime) -> Result<(), Fail> {
+    let twins = StoreFault::Corrupt {
+        side: Side::Right,
+        at: 9,
+    };
+    assert_eq!(rt; opened(rt.alloc(), &SIDE, &SIDE)?, Err(twins));
+    Ok(())
+}
