@@ -1,5 +1,5 @@
 -- A warehouse is read: its header, its body, and the groups of its log one by one.
-use Rattle.std.proofs.Common.{false, ◌≡◌, ◌≢◌, ◌⊎◌, inl, inr, ℕ, ◌+◌, ◌-◌, ◌^◌, ◌<◌, ◌≤◌, List, [], ◌∷◌, ◌++◌, length, take, drop, get_or, map, Option, Some, None, Result, Ok, Err, refl, sym, ◌∙◌, ap, subst, arith, append_assoc, take-append-drop, All}
+use Rattle.std.proofs.Common.{false, ◌≡◌, ◌⊎◌, inl, inr, ℕ, ◌+◌, ◌-◌, ◌^◌, ◌<◌, List, [], ◌∷◌, ◌++◌, length, take, drop, get_or, map, Option, Some, None, Result, Ok, Err, refl, sym, ◌∙◌, ap, subst, arith, append_assoc, take-append-drop}
 use Rattle.std.proofs.lemmas.List.{drop_at, drop-drop, map_push, take_more, length-take, length-drop}
 use Rattle.std.proofs.lemmas.List.Elements.{All-nil, All-push}
 use Rattle.fw_bytes.specs.Spelling.{number64}
@@ -11,7 +11,6 @@ use Rattle.fw_entry.specs.Entry.{EntryValue}
 use Rattle.fw_entry_bytes.specs.declared.form.Form.{Form}
 use Rattle.fw_entry_bytes.specs.declared.form.Form.TheVariants.{One}
 use Rattle.fw_journal.specs.Frames.{open_frame, spelled, IsFit, AllFit, IsBroken, Tells}
-use Rattle.fw_journal.specs.Log.{LogState, Stands}
 use Rattle.fw_journal.specs.declared.fault.LogFault.{LogFault}
 use Rattle.fw_journal.specs.declared.fault.LogFault.TheVariants as log_faults
 use Rattle.fw_journal.proofs.Spelling.{spelled-none, spelled-push, length-spelled-push, length-sized, AllFit-push}
@@ -26,8 +25,8 @@ use Rattle.fw_snapshot.specs.Judging.{judged, IsLegal, IsLegalAfter}
 use Rattle.fw_snapshot.specs.Verdicts.{with_more}
 use Rattle.fw_snapshot.specs.declared.verdict.Verdict.TheVariants as verdict
 use Rattle.fw_recover.specs.declared.fault.StoreFault.TheVariants as store_faults
-use Rattle.fw_recover.specs.Sides.{magic, made_of, generation_of, body_len_of, body_of, log_start_of, HasMagic, IsOpen, IsSound}
-use Rattle.fw_recover.specs.Stands.{joined, SideTells, IsNewest, StandsFor, StandsForNone}
+use Rattle.fw_recover.specs.Sides.{magic, made_of, generation_of, body_of, HasMagic, IsOpen, IsSound}
+use Rattle.fw_recover.specs.Stands.{SideTells, IsNewest, StandsForNone}
 use Rattle.fw_recover.specs.Corrupt.{LacksAt, Lacks, AreTwins, IsBadFrame, LogBreaks, BodyBreaks, BreaksBehind, Breaks, CorruptAt}
 use Rattle.fw_recover.specs.Headers.{HasHeader}
 use Rattle.fw_recover.specs.Making.{AllSettled}

@@ -1,6 +1,6 @@
--- Where two files are corrupt: they stand for a warehouse nowhere, but a side is open. The place is a side and an offset in its file: the first one, in
--- the order in which the files are read. That is the header of Left, the header of Right, the two generations, and then of the newer side alone the
--- body and the log, frame by frame.
+-- Where two files are corrupt: they stand for a warehouse nowhere, but a side is open. The place is a side and an offset in
+-- its file: the first one, in the order in which the files are read. That is the header of Left, the header of Right, the two
+-- generations, and then of the newer side alone the body and the log, frame by frame.
 use Rattle.std.specs.Prelude.{◌≡◌, ◌⊎◌, ℕ, ◌+◌, ◌-◌, ◌<◌, ◌≤◌, List, ◌++◌, length, drop, map, All, Ok, Err}
 use Rattle.fw_disk.specs.declared.volume.Side.{Side}
 use Rattle.fw_disk.specs.declared.volume.Side.TheVariants.{Left, Right}
@@ -21,7 +21,8 @@ use Rattle.fw_recover.specs.Stands.{joined, IsNewest, StandsFor, StandsForNone, 
 abbrev pub IsSigned : List ℕ → Type 0
 IsSigned file = (form : Form) × HasMagic form file
 
--- the first field of a header that no sound side has: another magic word, generation 0, or a length that puts the first gate past the end
+-- the first field of a header that no sound side has: another magic word, generation 0, or a length that puts the first gate
+-- past the end
 abbrev pub LacksAt : List ℕ → ℕ → Type 0
 LacksAt file at =
     ((at ≡ 1) × (IsSigned file → ⊥))
@@ -46,7 +47,8 @@ IsBadFrame form entries bytes = (payload : List ℕ) × (rest : List ℕ) × IsF
     × (((left : ℕ) × (whole (group_at form) payload ≡ Err left))
     ⊎ ((es : List EntryValue) × (whole (group_at form) payload ≡ Ok es) × (IsLegalAfter entries es → ⊥)))
 
--- from the first gate on stand frames of groups that go behind the state, and at `at` neither a closed gate nor the frame of such a group
+-- from the first gate on stand frames of groups that go behind the state, and at `at` neither a closed gate nor the frame of
+-- such a group
 pub record LogBreaks (form : Form) (state : History) (start at : ℕ) (file : List ℕ) : Type 0 where
   pub walked : Walked start at file
   pub groups : List (List EntryValue)

@@ -1,4 +1,5 @@
--- Making a side anew while the other one stands: it is closed, then filled behind its first byte, then opened. Each step is a write and its sync.
+-- Making a side anew while the other one stands: it is closed, then filled behind its first byte, then opened. Each step is a
+-- write and its sync.
 use Rattle.std.specs.Prelude.{◌≡◌, ◌≢◌, ◌⊎◌, ℕ, ◌≤◌, List, ◌∷◌, ◌++◌, length, take, drop, get_or}
 use Rattle.fw_disk.specs.declared.volume.Side.{Side}
 use Rattle.fw_disk.specs.Volume.{Image, View, Settled, Torn, other}
@@ -12,7 +13,8 @@ pub record Keeps (side : Side) (old : View) (step : List ℕ → List ℕ → Ty
   pub other_stays : c (other side) ≡ old.seen (other side)
   pub this : step (old.seen side) (c side)
 
--- Closing: nothing is written where a first byte is there that isn't an open gate. A torn write over a closed gate could open it.
+-- Closing: nothing is written where a first byte is there that isn't an open gate. A torn write over a closed gate could
+-- open it.
 abbrev pub Closing : List ℕ → List ℕ → Type 0
 Closing old new = (new ≡ old) ⊎ (((length old ≡ 0) ⊎ (get_or old 0 0 ≡ 1)) × Torn 0 1 old new)
 

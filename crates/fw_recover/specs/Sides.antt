@@ -45,7 +45,8 @@ pub record IsOpen (file : List ℕ) : Type 0 where
   pub long : 26 ≤ length file
   pub gate : get_or file 0 0 ≡ 1
 
--- what each open side has, whether it is the newer one or the older: a magic word, a generation, and the first gate of its log within its end
+-- what each open side has, whether it is the newer one or the older: a magic word, a generation, and the first gate of its log
+-- within its end
 pub record IsSound (file : List ℕ) : Type 0 where
   pub form : Form
   pub magic_is : HasMagic form file

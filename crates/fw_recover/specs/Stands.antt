@@ -17,8 +17,9 @@ abbrev pub joined : List (List EntryValue) → List EntryValue
 joined [] = []
 joined (g ∷ groups) = g ++ joined groups
 
--- An open side holds a warehouse: its body spells a state, the payloads of its log spell groups, and the warehouse is that state with the
--- entries of all groups after it, each of which was accepted after those before it. Behind the closed gate there may be any bytes.
+-- An open side holds a warehouse: its body spells a state, the payloads of its log spell groups, and the warehouse is that
+-- state with the entries of all groups after it, each of which was accepted after those before it. Behind the closed gate there
+-- may be any bytes.
 pub record SideTells (generation : ℕ) (h : History) (file : List ℕ) : Type 0 where
   pub form : Form
   pub body : List ℕ

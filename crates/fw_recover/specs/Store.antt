@@ -1,6 +1,5 @@
 -- A store: an open warehouse on a volume, and what holds of it between two calls.
 use Rattle.std.specs.Prelude.{◌≡◌, ℕ, ◌+◌, ◌^◌, ◌<◌, Bool, true, false, IsTrue, List, length, map}
-use Rattle.fw_disk.specs.declared.volume.Side.{Side}
 use Rattle.fw_disk.specs.Volume.{Image, View}
 use Rattle.fw_entry.specs.Entry.{EntryValue}
 use Rattle.fw_journal.specs.Log.{LogState, Stands}
@@ -10,7 +9,8 @@ use Rattle.fw_recover.specs.Making.{AllSettled}
 use Rattle.fw_recover.specs.Sides.{generation_of}
 use Rattle.fw_recover.specs.Stands.{StandsFor, StandsForEither}
 
--- a store: its volume, the generation and the log of the side in use, the warehouse, and whether the device has failed in a call that writes
+-- a store: its volume, the generation and the log of the side in use, the warehouse, and whether the device has failed in a
+-- call that writes
 pub record StoreState (V : Type 0) : Type 0 where
   pub volume : V
   pub generation : ℕ
@@ -35,7 +35,8 @@ pub record IsInUse (tells : Bool) (generation : ℕ) (log : LogState) (h : Histo
   pub log_goes_on : log.failed ≡ false
   pub fresh : IsTrue tells → IsFresh generation log h v
 
--- What a store keeps. After a failure of the device each image stands for the warehouse, or for it with all the entries that were being written.
+-- What a store keeps. After a failure of the device each image stands for the warehouse, or for it with all the entries that
+-- were being written.
 pub record IsKept {V : Type 0} (tells : Bool) (view : V → View) (s : StoreState V) : Type 0 where
   pub room : s.log.end < (view s.volume).size s.log.side
   pub some_generation : 0 < s.generation

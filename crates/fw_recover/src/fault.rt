@@ -14,12 +14,6 @@ pub enum StoreFault {
     /// A read, a write or a sync of the volume has failed.
     #[error("S3 Device")]
     Device,
-    /// A side of the warehouse would be larger than the volume's files can be.
-    #[error("S6 TooLarge")]
-    TooLarge,
-    /// A warehouse can't be created here: a side is open.
-    #[error("S7 Exists")]
-    Exists,
     /// The allocator refused a growth.
     #[error("NoMemory")]
     NoMemory,

@@ -1,8 +1,11 @@
-//! A warehouse on the two sides of a volume: what two files stand for, and where they are corrupt.
+//! A warehouse on the two sides of a volume: what two files stand for, where they are corrupt, and how they are opened.
 //!
 //! A side has a state and a log of the groups that were committed after it. Of the two the open one of greater generation
 //! counts, so the next state is made on the other side while this one stands, and opening its gate is the step from the one
 //! to the other.
+//!
+//! [`Store::open`] reads both: it answers with the one warehouse for which the files stand, or with none, or with the place of
+//! the first fault.
 #![tactic(auto)]
 
 mod fault;

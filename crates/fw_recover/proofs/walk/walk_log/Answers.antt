@@ -6,7 +6,7 @@ use Rattle.fw_journal.specs.Frames.{IsBroken}
 use Rattle.fw_journal.specs.Log.{IsFrameAt}
 use Rattle.fw_recover.specs.declared.fault.StoreFault.TheVariants.{Corrupt, NoHouse, Device}
 use Rattle.fw_recover.specs.Corrupt.{LogBreaks}
-use Rattle.fw_recover.specs.Opening.{log_fault, GoesNotBehind, GoesBehind}
+use Rattle.fw_recover.specs.Opening.{GoesNotBehind, GoesBehind}
 use Rattle.fw_recover.proofs.Found.{no_groups_yet, one_group_more, breaks_there, bad_frame, log_corrupt, log_not_none, log_device}
 use Rattle.fw_recover.proofs.walk.walk_log.Goals as goal
 

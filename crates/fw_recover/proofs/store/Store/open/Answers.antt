@@ -1,4 +1,4 @@
-use Rattle.std.proofs.Common.{◌≡◌, sym, subst}
+use Rattle.std.proofs.Common.{sym, subst}
 use Rattle.fw_snapshot.specs.History.{History}
 use Rattle.fw_recover.specs.Store.{IsFresh}
 use Rattle.fw_recover.proofs.store.Store.open.Goals as goal
