@@ -23,7 +23,7 @@ use std::alloc::{AllocError, Global};
 /// costs, so their order doesn't matter.
 ///
 /// `direct` has each group once, in rising order of their bytes, and its absolute costs sum to at most 10^19 nanos. The only error is
-/// want of memory.
+/// a failed allocation.
 pub fn charge(alloc: Global, direct: &[Cost], policy: &Policy) -> Result<Vec<Cost>, AllocError>
     requires rising { IsRising (groups_in direct.now) }
     requires small { size_of direct.now ≤ 10 ^ 19 }

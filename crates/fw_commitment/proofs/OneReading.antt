@@ -1,4 +1,4 @@
--- A text reads as one commitment or one fault, want of memory aside.
+-- A text reads as one commitment or one fault, failed allocations aside.
 use Rattle.std.proofs.Common.{◌≡◌, ◌≢◌, ℕ, ℤ, pos, List, Option, Result, Ok, Err, codes, refl, sym, ap, ◌∙◌, subst}
 use Rattle.toml.specs.Data.{Members}
 use Rattle.fw_charge.specs.Tags.{TagText}

@@ -7,7 +7,7 @@ use Rattle.fw_commitment.specs.Rules.{Rule}
 use Rattle.fw_commitment.specs.declared.fault.CommitmentFault.{CommitmentFault}
 use Rattle.fw_commitment.specs.declared.fault.CommitmentFault.TheVariants as fault
 
--- a value of which P holds, where no rule is broken; or the fault of the first that is, want of memory aside
+-- a value of which P holds, where no rule is broken; or the fault of the first that is, failed allocations aside
 abbrev pub Finds : {X : Type 0} → List Rule → (X → Type 0) → Result X CommitmentFault → Type 0
 Finds rules P (Ok x) = NoneBroken rules × P x
 Finds rules P (Err f) = f ≢ fault.NoMemory → FirstBroken rules f

@@ -26,7 +26,7 @@ pub record Stands (ms : Members) (c : CommitmentValue) : Type 0 where
   pub tags : HasTags ms c.tags
   pub purchases : HasPurchases ms (purchases_stated c.purchases)
 
--- want of memory may come in place of either
+-- a failed allocation may come in place of either
 unfoldable pub CommitmentReads : List ℕ → Result CommitmentValue CommitmentFault → Type 0
 CommitmentReads text (Ok c) = (ms : Members) × IsTable text ms × NoneBroken (rules_of ms) × Stands ms c
 CommitmentReads text (Err fault.Syntax) = (ms : Members) → ¬ IsTable text ms

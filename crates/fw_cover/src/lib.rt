@@ -1,7 +1,7 @@
 //! Which commitment covers which charge row in an hour, and how much of it.
 //!
 //! In each hour of its term a commitment has a capacity: a quantity, or a cost. The commitments meet the rows of the hour one after
-//! another, in the order that [`in_order`] tells, and each takes of a row what the ones before it left ([`cover_hour`], [`cover`]). Only
+//! another, in the order that [`in_order`] returns, and each takes of a row what the ones before it left ([`cover_hour`], [`cover`]). Only
 //! some rows are eligible for that ([`is_eligible`]). `specs/Applies.antt` says which commitment applies to which row, `specs/Order.antt`
 //! in which order they meet, and `specs/Part.antt` and `specs/Cover.antt` what is taken.
 //!

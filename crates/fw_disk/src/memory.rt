@@ -1,4 +1,4 @@
-//! A volume in memory. It keeps what each write replaced, so each of its past contents can be told.
+//! A volume in memory. It keeps what each write replaced, so each of its past contents can be worked out.
 ghost use Rattle.std.specs.Prelude.{◌≡◌, ◌+◌, ◌-◌, ◌^◌, ◌<◌, ◌≤◌, ◌↔◌, ◌∷◌, [], length, min, reverse, vec_capacity, true, refl, OnOk, OnErr, IsOk, IsErrOf, IsTrue, IsFalse};
 ghost use Rattle.std.proofs.Common.{inl};
 ghost use Rattle.fw_disk.specs.Volume.{View, Image, other, Returns, Holds, Torn, Writes, Quiet, SameSizes, Grows, HasCause, Rose, Settled, StaysPending, SettlesOnly, Shows, Allows, TornSide};
@@ -24,7 +24,7 @@ pub enum Choice {
 }
 
 /// A volume that keeps its files and a record of its writes and syncs in memory. A write takes memory for the file and
-/// the record, and for want of it answers `Io` and changes nothing but the count of failures. No other call takes memory
+/// the record; out of memory, it answers `Io` and changes nothing but the count of failures. No other call takes memory
 /// or fails.
 #[derive(Drop)]
 pub struct MemVolume {
@@ -123,7 +123,7 @@ impl Volume for MemVolume {
         Ok(())
     }
 
-    /// `Io` comes for want of memory alone; it counts as a failure and changes nothing else.
+    /// `Io` means out of memory, and nothing else; it counts as a failure and changes nothing else.
     fn write_at(&mut self, side: Side, at: u64, bytes: &[u8]) -> Result<(), VolumeFault>
         requires { at ≤ (view_of self.old).size side }
         ensures written { OnOk result (Holds at bytes.now ((view_of self.old).seen side) ((view_of self.new).seen side)) }

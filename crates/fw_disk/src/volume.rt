@@ -38,7 +38,7 @@ pub enum VolumeFault {
 
 /// Two files of bytes, addressed by byte offsets. The module says which disk they model.
 pub trait Volume {
-    /// Whether the volume tells what its files hold. Where it doesn't, only lengths, the limit and the causes of
+    /// Whether the contracts state what the files hold. Where they don't, only lengths, the limit and the causes of
     /// faults are stated. It is one value for the type, so no call changes it.
     ghost tells: { Bool };
 

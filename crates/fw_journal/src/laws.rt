@@ -2,7 +2,7 @@
 ghost use Rattle.std.specs.Prelude.{◌≡◌, ℕ, List, drop};
 ghost use Rattle.fw_journal.specs.Frames.{Tells, BreaksAt};
 
-/// A file is read in one way: from a gate on it tells at most one list of payloads, its frames break at one place at
+/// A file is read in one way: from a gate on it has at most one list of payloads, its frames break at one place at
 /// most, and never both. So an answer of `replay` or `Log::open` is the only one that its clauses allow.
 pub fn one_reading()
     ensures one_list { (bytes : List ℕ) (first second : List (List ℕ)) → Tells first bytes → Tells second bytes → first ≡ second }

@@ -5,7 +5,7 @@ ghost use Rattle.fw_money.specs.Amount.{most_nanos};
 use std::marker::Model;
 use thiserror::Error;
 
-/// Why a text reads as no amount. Where a text has several of these faults, the first in this order is the one that is told.
+/// Why a text reads as no amount. Where a text has several of these faults, the first in this order is returned.
 #[derive(Clone, Copy, Debug, Drop, PartialEq, Eq, Error)]
 pub enum MoneyFault {
     /// The text has no byte.
@@ -55,7 +55,7 @@ impl Nanos {
         Nanos { count }
     }
 
-    /// How many nanos the amount has. The range is known to hold of every amount, and is told here.
+    /// How many nanos the amount has: at most 10^17 either way, as each amount.
     pub fn count(self) -> i64
         ensures value { result ≡ self }
         ensures in_range { nat_abs result ≤ most_nanos }

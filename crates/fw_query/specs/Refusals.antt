@@ -7,7 +7,7 @@ use Rattle.fw_query.specs.Reports.{IsTooLarge}
 use Rattle.fw_query.specs.declared.fault.QueryFault.{QueryFault}
 use Rattle.fw_query.specs.declared.fault.QueryFault.TheVariants as fault
 
--- there is no report under a key of the hours for this reason; want of memory may come in place of any answer
+-- there is no report under a key of the hours for this reason; a failed allocation may come in place of any answer
 abbrev pub IsRefused : List CommitmentValue → List Charge → List ℕ → ℕ → ℕ → QueryFault → Type 0
 IsRefused cs rows key from to fault.Range = ¬ IsRange from to
 IsRefused cs rows key from to (fault.TotalTooLarge group) = IsRange from to × IsTooLarge cs rows key from to (string_bytes group)

@@ -153,7 +153,7 @@ impl Groups {
         Ok(())
     }
 
-    // Counts a line in its group. More lines than 2^64, which no memory holds, are told as want of memory.
+    // Counts a line in its group. More lines than 2^64, which no memory holds, are answered as out of memory.
     fn add(&mut self, group: &str, billed: Nanos, effective: Nanos) -> Result<(), AllocError>
         requires { (costs : List Cost) × Counts self.old costs }
         ensures { OnOk result ((costs : List Cost) → Counts self.old costs → Counts self.new (costs ++ record { group = group.now; billed = billed; effective = effective } ∷ [])) }

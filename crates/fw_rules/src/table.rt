@@ -4,7 +4,7 @@ ghost use Rattle.fw_rules.specs.Table.{FirstBroken, NoneBroken};
 
 /// A value that is held against a table of rules. A rule is a fault beside the fact that the rule is broken.
 pub trait Ruled {
-    /// What is told of a broken rule.
+    /// The fault that a broken rule gives.
     type Fault;
 
     ghost rules: { Self → List (Self.Fault × Type 0) };
