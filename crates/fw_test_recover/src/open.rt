@@ -13,7 +13,7 @@ const SIDE: [u8; 77] = [
     0, 0, 0, 1, 0, 0, 0, 0x61, 1, 0, 0, 0, 0, 0, 0, 0, 3, 1, 0, 0, 0, 0x74, 0, 0, 0, 0, 0,
 ];
 
-/// How many entries the warehouse of these files has, or why it can't be opened.
+/// How many entries the warehouse of these files has, or why it can't be opened. Out of memory is an error of the test.
 fn opened(
     alloc: Global,
     left: &[u8],
@@ -28,6 +28,7 @@ fn opened(
     }
     match Store::open(alloc, volume) {
         Ok(store) => Ok(Ok(store.state().state().entries())),
+        Err((_, StoreFault::NoMemory)) => Err(VolumeFault::Io),
         Err((_, fault)) => Ok(Err(fault)),
     }
 }
