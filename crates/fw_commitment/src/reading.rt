@@ -34,7 +34,7 @@ fn commitment_of(alloc: Global, table: &Table) -> Result<Commitment, CommitmentF
     let id_and_term = IdAndTerm::of_table(alloc, table)?;
     let terms = terms(alloc, table, id_and_term.kind)?;
     let billing = Billing::of_table(alloc, table, id_and_term.kind)?;
-    Ok(Commitment::of_fields(CommitmentFields {
+    let fields = CommitmentFields {
         id: id_and_term.id,
         terms,
         sub_account: billing.sub_account,
@@ -43,5 +43,7 @@ fn commitment_of(alloc: Global, table: &Table) -> Result<Commitment, CommitmentF
         hours: id_and_term.hours,
         capacity: id_and_term.capacity,
         purchases: billing.purchases,
-    }))
+    };
+    let commitment = Commitment::of_fields(alloc, fields)?;
+    Ok(commitment)
 }

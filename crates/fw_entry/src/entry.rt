@@ -53,7 +53,7 @@ impl Command {
     {
         match self {
             Command::Post(rows) => Ok(Command::Post(copy_rows(alloc, rows)?)),
-            Command::Commit(commitment) => Ok(Command::Commit(commitment.copy(alloc)?)),
+            Command::Commit(commitment) => Ok(Command::Commit(commitment.copy()?)),
             Command::SetPolicy(policy) => Ok(Command::SetPolicy(policy.copy(alloc)?)),
         }
     }

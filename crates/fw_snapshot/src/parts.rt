@@ -49,7 +49,7 @@ pub(crate) fn content_of(alloc: Global, command: &Command) -> Result<Content, Al
         Command::Post(rows) => Ok(Content::Post {
             rows: rows.len() as u32,
         }),
-        Command::Commit(commitment) => Ok(Content::Commit(commitment.copy(alloc)?)),
+        Command::Commit(commitment) => Ok(Content::Commit(commitment.copy()?)),
         Command::SetPolicy(policy) => Ok(Content::SetPolicy(Arc::new(alloc, policy.copy(alloc)?)?)),
     }
 }
@@ -134,9 +134,9 @@ fn with_one_more(
 {
     let mut all = Vec::with_capacity(alloc, commitments.len().saturating_add(1))?;
     for commitment in commitments {
-        all.push(commitment.copy(alloc)?)?;
+        all.push(commitment.copy()?)?;
     }
-    all.push(more.copy(alloc)?)?;
+    all.push(more.copy()?)?;
     Ok(all)
 }
 

@@ -6,6 +6,7 @@ use fw_charge::{DiscountKind, Tags};
 use fw_money::Nanos;
 use std::alloc::{AllocError, Global};
 use std::marker::Model;
+use std::sync::Arc;
 
 /// A payment for a commitment: a second within the year 9999 or before, and an amount of at least 0.
 #[derive(Debug, Drop)]
@@ -103,16 +104,6 @@ impl Rate {
     {
         self.ppm
     }
-
-    /// An equal rate.
-    pub fn copy(&self, alloc: Global) -> Result<Rate, AllocError>
-        ensures { IfOk result (λ r. r ≡ self.now) }
-    {
-        Ok(Rate {
-            sku: String::from_str(alloc, &self.sku)?,
-            ppm: self.ppm,
-        })
-    }
 }
 
 /// What is committed to. In a commitment there are 1 to 256 SKUs or rates, in rising order of the SKUs' bytes.
@@ -148,55 +139,6 @@ impl Terms {
             Terms::Spend { .. } => DiscountKind::Spend,
         }
     }
-
-    /// Equal terms.
-    pub fn copy(&self, alloc: Global) -> Result<Terms, AllocError>
-        ensures { IfOk result (λ t. terms_view t ≡ terms_view self.now) }
-    {
-        match self {
-            Terms::Usage { unit, skus } => {
-                let unit = String::from_str(alloc, unit)?;
-                let skus = copy_skus(alloc, skus)?;
-                Ok(Terms::Usage { unit, skus })
-            }
-            Terms::Spend { rates } => Ok(Terms::Spend {
-                rates: copy_rates(alloc, rates)?,
-            }),
-        }
-    }
-}
-
-fn copy_skus(alloc: Global, skus: &[String]) -> Result<Vec<String>, AllocError>
-    ensures { IfOk result (λ copies. map string_bytes copies.items ≡ map string_bytes skus.now) }
-{
-    let mut copies = Vec::with_capacity(alloc, skus.len())?;
-    for sku in skus {
-        copies.push(String::from_str(alloc, sku)?)?;
-    }
-    Ok(copies)
-}
-
-fn copy_rates(alloc: Global, rates: &[Rate]) -> Result<Vec<Rate>, AllocError>
-    ensures { IfOk result (λ copies. copies.items ≡ rates.now) }
-{
-    let mut copies = Vec::with_capacity(alloc, rates.len())?;
-    for rate in rates {
-        copies.push(rate.copy(alloc)?)?;
-    }
-    Ok(copies)
-}
-
-fn copy_purchases(alloc: Global, purchases: &[Purchase]) -> Result<Vec<Purchase>, AllocError>
-    ensures { IfOk result (λ copies. copies.items ≡ purchases.now) }
-{
-    let mut copies = Vec::with_capacity(alloc, purchases.len())?;
-    for purchase in purchases {
-        copies.push(Purchase {
-            at: purchase.at,
-            billed: purchase.billed,
-        })?;
-    }
-    Ok(copies)
 }
 
 /// The fields of a commitment.
@@ -221,9 +163,11 @@ pub struct CommitmentFields {
 }
 
 /// A commitment: use or spending that was bought ahead, so much each hour of a term. It keeps the limits that [`CommitmentFields`] gives.
+///
+/// A commitment is never changed, and its copies share its fields.
 #[derive(Debug, Drop)]
 pub struct Commitment {
-    fields: CommitmentFields,
+    fields: Arc<CommitmentFields>,
 }
 
 impl Model for Commitment {
@@ -234,9 +178,9 @@ impl Model for Commitment {
 
     ghost use Rattle.fw_terms.specs.CommitmentView.{commitment_of};
 
-    ghost view = { λ c. commitment_of c.fields };
+    ghost view = { λ c. commitment_of c.fields.value };
 
-    ghost invariant = { λ c. IsCommitment (commitment_of c.fields) × (pos 0 <ℤ c.fields.capacity) };
+    ghost invariant = { λ c. IsCommitment (commitment_of c.fields.value) × (pos 0 <ℤ c.fields.value.capacity) };
 }
 
 impl Commitment {
@@ -253,13 +197,15 @@ impl Commitment {
     /// The most purchases of a commitment.
     pub const MOST_PURCHASES: usize = 64;
 
-    /// The commitment with these fields, which keep the limits that [`CommitmentFields`] gives.
-    pub fn of_fields(fields: CommitmentFields) -> Commitment
+    /// The commitment with these fields, which keep the limits that [`CommitmentFields`] gives. The error comes where memory ran out.
+    pub fn of_fields(alloc: Global, fields: CommitmentFields) -> Result<Commitment, AllocError>
         requires in_limits { IsCommitment (commitment_of fields) }
         requires some_capacity { pos 0 <ℤ fields.capacity }
-        ensures { result ≡ commitment_of fields }
+        ensures { IfOk result (λ c. c ≡ commitment_of fields) }
     {
-        Commitment { fields }
+        Ok(Commitment {
+            fields: Arc::new(alloc, fields)?,
+        })
     }
 
     /// The name by which rows refer to the commitment.
@@ -338,35 +284,12 @@ impl Commitment {
         Nanos::of_fields(total_cost(self.purchases()) as i64)
     }
 
-    /// An equal commitment.
-    pub fn copy(&self, alloc: Global) -> Result<Commitment, AllocError>
+    /// The same commitment, shared. It takes no memory. The error comes only where it has as many owners as can be counted.
+    pub fn copy(&self) -> Result<Commitment, AllocError>
         ensures { IfOk result (λ c. c ≡ self.now) }
     {
-        let id = String::from_str(alloc, &self.fields.id)?;
-        let terms = self.fields.terms.copy(alloc)?;
-        let sub_account = copy_name(alloc, self.sub_account())?;
-        let tags = self.fields.tags.copy(alloc)?;
-        let purchases = copy_purchases(alloc, &self.fields.purchases)?;
         Ok(Commitment {
-            fields: CommitmentFields {
-                id,
-                terms,
-                sub_account,
-                tags,
-                start: self.fields.start,
-                hours: self.fields.hours,
-                capacity: self.fields.capacity,
-                purchases,
-            },
+            fields: Arc::try_clone(&self.fields)?,
         })
-    }
-}
-
-fn copy_name(alloc: Global, name: Option<&str>) -> Result<Option<String>, AllocError>
-    ensures { IfOk result (λ copied. option_map string_bytes copied ≡ option_map (λ s. s.now) name.entry) }
-{
-    match name {
-        Some(name) => Ok(Some(String::from_str(alloc, name)?)),
-        None => Ok(None),
     }
 }

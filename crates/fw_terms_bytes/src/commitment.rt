@@ -17,7 +17,7 @@ use fw_charge::{DiscountKind, Tag, Tags};
 use fw_money::Nanos;
 use fw_row_bytes::{keys_rise, nanos_of, optional_text_of, second_of, short_text_of, tags_of};
 use fw_terms::{Commitment, CommitmentFields, Purchase, Rate, Terms, total_cost};
-use std::alloc::Global;
+use std::alloc::{AllocError, Global};
 
 /// Id, kind, account and tags.
 #[derive(Drop)]
@@ -266,10 +266,10 @@ impl ReadFields {
     }
 
     /// The commitment of fields that agree.
-    fn into_commitment(self) -> Commitment
+    fn into_commitment(self, alloc: Global) -> Result<Commitment, AllocError>
         requires in_limits { IsCommitment (commitment_from (fields_view self)) }
         requires some_capacity { pos 0 <ℤ self.term.capacity }
-        ensures { result ≡ commitment_from (fields_view self) }
+        ensures { IfOk result (λ c. c ≡ commitment_from (fields_view self)) }
     {
         let ReadFields {
             names,
@@ -277,7 +277,7 @@ impl ReadFields {
             terms,
             purchases,
         } = self;
-        Commitment::of_fields(CommitmentFields {
+        let fields = CommitmentFields {
             id: names.id,
             terms,
             sub_account: names.sub_account,
@@ -286,7 +286,8 @@ impl ReadFields {
             hours: term.hours,
             capacity: Nanos::of_fields(term.capacity),
             purchases,
-        })
+        };
+        Commitment::of_fields(alloc, fields)
     }
 }
 
@@ -305,7 +306,8 @@ pub fn commitment_of(alloc: Global, bytes: &[u8]) -> Result<(Commitment, &[u8]),
             if !fields.agree() {
                 return Err(ReadError::Corrupt(bytes.len()));
             }
-            Ok((fields.into_commitment(), rest))
+            let commitment = fields.into_commitment(alloc)?;
+            Ok((commitment, rest))
         }
         Err(e) => Err(e),
     }

@@ -42,7 +42,7 @@ const TEXTS: &[(&str, &str)] = &[
 /// The line of the commitment of a text, where its copy has the same.
 fn line(alloc: Global, text: &str) -> Result<Option<String>, CommitmentFault> {
     let commitment = Box::new(alloc, read_commitment(alloc, text.as_bytes())?)?;
-    let copy = Box::new(alloc, commitment.copy(alloc)?)?;
+    let copy = Box::new(alloc, commitment.copy()?)?;
     let (line, other) = (
         commitment_line(alloc, &commitment)?,
         commitment_line(alloc, &copy)?,

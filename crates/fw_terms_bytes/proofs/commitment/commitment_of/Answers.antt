@@ -15,8 +15,8 @@ into_commitment-requires c = record {
   some_capacity = c.in-Ok.ensures.some_capacity;
 }
 
-pub returns-else-not-agree : goal.returns-else-not-agree
-returns-else-not-agree c = rw c.into_commitment.ensures (commitment_taken c.args.bytes.now (fields_view c.in-Ok.fields, c.in-Ok.rest.now) c.in-Ok.ensures.read (sym c.agree.ensures ∙ c.if-not-agree.false))
+pub returns-in_ok-commitment-in-Ok : goal.returns-in_ok-commitment-in-Ok
+returns-in_ok-commitment-in-Ok c = rw c.in_ok-commitment-in-Ok.ensures (commitment_taken c.args.bytes.now (fields_view c.in-Ok.fields, c.in-Ok.rest.now) c.in-Ok.ensures.read (sym c.agree.ensures ∙ c.if-not-agree.false))
 
 pub returns-in-Err : goal.returns-in-Err
 returns-in-Err c = commitment_fails c.args.bytes.now c.in-Err.e c.in-Err.ensures.read
