@@ -78,7 +78,7 @@ registered_at id cs place c h same =
     let read = get_or_from_slice_get cs place c c h in
     list_any_at (λ d. bytes_eq id d.id) cs place c (slice_get_within cs place c h) (ap (λ (d : CommitmentValue). bytes_eq id d.id) read ∙ equal)
 
-pub apart_once : (cs : List CommitmentValue) → Apart cs → (i j : ℕ) (a b : CommitmentValue) → slice_get cs i ≡ Some a → slice_get cs j ≡ Some b → a.id ≡ b.id → i ≡ j
+apart_once : (cs : List CommitmentValue) → Apart cs → (i j : ℕ) (a b : CommitmentValue) → slice_get cs i ≡ Some a → slice_get cs j ≡ Some b → a.id ≡ b.id → i ≡ j
 apart_once [] apart i j a b ha hb same = absurd (cc)
 apart_once (c ∷ cs) apart zero zero a b ha hb same = refl
 apart_once (c ∷ cs) apart zero (suc j) a b ha hb same =
@@ -106,7 +106,7 @@ other_id id (d ∷ cs) zero c none h =
     ap (λ (c : CommitmentValue). bytes_eq id c.id) (sym same) ∙ (registered_parts id d cs none).0
 other_id id (d ∷ cs) (suc place) c none h = other_id id cs place c (registered_parts id d cs none).1 h
 
-pub apart_alone : (cs : List CommitmentValue) → Apart cs → (place : ℕ) (c : CommitmentValue) → slice_get cs place ≡ Some c → filter (λ d. bytes_eq d.id c.id) cs ≡ c ∷ []
+apart_alone : (cs : List CommitmentValue) → Apart cs → (place : ℕ) (c : CommitmentValue) → slice_get cs place ≡ Some c → filter (λ d. bytes_eq d.id c.id) cs ≡ c ∷ []
 apart_alone [] apart place c h = absurd (cc)
 apart_alone (d ∷ cs) apart zero c h =
     let same : d ≡ c = cc in
@@ -143,40 +143,49 @@ other_row cs (r ∷ rows) zero row none h =
     ap (has_registered_id cs) (sym same) ∙ (false_parts (has_registered_id cs r) (carries_any rows cs) none).0
 other_row cs (r ∷ rows) (suc i) row none h = other_row cs rows i row (false_parts (has_registered_id cs r) (carries_any rows cs) none).1 h
 
--- what holds of the ids of a list of entries, and stays so with each that is accepted
-pub record HasIdsApart (es : List EntryValue) : Type 0 where
-  pub commitments : Apart (commitments_of es)
-  pub rows : carries_any (rows_of es) (commitments_of es) ≡ false
+-- both stay so with each entry that is accepted
+command_apart : (es : List EntryValue) (c : CommandValue) → command_conflict es c ≡ None → Apart (commitments_of es) → Apart (commitments_of es ++ committed c)
+command_apart es (post more) h apart = rw append-nil apart
+command_apart es (commit c) h apart = apart_more (commitments_of es) c apart (new_id es c h)
+command_apart es (set_policy p) h apart = rw append-nil apart
 
-command_apart : (es : List EntryValue) (c : CommandValue) → command_conflict es c ≡ None → HasIdsApart es
-    → Apart (commitments_of es ++ committed c) × (carries_any (rows_of es ++ posted c) (commitments_of es ++ committed c) ≡ false)
-command_apart es (post more) h apart =
-    rw append-nil (apart.commitments, rows_apart (rows_of es) more (commitments_of es) apart.rows (no_registered_id es more h))
-command_apart es (commit c) h apart =
-    rw append-nil (apart_more (commitments_of es) c apart.commitments (new_id es c h), commitment_apart (rows_of es) (commitments_of es) c apart.rows (unused_id es c h))
-command_apart es (set_policy p) h apart = simp append-nil (apart.commitments, apart.rows)
+apart_kept : (es : List EntryValue) (e : EntryValue) → Apart (commitments_of es) → judged es e ≡ verdict.Accept → Apart (commitments_of (es ++ e ∷ []))
+apart_kept es e apart h = rw commitments_of_more (command_apart es e.command (accepted_command es e h) apart)
 
-apart_kept : (es : List EntryValue) (e : EntryValue) → HasIdsApart es → judged es e ≡ verdict.Accept → HasIdsApart (es ++ e ∷ [])
-apart_kept es e apart h =
-    let more = command_apart es e.command (accepted_command es e h) apart in
-    record { commitments = rw commitments_of_more more.0; rows = rw (rows_of_more es e, commitments_of_more es e) more.1 }
+first_apart : Apart (commitments_of [])
+unfolding commitments_of
+first_apart = tt
 
-first_apart : HasIdsApart []
-unfolding commitments_of rows_of rows_posted carries_any
-first_apart = record { commitments = tt; rows = refl }
+commitments_apart : (es : List EntryValue) → IsLegal es → Apart (commitments_of es)
+commitments_apart es legal = legal_kept (λ es. Apart (commitments_of es)) apart_kept [] es first_apart legal
 
-pub ids_apart : (es : List EntryValue) → IsLegal es → HasIdsApart es
-ids_apart es legal = legal_kept HasIdsApart apart_kept [] es first_apart legal
+abbrev NoneCarried : List EntryValue → Type 0
+NoneCarried es = carries_any (rows_of es) (commitments_of es) ≡ false
+
+command_carried : (es : List EntryValue) (c : CommandValue) → command_conflict es c ≡ None → NoneCarried es → carries_any (rows_of es ++ posted c) (commitments_of es ++ committed c) ≡ false
+command_carried es (post more) h none = rw append-nil (rows_apart (rows_of es) more (commitments_of es) none (no_registered_id es more h))
+command_carried es (commit c) h none = rw append-nil (commitment_apart (rows_of es) (commitments_of es) c none (unused_id es c h))
+command_carried es (set_policy p) h none = simp append-nil none
+
+carried_kept : (es : List EntryValue) (e : EntryValue) → NoneCarried es → judged es e ≡ verdict.Accept → NoneCarried (es ++ e ∷ [])
+carried_kept es e none h = rw (rows_of_more es e, commitments_of_more es e) (command_carried es e.command (accepted_command es e h) none)
+
+first_carried : NoneCarried []
+unfolding rows_of rows_posted carries_any
+first_carried = refl
+
+none_carried : (es : List EntryValue) → IsLegal es → NoneCarried es
+none_carried es legal = legal_kept NoneCarried carried_kept [] es first_carried legal
 
 pub own_id : (es : List EntryValue) → IsLegal es → (i j : ℕ) (a b : CommitmentValue) → slice_get (commitments_of es) i ≡ Some a → slice_get (commitments_of es) j ≡ Some b → a.id ≡ b.id → i ≡ j
-own_id es legal = apart_once (commitments_of es) (ids_apart es legal).commitments
+own_id es legal = apart_once (commitments_of es) (commitments_apart es legal)
 
 pub alone : (es : List EntryValue) → IsLegal es → (place : ℕ) (c : CommitmentValue) → slice_get (commitments_of es) place ≡ Some c → filter (λ d. bytes_eq d.id c.id) (commitments_of es) ≡ c ∷ []
-alone es legal = apart_alone (commitments_of es) (ids_apart es legal).commitments
+alone es legal = apart_alone (commitments_of es) (commitments_apart es legal)
 
 pub other_ids : (es : List EntryValue) → IsLegal es → (i j : ℕ) (row : Charge) (discount : DiscountText) (c : CommitmentValue) → slice_get (rows_of es) i ≡ Some row → row.discount ≡ Some discount → slice_get (commitments_of es) j ≡ Some c → discount.id ≢ c.id
 other_ids es legal i j row discount c hr hd hc same =
-    let none = other_row (commitments_of es) (rows_of es) i row (ids_apart es legal).rows hr in
+    let none = other_row (commitments_of es) (rows_of es) i row (none_carried es legal) hr in
     let read : has_registered_id (commitments_of es) row ≡ is_registered discount.id (commitments_of es) = ap (λ o. option_map_or (λ d. is_registered d.id (commitments_of es)) o false) hd in
     let found = registered_at discount.id (commitments_of es) j c hc same in
     absurd (cc)

@@ -13,7 +13,6 @@ use Rattle.fw_entry.specs.Entry.CommandValue.{post, commit, set_policy}
 use Rattle.fw_snapshot.specs.History.{posted, committed, rows_posted, rows_of, commitments_of, entries_from}
 use Rattle.fw_snapshot.specs.Judging.{judged, IsLegal, IsLegalAfter, command_conflict, rows_conflict, commitment_conflict, most_rows, most_commitments, verdict_on, carries, carries_any, is_registered}
 use Rattle.fw_snapshot.specs.declared.verdict.Conflict.{Conflict}
-use Rattle.fw_snapshot.specs.declared.verdict.Conflict.TheVariants as conflict
 use Rattle.fw_snapshot.specs.declared.verdict.Verdict.TheVariants as verdict
 use Rattle.fw_snapshot.proofs.EntryFacts.{rows_posted_more, commitments_of_more, entries_from_more, entries_from_grows}
 
@@ -39,17 +38,6 @@ unfolding judged
 accepted_command es e h =
     (accepted_parts (nat_le e.seq (entries_from e.origin es)) (nat_lt (entries_from e.origin es + 1) e.seq) _ _ _ h).2
 
--- where nothing is found, no test holds
-first_none : (b : Bool) (why : Conflict) (rest : Option Conflict) → (if b then Some why else rest) ≡ None → (b ≡ false) × (rest ≡ None)
-first_none true why rest h = absurd (cc)
-first_none false why rest h = (refl, h)
-
-none_of_three : (a b c : Bool) → (if a then Some conflict.DoubleId else (if b then Some conflict.IdInUse else (if c then Some conflict.TooManyCommitments else None))) ≡ None → (a ≡ false) × (b ≡ false) × (c ≡ false)
-none_of_three true b c h = absurd (cc)
-none_of_three false true c h = absurd (cc)
-none_of_three false false true h = absurd (cc)
-none_of_three false false false h = (refl, refl, refl)
-
 at_most : (n m : ℕ) → nat_lt n m ≡ false → m ≤ n
 at_most n m h = grind (arith, nat_tests)
 
@@ -58,7 +46,9 @@ below n m h = grind (arith, nat_tests)
 
 rows_room : (es : List EntryValue) (c : CommandValue) → command_conflict es c ≡ None → length (rows_posted es) ≤ most_rows → length (rows_posted es) + length (posted c) ≤ most_rows
 unfolding command_conflict rows_conflict
-rows_room es (post more) h few = at_most _ _ (first_none (nat_lt most_rows (length (rows_posted es) + length more)) _ _ h).0
+rows_room es (post more) h few =
+    let room : nat_lt most_rows (length (rows_posted es) + length more) ≡ false = grind (arith, h) in
+    at_most _ _ room
 rows_room es (commit c) h few = omega arith
 rows_room es (set_policy p) h few = omega arith
 
@@ -67,24 +57,23 @@ unfolding command_conflict commitment_conflict
 commitments_room es (post more) h few = omega arith
 commitments_room es (commit c) h few =
     let list = commitments_of es in
-    let full = below most_commitments (length list) (none_of_three _ _ (nat_le most_commitments (length list)) h).2 in
+    let full : nat_le most_commitments (length list) ≡ false = grind (arith, h) in
+    let room = below most_commitments (length list) full in
     omega arith
 commitments_room es (set_policy p) h few = omega arith
 
 -- the ids of an accepted entry: a commitment's is neither registered nor carried, and rows carry none that is registered
 pub new_id : (es : List EntryValue) (c : CommitmentValue) → command_conflict es (commit c) ≡ None → is_registered c.id (commitments_of es) ≡ false
 unfolding command_conflict commitment_conflict
-new_id es c h = (none_of_three _ _ _ h).0
+new_id es c h = grind (arith, h)
 
 pub unused_id : (es : List EntryValue) (c : CommitmentValue) → command_conflict es (commit c) ≡ None → carries c.id (rows_of es) ≡ false
 unfolding command_conflict commitment_conflict
-unused_id es c h = (none_of_three _ _ _ h).1
+unused_id es c h = grind (arith, h)
 
 pub no_registered_id : (es : List EntryValue) (more : List Charge) → command_conflict es (post more) ≡ None → carries_any more (commitments_of es) ≡ false
 unfolding command_conflict rows_conflict
-no_registered_id es more h =
-    let rest = (first_none (nat_lt most_rows (length (rows_posted es) + length more)) _ _ h).1 in
-    (first_none _ _ None rest).0
+no_registered_id es more h = grind (arith, h)
 
 -- the rows of an accepted entry fit behind the others
 pub accepted_rows : (es : List EntryValue) (e : EntryValue) → judged es e ≡ verdict.Accept → length (rows_posted es) ≤ most_rows → length (rows_posted es) + length (posted e.command) ≤ most_rows
