@@ -1,5 +1,5 @@
 -- What is known of an entry that is accepted, and of legal lists of entries.
-use Rattle.std.proofs.Common.{◌≡◌, ◌+◌, ◌≤◌, ◌<◌, ◌⊎◌, ℕ, zero, suc, List, [], ◌∷◌, ◌++◌, Option, Some, None, Bool, true, false, nat_lt, nat_le, if◌then◌else◌, length, take, drop, slice_get, refl, sym, ap, ◌∙◌, arith, length-append}
+use Rattle.std.proofs.Common.{◌≡◌, ◌+◌, ◌≤◌, ◌<◌, ◌⊎◌, ℕ, zero, suc, List, [], ◌∷◌, ◌++◌, Option, Some, None, true, false, nat_lt, nat_le, length, take, drop, slice_get, refl, sym, ap, ◌∙◌, arith, length-append}
 use Rattle.std.specs.Str.{bytes_eq}
 use Rattle.std.proofs.lemmas.List.{append-nil, append_assoc, take-append-drop, take_more}
 use Rattle.std.proofs.Math.Seq.{take-nil}
@@ -16,27 +16,21 @@ use Rattle.fw_snapshot.specs.declared.verdict.Conflict.{Conflict}
 use Rattle.fw_snapshot.specs.declared.verdict.Verdict.TheVariants as verdict
 use Rattle.fw_snapshot.proofs.EntryFacts.{rows_posted_more, commitments_of_more, entries_from_more, entries_from_grows}
 
--- an entry is accepted where neither test of its number holds, and nothing stands against its command
-accepted_parts : (low high : Bool) (m n : ℕ) (why : Option Conflict) → (if low then verdict.Already m else (if high then verdict.Gap n else verdict_on why)) ≡ verdict.Accept → (low ≡ false) × (high ≡ false) × (why ≡ None)
-accepted_parts true high m n why h = absurd (cc)
-accepted_parts false true m n why h = absurd (cc)
-accepted_parts false false m n None h = (refl, refl, refl)
-accepted_parts false false m n (Some found) h = absurd (cc)
-
-next_number : (last seq : ℕ) → nat_le seq last ≡ false → nat_lt (last + 1) seq ≡ false → seq ≡ last + 1
-next_number last seq low high = grind (arith, nat_tests)
+-- nothing stands against the command of an entry that is accepted
+none_stands : (why : Option Conflict) → verdict_on why ≡ verdict.Accept → why ≡ None
+none_stands None h = refl
+none_stands (Some found) h = absurd (cc)
 
 -- an accepted entry has the next number of its origin
 pub accepted_number : (es : List EntryValue) (e : EntryValue) → judged es e ≡ verdict.Accept → e.seq ≡ entries_from e.origin es + 1
 unfolding judged
-accepted_number es e h =
-    let parts = accepted_parts (nat_le e.seq (entries_from e.origin es)) (nat_lt (entries_from e.origin es + 1) e.seq) _ _ _ h in
-    next_number (entries_from e.origin es) e.seq parts.0 parts.1
+accepted_number es e h = grind (arith, nat_tests, h)
 
 pub accepted_command : (es : List EntryValue) (e : EntryValue) → judged es e ≡ verdict.Accept → command_conflict es e.command ≡ None
 unfolding judged
 accepted_command es e h =
-    (accepted_parts (nat_le e.seq (entries_from e.origin es)) (nat_lt (entries_from e.origin es + 1) e.seq) _ _ _ h).2
+    let judged_so : verdict_on (command_conflict es e.command) ≡ verdict.Accept = grind (arith, nat_tests, h) in
+    none_stands (command_conflict es e.command) judged_so
 
 at_most : (n m : ℕ) → nat_lt n m ≡ false → m ≤ n
 at_most n m h = grind (arith, nat_tests)

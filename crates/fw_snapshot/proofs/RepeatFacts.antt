@@ -74,16 +74,16 @@ repeat_low es e legal repeat =
     let same = repeat.same_number in
     omega arith
 
-already : (low high : Bool) (m n : ℕ) (rest : Verdict) → low ≡ true → (if low then verdict.Already m else (if high then verdict.Gap n else rest)) ≡ verdict.Already m
-already true high m n rest h = refl
-already false high m n rest h = absurd (cc)
+already : (low : Bool) (m : ℕ) (rest : Verdict) → low ≡ true → (if low then verdict.Already m else rest) ≡ verdict.Already m
+already true m rest h = refl
+already false m rest h = absurd (cc)
 
 pub repeat_judged : (es : List EntryValue) (e : EntryValue) → IsLegal es → IsRepeat es e → judged es e ≡ verdict.Already (entries_from e.origin es)
 unfolding judged
 repeat_judged es e legal repeat =
     let low = repeat_low es e legal repeat in
     let test : nat_le e.seq (entries_from e.origin es) ≡ true = grind (arith, nat_tests) in
-    already (nat_le e.seq (entries_from e.origin es)) (nat_lt (entries_from e.origin es + 1) e.seq) _ _ _ test
+    already (nat_le e.seq (entries_from e.origin es)) _ _ test
 
 -- an entry that was answered as a repeat is one
 low_number : (low high : Bool) (m n last : ℕ) (rest : Option Conflict) → (if low then verdict.Already m else (if high then verdict.Gap n else verdict_on rest)) ≡ verdict.Already last → (low ≡ true) × (last ≡ m)
