@@ -5,3 +5,4 @@ pub mod Following
 pub mod VerdictFacts
 pub mod IdFacts
 pub mod RepeatFacts
+pub mod RuleFacts

@@ -1,13 +1,18 @@
 //! What holds of all lists of entries: laws, each the contract of a function that does nothing.
-ghost use Rattle.std.specs.Prelude.{◌≡◌, ◌≢◌, ◌+◌, ◌≤◌, ◌<◌, ◌++◌, ◌∷◌, [], ℕ, List, All, Some, filter, false, length, map, slice_get, take};
+ghost use Rattle.std.specs.Prelude.{◌≡◌, ◌+◌, ◌≤◌, ◌<◌, ◌++◌, ◌∷◌, [], ℕ, List, All, Some, filter, false, length, map, slice_get, take};
 ghost use Rattle.std.specs.List.{Contains, flat_map, range_with_len};
 ghost use Rattle.std.specs.Str.{bytes_eq};
-ghost use Rattle.fw_charge.specs.Charge.{Charge, DiscountText};
+ghost use Rattle.fw_charge.specs.Charge.{Charge};
 ghost use Rattle.fw_terms.specs.Commitment.{CommitmentValue};
+ghost use Rattle.fw_terms.specs.Policy.{PolicyValue};
 ghost use Rattle.fw_entry.specs.Entry.{EntryValue};
+ghost use Rattle.fw_entry.specs.Entry.CommandValue.{post, commit, set_policy};
 ghost use Rattle.fw_snapshot.specs.History.{rows_posted, rows_of, commitments_of, entries_from};
+ghost use Rattle.fw_snapshot.specs.Ids.{NoRowHasIdOf, NoneHasIdOf};
 ghost use Rattle.fw_snapshot.specs.Judging.{IsLegal, IsLegalAfter, judged, most_commitments, most_rows};
 ghost use Rattle.fw_snapshot.specs.Verdicts.{verdicts_on, accepted_of, chosen, is_accept, IsRepeat};
+ghost use Rattle.fw_snapshot.specs.declared.verdict.Conflict.{Conflict};
+ghost use Rattle.fw_snapshot.specs.declared.verdict.Conflict.TheVariants as conflict;
 ghost use Rattle.fw_snapshot.specs.declared.verdict.Verdict.TheVariants as verdict;
 
 /// A warehouse holds each entry once: two entries at different places differ in their origin or in their number.
@@ -20,7 +25,8 @@ pub fn numbers_are_in_turn()
     ensures { (entries : List EntryValue) → IsLegal entries → (place : ℕ) (e : EntryValue) → slice_get entries place ≡ Some e → e.seq ≡ entries_from e.origin (take place entries) + 1 }
 {}
 
-/// No number is left out: the numbers of an origin's entries, in the order of the warehouse, are 1, 2, 3 .. up to how many there are.
+/// No number is left out: the numbers of an origin's entries, in the order of the warehouse, are 1, 2, 3 .. up to how
+/// many there are.
 pub fn no_number_is_missing()
     ensures { (entries : List EntryValue) → IsLegal entries → (origin : List ℕ)
         → map (λ e. e.seq) (filter (λ e. bytes_eq origin e.origin) entries) ≡ range_with_len 1 (entries_from origin entries) }
@@ -33,18 +39,18 @@ pub fn rows_and_commitments_are_few()
     ensures commitments { (entries : List EntryValue) → IsLegal entries → length (commitments_of entries) ≤ most_commitments }
 {}
 
-/// Each commitment has an id of its own: two commitments at different places differ in it, and so a commitment is alone among those with its id.
+/// Each commitment has an id of its own: two commitments at different places differ in it, and so a commitment is alone
+/// among those with its id.
 pub fn each_commitment_has_its_own_id()
     ensures once { (entries : List EntryValue) → IsLegal entries → (i j : ℕ) (a b : CommitmentValue) → slice_get (commitments_of entries) i ≡ Some a → slice_get (commitments_of entries) j ≡ Some b → a.id ≡ b.id → i ≡ j }
     ensures alone { (entries : List EntryValue) → IsLegal entries → (place : ℕ) (c : CommitmentValue) → slice_get (commitments_of entries) place ≡ Some c
         → filter (λ d. bytes_eq d.id c.id) (commitments_of entries) ≡ c ∷ [] }
 {}
 
-/// No row of a warehouse carries the id of one of its commitments, whichever of the two came first. So what bears a commitment's id in a report
-/// stems from the commitment, and from no row that was posted.
+/// No row of a warehouse carries the id of one of its commitments, whichever of the two came first. So what bears a
+/// commitment's id in a report comes from the commitment, and from no row that was posted.
 pub fn no_row_has_the_id_of_a_commitment()
-    ensures { (entries : List EntryValue) → IsLegal entries → (i j : ℕ) (row : Charge) (discount : DiscountText) (c : CommitmentValue)
-        → slice_get (rows_of entries) i ≡ Some row → row.discount ≡ Some discount → slice_get (commitments_of entries) j ≡ Some c → discount.id ≢ c.id }
+    ensures { (entries : List EntryValue) → IsLegal entries → NoRowHasIdOf (rows_of entries) (commitments_of entries) }
 {}
 
 /// Entries may be sent again, out of their turn, or in conflict with others: each gets the verdict that it has after the warehouse's entries and
@@ -61,8 +67,9 @@ pub fn entries_are_judged_in_turn()
     ensures no_longer { (spelled : EntryValue → List ℕ) (before entries : List EntryValue) → length (flat_map spelled (accepted_of before entries)) ≤ length (flat_map spelled entries) }
 {}
 
-/// What is accepted in turn stays legal: the accepted ones of any entries are legal after those that they were judged on. They are of the entries
-/// that were sent, and those of them that were answered `Accept` are among them. A legal list is one that is legal up to any place and from there on.
+/// What is accepted in turn stays legal: the accepted ones of any entries are legal after those that they were judged
+/// on. They are of the entries that were sent, and each that was answered `Accept` is among them. A list is legal where
+/// it is so up to a place and from there on. Entries that are legal after others are all accepted.
 pub fn accepted_entries_are_legal()
     ensures legal { (before entries : List EntryValue) → IsLegalAfter before (accepted_of before entries) }
     ensures sent { (before entries : List EntryValue) → All (Contains entries) (accepted_of before entries) }
@@ -73,15 +80,49 @@ pub fn accepted_entries_are_legal()
     ensures all { (before entries : List EntryValue) → IsLegalAfter before entries → accepted_of before entries ≡ entries }
 {}
 
-/// A repeat is answered `Already`, with the last number of its origin, and nothing else is: to whatever numbers from 1 on an entry has, that answer
-/// says that one of its origin and number was accepted.
+/// An entry is accepted where it is the next of its origin and breaks no rule: a post, where there is room for its rows
+/// and none of them carries the id of a commitment; a commitment, where neither another one nor a row has its id and
+/// there are fewer than 256; a policy always.
+pub fn what_breaks_no_rule_is_accepted()
+    ensures post { (before : List EntryValue) (e : EntryValue) (rows : List Charge) → e.seq ≡ entries_from e.origin before + 1 → e.command ≡ post rows
+        → length (rows_posted before) + length rows ≤ most_rows → NoRowHasIdOf rows (commitments_of before) → judged before e ≡ verdict.Accept }
+    ensures commit { (before : List EntryValue) (e : EntryValue) (c : CommitmentValue) → e.seq ≡ entries_from e.origin before + 1 → e.command ≡ commit c
+        → length (commitments_of before) < most_commitments → NoneHasIdOf (commitments_of before) c → NoRowHasIdOf (rows_of before) (c ∷ []) → judged before e ≡ verdict.Accept }
+    ensures policy { (before : List EntryValue) (e : EntryValue) (p : PolicyValue) → e.seq ≡ entries_from e.origin before + 1 → e.command ≡ set_policy p
+        → judged before e ≡ verdict.Accept }
+{}
+
+/// An entry that skips a number is answered `Gap`, with the number that is next, and nothing else is.
+pub fn a_gap_names_the_next_number()
+    ensures gap { (before : List EntryValue) (e : EntryValue) → entries_from e.origin before + 1 < e.seq → judged before e ≡ verdict.Gap (entries_from e.origin before + 1) }
+    ensures only { (before : List EntryValue) (e : EntryValue) (expected : ℕ) → judged before e ≡ verdict.Gap expected → (expected ≡ entries_from e.origin before + 1) × (expected < e.seq) }
+{}
+
+/// A refusal has its reason: the entry is the next of its origin, and what it brings breaks the rule that the answer names.
+pub fn a_refusal_has_its_reason()
+    ensures next { (before : List EntryValue) (e : EntryValue) (why : Conflict) → judged before e ≡ verdict.Refused why → e.seq ≡ entries_from e.origin before + 1 }
+    ensures full { (before : List EntryValue) (e : EntryValue) → judged before e ≡ verdict.Refused conflict.Full
+        → (rows : List Charge) × (e.command ≡ post rows) × (most_rows < length (rows_posted before) + length rows) }
+    ensures double_id { (before : List EntryValue) (e : EntryValue) → judged before e ≡ verdict.Refused conflict.DoubleId
+        → (c : CommitmentValue) × (e.command ≡ commit c) × (NoneHasIdOf (commitments_of before) c → ⊥) }
+    ensures id_in_use { (before : List EntryValue) (e : EntryValue) → judged before e ≡ verdict.Refused conflict.IdInUse
+        → (c : CommitmentValue) × (e.command ≡ commit c) × (NoRowHasIdOf (rows_of before) (c ∷ []) → ⊥) }
+    ensures own_commitment { (before : List EntryValue) (e : EntryValue) → judged before e ≡ verdict.Refused conflict.OwnCommitment
+        → (rows : List Charge) × (e.command ≡ post rows) × (NoRowHasIdOf rows (commitments_of before) → ⊥) }
+    ensures too_many { (before : List EntryValue) (e : EntryValue) → judged before e ≡ verdict.Refused conflict.TooManyCommitments
+        → (c : CommitmentValue) × (e.command ≡ commit c) × (most_commitments ≤ length (commitments_of before)) }
+{}
+
+/// A repeat is answered `Already`, with the last number of its origin. Nothing else is: an entry whose number is at
+/// least 1, as each entry's is, and that is answered so, is a repeat. One of its origin and number was accepted.
 pub fn a_repeat_is_answered_already()
     ensures repeat { (before : List EntryValue) (e : EntryValue) → IsLegal before → IsRepeat before e → judged before e ≡ verdict.Already (entries_from e.origin before) }
     ensures only { (before : List EntryValue) (e : EntryValue) (last : ℕ) → IsLegal before → 0 < e.seq → judged before e ≡ verdict.Already last → IsRepeat before e × (last ≡ entries_from e.origin before) }
 {}
 
-/// A repeat changes nothing, wherever it stands among the entries that are sent and whatever came since: the others get the verdicts that they
-/// get without it, and the same ones are accepted. Neither does any entry that isn't accepted, as one that leaves a gap.
+/// A repeat changes nothing, wherever it stands among the entries that are sent and whatever came since: the others get
+/// the verdicts that they get without it, and the same ones are accepted. Neither does any other entry that isn't
+/// accepted, as one that leaves a gap.
 pub fn a_repeat_changes_nothing()
     ensures verdicts { (before first rest : List EntryValue) (e : EntryValue) → IsLegal before → IsRepeat (before ++ accepted_of before first) e
         → verdicts_on before (first ++ e ∷ rest) ≡ verdicts_on before first ++ verdict.Already (entries_from e.origin (before ++ accepted_of before first)) ∷ verdicts_on (before ++ accepted_of before first) rest }
@@ -91,15 +132,16 @@ pub fn a_repeat_changes_nothing()
         → accepted_of before (first ++ e ∷ rest) ≡ accepted_of before (first ++ rest) }
 {}
 
-/// Each entry is counted once, however often it is sent: in what a warehouse holds after any list of entries no two places have the same origin and
-/// number.
+/// Each entry counts once, however often it is sent: in what a warehouse holds after any list of entries no two places
+/// have the same origin and number.
 pub fn what_is_sent_often_stands_once()
     ensures { (before entries : List EntryValue) → IsLegal before → (i j : ℕ) (a b : EntryValue) → slice_get (before ++ accepted_of before entries) i ≡ Some a
         → slice_get (before ++ accepted_of before entries) j ≡ Some b → a.origin ≡ b.origin → a.seq ≡ b.seq → i ≡ j }
 {}
 
-/// Whoever doesn't know what arrived may send it again: entries that are all repeats, in any order and any number of times, are each answered
-/// `Already`, and nothing is accepted. Such are any of the entries that were accepted, and where all that were sent were accepted, all of them.
+/// Whoever doesn't know what arrived may send it again: entries that are all repeats, in any order and any number of
+/// times, are each answered `Already`, and nothing is added. Any of the entries that were accepted are such; where all
+/// that were sent were accepted, all of them.
 pub fn sending_again_changes_nothing()
     ensures verdicts { (before again : List EntryValue) → IsLegal before → All (IsRepeat before) again → verdicts_on before again ≡ map (λ e. verdict.Already (entries_from e.origin before)) again }
     ensures nothing { (before again : List EntryValue) → IsLegal before → All (IsRepeat before) again → accepted_of before again ≡ [] }
