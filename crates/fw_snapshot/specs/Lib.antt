@@ -1,5 +1,6 @@
 pub mod History
 pub mod Judging
+pub mod Ids
 pub mod Uses
 pub mod Heads
 pub mod HeadView
