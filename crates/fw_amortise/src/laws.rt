@@ -4,7 +4,8 @@ ghost use Rattle.std.specs.List.{range_with_len};
 ghost use Rattle.fw_charge.specs.Charge.{Charge};
 ghost use Rattle.fw_terms.specs.Commitment.{CommitmentValue, cost_of};
 ghost use Rattle.fw_amortise.specs.LineValue.{LineValue};
-ghost use Rattle.fw_amortise.specs.Lines.{AreLines, amount_in};
+ghost use Rattle.fw_amortise.specs.Lines.{AreHourLines, AreLines, amount_in};
+ghost use Rattle.fw_amortise.specs.Sources.{AreAccounted};
 ghost use Rattle.fw_amortise.specs.Carrying.{IsOnly, carried};
 ghost use Rattle.fw_amortise.specs.declared.line.LineKind.TheVariants as kind;
 
@@ -26,4 +27,10 @@ pub fn lines_carry_the_amount()
 /// The used and unused lines of a commitment over the hours of its term carry what its purchases cost, to the last nano.
 pub fn lines_carry_the_purchases()
     ensures { (cs : List CommitmentValue) (rows : List Charge) (lines : ℕ → List LineValue) (c : CommitmentValue) → 0 < c.hours → ((k : ℕ) → k < c.hours → AreLines cs rows (c.start + k) (lines k)) → IsOnly cs c → fold ◌+ℤ◌ (pos 0) (map (λ k. carried c.id (lines k)) (range_with_len 0 c.hours)) ≡ pos (cost_of c.purchases) }
+{}
+
+/// No row of an hour is left out, and none is counted twice: a row that no commitment may cover is one line, as it was given; of another row the
+/// quantities of its lines, used and rest, sum to its quantity. And each line comes from one purchase of the hour, one row, or one commitment.
+pub fn rows_are_accounted_for()
+    ensures { (cs : List CommitmentValue) (rows : List Charge) (hour : ℕ) (lines : List LineValue) → AreHourLines cs rows hour lines → AreAccounted cs rows hour lines }
 {}
