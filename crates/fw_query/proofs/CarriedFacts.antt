@@ -32,7 +32,9 @@ use Rattle.fw_entry.specs.Entry as entry
 use Rattle.fw_entry.specs.Entry.CommandValue.{post, commit, set_policy}
 use Rattle.fw_entry.specs.Spelling.{IsCommand, IsEntry}
 use Rattle.fw_snapshot.specs.History.{commitments_of, committed, rows_of}
-use Rattle.fw_query.specs.Carried.{AreIdsApart, amount_between, shows_share_of}
+use Rattle.fw_snapshot.specs.Judging.{IsLegal}
+use Rattle.fw_snapshot.proofs.IdFacts.{alone, other_ids}
+use Rattle.fw_query.specs.Carried.{amount_between, shows_share_of}
 use Rattle.fw_query.specs.OfHistory.{AreLinesOf}
 use Rattle.fw_query.specs.RangeLines.{joined}
 use Rattle.fw_query.specs.Texts.{id_text, status_text}
@@ -73,10 +75,10 @@ free_of id (Some d) apart = by (bytes_eq d.id id) refl
     by true e = absurd (apart d refl ((bytes_eq-Decides d.id id).0 e))
     by false e = e
 
-rows_free : (history : List entry.EntryValue) (place : ℕ) (c : CommitmentValue) → AreIdsApart history → slice_get (commitments_of history) place ≡ Some c → All (IsFree c.id) (rows_of history)
-rows_free history place c apart at k row l =
+rows_free : (history : List entry.EntryValue) (place : ℕ) (c : CommitmentValue) → IsLegal history → slice_get (commitments_of history) place ≡ Some c → All (IsFree c.id) (rows_of history)
+rows_free history place c legal at k row l =
     free_of c.id (get_or (rows_of history) k row).discount
-    (λ d is. apart.rows k place (get_or (rows_of history) k row) d c (slice_get_read (rows_of history) (length (rows_of history)) k (get_or (rows_of history) k row) refl l (get_or_default (rows_of history) k row (get_or (rows_of history) k row) l)) is at)
+    (λ d is. other_ids history legal k place (get_or (rows_of history) k row) d c (slice_get_read (rows_of history) (length (rows_of history)) k (get_or (rows_of history) k row) refl l (get_or_default (rows_of history) k row (get_or (rows_of history) k row) l)) is at)
 
 command_commits : (c : entry.CommandValue) → IsCommand c → All IsCommitment (committed c)
 command_commits (post rows) known = All-nil IsCommitment
@@ -122,12 +124,12 @@ hours_carry cs rows c only free (hour ∷ hours) (lines ∷ hourly) are =
     ∙ cost_append (filter (shows_share_of c.id) lines) (filter (shows_share_of c.id) (joined hourly))
     ∙ (rw (first, rest) both)
 
-pub carried_between : (history : List entry.EntryValue) (from to : ℕ) (lines : List LineValue) (place : ℕ) (c : CommitmentValue) → AreIdsApart history → AreLinesOf history from to lines → slice_get (commitments_of history) place ≡ Some c
+pub carried_between : (history : List entry.EntryValue) (from to : ℕ) (lines : List LineValue) (place : ℕ) (c : CommitmentValue) → IsLegal history → AreLinesOf history from to lines → slice_get (commitments_of history) place ≡ Some c
     → cost_of_all (filter (shows_share_of c.id) lines) ≡ pos (amount_between c from to)
 unfolding amount_between IsOnly
-carried_between history from to lines place c apart are at =
+carried_between history from to lines place c legal are at =
     ap (λ ls. cost_of_all (filter (shows_share_of c.id) ls)) are.lines_are
-    ∙ hours_carry (commitments_of history) (rows_of history) c (apart.alone place c at) (rows_free history place c apart at) (range_with_len from (to - from)) are.hourly are.are_hourly
+    ∙ hours_carry (commitments_of history) (rows_of history) c (alone history legal place c at) (rows_free history place c legal at) (range_with_len from (to - from)) are.hourly are.are_hourly
 
 -- ---- a range that holds the term
 range_append : (a m n : ℕ) → range_with_len a (m + n) ≡ range_with_len a m ++ range_with_len (a + m) n
@@ -183,10 +185,10 @@ amount_of_term c from to some early late =
     ∙ sum_by-append f (range_with_len from (c.start - from)) (range_with_len c.start c.hours ++ range_with_len (c.start + c.hours) (to - (c.start + c.hours)))
     ∙ (rw (one, sum_by-append f (range_with_len c.start c.hours) (range_with_len (c.start + c.hours) (to - (c.start + c.hours))), two, three) (omega arith))
 
-pub carried_term : (history : List entry.EntryValue) (from to : ℕ) (lines : List LineValue) (place : ℕ) (c : CommitmentValue) → AreIdsApart history → All IsEntry history → AreLinesOf history from to lines → slice_get (commitments_of history) place ≡ Some c
+pub carried_term : (history : List entry.EntryValue) (from to : ℕ) (lines : List LineValue) (place : ℕ) (c : CommitmentValue) → IsLegal history → All IsEntry history → AreLinesOf history from to lines → slice_get (commitments_of history) place ≡ Some c
     → from ≤ c.start → c.start + c.hours ≤ to → cost_of_all (filter (shows_share_of c.id) lines) ≡ pos (cost_of c.purchases)
-carried_term history from to lines place c apart each are at early late =
-    carried_between history from to lines place c apart are at ∙ ap pos (amount_of_term c from to (commitment_keeps history place c each at).hours_some early late)
+carried_term history from to lines place c legal each are at early late =
+    carried_between history from to lines place c legal are at ∙ ap pos (amount_of_term c from to (commitment_keeps history place c each at).hours_some early late)
 
 -- ---- purchases
 purchase_shown : (k : Category) → category_word k ≡ codes "Purchase" → k ≡ category.Purchase
@@ -208,9 +210,9 @@ hours_cost_nothing cs rows id free (hour ∷ hours) [] are = absurd are
 hours_cost_nothing cs rows id free (hour ∷ hours) (lines ∷ hourly) are =
     All-append (CostsNothing id) lines (joined hourly) (purchases_of_id id cs rows hour lines free are.0) (hours_cost_nothing cs rows id free hours hourly are.1)
 
-pub purchases_cost_nothing : (history : List entry.EntryValue) (from to : ℕ) (lines : List LineValue) (place : ℕ) (c : CommitmentValue) → AreIdsApart history → All IsEntry history → AreLinesOf history from to lines → slice_get (commitments_of history) place ≡ Some c
+pub purchases_cost_nothing : (history : List entry.EntryValue) (from to : ℕ) (lines : List LineValue) (place : ℕ) (c : CommitmentValue) → IsLegal history → All IsEntry history → AreLinesOf history from to lines → slice_get (commitments_of history) place ≡ Some c
     → All (λ line. category_word line.category ≡ codes "Purchase" → id_text line.commitment ≡ c.id → line.effective ≡ pos 0) lines
-purchases_cost_nothing history from to lines place c apart each are at k d l paid named =
+purchases_cost_nothing history from to lines place c legal each are at k d l paid named =
     let all : All (CostsNothing c.id) lines = rw are.lines_are
-    (hours_cost_nothing (commitments_of history) (rows_of history) c.id (rows_free history place c apart at) (range_with_len from (to - from)) are.hourly are.are_hourly) in
+    (hours_cost_nothing (commitments_of history) (rows_of history) c.id (rows_free history place c legal at) (range_with_len from (to - from)) are.hourly are.are_hourly) in
     all k d l (purchase_shown (get_or lines k d).category paid) (id_shown c.id (get_or lines k d).commitment (commitment_keeps history place c each at).id.some named)

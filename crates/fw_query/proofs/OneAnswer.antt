@@ -19,6 +19,7 @@ use Rattle.std.specs.Prelude.{Result, Ok, Err, string_bytes}
 use Rattle.fw_entry.specs.Entry as entry
 use Rattle.fw_snapshot.specs.History.{commitments_of, policy_of, rows_of}
 use Rattle.fw_query.specs.OfHistory.{AreLinesOf}
+use Rattle.fw_query.specs.Texts.{lines_text}
 use Rattle.fw_query.specs.OneAnswer.{IsAnswer, IsSameAnswer}
 use Rattle.fw_query.specs.declared.fault.QueryFault.{QueryFault}
 use Rattle.fw_query.specs.declared.fault.QueryFault.TheVariants as fault
@@ -142,3 +143,6 @@ answer_same history key from to (Err fault.NoMemory) (Err fault.NoMemory) p q = 
 
 pub lines_of_same : (history : List entry.EntryValue) (from to : ℕ) (a b : List LineValue) → AreLinesOf history from to a → AreLinesOf history from to b → a ≡ b
 lines_of_same history from to a b p q = range_lines_same (commitments_of history) (rows_of history) from to a b p q
+
+pub texts_of_same : (history : List entry.EntryValue) (from to : ℕ) (a b : List LineValue) (s t : List ℕ) → AreLinesOf history from to a → AreLinesOf history from to b → s ≡ lines_text a → t ≡ lines_text b → s ≡ t
+texts_of_same history from to a b s t p q is_s is_t = is_s ∙ ap lines_text (lines_of_same history from to a b p q) ∙ sym is_t

@@ -1,13 +1,10 @@
 -- What the lines of a range carry of a commitment, by what their text has.
-use Rattle.std.specs.Prelude.{◌≡◌, ◌≢◌, ◌-◌, ◌&&◌, ℕ, Bool, List, [], ◌∷◌, Some, filter, length, nat_lt, slice_get, sum_by}
+use Rattle.std.specs.Prelude.{◌-◌, ◌&&◌, ℕ, Bool, List, length, nat_lt, sum_by}
 use Rattle.std.specs.List.{range_with_len}
 use Rattle.std.specs.Str.{bytes_eq}
-use Rattle.fw_charge.specs.Charge.{Charge, DiscountText}
 use Rattle.fw_terms.specs.Commitment.{CommitmentValue}
 use Rattle.fw_amortise.specs.LineValue.{LineValue}
 use Rattle.fw_amortise.specs.Lines.{amount_in}
-use Rattle.fw_entry.specs.Entry.{EntryValue}
-use Rattle.fw_snapshot.specs.History.{commitments_of, rows_of}
 use Rattle.fw_query.specs.Texts.{id_text, status_text}
 
 -- whether the text of a line has this CommitmentDiscountId, and a CommitmentDiscountStatus
@@ -17,8 +14,3 @@ shows_share_of id line = bytes_eq (id_text line.commitment) id && nat_lt 0 (leng
 -- what a commitment carries in the hours of a range together
 unfoldable pub amount_between : CommitmentValue → ℕ → ℕ → ℕ
 amount_between c from to = sum_by (amount_in c) (range_with_len from (to - from))
-
--- what a legal history keeps of ids: each commitment is alone among those with its id, and no row carries the id of a commitment
-pub record AreIdsApart (history : List EntryValue) : Type 0 where
-  pub alone : (place : ℕ) (c : CommitmentValue) → slice_get (commitments_of history) place ≡ Some c → filter (λ d. bytes_eq d.id c.id) (commitments_of history) ≡ c ∷ []
-  pub rows : (i j : ℕ) (row : Charge) (discount : DiscountText) (c : CommitmentValue) → slice_get (rows_of history) i ≡ Some row → row.discount ≡ Some discount → slice_get (commitments_of history) j ≡ Some c → discount.id ≢ c.id
