@@ -6,3 +6,4 @@ pub mod Within
 pub mod Index
 pub mod RosterFacts
 pub mod Grouping
+pub mod Whole

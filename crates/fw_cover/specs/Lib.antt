@@ -7,3 +7,4 @@ pub mod Hour
 pub mod PlacedView
 pub mod Offers
 pub mod RosterView
+pub mod Meeting

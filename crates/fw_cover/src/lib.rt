@@ -25,7 +25,7 @@ mod taken;
 
 pub use eligible::is_eligible;
 pub use hour::{HourCover, cover, cover_hour};
-pub use laws::takes_stand_by_commitment;
+pub use laws::{takes_apply, takes_stand_by_commitment, takes_stay_within};
 pub use order::{in_order, is_in_term};
 pub use roster::Roster;
 pub use taken::Taken;
