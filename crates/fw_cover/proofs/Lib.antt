@@ -1,8 +1,10 @@
 pub mod Left
 pub mod Sorting
 pub mod Ranks
-pub mod Listing
 pub mod Within
+pub mod ByCommitment
+pub mod Listing
 pub mod Index
 pub mod RosterFacts
+pub mod Taking
 pub mod Grouping

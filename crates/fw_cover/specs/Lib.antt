@@ -5,5 +5,6 @@ pub mod Order
 pub mod Cover
 pub mod Hour
 pub mod PlacedView
+pub mod Ranked
 pub mod Offers
 pub mod RosterView
