@@ -20,12 +20,15 @@ use Rattle.fw_charge.specs.Charge.{Charge}
 use Rattle.fw_terms.specs.Commitment.{CommitmentValue, TermsValue, RateValue, IsCommitment, IsTerms}
 use Rattle.fw_terms.specs.Commitment.TermsValue.{usage, spend}
 use Rattle.fw_cover.specs.Applies.{Listing, listings, fits, applied, is_open}
-use Rattle.fw_cover.specs.Order.{in_order, pair_for, pairs_at}
+use Rattle.fw_cover.specs.Order.{in_order, pair_for}
 use Rattle.fw_cover.specs.Offers.{OfferValue, offer_for, offers_by, offers_of, offer_before, index_of, offered, pair_by, pairs_with, offer_of, standing_to}
 use Rattle.fw_cover.specs.declared.offers.Offer.{Offer}
 use Rattle.fw_cover.specs.declared.pair.Pair.{Pair}
 use Rattle.fw_cover.proofs.Sorting.{two_ways, in_order_stable}
+use Rattle.fw_cover.specs.declared.pair.RankedPair.{RankedPair}
+use Rattle.fw_cover.proofs.ByCommitment.{ranked, ranked_for, ranked_at, filter_none}
 use Rattle.fw_cover.proofs.Listing.{no_pairs}
+use Rattle.fw_cover.proofs.Within.{tail_all}
 
 -- ---- a SKU stands once among rising ones
 later_other : (x y sku : List ℕ) → bytes_eq x sku ≡ true → slice_cmp nat_cmp x y ≡ Less → bytes_eq y sku ≡ false
@@ -61,16 +64,16 @@ filter_map_of f p [] = refl
 filter_map_of f p (x ∷ xs) = two_ways (p (f x)) (λ holds. rw holds (ap (λ l. f x ∷ l) (filter_map_of f p xs))) (λ fails. rw fails (filter_map_of f p xs))
 
 -- the pair of a commitment and a row, where terms have a rate for the row
-abbrev pair_at : ℕ × Charge → ℕ × (ℕ × CommitmentValue) → Option ℕ → Pair
-pair_at row c rate = record { rank = c.0; commitment = c.1.0; row = row.0; rate = rate }
+abbrev pair_at : ℕ × Charge → ℕ × CommitmentValue → Option ℕ → Pair
+pair_at row c rate = record { commitment = c.0; row = row.0; rate = rate }
 
 one_offer : (hour : ℕ) (row : ℕ × Charge) (c : ℕ × (ℕ × CommitmentValue)) (o : Option Listing)
-    → filter_map (pair_by hour row) (map (offer_for c) (cons_option o [])) ≡ cons_option (option_map (pair_at row c) (cond (fits c.1.1 hour row.1) (option_map (λ l. l.rate) o) None)) []
+    → filter_map (pair_by hour row) (map (offer_for c) (cons_option o [])) ≡ cons_option (option_map (ranked c.0) (option_map (pair_at row c.1) (cond (fits c.1.1 hour row.1) (option_map (λ l. l.rate) o) None))) []
 one_offer hour row c None = two_ways (fits c.1.1 hour row.1) (λ holds. rw holds refl) (λ fails. rw fails refl)
 one_offer hour row c (Some l) = two_ways (fits c.1.1 hour row.1) (λ holds. rw holds refl) (λ fails. rw fails refl)
 
 offers_pair : (hour : ℕ) (row : ℕ × Charge) (sku : List ℕ) (c : ℕ × (ℕ × CommitmentValue)) → is_open hour row.1 ≡ true → row.1.sku ≡ Some sku → IsCommitment c.1.1
-    → filter_map (pair_by hour row) (offered sku (offers_by c)) ≡ cons_option (pair_for hour row c) []
+    → filter_map (pair_by hour row) (offered sku (offers_by c)) ≡ cons_option (ranked_for hour row c) []
 unfolding pair_for applied
 offers_pair hour row sku c open_row has is =
     let once : offered sku (offers_by c) ≡ map (offer_for c) (cons_option (find (λ l. bytes_eq l.sku sku) (listings c.1.1.terms)) []) =
@@ -81,17 +84,14 @@ cons_append : {X : Type 0} (o : Option X) (xs : List X) → cons_option o [] ++ 
 cons_append None xs = refl
 cons_append (Some x) xs = refl
 
-tail_all : {X : Type 0} (P : X → Type 0) (x : X) (xs : List X) → All P (x ∷ xs) → All P xs
-tail_all P x xs all k d lt = all (suc k) d (omega (arith, lt))
-
 -- ---- the offers of all
 offers_pairs : (hour : ℕ) (row : ℕ × Charge) (sku : List ℕ) (cs : List (ℕ × (ℕ × CommitmentValue))) → is_open hour row.1 ≡ true → row.1.sku ≡ Some sku → All (λ c. IsCommitment c.1.1) cs
-    → filter_map (pair_by hour row) (offered sku (flat_map offers_by cs)) ≡ filter_map (pair_for hour row) cs
+    → filter_map (pair_by hour row) (offered sku (flat_map offers_by cs)) ≡ filter_map (ranked_for hour row) cs
 offers_pairs hour row sku [] open_row has all = refl
 offers_pairs hour row sku (c ∷ cs) open_row has all = let P : ℕ × (ℕ × CommitmentValue) → Type 0 = λ c. IsCommitment c.1.1 in
     ap (filter_map (pair_by hour row)) (filter-append (λ o. bytes_eq o.sku sku) (offers_by c) (flat_map offers_by cs))
     ∙ (filter_map-append (pair_by hour row) (offered sku (offers_by c)) (offered sku (flat_map offers_by cs))
-    ∙ (rw (offers_pair hour row sku c open_row has (All-head P c cs all), offers_pairs hour row sku cs open_row has (tail_all P c cs all)) (cons_append (pair_for hour row c) (filter_map (pair_for hour row) cs))))
+    ∙ (rw (offers_pair hour row sku c open_row has (All-head P c cs all), offers_pairs hour row sku cs open_row has (tail_all P c cs all)) (cons_append (ranked_for hour row c) (filter_map (ranked_for hour row) cs))))
 
 -- ---- the index has the offers of a SKU in the order of their commitments
 tie_of : (o : Ordering) → (not (is_lt (ordering_reverse o)) && not (is_lt o)) ≡ is_eq o
@@ -113,7 +113,7 @@ offered_in_order sku (o ∷ offers) = let probe : OfferValue = record o { sku = 
     ∙ (in_order_stable offer_before offers_weak probe (o ∷ offers) ∙ filter_agree (ties offer_before probe) (λ x. bytes_eq x.sku sku) agree (o ∷ offers))
 
 -- a row without a SKU has no pairs
-without : (hour : ℕ) (row : ℕ × Charge) (cs : List (ℕ × (ℕ × CommitmentValue))) → row.1.sku ≡ None → filter_map (pair_for hour row) cs ≡ []
+without : (hour : ℕ) (row : ℕ × Charge) (cs : List (ℕ × (ℕ × CommitmentValue))) → row.1.sku ≡ None → filter_map (ranked_for hour row) cs ≡ []
 unfolding pair_for applied
 without hour row [] has = refl
 without hour row (c ∷ cs) has = two_ways (is_open hour row.1 && fits c.1.1 hour row.1) (λ holds. rw (holds, has) (without hour row cs has)) (λ fails. rw fails (without hour row cs has))
@@ -126,7 +126,7 @@ with_none hour index row closed = rw closed refl
 with_sku : (hour : ℕ) (index : List OfferValue) (row : ℕ × Charge) (sku : Option (List ℕ)) → is_open hour row.1 ≡ true → row.1.sku ≡ sku
     → pairs_with hour index row ≡ option_map_or (λ sku. filter_map (pair_by hour row) (offered sku index)) sku []
 unfolding pairs_with
-with_sku hour index row sku open_row has = let F : List ℕ → List Pair = λ sku. filter_map (pair_by hour row) (offered sku index) in
+with_sku hour index row sku open_row has = let F : List ℕ → List RankedPair = λ sku. filter_map (pair_by hour row) (offered sku index) in
     let e : pairs_with hour index row ≡ option_map_or F row.1.sku [] = rw open_row refl in
     e ∙ ap (λ s. option_map_or F s []) has
 
@@ -138,18 +138,18 @@ with_no_sku hour index row open_row has = with_sku hour index row None open_row 
 
 -- they are its pairs
 by_sku : (hour : ℕ) (row : ℕ × Charge) (cs : List (ℕ × CommitmentValue)) (sku : Option (List ℕ)) → row.1.sku ≡ sku → is_open hour row.1 ≡ true → All (λ c. IsCommitment c.1.1) (enumerate_from 0 cs)
-    → pairs_with hour (index_of cs) row ≡ pairs_at hour cs row
-unfolding index_of pairs_at
+    → pairs_with hour (index_of cs) row ≡ ranked_at hour 0 cs row
+unfolding index_of
 by_sku hour row cs None has open_row all = with_no_sku hour (index_of cs) row open_row has ∙ sym (without hour row (enumerate_from 0 cs) has)
 by_sku hour row cs (Some sku) has open_row all = with_some hour (index_of cs) row sku open_row has
     ∙ (ap (filter_map (pair_by hour row)) (offered_in_order sku (offers_of cs)) ∙ offers_pairs hour row sku (enumerate_from 0 cs) open_row has all)
 
-pub pairs_by_index : (hour : ℕ) (row : ℕ × Charge) (cs : List (ℕ × CommitmentValue)) → All (λ c. IsCommitment c.1.1) (enumerate_from 0 cs) → pairs_with hour (index_of cs) row ≡ pairs_at hour cs row
+pub pairs_by_index : (hour : ℕ) (row : ℕ × Charge) (cs : List (ℕ × CommitmentValue)) → All (λ c. IsCommitment c.1.1) (enumerate_from 0 cs) → pairs_with hour (index_of cs) row ≡ ranked_at hour 0 cs row
 pairs_by_index hour row cs all = two_ways (is_open hour row.1)
     (λ holds. by_sku hour row cs row.1.sku refl holds all)
-    (λ fails. with_none hour (index_of cs) row fails ∙ sym (no_pairs hour row cs fails))
+    (λ fails. with_none hour (index_of cs) row fails ∙ sym (no_pairs hour 0 row cs fails))
 
-pub pairs_by_row_index : (hour : ℕ) (rows : List (ℕ × Charge)) (cs : List (ℕ × CommitmentValue)) → All (λ c. IsCommitment c.1.1) (enumerate_from 0 cs) → flat_map (pairs_with hour (index_of cs)) rows ≡ flat_map (pairs_at hour cs) rows
+pub pairs_by_row_index : (hour : ℕ) (rows : List (ℕ × Charge)) (cs : List (ℕ × CommitmentValue)) → All (λ c. IsCommitment c.1.1) (enumerate_from 0 cs) → flat_map (pairs_with hour (index_of cs)) rows ≡ flat_map (ranked_at hour 0 cs) rows
 pairs_by_row_index hour [] cs all = refl
 pairs_by_row_index hour (r ∷ rows) cs all = rw (pairs_by_index hour r cs all, pairs_by_row_index hour rows cs all) refl
 
@@ -167,10 +167,6 @@ pub spend_offers : (c : ℕ × (ℕ × CommitmentValue)) (rates : List RateValue
 spend_offers c rates e = ap (λ t. map (offer_for c) (listings t)) e ∙ map_map (λ r. record { sku = r.sku; rate = Some r.ppm }) (offer_for c) rates
 
 -- ---- the part of a list between two points
-filter_none : {X : Type 0} (e : X → Bool) (xs : List X) → All (λ x. e x ≡ false) xs → filter e xs ≡ []
-filter_none e [] all = refl
-filter_none {X} e (x ∷ xs) all = let P : X → Type 0 = λ x. e x ≡ false in rw (All-head P x xs all) (filter_none e xs (tail_all P x xs all))
-
 -- p holds of the first i elements, q of those and the next n, and e of what p doesn't hold of and q does
 mid_filter : {X : Type 0} (p q e : X → Bool) → ((x : X) → p x ≡ true → e x ≡ false) → ((x : X) → q x ≡ false → e x ≡ false) → ((x : X) → p x ≡ false → q x ≡ true → e x ≡ true)
     → (xs : List X) (i n : ℕ) → ((k : ℕ) (d : X) → k < i → k < length xs → p (get_or xs k d) ≡ true) → ((k : ℕ) (d : X) → i ≤ k → k < length xs → p (get_or xs k d) ≡ false)

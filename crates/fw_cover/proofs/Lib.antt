@@ -1,9 +1,11 @@
 pub mod Left
 pub mod Sorting
 pub mod Ranks
-pub mod Listing
 pub mod Within
+pub mod ByCommitment
+pub mod Listing
 pub mod Index
 pub mod RosterFacts
+pub mod Taking
 pub mod Grouping
 pub mod Whole

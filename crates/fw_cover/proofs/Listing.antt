@@ -8,12 +8,13 @@ use Rattle.std.specs.Borrow.{Bor}
 use Rattle.fw_charge.specs.Charge.{Charge}
 use Rattle.fw_terms.specs.Commitment.{CommitmentValue}
 use Rattle.fw_cover.specs.Applies.{is_open, applied}
-use Rattle.fw_cover.specs.Order.{pair_for, pairs_at}
+use Rattle.fw_cover.specs.Order.{pair_for}
 use Rattle.fw_cover.specs.Offers.{OfferValue, offer_of}
 use Rattle.fw_cover.specs.declared.offers.Offer.{Offer}
 use Rattle.fw_cover.specs.PlacedView.{placed_of}
 use Rattle.fw_cover.specs.declared.order.Placed.{Placed}
-use Rattle.fw_cover.specs.declared.pair.Pair.{Pair}
+use Rattle.fw_cover.specs.declared.pair.RankedPair.{RankedPair}
+use Rattle.fw_cover.proofs.ByCommitment.{ranked_at}
 
 enumerate_push : {X : Type 0} (n k : ℕ) (xs : List X) (x : X) → k ≡ n + length xs → enumerate_from n (xs ++ x ∷ []) ≡ enumerate_from n xs ++ (k, x) ∷ []
 enumerate_push n k [] x e = ap (λ m. (m, x) ∷ []) (omega (arith, e))
@@ -28,14 +29,10 @@ enumerate_map_more f xs i d h =
     ap (λ l. enumerate_from 0 (map f l)) (take_more xs i d h) ∙ (ap (enumerate_from 0) (map-append f (take i xs) (get_or xs i d ∷ [])) ∙ enumerate_push 0 i (map f (take i xs)) (f (get_or xs i d)) (let e : length (map f (take i xs)) ≡ i = length-map (take i xs) f ∙ length-take-le i xs (omega (arith, h)) in omega (arith, e)))
 
 -- a row that commitments may not cover has no pairs
-none_apply : (hour : ℕ) (row : ℕ × Charge) (cs : List (ℕ × (ℕ × CommitmentValue))) → is_open hour row.1 ≡ false → filter_map (pair_for hour row) cs ≡ []
+pub no_pairs : (hour n : ℕ) (row : ℕ × Charge) (cs : List (ℕ × CommitmentValue)) → is_open hour row.1 ≡ false → ranked_at hour n cs row ≡ []
 unfolding pair_for applied
-none_apply hour row [] h = refl
-none_apply hour row (c ∷ cs) h = rw h (none_apply hour row cs h)
-
-pub no_pairs : (hour : ℕ) (row : ℕ × Charge) (cs : List (ℕ × CommitmentValue)) → is_open hour row.1 ≡ false → pairs_at hour cs row ≡ []
-unfolding pairs_at
-no_pairs hour row cs h = none_apply hour row (enumerate_from 0 cs) h
+no_pairs hour n row [] h = refl
+no_pairs hour n row (c ∷ cs) h = rw h (no_pairs hour (n + 1) row cs h)
 
 -- ---- loops over commitments, offers and rows
 pub offers_more : (f : ℕ × (ℕ × CommitmentValue) → List OfferValue) (ps : List Placed) (i : ℕ) (d : Placed) → i < length ps
@@ -43,12 +40,12 @@ pub offers_more : (f : ℕ × (ℕ × CommitmentValue) → List OfferValue) (ps 
 offers_more f ps i d lt = let before = enumerate_from 0 (map placed_of (take i ps)) in
     ap (flat_map f) (enumerate_map_more placed_of ps i d lt) ∙ (flat_map-append f before ((i, placed_of (get_or ps i d)) ∷ []) ∙ ap (λ l. flat_map f before ++ l) (append-nil (f (i, placed_of (get_or ps i d)))))
 
-pub pairs_more : (h : OfferValue → Option Pair) (offers : List Offer) (i : ℕ) (d : Offer) → i < length offers
+pub pairs_more : (h : OfferValue → Option RankedPair) (offers : List Offer) (i : ℕ) (d : Offer) → i < length offers
     → filter_map h (map offer_of (take (i + 1) offers)) ≡ filter_map h (map offer_of (take i offers)) ++ cons_option (h (offer_of (get_or offers i d))) []
 pairs_more h offers i d lt = ap (λ l. filter_map h (map offer_of l)) (take_more offers i d lt)
     ∙ (ap (filter_map h) (map-append offer_of (take i offers) (get_or offers i d ∷ [])) ∙ filter_map-append h (map offer_of (take i offers)) (offer_of (get_or offers i d) ∷ []))
 
-pub rows_more : (f : ℕ × Charge → List Pair) (rows : List (Bor Charge)) (i : ℕ) (d : Bor Charge) → i < length rows
+pub rows_more : (f : ℕ × Charge → List RankedPair) (rows : List (Bor Charge)) (i : ℕ) (d : Bor Charge) → i < length rows
     → flat_map f (enumerate_from 0 (map (λ r. r.now) (take (i + 1) rows))) ≡ flat_map f (enumerate_from 0 (map (λ r. r.now) (take i rows))) ++ f (i, (get_or rows i d).now)
 rows_more f rows i d lt = let before = enumerate_from 0 (map (λ (r : Bor Charge). r.now) (take i rows)) in
     ap (flat_map f) (enumerate_map_more (λ r. r.now) rows i d lt) ∙ (flat_map-append f before ((i, (get_or rows i d).now) ∷ []) ∙ ap (λ l. flat_map f before ++ l) (append-nil (f (i, (get_or rows i d).now))))

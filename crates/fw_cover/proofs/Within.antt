@@ -1,5 +1,5 @@
 -- The pairs of an hour name commitments and rows that are there, with numbers in range.
-use Rattle.std.proofs.Common.{◌≡◌, ℕ, zero, suc, ◌<◌, ◌≤◌, ◌^◌, Bool, true, false, ◌&&◌, List, [], ◌∷◌, length, get_or, All, Option, Some, None, IfSome, ℤ, pos, negsuc, refl, subst, arith, unwrap_or, option_map, option_and_then, find, zero-add}
+use Rattle.std.proofs.Common.{◌≡◌, ℕ, zero, suc, ◌<◌, ◌≤◌, ◌^◌, Bool, true, false, ◌&&◌, List, [], ◌∷◌, length, get_or, map, All, Option, Some, None, IfSome, ℤ, pos, negsuc, refl, subst, arith, unwrap_or, option_map, option_and_then, find, zero-add}
 use Rattle.std.specs.Prelude.{unsigned_abs, slice_index, slice_get}
 use Rattle.std.specs.List.{enumerate_from, filter_map, flat_map, cons_option}
 use Rattle.std.specs.Str.{bytes_eq}
@@ -11,7 +11,7 @@ use Rattle.fw_terms.specs.Commitment.{CommitmentValue, TermsValue, IsCommitment,
 use Rattle.fw_terms.specs.Commitment.TermsValue.{usage, spend}
 use Rattle.fw_cover.specs.Eligible.{is_eligible, is_positive, is_open_use, is_measured}
 use Rattle.fw_cover.specs.Applies.{Listing, listings, applied, fits, rate_for, is_open}
-use Rattle.fw_cover.specs.Order.{in_order, commitments_in_order, commitment_before, pair_for, pairs_at, pairs_by_row, pair_before, pairs_of}
+use Rattle.fw_cover.specs.Order.{in_order, commitments_in_order, commitment_before, pair_for, has_lower_rate, pairs_of_commitment, pairs_of}
 use Rattle.fw_cover.specs.Cover.{IsPairWithin}
 use Rattle.fw_cover.specs.Hour.{quantity_of, billed_of, quantities_of, capacities_of}
 use Rattle.fw_cover.specs.declared.pair.Pair.{Pair}
@@ -39,6 +39,10 @@ pub all_flat_map : {X Y : Type 0} (P : Y → Type 0) (f : X → List Y) (xs : Li
 all_flat_map P f [] all = All-nil P
 all_flat_map {X} P f (x ∷ xs) all = let Q : X → Type 0 = λ x. All P (f x) in
     All-append P (f x) (flat_map f xs) (All-head Q x xs all) (all_flat_map P f xs (tail_all Q x xs all))
+
+pub all_under : {X Y : Type 0} (f : X → Y) (P : Y → Type 0) (xs : List X) → All P (map f xs) → All (λ x. P (f x)) xs
+all_under f P [] all = All-nil (λ x. P (f x))
+all_under f P (x ∷ xs) all = All-cons (λ x. P (f x)) x xs (All-head P (f x) (map f xs) all) (all_under f P xs (tail_all P (f x) (map f xs) all))
 
 pub all_enumerate : {X : Type 0} (P : ℕ × X → Type 0) (xs : List X) → ((k : ℕ) (d : X) → k < length xs → P (k, get_or xs k d)) → All P (enumerate_from 0 xs)
 all_enumerate P xs h k d lt = let lt' : k < length xs = omega (arith, lt, length-enumerate_from 0 xs) in
@@ -110,11 +114,11 @@ IsNumbered rows row = (row.0 < length rows) × (slice_index (quantities_of rows)
 abbrev IsWithin : List CommitmentValue → List Charge → Pair → Type 0
 IsWithin cs rows = IsPairWithin (billed_of rows) (quantities_of rows) (capacities_of cs)
 
-within_of : (cs : List CommitmentValue) (rows : List Charge) (row : ℕ × Charge) (c : ℕ × (ℕ × CommitmentValue)) → All (λ b. b ≤ 10 ^ 17) (billed_of rows) → All (λ q. q ≤ 10 ^ 17) (quantities_of rows) → IsPlaced cs c.1 → IsNumbered rows row
-    → (o : Option (Option ℕ)) → IfSome o (Applied row.1) → (p : Pair) → option_map (λ rate. record { rank = c.0; commitment = c.1.0; row = row.0; rate = rate }) o ≡ Some p → IsWithin cs rows p
-within_of cs rows row c small few placed numbered None known p h = absurd (let e : None ≡ Some p = h in cc)
-within_of cs rows row c small few placed numbered (Some rate) known p h =
-    let within : IsWithin cs rows (record { rank = c.0; commitment = c.1.0; row = row.0; rate = rate }) = record {
+within_of : (cs : List CommitmentValue) (rows : List Charge) (c : ℕ × CommitmentValue) (row : ℕ × Charge) → All (λ b. b ≤ 10 ^ 17) (billed_of rows) → All (λ q. q ≤ 10 ^ 17) (quantities_of rows) → IsPlaced cs c → IsNumbered rows row
+    → (o : Option (Option ℕ)) → IfSome o (Applied row.1) → (p : Pair) → option_map (λ rate. record { commitment = c.0; row = row.0; rate = rate }) o ≡ Some p → IsWithin cs rows p
+within_of cs rows c row small few placed numbered None known p h = absurd (let e : None ≡ Some p = h in cc)
+within_of cs rows c row small few placed numbered (Some rate) known p h =
+    let within : IsWithin cs rows (record { commitment = c.0; row = row.0; rate = rate }) = record {
       commitment = omega (arith, placed.0, length-map cs (λ c. c.capacity));
       row = omega (arith, numbered.0, length-map rows quantity_of);
       quantity = rw numbered.1 (eligible_quantity row.1 known.eligible);
@@ -125,22 +129,21 @@ within_of cs rows row c small few placed numbered (Some rate) known p h =
     } in
     subst (λ o. IfSome o (IsWithin cs rows)) h within
 
-pairs_at_within : (cs : List CommitmentValue) (rows : List Charge) (hour : ℕ) (row : ℕ × Charge) → All (λ b. b ≤ 10 ^ 17) (billed_of rows) → All (λ q. q ≤ 10 ^ 17) (quantities_of rows) → All (IsPlaced cs) (commitments_in_order cs) → IsNumbered rows row
-    → All (IsWithin cs rows) (pairs_at hour (commitments_in_order cs) row)
-unfolding pairs_at pair_for
-pairs_at_within cs rows hour row small few placed numbered =
-    all_filter_map (IsWithin cs rows) (pair_for hour row) (enumerate_from 0 (commitments_in_order cs))
-    (all_enumerate (λ c. (p : Pair) → pair_for hour row c ≡ Some p → IsWithin cs rows p) (commitments_in_order cs)
-    (λ k d lt p h. let is = placed k d lt in within_of cs rows row (k, get_or (commitments_in_order cs) k d) small few is numbered
-    (applied (get_or (commitments_in_order cs) k d).1 hour row.1) (applied_known (get_or (commitments_in_order cs) k d).1 hour row.1 is.1) p h))
+commitment_within : (cs : List CommitmentValue) (rows : List Charge) (hour : ℕ) (c : ℕ × CommitmentValue) → All (λ b. b ≤ 10 ^ 17) (billed_of rows) → All (λ q. q ≤ 10 ^ 17) (quantities_of rows) → IsPlaced cs c → All (IsNumbered rows) (enumerate_from 0 rows)
+    → All (IsWithin cs rows) (pairs_of_commitment hour rows c)
+unfolding pairs_of_commitment pair_for
+commitment_within cs rows hour c small few placed numbered =
+    let beside : List (ℕ × Charge) = enumerate_from 0 rows in
+    all_in_order has_lower_rate (IsWithin cs rows) (filter_map (pair_for hour c) beside)
+    (all_filter_map (IsWithin cs rows) (pair_for hour c) beside
+    (λ k d lt p h. within_of cs rows c (get_or beside k d) small few placed (numbered k d lt) (applied c.1 hour (get_or beside k d).1) (applied_known c.1 hour (get_or beside k d).1 placed.1) p h))
 
 pub pairs_within : (cs : List CommitmentValue) (rows : List Charge) (hour : ℕ) → All IsCommitment cs → All (λ b. b ≤ 10 ^ 17) (billed_of rows) → All (λ q. q ≤ 10 ^ 17) (quantities_of rows) → All (IsWithin cs rows) (pairs_of cs rows hour)
-unfolding pairs_of pairs_by_row commitments_in_order
+unfolding pairs_of commitments_in_order
 pairs_within cs rows hour valid small few =
     let placed : All (IsPlaced cs) (commitments_in_order cs) = all_in_order commitment_before (IsPlaced cs) (enumerate_from 0 cs) (all_enumerate (IsPlaced cs) cs (λ k d lt. (lt, valid k d lt, get_or-map (λ c. c.capacity) cs k d 0 lt))) in
     let numbered : All (IsNumbered rows) (enumerate_from 0 rows) = all_enumerate (IsNumbered rows) rows (λ k d lt. (lt, get_or-map quantity_of rows k d 0 lt)) in
-    all_in_order pair_before (IsWithin cs rows) (pairs_by_row (commitments_in_order cs) rows hour)
-    (all_flat_map (IsWithin cs rows) (pairs_at hour (commitments_in_order cs)) (enumerate_from 0 rows) (λ k d lt. pairs_at_within cs rows hour (get_or (enumerate_from 0 rows) k d) small few placed (numbered k d lt)))
+    all_flat_map (IsWithin cs rows) (pairs_of_commitment hour rows) (commitments_in_order cs) (λ k d lt. commitment_within cs rows hour (get_or (commitments_in_order cs) k d) small few (placed k d lt) numbered)
 
 -- ---- the places in the order are those in the list
 pub get_at : {X : Type 0} (xs : List X) (k : ℕ) (d : X) → k < length xs → slice_get xs k ≡ Some (get_or xs k d)

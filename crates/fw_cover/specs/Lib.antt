@@ -5,6 +5,7 @@ pub mod Order
 pub mod Cover
 pub mod Hour
 pub mod PlacedView
+pub mod Ranked
 pub mod Offers
 pub mod RosterView
 pub mod Meeting

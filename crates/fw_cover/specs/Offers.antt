@@ -1,5 +1,5 @@
 -- The SKUs that the commitments of an order list, put in the order of their bytes. The private functions that look a row's SKU up cite it.
-use Rattle.std.specs.Prelude.{ℕ, Bool, true, false, List, [], Option, Some, None, if◌then◌else◌, map, filter}
+use Rattle.std.specs.Prelude.{ℕ, Bool, List, [], Option, Some, None, if◌then◌else◌, map, filter}
 use Rattle.std.specs.Option.{option_map_or}
 use Rattle.std.specs.List.{enumerate_from, flat_map, filter_map}
 use Rattle.std.specs.declared.cmp.Ordering.{Ordering}
@@ -12,7 +12,7 @@ use Rattle.fw_cover.specs.Applies.{Listing, listings, fits, is_open}
 use Rattle.fw_cover.specs.Order.{in_order}
 use Rattle.fw_cover.specs.PlacedView.{placed_of}
 use Rattle.fw_cover.specs.declared.offers.Offer.{Offer}
-use Rattle.fw_cover.specs.declared.pair.Pair.{Pair}
+use Rattle.fw_cover.specs.declared.pair.RankedPair.{RankedPair}
 
 -- a SKU, its rate, and the commitment that lists it, beside its places in the order and in the list
 pub record OfferValue : Type 0 where
@@ -49,10 +49,10 @@ abbrev pub standing_to : List ℕ → Offer → Ordering
 standing_to sku o = slice_cmp nat_cmp o.sku.now sku
 
 -- the pair that an offer makes with a row that commitments may cover in the hour
-abbrev pub pair_by : ℕ → ℕ × Charge → OfferValue → Option Pair
+abbrev pub pair_by : ℕ → ℕ × Charge → OfferValue → Option RankedPair
 pair_by hour row o =
-    if fits o.standing.1.1 hour row.1 then Some (record { rank = o.standing.0; commitment = o.standing.1.0; row = row.0; rate = o.rate }) else None
+    if fits o.standing.1.1 hour row.1 then Some (record { rank = o.standing.0; pair = record { commitment = o.standing.1.0; row = row.0; rate = o.rate } }) else None
 
 -- the pairs of one row, by the offers of its SKU
-unfoldable pub pairs_with : ℕ → List OfferValue → ℕ × Charge → List Pair
+unfoldable pub pairs_with : ℕ → List OfferValue → ℕ × Charge → List RankedPair
 pairs_with hour index row = if is_open hour row.1 then option_map_or (λ sku. filter_map (pair_by hour row) (offered sku index)) row.1.sku [] else []

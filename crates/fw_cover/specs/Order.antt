@@ -1,5 +1,5 @@
 -- The order in which the commitments of an hour meet its rows.
-use Rattle.std.specs.Prelude.{ℕ, Bool, List, [], ◌∷◌, Option, if◌then◌else◌, unwrap_or, option_map}
+use Rattle.std.specs.Prelude.{ℕ, Bool, List, [], ◌∷◌, Option, if◌then◌else◌, nat_lt, unwrap_or, option_map}
 use Rattle.std.specs.List.{enumerate_from, flat_map, filter_map}
 use Rattle.std.specs.Ordering.{is_lt, nat_cmp, ordering_then}
 use Rattle.std.specs.declared.cmp.Ordering.{Ordering}
@@ -36,25 +36,18 @@ commitment_before x y = is_lt (compare_commitments x y)
 unfoldable pub commitments_in_order : List CommitmentValue → List (ℕ × CommitmentValue)
 commitments_in_order cs = in_order commitment_before (enumerate_from 0 cs)
 
--- the pair of a row and a commitment of the order, each beside its place, where the commitment applies to the row
-unfoldable pub pair_for : ℕ → ℕ × Charge → ℕ × (ℕ × CommitmentValue) → Option Pair
-pair_for hour row c =
-    option_map (λ rate. record { rank = c.0; commitment = c.1.0; row = row.0; rate = rate }) (applied c.1.1 hour row.1)
+-- the pair of a commitment and a row, each beside its place, where the commitment applies to the row
+unfoldable pub pair_for : ℕ → ℕ × CommitmentValue → ℕ × Charge → Option Pair
+pair_for hour c row = option_map (λ rate. record { commitment = c.0; row = row.0; rate = rate }) (applied c.1 hour row.1)
 
--- the pairs of one row, and those of the rows in turn
-unfoldable pub pairs_at : ℕ → List (ℕ × CommitmentValue) → ℕ × Charge → List Pair
-pairs_at hour cs row = filter_map (pair_for hour row) (enumerate_from 0 cs)
+-- the pair at the lower rate goes first; a commitment to a quantity has no rate, which counts as 0
+abbrev pub has_lower_rate : Pair → Pair → Bool
+has_lower_rate p q = nat_lt (unwrap_or p.rate 0) (unwrap_or q.rate 0)
 
-unfoldable pub pairs_by_row : List (ℕ × CommitmentValue) → List Charge → ℕ → List Pair
-pairs_by_row cs rows hour = flat_map (pairs_at hour cs) (enumerate_from 0 rows)
+-- the pairs of a commitment with the rows that it applies to, in the order of their rates; rows at one rate keep their order
+unfoldable pub pairs_of_commitment : ℕ → List Charge → ℕ × CommitmentValue → List Pair
+pairs_of_commitment hour rows c = in_order has_lower_rate (filter_map (pair_for hour c) (enumerate_from 0 rows))
 
--- by the order of the commitments, then by lower rate
-unfoldable pub compare_pairs : Pair → Pair → Ordering
-compare_pairs p q = ordering_then (nat_cmp p.rank q.rank) (nat_cmp (unwrap_or p.rate 0) (unwrap_or q.rate 0))
-
-abbrev pub pair_before : Pair → Pair → Bool
-pair_before p q = is_lt (compare_pairs p q)
-
--- the pairs of an hour in their order; rows that one commitment takes at one rate keep their order
+-- the pairs of an hour: those of each commitment in turn, in the order of the commitments
 unfoldable pub pairs_of : List CommitmentValue → List Charge → ℕ → List Pair
-pairs_of cs rows hour = in_order pair_before (pairs_by_row (commitments_in_order cs) rows hour)
+pairs_of cs rows hour = flat_map (pairs_of_commitment hour rows) (commitments_in_order cs)

@@ -5,12 +5,13 @@ ghost use Rattle.std.specs.List.Sorted.{IsSortedBy};
 ghost use Rattle.fw_terms.specs.TermsView.{terms_view};
 ghost use Rattle.fw_cover.specs.Applies.{allows, has_unit, is_text, fits, is_open};
 ghost use Rattle.fw_cover.specs.Offers.{offer_of, offer_before, pair_by, pairs_with};
-ghost use Rattle.fw_cover.specs.Order.{compare_pairs, pair_before, in_order};
+ghost use Rattle.fw_cover.specs.Order.{in_order};
+ghost use Rattle.fw_cover.specs.Ranked.{compare_ranked, ranked_before};
 
 use crate::eligible::is_eligible;
 use crate::offers::{Offer, offered};
 use crate::order::is_in_term;
-use crate::pair::Pair;
+use crate::pair::{Pair, RankedPair};
 use fw_charge::Row;
 use fw_terms::{Commitment, Terms};
 use std::alloc::{AllocError, Global};
@@ -52,7 +53,7 @@ fn fits(commitment: &Commitment, hour: u32, row: &Row) -> bool
 }
 
 /// Keeps a pair, where there is one.
-fn keep(pairs: &mut Vec<Pair>, pair: Option<Pair>) -> Result<(), AllocError>
+fn keep(pairs: &mut Vec<RankedPair>, pair: Option<RankedPair>) -> Result<(), AllocError>
     ensures { OnOk result (pairs.new.items ≡ pairs.old.items ++ cons_option pair []) }
 {
     if let Some(pair) = pair {
@@ -63,15 +64,17 @@ fn keep(pairs: &mut Vec<Pair>, pair: Option<Pair>) -> Result<(), AllocError>
 
 impl<'a> Offer<'a> {
     /// The pair that the offer makes with a row of its SKU, where the commitment takes the row.
-    fn pair(&self, hour: u32, at: usize, row: &Row) -> Option<Pair>
+    fn pair(&self, hour: u32, at: usize, row: &Row) -> Option<RankedPair>
         ensures { result ≡ pair_by hour (at, row.now) (offer_of self.now) }
     {
         if fits(self.placed.commitment, hour, row) {
-            Some(Pair {
+            Some(RankedPair {
                 rank: self.rank,
-                commitment: self.placed.place,
-                row: at,
-                rate: self.rate,
+                pair: Pair {
+                    commitment: self.placed.place,
+                    row: at,
+                    rate: self.rate,
+                },
             })
         } else {
             None
@@ -89,7 +92,7 @@ fn is_open(row: &Row, hour: u32) -> bool
 
 /// Adds the pairs that offers make with a row of their SKU.
 fn add_pairs(
-    pairs: &mut Vec<Pair>,
+    pairs: &mut Vec<RankedPair>,
     offers: &[Offer],
     hour: u32,
     at: usize,
@@ -105,7 +108,7 @@ fn add_pairs(
 
 /// Adds the pairs of a row.
 fn add_row(
-    pairs: &mut Vec<Pair>,
+    pairs: &mut Vec<RankedPair>,
     index: &[Offer],
     hour: u32,
     at: usize,
@@ -129,7 +132,7 @@ fn pairs_by_row(
     index: &[Offer],
     rows: &[&Row],
     hour: u32,
-) -> Result<Vec<Pair>, AllocError>
+) -> Result<Vec<RankedPair>, AllocError>
     requires sorted { IsSortedBy (λ a b. offer_before (offer_of a) (offer_of b)) index.now }
     ensures { IfOk result (λ v. v.items ≡ flat_map (pairs_with hour (map offer_of index.now)) (enumerate_from 0 (map (λ r. r.now) rows.now))) }
 {
@@ -140,15 +143,16 @@ fn pairs_by_row(
     Ok(pairs)
 }
 
-impl Pair {
-    /// How two pairs stand in the order.
-    #[tactic(auto, unfolding(crate::specs::Order::compare_pairs))]
-    fn compare(&self, other: &Pair) -> Ordering
-        ensures { result ≡ compare_pairs self.now other.now }
+impl RankedPair {
+    /// How two pairs stand in the order: by commitment, then by rate.
+    #[tactic(auto, unfolding(crate::specs::Ranked::compare_ranked))]
+    fn compare(&self, other: &RankedPair) -> Ordering
+        ensures { result ≡ compare_ranked self.now other.now }
     {
+        let (rate, other_rate) = (self.pair.rate, other.pair.rate);
         self.rank
             .cmp(&other.rank)
-            .then(self.rate.unwrap_or(0).cmp(&other.rate.unwrap_or(0)))
+            .then(rate.unwrap_or(0).cmp(&other_rate.unwrap_or(0)))
     }
 }
 
@@ -158,9 +162,9 @@ pub(crate) fn pairs_in_order(
     index: &[Offer],
     rows: &[&Row],
     hour: u32,
-) -> Result<Vec<Pair>, AllocError>
+) -> Result<Vec<RankedPair>, AllocError>
     requires sorted { IsSortedBy (λ a b. offer_before (offer_of a) (offer_of b)) index.now }
-    ensures { IfOk result (λ v. v.items ≡ in_order pair_before (flat_map (pairs_with hour (map offer_of index.now)) (enumerate_from 0 (map (λ r. r.now) rows.now)))) }
+    ensures { IfOk result (λ v. v.items ≡ in_order ranked_before (flat_map (pairs_with hour (map offer_of index.now)) (enumerate_from 0 (map (λ r. r.now) rows.now)))) }
 {
     let mut pairs = pairs_by_row(alloc, index, rows, hour)?;
     pairs.sort_by(|p, q| p.compare(q))?;

@@ -3,12 +3,17 @@
 /// A commitment that applies to a row.
 #[derive(Clone, Copy, Debug, PartialEq, Eq)]
 pub(crate) struct Pair {
-    /// The commitment's place in the order of the commitments.
-    pub(crate) rank: usize,
-    /// The commitment's place in their list.
+    /// The commitment's place in the list of commitments.
     pub(crate) commitment: usize,
     /// The row's place in the list of rows.
     pub(crate) row: usize,
     /// The share of the row's cost that a commitment to a cost charges, in parts per million; `None` for a commitment to a quantity.
     pub(crate) rate: Option<u32>,
+}
+
+/// A pair beside its commitment's place in the order of the commitments.
+#[derive(Clone, Copy, Debug)]
+pub(crate) struct RankedPair {
+    pub(crate) rank: usize,
+    pub(crate) pair: Pair,
 }

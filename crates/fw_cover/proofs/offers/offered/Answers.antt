@@ -1,4 +1,4 @@
-use Rattle.std.proofs.Common.{◌≡◌, ◌∙◌, List, ap, drop, map, rules, take}
+use Rattle.std.proofs.Common.{◌≡◌, ◌∙◌, ap, drop, map, rules, take}
 use Rattle.std.specs.List.{prefix_len}
 use Rattle.std.specs.Ordering.{is_lt}
 use Rattle.std.specs.Str.{bytes_eq}
