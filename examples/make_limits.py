@@ -5,12 +5,22 @@
 
 A post that is written in 4,194,304 bytes, which is the most, and one of a byte more; one of 4,096 rows, and one of a row more, which
 is looked at no further, and one whose third row is wrong; 256 commitments, and one more; and entries that are sent twice or out of turn.
+
+Two of the commitments have all that one may have: 26,304 hours, 256 SKUs or rates, 256 tags and 64 purchases. Rows of 256 tags
+use them. Reports and lines are over 26,304 hours, which is the most, under policies of 64 rules: each with weights for 256 groups,
+and then each in proportion; and one report is asked for over an hour more.
 """
 import sys
 
 MOST_BYTES = 4_194_304
 MOST_COMMITMENTS = 256
 MOST_ROWS = 4_096
+MOST_HOURS = 26_304
+MOST_SKUS = 256
+MOST_TAGS = 256
+MOST_PURCHASES = 64
+MOST_RULES = 64
+MOST_TARGETS = 256
 ORIGIN = "limits"
 HEADER = "BilledCost,EffectiveCost,BillingCurrency,ChargeCategory,ChargePeriodStart,ChargePeriodEnd,Tags"
 # What an entry has beside its origin and its rows, what a row has that has one tag, and what is put into most tags.
@@ -57,14 +67,63 @@ billed = "1"
 """
 
 
+def widest(number):
+    """A commitment that has as much of everything as there may be: to a quantity where the number is odd, else to a cost."""
+    skus = [f"vm-{place:03}" for place in range(MOST_SKUS)]
+    if number % 2:
+        terms = ['category = "Usage"', 'unit = "Hours"', f"skus = {list(map(str, skus))}".replace("'", '"')]
+    else:
+        terms = ['category = "Spend"', "rates = { " + ", ".join(f"{sku} = {1_000_000 - place}" for place, sku in enumerate(skus)) + " }"]
+    lines = [f'id = "cd-{number}"', *terms, 'start = "2024-01-01T00:00Z"', f"hours = {MOST_HOURS}", 'capacity = "1.5"']
+    lines += ["[tags]", 'team = "reserved"', *(f'tag-{place:03} = "{place}"' for place in range(1, MOST_TAGS))]
+    for place in range(MOST_PURCHASES):
+        lines += ["[[purchase]]", f'at = "2024-01-{place % 28 + 1:02}T{place % 24:02}:00Z"', f'billed = "{place}.000000007"']
+    return f"commit ids {number} {len(lines)}\n" + "\n".join(lines) + "\n"
+
+
+def rows_of_teams(number):
+    """A post of rows of many teams with 256 tags each, from the first hour of the longest range to the last."""
+    lines = ["BilledCost,EffectiveCost,BillingCurrency,ChargeCategory,ChargePeriodStart,ChargePeriodEnd,ConsumedQuantity,ConsumedUnit,SkuId,Tags"]
+    for place in range(600):
+        day, hour = ("2024-01-01", place % 24) if place < 500 else ("2026-12-31", 23)
+        tags = [f'""team"":""team-{place % 320:03}""', *(f'""tag-{tag:03}"":""""' for tag in range(1, MOST_TAGS))]
+        lines.append(
+            f"{place}.5,{place}.25,USD,Usage,{day}T{hour:02}:00Z,{day}T{hour:02}:30Z,0.{place % 7 + 1},Hours,vm-{place % MOST_SKUS:03},"
+            f'"{{{",".join(tags)}}}"'
+        )
+    return f"post teams {number} {len(lines)}\n" + "\n".join(lines) + "\n"
+
+
+def policy(number, rule):
+    """A policy of as many rules as there may be: 63 teams and the rows of no team give their costs away."""
+    lines = ['key = "team"']
+    for place in range(MOST_RULES):
+        lines += ["[[rule]]", f'from = "team-{place:03}"' if place else 'from = ""', rule(place)]
+    return f"policy shares {number} {len(lines)}\n" + "\n".join(lines) + "\n"
+
+
+def weights(place):
+    """Weights of as many groups as there may be."""
+    return "to = { " + ", ".join(f"team-{64 + group:03} = {(place + 1) * group}" for group in range(MOST_TARGETS)) + " }"
+
+
+def at_most_hours():
+    """What can be asked at most, and a report over an hour more."""
+    longest = "2024-01-01T00:00Z 2027-01-01T00:00Z\n"
+    ask = [f"report team {longest}", policy(1, weights), f"report team {longest}", policy(2, lambda _: "proportional = true")]
+    return [rows_of_teams(1), *ask, f"report team {longest}", f"lines {longest}", "report team 2024-01-01T00:00Z 2027-01-01T01:00Z\n"]
+
+
 def main():
     if sys.argv[1:]:
         print(__doc__)
         return 0 if sys.argv[1] in ("-h", "--help") else 2
     script = [post(1, MOST_BYTES), post(2, MOST_BYTES + 1), post(1, MOST_BYTES), post(3, MOST_BYTES)]
     script += posts_of_many_rows()
-    script += [commitment(number) for number in range(1, MOST_COMMITMENTS + 2)]
+    script += [widest(1), widest(2)]
+    script += [commitment(number) for number in range(3, MOST_COMMITMENTS + 2)]
     script += [commitment(MOST_COMMITMENTS), commitment(MOST_COMMITMENTS + 2), "state\n"]
+    script += at_most_hours()
     sys.stdout.write("".join(script))
     return 0
 
