@@ -1,15 +1,16 @@
 //! Creating a warehouse: the first side of all is made.
-ghost use Rattle.std.specs.Prelude.{◌≡◌, ◌⊎◌, ◌↔◌, ◌+◌, ◌<◌, ◌≤◌, ℕ, List, length, false, IfOk, IfErr, OnOk, OnErr, IsOk, IsErr, IsErrOf, IsTrue, IsFalse};
+ghost use Rattle.std.specs.Prelude.{◌≡◌, ◌⊎◌, ◌↔◌, ◌+◌, ◌<◌, ◌≤◌, ◌++◌, ◌∷◌, [], ℕ, List, length, false, IfOk, IfErr, OnOk, OnErr, IsOk, IsErr, IsErrOf, IsTrue, IsFalse};
 ghost use Rattle.fw_disk.specs.declared.volume.Side.{Side};
 ghost use Rattle.fw_disk.specs.declared.volume.Side.TheVariants.{Left};
 ghost use Rattle.fw_disk.specs.Volume.{Rose, Calm, SameSizes, LeavesOnly};
+ghost use Rattle.fw_entry_bytes.specs.declared.form.Form.TheVariants.{One};
 ghost use Rattle.fw_segment.specs.States.{Spells};
 ghost use Rattle.fw_recover.specs.declared.fault.StoreFault.TheVariants.{Device, TooLarge, Exists, NoMemory};
-ghost use Rattle.fw_recover.specs.Sides.{IsOpen};
+ghost use Rattle.fw_recover.specs.Sides.{made_of, IsOpen};
 ghost use Rattle.fw_recover.specs.Stands.{StandsForNone, EachStandsFor};
 ghost use Rattle.fw_recover.specs.Making.{AllSettled};
-ghost use Rattle.fw_recover.specs.Creating.{empty, StandsForNoneOr};
-ghost use Rattle.fw_recover.specs.Checkpoints.{HasBodyAlone, HasNoRoomFor};
+ghost use Rattle.fw_recover.specs.Creating.{empty, StandsForNoneOr, IsCreateFault};
+ghost use Rattle.fw_recover.specs.Checkpoints.{HasBodyAlone};
 ghost use Rattle.fw_recover.specs.Store.{IsInUse};
 
 use crate::opening::settle;
@@ -48,7 +49,7 @@ impl<V: Volume> Store<V> {
         ensures fits { IfOk result (λ s. 45 ≤ (V.view volume).limit) }
         ensures too_large { IfErr result (λ e. e.1 ≡ TooLarge → (V.view volume).limit < 45) }
         ensures calm { IfErr result (λ e. (e.1 ≡ TooLarge) ⊎ ((e.1 ≡ NoMemory) ⊎ (e.1 ≡ Exists)) → IsTrue V.tells → Calm (V.view volume) (V.view e.0)) }
-        ensures which { IfErr result (λ e. (e.1 ≡ Device) ⊎ ((e.1 ≡ Exists) ⊎ ((e.1 ≡ TooLarge) ⊎ (e.1 ≡ NoMemory)))) }
+        ensures which { IfErr result (λ e. IsCreateFault e.1) }
         ensures device { IfErr result (λ e. e.1 ≡ Device → Rose (V.view volume).failures (V.view e.0).failures) }
         ensures later { IfOk result (λ s. (V.view volume).failures ≤ (V.view s.volume).failures) }
         ensures later_fault { IfErr result (λ e. (V.view volume).failures ≤ (V.view e.0).failures) }
@@ -83,16 +84,21 @@ fn make_first<V: Volume>(
     ensures none { IfOk result (λ r. IsTrue V.tells → StandsForNone (V.view volume.old).seen) }
     ensures exists { IsErrOf result Exists → IsTrue V.tells → (side : Side) × IsOpen ((V.view volume.old).seen side) }
     ensures calm { (IsErrOf result Exists ⊎ (IsErrOf result TooLarge ⊎ IsErrOf result NoMemory)) → IsTrue V.tells → Calm (V.view volume.old) (V.view volume.new) }
-    ensures taken { IsTrue V.tells → (side : Side) → IsOpen ((V.view volume.old).seen side) → Calm (V.view volume.old) (V.view volume.new) }
+    ensures taken { IsTrue V.tells → (side : Side) → IsOpen ((V.view volume.old).seen side) → (IsErrOf result Exists ⊎ IsErrOf result Device) × Calm (V.view volume.old) (V.view volume.new) }
     ensures fits { IsOk result → 45 ≤ (V.view volume.old).limit }
     ensures too_large { IsErrOf result TooLarge → (V.view volume.old).limit < 45 }
-    ensures which { OnErr result (IsErrOf result Device ⊎ (IsErrOf result Exists ⊎ (IsErrOf result TooLarge ⊎ IsErrOf result NoMemory))) }
+    ensures which { IfErr result IsCreateFault }
     ensures device { IsErrOf result Device → Rose (V.view volume.old).failures (V.view volume.new).failures }
     ensures later { (V.view volume.old).failures ≤ (V.view volume.new).failures }
     ensures limit { (V.view volume.new).limit ≡ (V.view volume.old).limit }
 {
     find_free(volume)?;
-    make_left(alloc, volume, State::empty(alloc, currency))
+    let (bytes, snapshot) = first_side(alloc, currency, volume.limit())?;
+    let Ok(()) = make_side(volume, Side::Left, &bytes) else {
+        return Err(StoreFault::Device);
+    };
+    let start = bytes.len() as u64;
+    Ok((Log::at(Side::Left, start, start), snapshot))
 }
 
 /// Syncs both sides, and answers `Exists` where one is open. Whatever is answered, no byte changes, and a crash leaves
@@ -151,34 +157,23 @@ fn is_open<V: Volume>(volume: &mut V, side: Side) -> Result<bool, VolumeFault>
     Ok(gate[0] == 1)
 }
 
-/// Makes Left of a state, where no side is open and nothing is pending.
-fn make_left<V: Volume>(
+/// All of the first side behind its gate, 44 bytes, and the state of which it is made.
+fn first_side(
     alloc: Global,
-    volume: &mut V,
-    state: State,
-) -> Result<(Log, Snapshot), StoreFault>
-    requires settled { IsTrue V.tells → AllSettled (V.view volume.old) }
-    requires free { IsTrue V.tells → StandsForNone (V.view volume.old).seen }
-
-    ensures made { IfOk result (λ r. (r.1 ≡ state) × (r.0.side ≡ Left) × (r.0.end ≡ r.0.start) × (r.0.failed ≡ false)) }
-    ensures start { IfOk result (λ r. (body : List ℕ) × Spells body state × (r.0.start ≡ 25 + length body) × (26 + length body ≤ (V.view volume.old).limit)) }
-    ensures in_use { IfOk result (λ r. IsInUse V.tells 1 r.0 r.1 (V.view volume.new)) }
-    ensures bytes { IfOk result (λ r. IsTrue V.tells → HasBodyAlone 1 state ((V.view volume.new).seen Left)) }
-    ensures any_moment { IsTrue V.tells → LeavesOnly (V.view volume.old) (V.view volume.new) (StandsForNoneOr state) }
-    ensures too_large { IsErrOf result TooLarge → HasNoRoomFor (V.view volume.old).limit state }
-    ensures unchanged { (IsErrOf result TooLarge ⊎ IsErrOf result NoMemory) → volume.new ≡ volume.old }
-    ensures which { OnErr result (IsErrOf result Device ⊎ (IsErrOf result TooLarge ⊎ IsErrOf result NoMemory)) }
-    ensures device { IsErrOf result Device → Rose (V.view volume.old).failures (V.view volume.new).failures }
-    ensures later { (V.view volume.old).failures ≤ (V.view volume.new).failures }
-    ensures limit { (V.view volume.new).limit ≡ (V.view volume.old).limit }
+    currency: Currency,
+    limit: u64,
+) -> Result<(Vec<u8>, Snapshot), StoreFault>
+    ensures state { IfOk result (λ r. r.1 ≡ empty currency) }
+    ensures made { IfOk result (λ r. (body : List ℕ) × Spells body (empty currency) × (r.0.items ≡ made_of One 1 body ++ 0 ∷ [])) }
+    ensures long { IfOk result (λ r. length r.0.items ≡ 44) }
+    ensures fits { IsOk result → 45 ≤ limit }
+    ensures too_large { IsErrOf result TooLarge → limit < 45 }
+    ensures which { OnErr result (IsErrOf result TooLarge ⊎ IsErrOf result NoMemory) }
 {
-    let bytes = side_bytes(alloc, 1, &state, volume.limit())?;
-    let Ok(snapshot) = Snapshot::new(state) else {
-        return Err(StoreFault::NoMemory);
-    };
-    let Ok(()) = make_side(volume, Side::Left, &bytes) else {
-        return Err(StoreFault::Device);
-    };
-    let start = bytes.len() as u64;
-    Ok((Log::at(Side::Left, start, start), snapshot))
+    let state = State::empty(alloc, currency);
+    let bytes = side_bytes(alloc, 1, &state, limit)?;
+    match Snapshot::new(state) {
+        Ok(snapshot) => Ok((bytes, snapshot)),
+        Err(_) => Err(StoreFault::NoMemory),
+    }
 }

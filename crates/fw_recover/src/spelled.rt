@@ -1,5 +1,7 @@
 //! The bytes of a side that is to be made.
 ghost use Rattle.std.specs.Prelude.{◌≡◌, ◌⊎◌, ◌+◌, ◌<◌, ◌≤◌, ◌++◌, ◌∷◌, [], ℕ, List, length, IfOk, OnErr, IsErrOf};
+ghost use Rattle.fw_bytes.specs.Spelling.{number64};
+ghost use Rattle.fw_disk.specs.Volume.{Holds};
 ghost use Rattle.fw_entry_bytes.specs.declared.form.Form.TheVariants.{One};
 ghost use Rattle.fw_segment.specs.States.{Spells};
 ghost use Rattle.fw_recover.specs.declared.fault.StoreFault.TheVariants.{TooLarge, NoMemory};
@@ -49,6 +51,14 @@ fn header_and_body(alloc: Global, generation: u64, state: &State) -> Result<Vec<
     put_u64(&mut bytes, 0)?;
     append_state(&mut bytes, state)?;
     let body_len = bytes.len() as u64 - 24;
-    bytes[16..24].copy_from_slice(&body_len.to_le_bytes());
+    replace_u64(&mut bytes, 16, body_len);
     Ok(bytes)
+}
+
+/// Writes a number over the eight bytes from an offset on, the lowest first.
+fn replace_u64(bytes: &mut Vec<u8>, at: usize, number: u64)
+    requires { at + 8 ≤ length bytes.old.items }
+    ensures { Holds at (number64 number) bytes.old.items bytes.new.items }
+{
+    bytes[at..at + 8].copy_from_slice(&number.to_le_bytes());
 }
