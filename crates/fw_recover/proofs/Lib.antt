@@ -5,3 +5,4 @@ pub mod Standing
 pub mod Appending
 pub mod Headers
 pub mod Found
+pub mod Made

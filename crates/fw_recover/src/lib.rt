@@ -8,11 +8,14 @@
 //! the first fault.
 #![tactic(auto)]
 
+mod checkpoint;
+mod create;
 mod fault;
 mod header;
 mod laws;
 mod opening;
 mod sides;
+mod spelled;
 mod store;
 mod walk;
 
