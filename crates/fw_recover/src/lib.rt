@@ -8,10 +8,13 @@
 //! the first fault.
 #![tactic(auto)]
 
+mod commit;
 mod fault;
 mod header;
 mod laws;
 mod opening;
+mod prepared;
+mod run;
 mod sides;
 mod store;
 mod walk;
@@ -23,5 +26,7 @@ pub use laws::{
     each_moment_is_recovered, images_have_one_meaning, making_a_side_keeps_the_warehouse,
     what_is_settled_stands_as_read,
 };
+pub use prepared::Prepared;
+pub use run::run_and_recover;
 pub use sides::{close_side, fill_side, make_side, open_side};
 pub use store::Store;
