@@ -1,8 +1,8 @@
 -- Adding entries to a warehouse: what is prepared before anything is written, and what is left by the calls that write it.
-use Rattle.std.specs.Prelude.{◌≡◌, ◌⊎◌, ℕ, ◌+◌, ◌<◌, ◌≤◌, Bool, true, false, IsTrue, List, [], length, take}
+use Rattle.std.specs.Prelude.{◌≡◌, ◌⊎◌, ℕ, ◌+◌, ◌<◌, ◌≤◌, Bool, true, false, IsTrue, List, [], ◌∷◌, length, take}
 use Rattle.fw_disk.specs.Volume.{Image, View}
 use Rattle.fw_entry.specs.Entry.{EntryValue}
-use Rattle.fw_segment.specs.Groups.{group}
+use Rattle.fw_segment.specs.Groups.{group, IsGroup}
 use Rattle.fw_snapshot.specs.History.{History}
 use Rattle.fw_snapshot.specs.Verdicts.{verdicts_on, accepted_of, with_more}
 use Rattle.fw_snapshot.specs.declared.verdict.Verdict.{Verdict}
@@ -22,6 +22,16 @@ pub record PreparedState : Type 0 where
 abbrev pub prepared_on : History → List EntryValue → PreparedState
 prepared_on h es = record { before = h; accepted = accepted_of h.entries es; verdicts = verdicts_on h.entries es }
 
+-- the bytes of the group of these entries; no bytes where there is no entry
+abbrev pub payload_of : List EntryValue → List ℕ
+payload_of [] = []
+payload_of (e ∷ es) = group (e ∷ es)
+
+-- entries that can be one frame of a log
+pub record IsFrameable (entries : List EntryValue) : Type 0 where
+  pub is_group : IsGroup entries
+  pub size : length (group entries) ≤ 8388608
+
 -- the frame of these entries and the closed gate behind it would end past the limit; without entries there is no frame
 abbrev pub HasNoRoom : {V : Type 0} → ℕ → StoreState V → List EntryValue → Type 0
 HasNoRoom limit s accepted = (0 < length accepted) × (limit < s.log.end + 6 + length (group accepted))
@@ -34,6 +44,14 @@ pub record Committed {V : Type 0} (tells : Bool) (view : V → View) (old new : 
   pub none : accepted ≡ [] → new ≡ old
   pub moved : 0 < length accepted → (new.generation ≡ old.generation) × (new.log ≡ record old.log { end = old.log.end + 5 + length (group accepted) })
   pub each : IsTrue tells → EachStandsFor new.history (view new.volume)
+
+-- the store after a payload went to its log, with which its warehouse is this one
+pub record Appended {V : Type 0} (tells : Bool) (view : V → View) (old new : StoreState V) (payload : List ℕ) (next : History) : Type 0 where
+  pub history : new.history ≡ next
+  pub generation : new.generation ≡ old.generation
+  pub log : new.log ≡ record old.log { end = old.log.end + 5 + length payload }
+  pub failed : new.failed ≡ false
+  pub each : IsTrue tells → EachStandsFor next (view new.volume)
 
 -- the store after the device failed: it shows the warehouse as it was, and takes no more
 pub record Lost {V : Type 0} (old new : StoreState V) : Type 0 where

@@ -1,8 +1,7 @@
 -- What prepared entries stand for, and what is kept of them.
-use Rattle.std.specs.Prelude.{◌≡◌, ℕ, ◌<◌, ◌≤◌, List, [], ◌∷◌, length, take, drop}
-use Rattle.fw_entry.specs.Entry.{EntryValue}
-use Rattle.fw_segment.specs.Groups.{group, IsGroup}
-use Rattle.fw_recover.specs.Committing.{PreparedState}
+use Rattle.std.specs.Prelude.{◌≡◌, ◌<◌, ◌≤◌, length, take, drop}
+use Rattle.fw_snapshot.specs.Judging.{IsLegal}
+use Rattle.fw_recover.specs.Committing.{PreparedState, payload_of, IsFrameable}
 use Rattle.fw_recover.specs.declared.prepared.Prepared.TheInside.{Inside}
 
 -- of the entries of the next state those that were there before, and those that were accepted
@@ -13,18 +12,9 @@ prepared_view p = record {
   verdicts = p.verdicts.items;
 }
 
--- the bytes of the group of these entries; no bytes where there is no entry
-abbrev pub payload_of : List EntryValue → List ℕ
-payload_of [] = []
-payload_of (e ∷ es) = group (e ∷ es)
-
--- entries that can be one frame of a log
-pub record IsFrameable (entries : List EntryValue) : Type 0 where
-  pub is_group : IsGroup entries
-  pub size : length (group entries) ≤ 8388608
-
--- the bytes are those of the accepted entries
+-- each entry was accepted after those before it, and the bytes are those of the accepted entries
 pub record KeepsPrepared (p : Inside) : Type 0 where
   pub within : p.entries ≤ length p.next.entries
   pub payload : p.payload.items ≡ payload_of (drop p.entries p.next.entries)
+  pub legal : IsLegal p.next.entries
   pub frameable : 0 < length (drop p.entries p.next.entries) → IsFrameable (drop p.entries p.next.entries)

@@ -1,22 +1,22 @@
 //! Adding entries to a warehouse: they are judged, the state with the accepted ones is made, and then these are written.
-ghost use Rattle.std.specs.Prelude.{◌≡◌, ◌⊎◌, ◌↔◌, ◌<◌, ◌≤◌, true, false, length, IsOk, IsErr, IfOk, IfErr, OnErr, IsErrOf, IsTrue};
+ghost use Rattle.std.specs.Prelude.{◌≡◌, ◌⊎◌, ◌↔◌, ◌+◌, ◌<◌, ◌≤◌, true, false, [], ◌∷◌, length, IsOk, IfOk, IfErr, OnOk, OnErr, IsErrOf, IsTrue};
 ghost use Rattle.fw_disk.specs.Volume.{LeavesOnly, Rose};
+ghost use Rattle.fw_journal.specs.Frames.{IsFit};
 ghost use Rattle.fw_segment.specs.Groups.{group, IsGroup};
 ghost use Rattle.fw_snapshot.specs.Judging.{judged};
 ghost use Rattle.fw_snapshot.specs.Verdicts.{taken, verdicts_on, accepted_of};
+ghost use Rattle.fw_snapshot.specs.declared.verdict.Verdict.TheVariants.{Accept};
 ghost use Rattle.fw_recover.specs.declared.fault.StoreFault.TheVariants.{Device, Failed, TooLarge};
-ghost use Rattle.fw_recover.specs.Stands.{StandsForEither};
+ghost use Rattle.fw_recover.specs.Stands.{StandsFor, StandsForEither};
 ghost use Rattle.fw_recover.specs.Opening.{GoesBehind};
-ghost use Rattle.fw_recover.specs.Committing.{prepared_on, HasNoRoom, Committed, Lost, IsCommitFault};
+ghost use Rattle.fw_recover.specs.Committing.{prepared_on, HasNoRoom, Committed, Appended, Lost, IsCommitFault};
 
-use crate::prepared::{Prepared, prepared};
-use crate::{Store, StoreFault};
+use crate::prepared::group_of_one;
+use crate::{Prepared, Store, StoreFault};
 use fw_disk::Volume;
 use fw_journal::LogFault;
-use fw_segment::encode_group;
 use fw_snapshot::{Entry, Snapshot, Verdict, judge};
 use std::alloc::Global;
-use std::slice;
 
 impl<V: Volume> Store<V> {
     /// Judges an entry after those of the warehouse, and adds it where it is accepted: it is written as a group of its own.
@@ -39,11 +39,13 @@ impl<V: Volume> Store<V> {
         ensures failed { IsErrOf result Failed ↔ (self.old.failed ≡ true) }
         ensures too_large { IsErrOf result TooLarge → HasNoRoom (V.view self.old.volume).limit self.old (taken self.old.history.entries entry.now) }
         ensures fits { IsOk result → HasNoRoom (V.view self.old.volume).limit self.old (taken self.old.history.entries entry.now) → ⊥ }
+        ensures accepted { IsErrOf result Device → judged self.old.history.entries entry.now ≡ Accept }
         ensures device { IsErrOf result Device → Rose (V.view self.old.volume).failures (V.view self.new.volume).failures }
         ensures which { IfErr result IsCommitFault }
         ensures later { (V.view self.old.volume).failures ≤ (V.view self.new.volume).failures }
         ensures limit { (V.view self.new.volume).limit ≡ (V.view self.old.volume).limit }
     {
+        self.keeps();
         if self.failed {
             return Err(StoreFault::Failed);
         }
@@ -85,6 +87,7 @@ impl<V: Volume> Store<V> {
         ensures later { (V.view self.old.volume).failures ≤ (V.view self.new.volume).failures }
         ensures limit { (V.view self.new.volume).limit ≡ (V.view self.old.volume).limit }
     {
+        self.keeps();
         let prepared = self.prepare(alloc, entries)?;
         self.write(alloc, prepared)
     }
@@ -110,7 +113,7 @@ impl<V: Volume> Store<V> {
         if self.failed {
             return Err(StoreFault::Failed);
         }
-        let Ok(prepared) = prepared(alloc, self.snapshot.state(), entries) else {
+        let Ok(prepared) = Prepared::new(alloc, self.snapshot.state(), entries) else {
             return Err(StoreFault::NoMemory);
         };
         let len = prepared.payload.len() as u64;
@@ -150,28 +153,63 @@ impl<V: Volume> Store<V> {
             payload,
             ..
         } = prepared;
-        if !payload.is_empty() {
-            self.append(alloc, &payload, next)?;
+        self.keeps();
+        if payload.is_empty() {
+            return Ok(verdicts);
         }
+        self.append(alloc, &payload, next)?;
         Ok(verdicts)
     }
 
     // Adds an entry that is accepted.
-    fn add(&mut self, alloc: Global, entry: &Entry) -> Result<(), StoreFault> {
+    fn add(&mut self, alloc: Global, entry: &Entry) -> Result<(), StoreFault>
+        requires goes_on { self.old.failed ≡ false }
+        requires accepted { judged self.old.history.entries entry.now ≡ Accept }
+
+        ensures any_moment { IsTrue V.tells → LeavesOnly (V.view self.old.volume) (V.view self.new.volume) (StandsForEither self.old.history (entry.now ∷ [])) }
+        ensures done { OnOk result (Committed V.tells V.view self.old self.new (entry.now ∷ [])) }
+        ensures unchanged { OnErr result (IsErrOf result Device ⊎ (self.new ≡ self.old)) }
+        ensures lost { IsErrOf result Device → Lost self.old self.new }
+
+        ensures not_failed { IsErrOf result Failed → ⊥ }
+        ensures too_large { IsErrOf result TooLarge → HasNoRoom (V.view self.old.volume).limit self.old (entry.now ∷ []) }
+        ensures fits { IsOk result → HasNoRoom (V.view self.old.volume).limit self.old (entry.now ∷ []) → ⊥ }
+        ensures device { IsErrOf result Device → Rose (V.view self.old.volume).failures (V.view self.new.volume).failures }
+        ensures which { IfErr result IsCommitFault }
+        ensures later { (V.view self.old.volume).failures ≤ (V.view self.new.volume).failures }
+        ensures limit { (V.view self.new.volume).limit ≡ (V.view self.old.volume).limit }
+    {
+        self.keeps();
         let Ok(state) = self.snapshot.state().apply(entry) else {
             return Err(StoreFault::NoMemory);
         };
         let Ok(next) = Snapshot::new(state) else {
             return Err(StoreFault::NoMemory);
         };
-        let Ok(payload) = encode_group(alloc, slice::from_ref(entry)) else {
+        let Ok(payload) = group_of_one(alloc, entry) else {
             return Err(StoreFault::NoMemory);
         };
         self.append(alloc, &payload, next)
     }
 
     // Writes a group to the log, and shows the state with it from then on.
-    fn append(&mut self, alloc: Global, payload: &[u8], next: Snapshot) -> Result<(), StoreFault> {
+    fn append(&mut self, alloc: Global, payload: &[u8], next: Snapshot) -> Result<(), StoreFault>
+        requires goes_on { self.old.failed ≡ false }
+        requires fit { IsFit payload.now }
+        requires goes { GoesBehind self.old.history payload.now next }
+
+        ensures any_moment { IsTrue V.tells → LeavesOnly (V.view self.old.volume) (V.view self.new.volume) (λ c. StandsFor self.old.history c ⊎ StandsFor next c) }
+        ensures done { OnOk result (Appended V.tells V.view self.old self.new payload.now next) }
+        ensures unchanged { OnErr result (IsErrOf result Device ⊎ (self.new ≡ self.old)) }
+        ensures lost { IsErrOf result Device → Lost self.old self.new }
+
+        ensures not_failed { IsErrOf result Failed → ⊥ }
+        ensures too_large { IsErrOf result TooLarge ↔ ((V.view self.old.volume).limit < self.old.log.end + 6 + length payload.now) }
+        ensures device { IsErrOf result Device → Rose (V.view self.old.volume).failures (V.view self.new.volume).failures }
+        ensures which { IfErr result IsCommitFault }
+        ensures later { (V.view self.old.volume).failures ≤ (V.view self.new.volume).failures }
+        ensures limit { (V.view self.new.volume).limit ≡ (V.view self.old.volume).limit }
+    {
         match self.log.append(alloc, &mut self.volume, payload) {
             Ok(()) => {
                 self.snapshot = next;
@@ -182,7 +220,8 @@ impl<V: Volume> Store<V> {
                 Err(StoreFault::Device)
             }
             Err(LogFault::TooLarge) => Err(StoreFault::TooLarge),
-            Err(_) => Err(StoreFault::NoMemory),
+            Err(LogFault::NoMemory) => Err(StoreFault::NoMemory),
+            Err(LogFault::Failed | LogFault::Corrupt { .. }) => unreachable!(),
         }
     }
 }

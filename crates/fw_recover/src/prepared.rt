@@ -1,12 +1,14 @@
 //! Entries that are judged, and spelled as a group, before anything of them is written.
-ghost use Rattle.std.specs.Prelude.{◌≡◌, IfOk, length};
+ghost use Rattle.std.specs.Prelude.{◌≡◌, ◌<◌, ◌≤◌, [], ◌∷◌, length, IfOk};
 ghost use Rattle.fw_segment.specs.Groups.{group, IsGroup};
-ghost use Rattle.fw_snapshot.specs.Verdicts.{verdicts_on, accepted_of, with_more};
+ghost use Rattle.fw_snapshot.specs.Verdicts.{verdicts_on, accepted_of, chosen, with_more};
+ghost use Rattle.fw_recover.specs.Committing.{payload_of, IsFrameable};
 
 use fw_segment::append_accepted;
 use fw_snapshot::{Entry, Snapshot, State, Verdict, judge};
 use std::alloc::{AllocError, Global};
 use std::marker::Model;
+use std::slice;
 
 /// Entries that were judged after those of a warehouse, the accepted ones as a group that is ready to be written, and the
 /// state with them.
@@ -33,6 +35,35 @@ impl Model for Prepared {
 }
 
 impl Prepared {
+    ghost use Rattle.fw_recover.specs.Committing.{prepared_on};
+
+    /// Entries that are judged in turn after those of a state, and all that is needed to add the accepted ones. The error
+    /// comes where memory ran out.
+    pub(crate) fn new(
+        alloc: Global,
+        state: &State,
+        entries: &[Entry],
+    ) -> Result<Prepared, AllocError>
+        requires group { IsGroup entries.now }
+        requires size { length (group entries.now) ≤ 8388608 }
+
+        ensures { IfOk result (λ p. p ≡ prepared_on state.now entries.now) }
+    {
+        let (verdicts, next) = judge_all(alloc, state, entries)?;
+        let before = state.entries();
+        let accepted = next.entries() - before;
+        let payload = group_of_accepted(alloc, accepted, entries, &verdicts)?;
+        let Ok(next) = Snapshot::new(next) else {
+            return Err(AllocError);
+        };
+        Ok(Prepared {
+            entries: before,
+            next,
+            verdicts,
+            payload,
+        })
+    }
+
     /// The state of the warehouse with the accepted entries. It takes no memory.
     pub fn next(&self) -> &Snapshot
         ensures { result.now ≡ with_more self.now.before self.now.accepted }
@@ -46,26 +77,6 @@ impl Prepared {
     {
         &self.verdicts
     }
-}
-
-/// Entries that are judged in turn after those of a state, and all that is needed to add the accepted ones. The error comes
-/// where memory ran out.
-pub(crate) fn prepared(
-    alloc: Global,
-    state: &State,
-    entries: &[Entry],
-) -> Result<Prepared, AllocError> {
-    let (verdicts, next) = judge_all(alloc, state, entries)?;
-    let payload = payload_of(alloc, entries, &verdicts)?;
-    let Ok(next) = Snapshot::new(next) else {
-        return Err(AllocError);
-    };
-    Ok(Prepared {
-        entries: state.entries(),
-        next,
-        verdicts,
-        payload,
-    })
 }
 
 /// The verdict on each of these entries, and the state with the accepted ones.
@@ -84,21 +95,40 @@ fn judge_all(
         if let Verdict::Accept = verdict {
             next = next.apply(entry)?;
         }
-        verdicts.push(verdict)?;
+        verdicts.push_reserved(verdict);
     }
     Ok((verdicts, next))
 }
 
-/// The bytes of the group of the entries that their verdicts accept; no bytes where there is none.
-fn payload_of(
+/// The bytes of the group of the entries that their verdicts accept, which are so many; no bytes where there is none.
+fn group_of_accepted(
     alloc: Global,
+    count: usize,
     entries: &[Entry],
     verdicts: &[Verdict],
-) -> Result<Vec<u8>, AllocError> {
+) -> Result<Vec<u8>, AllocError>
+    requires each { length verdicts.now ≡ length entries.now }
+    requires count { count ≡ length (chosen entries.now verdicts.now) }
+    requires group { 0 < length (chosen entries.now verdicts.now) → IsGroup (chosen entries.now verdicts.now) }
+
+    ensures { IfOk result (λ bytes. bytes.items ≡ payload_of (chosen entries.now verdicts.now)) }
+{
     let mut payload = Vec::new(alloc);
-    let accepted = |verdict: &Verdict| matches!(verdict, Verdict::Accept);
-    if verdicts.iter().any(accepted) {
-        append_accepted(&mut payload, entries, verdicts)?;
+    if count == 0 {
+        return Ok(payload);
     }
+    append_accepted(&mut payload, entries, verdicts)?;
+    Ok(payload)
+}
+
+/// The bytes of the group of one entry.
+pub(crate) fn group_of_one(alloc: Global, entry: &Entry) -> Result<Vec<u8>, AllocError>
+    ensures spelled { IfOk result (λ bytes. bytes.items ≡ group (entry.now ∷ [])) }
+    ensures frameable { IsFrameable (entry.now ∷ []) }
+{
+    // An entry keeps its limits.
+    let _seq = entry.seq();
+    let mut payload = Vec::new(alloc);
+    append_accepted(&mut payload, slice::from_ref(entry), &[Verdict::Accept])?;
     Ok(payload)
 }
