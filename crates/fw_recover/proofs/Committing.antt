@@ -1,5 +1,5 @@
 -- A group is appended to the log of the side in use: what the images of it stand for, and what is in use after it.
-use Rattle.std.proofs.Common.{◌≡◌, ◌⊎◌, ℕ, ◌+◌, ◌-◌, ◌<◌, ◌≤◌, Bool, false, IsTrue, List, [], ◌∷◌, ◌++◌, length, take, drop, map, Result, Ok, Err, OnOk, refl, sym, ◌∙◌, ap, subst, arith, take-append-drop}
+use Rattle.std.proofs.Common.{◌≡◌, ◌⊎◌, ℕ, ◌+◌, ◌-◌, ◌<◌, ◌≤◌, Bool, false, IsTrue, List, [], ◌∷◌, ◌++◌, length, take, drop, map, refl, sym, ◌∙◌, ap, subst, arith, take-append-drop}
 use Rattle.std.proofs.lemmas.List.{map_push}
 use Rattle.std.proofs.lemmas.List.Elements.{All-push}
 use Rattle.fw_disk.specs.declared.volume.Side.{Side}
@@ -132,6 +132,7 @@ module _ {V : Type 0} (tells : Bool) (view : V → View) (s : StoreState V) (kep
 pub added_none : {V : Type 0} (tells : Bool) (view : V → View) (s : StoreState V) (accepted : List EntryValue) → IsKept tells view s → s.failed ≡ false → accepted ≡ []
     → Committed tells view s s accepted
 added_none tells view s accepted kept going none = record {
+  went_on = going;
   history = no_more s.history ∙ ap (λ (l : List EntryValue). with_more s.history l) (sym none);
   failed = going;
   none = λ _. refl;
@@ -140,9 +141,10 @@ added_none tells view s accepted kept going none = record {
 }
 
 -- a group was added
-pub added_some : {V : Type 0} (tells : Bool) (view : V → View) (old new : StoreState V) (payload : List ℕ) (next : History) (accepted : List EntryValue) → Appended tells view old new payload next
+pub added_some : {V : Type 0} (tells : Bool) (view : V → View) (old new : StoreState V) (payload : List ℕ) (next : History) (accepted : List EntryValue) → old.failed ≡ false → Appended tells view old new payload next
     → next ≡ with_more old.history accepted → payload ≡ group accepted → 0 < length accepted → Committed tells view old new accepted
-added_some tells view old new payload next accepted appended is spelled some = record {
+added_some tells view old new payload next accepted going appended is spelled some = record {
+  went_on = going;
   history = appended.history ∙ is;
   failed = appended.failed;
   none = λ none. absurd (omega (arith, some, ap (λ (l : List EntryValue). length l) none));
@@ -176,10 +178,6 @@ pub frame_fits : (es : List EntryValue) (payload : List ℕ) → payload ≡ gro
 frame_fits es payload is frameable =
     let long : length payload ≡ length (group es) = ap (λ (l : List ℕ). length l) is in
     (omega (arith, long, length-group es), omega (arith, long, frameable.size))
-
-pub on_ok : {T E : Type 0} (r : Result T E) (P Q : Type 0) → (P → Q) → OnOk r P → OnOk r Q
-on_ok (Ok x) P Q f p = f p
-on_ok (Err e) P Q f p = tt
 
 -- a payload with room for its frame
 pub has_room : {V : Type 0} (limit : ℕ) (s : StoreState V) (accepted : List EntryValue) (payload : List ℕ) → payload ≡ payload_of accepted

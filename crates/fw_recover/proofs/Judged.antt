@@ -143,6 +143,15 @@ pub payload_none : (es : List EntryValue) → length es ≡ 0 → payload_of es 
 payload_none [] none = refl
 payload_none (e ∷ es) none = absurd (omega (arith, none))
 
+-- bytes are those of some entries, and no bytes those of none
+pub some_spelled : (es : List EntryValue) (payload : List ℕ) → payload ≡ payload_of es → 0 < length payload → 0 < length es
+some_spelled [] payload is some = absurd (omega (arith, some, ap (λ (l : List ℕ). length l) is))
+some_spelled (e ∷ es) payload is some = omega arith
+
+pub none_spelled : (es : List EntryValue) (payload : List ℕ) → payload ≡ payload_of es → length payload ≡ 0 → es ≡ []
+none_spelled [] payload is none = refl
+none_spelled (e ∷ es) payload is none = absurd (omega (arith, none, ap (λ (l : List ℕ). length l) is, length-group (e ∷ es)))
+
 module _ (h next : History) (es : List EntryValue) (n : ℕ) (count : n ≡ length h.entries) (is : next ≡ with_more h (accepted_of h.entries es)) where
   pub front_is : take n next.entries ≡ h.entries
   front_is = ap (λ (k : History). take n k.entries) is ∙ take_at h.entries (accepted_of h.entries es) n (sym count)

@@ -39,6 +39,7 @@ HasNoRoom limit s accepted = (0 < length accepted) × (limit < s.log.end + 6 + l
 -- the store after these entries were added: they are in the warehouse and, where there are any, in the log. Whatever a crash
 -- leaves from now on stands for the warehouse with them
 pub record Committed {V : Type 0} (tells : Bool) (view : V → View) (old new : StoreState V) (accepted : List EntryValue) : Type 0 where
+  pub went_on : old.failed ≡ false
   pub history : new.history ≡ with_more old.history accepted
   pub failed : new.failed ≡ false
   pub none : accepted ≡ [] → new ≡ old

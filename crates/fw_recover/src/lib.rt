@@ -5,7 +5,8 @@
 //! to the other.
 //!
 //! [`Store::open`] reads both: it answers with the one warehouse for which the files stand, or with none, or with the place of
-//! the first fault.
+//! the first fault. [`Store::commit`] judges an entry and adds it to the log of the side in use; [`Store::commit_group`] adds
+//! several as one group, and [`Store::run`] a list of them one by one.
 #![tactic(auto)]
 
 mod commit;

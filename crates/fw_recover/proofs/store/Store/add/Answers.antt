@@ -1,4 +1,5 @@
 use Rattle.std.proofs.Common.{◌≡◌, ◌⊎◌, inl, [], ◌∷◌, ◌<◌, length, List, ℕ, sym, ◌∙◌, ap, subst, arith}
+use Rattle.std.proofs.lemmas.Result.{on_ok_weaker}
 use Rattle.fw_disk.specs.Volume.{Image, LeavesOnly}
 use Rattle.fw_entry.specs.Entry.{EntryValue}
 use Rattle.fw_segment.specs.Groups.{group}
@@ -6,9 +7,8 @@ use Rattle.fw_snapshot.specs.History.{History}
 use Rattle.fw_snapshot.specs.Verdicts.{with_more}
 use Rattle.fw_recover.specs.Stands.{StandsFor, StandsForEither}
 use Rattle.fw_recover.specs.Store.{StoreState}
-use Rattle.fw_recover.specs.Committing.{Committed, Appended}
 use Rattle.fw_recover.proofs.Found.{one_entry}
-use Rattle.fw_recover.proofs.Committing.{still, frame_fits, on_ok, added_some}
+use Rattle.fw_recover.proofs.Committing.{still, frame_fits, added_some}
 use Rattle.fw_recover.proofs.store.Store.add.Goals as goal
 
 pub returns-in_default-new-clause-any_moment : goal.returns-in_default-new-clause-any_moment
@@ -47,6 +47,6 @@ returns-clause-done g c =
     let e = c.args.entry.now in
     let same = c.state.ensures ∙ ap (λ (x : StoreState _). x.history) c.self.view_is in
     let is = c.in-Ok-new.ensures.shared ∙ c.in-Ok.ensures ∙ ap (λ (k : History). with_more k (e ∷ [])) same in
-    on_ok c.append.result (Appended g.V.Volume.tells g.V.Volume.view s c.append.new.self c.deref.result.now c.in-Ok-new.next) (Committed g.V.Volume.tells g.V.Volume.view s c.append.new.self (e ∷ []))
-    (λ appended. added_some g.V.Volume.tells g.V.Volume.view s c.append.new.self c.deref.result.now c.in-Ok-new.next (e ∷ []) appended is (c.deref.ensures.value ∙ c.in-Ok-group_of_one.ensures.spelled) (omega arith))
+    on_ok_weaker c.append.result
+    (λ appended. added_some g.V.Volume.tells g.V.Volume.view s c.append.new.self c.deref.result.now c.in-Ok-new.next (e ∷ []) c.requires.goes_on appended is (c.deref.ensures.value ∙ c.in-Ok-group_of_one.ensures.spelled) (omega arith))
     c.append.ensures.done
