@@ -1,9 +1,9 @@
 -- Entries are committed one by one: what a crash leaves of them.
-use Rattle.std.proofs.Common.{◌≡◌, ◌⊎◌, inl, inr, ℕ, ◌+◌, ◌<◌, ◌≤◌, List, length, take, get_or, sym, subst, arith}
+use Rattle.std.proofs.Common.{◌≡◌, inl, inr, ℕ, ◌+◌, ◌<◌, List, length, get_or, subst, arith}
 use Rattle.fw_disk.specs.Volume.{Image}
 use Rattle.fw_entry.specs.Entry.{EntryValue}
 use Rattle.fw_snapshot.specs.History.{History}
-use Rattle.fw_snapshot.specs.Verdicts.{taken, with_more}
+use Rattle.fw_snapshot.specs.Verdicts.{taken}
 use Rattle.fw_recover.specs.Stands.{StandsFor, StandsForEither}
 use Rattle.fw_recover.specs.Committing.{with_first, StandsForFirst, HasAnswered}
 use Rattle.fw_recover.proofs.Judged.{history_more, none_yet}

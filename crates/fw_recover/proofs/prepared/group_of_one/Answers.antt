@@ -1,4 +1,4 @@
-use Rattle.std.proofs.Common.{◌≡◌, [], ◌∷◌, ◌++◌, List, ℕ, sym, ◌∙◌, ap, subst}
+use Rattle.std.proofs.Common.{[], ◌∷◌, ◌++◌, List, ℕ, sym, ◌∙◌, ap, subst}
 use Rattle.fw_entry.specs.Entry.{EntryValue}
 use Rattle.fw_segment.specs.Groups.{group, IsGroup}
 use Rattle.fw_snapshot.specs.Verdicts.{chosen}

@@ -1,9 +1,8 @@
-use Rattle.std.proofs.Common.{◌≡◌, ◌≤◌, ◌<◌, length, drop, List, ℕ, sym, ◌∙◌, ap, subst, arith}
+use Rattle.std.proofs.Common.{◌<◌, length, List, sym, ◌∙◌, ap, subst, arith}
 use Rattle.fw_entry.specs.Entry.{EntryValue}
-use Rattle.fw_segment.specs.Groups.{group, IsGroup}
+use Rattle.fw_segment.specs.Groups.{IsGroup}
 use Rattle.fw_snapshot.specs.History.{History}
 use Rattle.fw_snapshot.specs.Judging.{IsLegal}
-use Rattle.fw_snapshot.specs.Verdicts.{verdicts_on, accepted_of, chosen}
 use Rattle.fw_snapshot.specs.declared.verdict.Verdict.{Verdict}
 use Rattle.fw_snapshot.proofs.VerdictFacts.{as_many}
 use Rattle.fw_recover.specs.Committing.{payload_of, IsFrameable}

@@ -1,8 +1,6 @@
-use Rattle.std.proofs.Common.{◌≡◌, ◌⊎◌, inl, [], ◌∷◌, ◌<◌, length, List, ℕ, sym, ◌∙◌, ap, subst, arith}
+use Rattle.std.proofs.Common.{◌⊎◌, inl, [], ◌∷◌, ◌∙◌, ap, subst, arith}
 use Rattle.std.proofs.lemmas.Result.{on_ok_weaker}
-use Rattle.fw_disk.specs.Volume.{Image, LeavesOnly}
-use Rattle.fw_entry.specs.Entry.{EntryValue}
-use Rattle.fw_segment.specs.Groups.{group}
+use Rattle.fw_disk.specs.Volume.{LeavesOnly}
 use Rattle.fw_snapshot.specs.History.{History}
 use Rattle.fw_snapshot.specs.Verdicts.{with_more}
 use Rattle.fw_recover.specs.Stands.{StandsFor, StandsForEither}

@@ -1,11 +1,11 @@
-use Rattle.std.proofs.Common.{◌≡◌, ◌⊎◌, ◌+◌, ◌++◌, ◌∷◌, [], Bool, false, IsTrue, List, ℕ, length, map, refl, sym, ◌∙◌, ap, subst}
-use Rattle.fw_disk.specs.Volume.{Image, View, LeavesOnly}
-use Rattle.fw_journal.specs.Log.{LogState, Stands, Appends}
+use Rattle.std.proofs.Common.{◌≡◌, ◌⊎◌, ◌+◌, Bool, false, length, map, refl, sym, ◌∙◌, ap, subst}
+use Rattle.fw_disk.specs.Volume.{LeavesOnly}
+use Rattle.fw_journal.specs.Log.{LogState}
 use Rattle.fw_segment.specs.Groups.{group}
 use Rattle.fw_snapshot.specs.History.{History}
-use Rattle.fw_recover.specs.Stands.{StandsFor, StandsForEither}
+use Rattle.fw_recover.specs.Stands.{StandsFor}
 use Rattle.fw_recover.specs.Opening.{GoesBehind}
-use Rattle.fw_recover.specs.Store.{StoreState, IsFresh}
+use Rattle.fw_recover.specs.Store.{StoreState}
 use Rattle.fw_recover.specs.Committing.{Appended}
 use Rattle.fw_recover.proofs.Committing.{either_run, fresh_after, each_stands}
 use Rattle.fw_recover.proofs.store.Store.append.Goals as goal

@@ -1,4 +1,4 @@
-use Rattle.std.proofs.Common.{◌≡◌, ◌<◌, ◌-◌, ◌+◌, length, List, ℕ, sym, ◌∙◌, ap, arith}
+use Rattle.std.proofs.Common.{List, ◌∙◌, ap, arith}
 use Rattle.fw_entry.specs.Entry.{EntryValue}
 use Rattle.fw_recover.specs.Store.{StoreState}
 use Rattle.fw_recover.specs.Committing.{PreparedState, payload_of}
