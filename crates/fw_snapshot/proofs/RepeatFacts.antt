@@ -11,12 +11,13 @@ use Rattle.std.proofs.lemmas.Slice.Eq.{bytes_eq-Decides}
 use Rattle.fw_entry.specs.Entry.{EntryValue}
 use Rattle.fw_snapshot.specs.History.{entries_from}
 use Rattle.fw_snapshot.specs.Judging.{judged, IsLegal, IsLegalAfter, verdict_on}
-use Rattle.fw_snapshot.specs.Verdicts.{is_accept, kept_by, taken, verdicts_on, accepted_of, IsRepeat}
+use Rattle.fw_snapshot.specs.Verdicts.{is_accept, kept_by, taken, verdicts_on, accepted_of, IsRepeat, IsSending}
 use Rattle.fw_snapshot.specs.declared.verdict.Verdict.{Verdict}
 use Rattle.fw_snapshot.specs.declared.verdict.Verdict.TheVariants as verdict
 use Rattle.fw_snapshot.specs.declared.verdict.Conflict.{Conflict}
 use Rattle.fw_snapshot.proofs.EntryFacts.{entries_from_more}
-use Rattle.fw_snapshot.proofs.LegalFacts.{accepted_number, counts_before, in_turn, legal_kept, once}
+use Rattle.fw_snapshot.proofs.LegalFacts.{accepted_number, counts_before, in_turn, legal_kept, legal_more, once}
+use Rattle.fw_snapshot.proofs.RuleFacts.{gap_judged}
 use Rattle.fw_snapshot.proofs.VerdictFacts.{accepted_legal, verdicts_in_parts, accepted_in_parts, all_accepted}
 
 -- the numbers of an origin
@@ -193,6 +194,10 @@ again_verdicts before (e ∷ again) legal each =
     verdicts_over before again e legal (All-head (IsRepeat before) e again each)
     ∙ ap (λ (l : List Verdict). verdict.Already (entries_from e.origin before) ∷ l) (again_verdicts before again legal (All-tail (IsRepeat before) e again each))
 
+none_accepted : (before : List EntryValue) → accepted_of before [] ≡ []
+unfolding accepted_of
+none_accepted before = refl
+
 pub again_nothing : (before again : List EntryValue) → IsLegal before → All (IsRepeat before) again → accepted_of before again ≡ []
 unfolding accepted_of
 again_nothing before [] legal each = refl
@@ -219,3 +224,25 @@ pub again_all : (before es again : List EntryValue) → IsLegal before → IsLeg
 again_all before es again legal after each =
     let whole = all_accepted before es after in
     again_accepted before es again legal (subst (λ (l : List EntryValue). All (Contains l) again) (sym whole) each) ∙ whole
+
+-- entries that are sent at least once
+after_one : (before rest sent entries : List EntryValue) (e : EntryValue) → judged before e ≡ verdict.Accept → entries ≡ e ∷ rest → accepted_of (before ++ e ∷ []) sent ≡ rest → accepted_of before (e ∷ sent) ≡ entries
+unfolding accepted_of
+after_one before rest sent entries e h is more =
+    let alone : taken before e ≡ e ∷ [] = ap (λ v. kept_by v e) h in
+    ap (λ (l : List EntryValue). l ++ accepted_of (before ++ l) sent) alone ∙ ap (λ (l : List EntryValue). e ∷ l) more ∙ sym is
+
+first_accepted : (before rest : List EntryValue) (e : EntryValue) → IsLegalAfter before (e ∷ rest) → (judged before e ≡ verdict.Accept) × IsLegalAfter (before ++ e ∷ []) rest
+unfolding IsLegalAfter
+first_accepted before rest e legal = legal
+
+pub kept_once : (before entries sent : List EntryValue) → IsLegal before → IsLegalAfter before entries → IsSending before entries sent → accepted_of before sent ≡ entries
+unfolding IsSending
+kept_once before entries [] legal after sending = none_accepted before ∙ sym sending
+kept_once before entries (e ∷ sent) legal after (inl repeat) =
+    passed_over before sent e (not_accepted before e legal repeat.0) ∙ kept_once before entries sent legal after repeat.1
+kept_once before entries (e ∷ sent) legal after (inr (inl early)) =
+    passed_over before sent e (ap is_accept (gap_judged before e early.0)) ∙ kept_once before entries sent legal after early.1
+kept_once before entries (e ∷ sent) legal after (inr (inr next)) =
+    let parts = first_accepted before next.0 e (subst (λ (l : List EntryValue). IsLegalAfter before l) next.1 after) in
+    after_one before next.0 sent entries e parts.0 next.1 (kept_once (before ++ e ∷ []) next.0 sent (legal_more [] before e legal parts.0) parts.1 next.2)

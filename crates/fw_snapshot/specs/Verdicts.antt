@@ -1,7 +1,7 @@
 -- Entries that are judged one after the other: each after those that a warehouse has, and those before it that were accepted.
-use Rattle.std.specs.Prelude.{◌≡◌, ℕ, Bool, true, false, List, [], ◌∷◌, ◌++◌, slice_get, Some, if◌then◌else◌}
+use Rattle.std.specs.Prelude.{◌≡◌, ◌⊎◌, ◌+◌, ◌<◌, ℕ, Bool, true, false, List, [], ◌∷◌, ◌++◌, slice_get, Some, if◌then◌else◌}
 use Rattle.fw_entry.specs.Entry.{EntryValue}
-use Rattle.fw_snapshot.specs.History.{History}
+use Rattle.fw_snapshot.specs.History.{History, entries_from}
 use Rattle.fw_snapshot.specs.Judging.{judged}
 use Rattle.fw_snapshot.specs.declared.verdict.Verdict.{Verdict}
 use Rattle.fw_snapshot.specs.declared.verdict.Verdict.TheVariants as verdict
@@ -44,6 +44,15 @@ pub record IsRepeat (entries : List EntryValue) (e : EntryValue) : Type 0 where
   pub stands : slice_get entries place ≡ Some first
   pub same_origin : first.origin ≡ e.origin
   pub same_number : first.seq ≡ e.seq
+
+-- the list `sent` has the entries in their order, each at least once. In between may stand repeats of what was sent or is there, and
+-- entries that come before their turn and leave a gap
+unfoldable pub IsSending : List EntryValue → List EntryValue → List EntryValue → Type 0
+IsSending before entries [] = entries ≡ []
+IsSending before entries (e ∷ sent) =
+    (IsRepeat before e × IsSending before entries sent)
+    ⊎ (((entries_from e.origin before + 1 < e.seq) × IsSending before entries sent)
+    ⊎ ((rest : List EntryValue) × (entries ≡ e ∷ rest) × IsSending (before ++ e ∷ []) rest sent))
 
 -- a warehouse after more entries
 abbrev pub with_more : History → List EntryValue → History

@@ -10,7 +10,7 @@ ghost use Rattle.fw_entry.specs.Entry.CommandValue.{post, commit, set_policy};
 ghost use Rattle.fw_snapshot.specs.History.{rows_posted, rows_of, commitments_of, entries_from};
 ghost use Rattle.fw_snapshot.specs.Ids.{NoRowHasIdOf, NoneHasIdOf};
 ghost use Rattle.fw_snapshot.specs.Judging.{IsLegal, IsLegalAfter, judged, most_commitments, most_rows};
-ghost use Rattle.fw_snapshot.specs.Verdicts.{verdicts_on, accepted_of, chosen, is_accept, IsRepeat};
+ghost use Rattle.fw_snapshot.specs.Verdicts.{verdicts_on, accepted_of, chosen, is_accept, IsRepeat, IsSending};
 ghost use Rattle.fw_snapshot.specs.declared.verdict.Conflict.{Conflict};
 ghost use Rattle.fw_snapshot.specs.declared.verdict.Conflict.TheVariants as conflict;
 ghost use Rattle.fw_snapshot.specs.declared.verdict.Verdict.TheVariants as verdict;
@@ -130,6 +130,12 @@ pub fn a_repeat_changes_nothing()
         → accepted_of before (first ++ e ∷ rest) ≡ accepted_of before (first ++ rest) }
     ensures refused { (before first rest : List EntryValue) (e : EntryValue) → is_accept (judged (before ++ accepted_of before first) e) ≡ false
         → accepted_of before (first ++ e ∷ rest) ≡ accepted_of before (first ++ rest) }
+{}
+
+/// Sent at least once, kept exactly once: where entries that a warehouse can take are sent in their order, with repeats
+/// and entries before their turn in between, the warehouse holds what it held and these entries, each once and in order.
+pub fn sent_at_least_once_is_kept_once()
+    ensures { (before entries sent : List EntryValue) → IsLegal before → IsLegalAfter before entries → IsSending before entries sent → accepted_of before sent ≡ entries }
 {}
 
 /// Each entry counts once, however often it is sent: in what a warehouse holds after any list of entries no two places
