@@ -1,4 +1,4 @@
-//! Bytes by hand, read and written.
+//! Entries, groups, segments and states: bytes by hand, read and written.
 use fw_entry_bytes::Form;
 use fw_segment::{
     DecodeFault, Kind, decode_entry, decode_group, decode_segment, decode_state, encode_entry,
@@ -140,9 +140,9 @@ fn faulty_fronts(alloc: Global, what: What, bytes: &[u8]) -> Result<usize, Alloc
     Ok(count)
 }
 
-/// How many changes of one byte, each to each other value, are told: what is read is written as it was read, and what isn't read has its
-/// fault within the bytes. Each should be.
-fn told_changes(alloc: Global, what: What, bytes: &[u8]) -> Result<usize, AllocError> {
+/// How many changes of one byte, each to each other value, are noticed: the changed bytes are read and written again as they are, or they are
+/// refused with a fault within them. Each should be.
+fn noticed_changes(alloc: Global, what: What, bytes: &[u8]) -> Result<usize, AllocError> {
     let mut count = 0_usize;
     for place in 0..bytes.len() {
         for other in 1..=255_u8 {
@@ -154,12 +154,12 @@ fn told_changes(alloc: Global, what: What, bytes: &[u8]) -> Result<usize, AllocE
                     &bytes[place + 1..],
                 ],
             )?;
-            let is_told = match again(alloc, what, &changed) {
+            let is_noticed = match again(alloc, what, &changed) {
                 Ok(written) => written.as_slice() == changed.as_slice(),
                 Err(DecodeFault::Corrupt { at }) => at <= changed.len(),
                 Err(DecodeFault::NoMemory) => return Err(AllocError),
             };
-            if is_told {
+            if is_noticed {
                 count = count.saturating_add(1);
             }
         }
@@ -201,12 +201,12 @@ fn no_front_is_read(rt: HostRuntime) -> Result<(), Fail> {
     Ok(())
 }
 
-/// The place of the first of the bytes of which some change is not told, and how many changes there are in all.
+/// The place of the first of the bytes of which some change is not noticed, and how many changes there are in all.
 fn changes_of_all(alloc: Global) -> Result<(Option<usize>, usize), AllocError> {
     let mut all = 0_usize;
     for (place, (what, bytes)) in SPELLED.iter().enumerate() {
         let changes = bytes.len().saturating_mul(255);
-        if told_changes(alloc, *what, bytes)? != changes {
+        if noticed_changes(alloc, *what, bytes)? != changes {
             return Ok((Some(place), all));
         }
         all = all.saturating_add(changes);
@@ -215,9 +215,9 @@ fn changes_of_all(alloc: Global) -> Result<(Option<usize>, usize), AllocError> {
 }
 
 #[test]
-fn each_change_of_a_byte_is_told(rt: HostRuntime) -> Result<(), Fail> {
-    let told = changes_of_all(rt.alloc())?;
-    assert!(rt; told == (None, 133_365), "{told:?}");
+fn each_change_of_a_byte_is_noticed(rt: HostRuntime) -> Result<(), Fail> {
+    let noticed = changes_of_all(rt.alloc())?;
+    assert!(rt; noticed == (None, 133_365), "{noticed:?}");
     Ok(())
 }
 
