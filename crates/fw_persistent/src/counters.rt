@@ -82,11 +82,3 @@ impl Counters {
         })
     }
 }
-
-#[cfg(test)]
-impl Counters {
-    /// How many texts are on the longest way down the search tree.
-    pub(crate) fn height(&self) -> u32 {
-        self.root.height()
-    }
-}

@@ -8,6 +8,3 @@ mod sequence;
 
 pub use counters::Counters;
 pub use sequence::Sequence;
-
-#[cfg(test)]
-mod tests;

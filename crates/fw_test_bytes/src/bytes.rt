@@ -8,14 +8,44 @@ use fw_row_bytes::{keys_rise, tags_in_order, tags_of};
 use std::alloc::{AllocError, Global};
 use std::test::Fail;
 
-/// Writes a byte, a number of 4 bytes, one of 8, a signed one, a text and a byte.
-fn write_fields(out: &mut Vec<u8>) -> Result<(), AllocError> {
-    put_byte(out, 7)?;
-    put_u32(out, 0x0403_0201)?;
-    put_u64(out, 258)?;
-    put_i64(out, -2)?;
-    put_text(out, "ab")?;
-    put_byte(out, 9)
+/// A field of bytes.
+#[derive(Clone, Copy, Drop)]
+enum Field {
+    Byte(u8),
+    U32(u32),
+    U64(u64),
+    I64(i64),
+    /// The text `ab`.
+    Text,
+}
+
+/// A byte, a number of 4 bytes, one of 8, a signed one, a text and a byte.
+const WRITTEN: &[Field] = &[
+    Field::Byte(7),
+    Field::U32(0x0403_0201),
+    Field::U64(258),
+    Field::I64(-2),
+    Field::Text,
+    Field::Byte(9),
+];
+
+fn put(out: &mut Vec<u8>, field: Field) -> Result<(), AllocError> {
+    match field {
+        Field::Byte(byte) => put_byte(out, byte),
+        Field::U32(number) => put_u32(out, number),
+        Field::U64(number) => put_u64(out, number),
+        Field::I64(number) => put_i64(out, number),
+        Field::Text => put_text(out, "ab"),
+    }
+}
+
+/// These fields, one after the other.
+fn written(alloc: Global) -> Result<Vec<u8>, AllocError> {
+    let mut out = Vec::new(alloc);
+    for field in WRITTEN {
+        put(&mut out, *field)?;
+    }
+    Ok(out)
 }
 
 /// The bytes of these fields.
@@ -24,11 +54,16 @@ const FIELDS: [u8; 28] = [
     0, 97, 98, 9,
 ];
 
+/// Whether the fields are written as their bytes.
+fn are_written(alloc: Global) -> Result<bool, AllocError> {
+    let out = written(alloc)?;
+    Ok(out.as_slice() == FIELDS.as_slice())
+}
+
 #[test]
 fn fields_are_written(rt: HostRuntime) -> Result<(), Fail> {
-    let mut out = Vec::new(rt.alloc());
-    write_fields(&mut out)?;
-    assert!(rt; out.as_slice() == FIELDS.as_slice() && text_len("ab") == 6);
+    let are_written = are_written(rt.alloc())?;
+    assert!(rt; are_written && text_len("ab") == 6);
     Ok(())
 }
 

@@ -17,7 +17,7 @@ use std::test::Fail;
 
 /// What bytes are read as.
 #[derive(Clone, Copy, Drop)]
-pub enum What {
+pub(crate) enum What {
     U32,
     U64,
     I64,
@@ -78,7 +78,7 @@ impl Spelled for Entry {
 }
 
 /// The parts, one after the other.
-fn joined(alloc: Global, parts: &[&[u8]]) -> Result<Vec<u8>, AllocError> {
+pub(crate) fn joined(alloc: Global, parts: &[&[u8]]) -> Result<Vec<u8>, AllocError> {
     let mut bytes = Vec::new(alloc);
     for part in parts {
         bytes.extend_from_slice(part)?;
@@ -171,7 +171,7 @@ fn is_right(alloc: Global, what: What, parts: &[&[u8]], printed: &str) -> Result
 
 /// What the first value prints that is not read or not written.
 fn wrong_value(alloc: Global) -> Result<Option<&'static str>, ReadError> {
-    for (what, parts, printed) in &VALUES {
+    for (what, parts, printed) in VALUES {
         if !is_right(alloc, *what, parts, printed)? {
             return Ok(Some(printed));
         }
@@ -250,18 +250,30 @@ fn wrong_change(
     Ok(None)
 }
 
+/// Spellings, and what faults their changes make.
+const CHANGED: &[(What, &[u8], &[Change])] = &[
+    (What::Row, &TAX, TAX_CHANGES),
+    (What::Row, &FULL, FULL_CHANGES),
+    (What::Commitment, &USAGE, USAGE_CHANGES),
+    (What::Commitment, &DEAR, &[(106, 1, 0)]),
+    (What::Commitment, &SPEND, SPEND_CHANGES),
+    (What::Policy, &POLICY, POLICY_CHANGES),
+];
+
+/// The first of all changes that makes no fault or makes it elsewhere, and the place of its spelling among those above.
+fn wrong_change_of_all(alloc: Global) -> Result<Option<(usize, Change)>, AllocError> {
+    for (i, (what, bytes, changes)) in CHANGED.iter().enumerate() {
+        if let Some(change) = wrong_change(alloc, *what, bytes, changes)? {
+            return Ok(Some((i, change)));
+        }
+    }
+    Ok(None)
+}
+
 #[test]
 fn changes_have_their_faults(rt: HostRuntime) -> Result<(), Fail> {
-    let alloc = rt.alloc();
-    let wrong = [
-        wrong_change(alloc, What::Row, &TAX, TAX_CHANGES)?,
-        wrong_change(alloc, What::Row, &FULL, FULL_CHANGES)?,
-        wrong_change(alloc, What::Commitment, &USAGE, USAGE_CHANGES)?,
-        wrong_change(alloc, What::Commitment, &DEAR, &[(106, 1, 0)])?,
-        wrong_change(alloc, What::Commitment, &SPEND, SPEND_CHANGES)?,
-        wrong_change(alloc, What::Policy, &POLICY, POLICY_CHANGES)?,
-    ];
-    assert!(rt; wrong == [None; 6], "{wrong:?}");
+    let wrong = wrong_change_of_all(rt.alloc())?;
+    assert!(rt; wrong.is_none(), "{wrong:?}");
     Ok(())
 }
 
@@ -280,15 +292,27 @@ fn wrong_front(
     Ok(None)
 }
 
+/// Spellings, and what faults their fronts have.
+const FRONTS: &[(What, &[u8], &[Front])] = &[
+    (What::Row, &FULL, FULL_FRONTS),
+    (What::Commitment, &USAGE, USAGE_FRONTS),
+    (What::Policy, &POLICY, POLICY_FRONTS),
+];
+
+/// The first of all fronts that has no fault or has it elsewhere, and the place of its spelling among those above.
+fn wrong_front_of_all(alloc: Global) -> Result<Option<(usize, Front)>, AllocError> {
+    for (i, (what, bytes, fronts)) in FRONTS.iter().enumerate() {
+        if let Some(front) = wrong_front(alloc, *what, bytes, fronts)? {
+            return Ok(Some((i, front)));
+        }
+    }
+    Ok(None)
+}
+
 #[test]
 fn fronts_have_their_faults(rt: HostRuntime) -> Result<(), Fail> {
-    let alloc = rt.alloc();
-    let wrong = [
-        wrong_front(alloc, What::Row, &FULL, FULL_FRONTS)?,
-        wrong_front(alloc, What::Commitment, &USAGE, USAGE_FRONTS)?,
-        wrong_front(alloc, What::Policy, &POLICY, POLICY_FRONTS)?,
-    ];
-    assert!(rt; wrong == [None; 3], "{wrong:?}");
+    let wrong = wrong_front_of_all(rt.alloc())?;
+    assert!(rt; wrong.is_none(), "{wrong:?}");
     Ok(())
 }
 

@@ -1,6 +1,7 @@
-//! Tests of the crates that write and read bytes, over their public calls.
+//! Tests of the crates that write and read bytes, and of persistent lists and counts, over their public calls.
 //!
-//! They stand in a crate of their own so that the crates which they test are proved once.
+//! They stand in a crate of their own so that the crates which they test are proved once. The table of all changes decodes some 130,000 times:
+//! `rt try --test`, which checks each step, wants `--seconds 400` for it.
 #![tactic(auto)]
 
 #[cfg(test)]
@@ -9,5 +10,9 @@ mod bytes;
 mod decoders;
 #[cfg(test)]
 mod entry;
+#[cfg(test)]
+mod persistent;
+#[cfg(test)]
+mod segment;
 #[cfg(test)]
 mod vectors;

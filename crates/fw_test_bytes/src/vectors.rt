@@ -2,13 +2,13 @@
 use crate::decoders::What;
 
 /// A changed byte: its place, what it is then, and the place of the fault.
-pub type Change = (usize, u8, usize);
+pub(crate) type Change = (usize, u8, usize);
 
 /// How many bytes are left, and the place of the fault.
-pub type Front = (usize, usize);
+pub(crate) type Front = (usize, usize);
 
 /// A tax of one nano over the first hour of 1970; all else is null.
-pub const TAX: [u8; 45] = [
+pub(crate) const TAX: [u8; 45] = [
     1, 0, 0, 0, 0, 0, 0, 0, 1, 0, 0, 0, 0, 0, 0, 0, 3, 0, 0, 0, 0, 0, 0, 0, 0, 0, 0x10, 0x0e, 0, 0,
     0, 0, 0, 0, 0, 0, 0, 0, 0, 0, 0, 0, 0, 0, 0,
 ];
@@ -16,7 +16,7 @@ pub const TAX: [u8; 45] = [
 /// A usage row in which nothing is null: a correction of minus one nano billed and two effective, over the second hour
 /// of 1970; discount `sp-1`, unused, to a spend; seven nanos of `h`; SKU `v`, sub-account `a`; tags `a` of `x`, and `b`
 /// of no text.
-pub const FULL: [u8; 95] = [
+pub(crate) const FULL: [u8; 95] = [
     255, 255, 255, 255, 255, 255, 255, 255, 2, 0, 0, 0, 0, 0, 0, 0, 1, 1, 16, 14, 0, 0, 0, 0, 0, 0,
     32, 28, 0, 0, 0, 0, 0, 0, 1, 4, 0, 0, 0, 115, 112, 45, 49, 2, 2, 1, 7, 0, 0, 0, 0, 0, 0, 0, 1,
     1, 0, 0, 0, 104, 1, 1, 0, 0, 0, 118, 1, 1, 0, 0, 0, 97, 2, 0, 0, 0, 1, 0, 0, 0, 97, 1, 0, 0, 0,
@@ -24,7 +24,7 @@ pub const FULL: [u8; 95] = [
 ];
 
 /// The full row as a tax without a status.
-pub const FULL_TAX: [u8; 95] = [
+pub(crate) const FULL_TAX: [u8; 95] = [
     255, 255, 255, 255, 255, 255, 255, 255, 2, 0, 0, 0, 0, 0, 0, 0, 3, 1, 16, 14, 0, 0, 0, 0, 0, 0,
     32, 28, 0, 0, 0, 0, 0, 0, 1, 4, 0, 0, 0, 115, 112, 45, 49, 2, 0, 1, 7, 0, 0, 0, 0, 0, 0, 0, 1,
     1, 0, 0, 0, 104, 1, 1, 0, 0, 0, 118, 1, 1, 0, 0, 0, 97, 2, 0, 0, 0, 1, 0, 0, 0, 97, 1, 0, 0, 0,
@@ -32,7 +32,7 @@ pub const FULL_TAX: [u8; 95] = [
 ];
 
 /// Changes of the tax.
-pub const TAX_CHANGES: &[Change] = &[
+pub(crate) const TAX_CHANGES: &[Change] = &[
     (7, 0x7f, 0),
     (15, 0x80, 8),
     (16, 0, 16),
@@ -60,7 +60,7 @@ pub const TAX_CHANGES: &[Change] = &[
 ];
 
 /// Changes of the full row.
-pub const FULL_CHANGES: &[Change] = &[
+pub(crate) const FULL_CHANGES: &[Change] = &[
     (53, 0x7f, 46),
     // An id, a tag's key and its text that are no UTF-8, and an id that is longer than the bytes.
     (39, 0xff, 35),
@@ -77,7 +77,7 @@ pub const FULL_CHANGES: &[Change] = &[
 ];
 
 /// Fronts of the full row.
-pub const FULL_FRONTS: &[Front] = &[
+pub(crate) const FULL_FRONTS: &[Front] = &[
     (0, 0),
     (7, 0),
     (15, 8),
@@ -93,7 +93,7 @@ pub const FULL_FRONTS: &[Front] = &[
 /// A commitment to usage. Id `c1`, account `a`, the tag `s` of no text and the tag `t` of `v`; from hour 3 on, two
 /// hours of five nanos each; the unit `h`, the SKUs `a` and `b`; a purchase of seven nanos in second 9, and one of
 /// eight in second 10.
-pub const USAGE: [u8; 107] = [
+pub(crate) const USAGE: [u8; 107] = [
     2, 0, 0, 0, b'c', b'1', 1, 1, 1, 0, 0, 0, b'a', // the tags, at 13
     2, 0, 0, 0, 1, 0, 0, 0, b's', 0, 0, 0, 0, 1, 0, 0, 0, b't', 1, 0, 0, 0, b'v',
     // the term, at 36
@@ -105,7 +105,7 @@ pub const USAGE: [u8; 107] = [
 ];
 
 /// The commitment to usage with a first purchase of about 7 * 10^16 nanos. A second like it is too much.
-pub const DEAR: [u8; 107] = [
+pub(crate) const DEAR: [u8; 107] = [
     2, 0, 0, 0, b'c', b'1', 1, 1, 1, 0, 0, 0, b'a', 2, 0, 0, 0, 1, 0, 0, 0, b's', 0, 0, 0, 0, 1, 0,
     0, 0, b't', 1, 0, 0, 0, b'v', 3, 0, 0, 0, 2, 0, 0, 0, 5, 0, 0, 0, 0, 0, 0, 0, 1, 0, 0, 0, b'h',
     2, 0, 0, 0, 1, 0, 0, 0, b'a', 1, 0, 0, 0, b'b', 2, 0, 0, 0, 9, 0, 0, 0, 0, 0, 0, 0, 7, 0, 0, 0,
@@ -113,7 +113,7 @@ pub const DEAR: [u8; 107] = [
 ];
 
 /// Changes of the commitment to usage.
-pub const USAGE_CHANGES: &[Change] = &[
+pub(crate) const USAGE_CHANGES: &[Change] = &[
     // The id: of no byte, longer than the bytes, no UTF-8.
     (0, 0, 0),
     (3, 1, 0),
@@ -159,7 +159,7 @@ pub const USAGE_CHANGES: &[Change] = &[
 ];
 
 /// Fronts of the commitment to usage.
-pub const USAGE_FRONTS: &[Front] = &[
+pub(crate) const USAGE_FRONTS: &[Front] = &[
     (0, 0),
     (5, 0),
     (6, 6),
@@ -174,7 +174,7 @@ pub const USAGE_FRONTS: &[Front] = &[
 /// A commitment to spend that is as large as it may be in each number. Id `c`, no account, no tags; from hour
 /// 70,389,527 on, 26,304 hours of 10^17 nanos each; a rate of one part per million for `a`, and one of a million for
 /// `b`; a purchase of 10^17 nanos in second 253,402,300,799.
-pub const SPEND: [u8; 69] = [
+pub(crate) const SPEND: [u8; 69] = [
     1, 0, 0, 0, b'c', 2, 0, 0, 0, 0, 0, // the term, at 11
     0x17, 0x0f, 0x32, 0x04, 0xc0, 0x66, 0, 0, 0, 0, 0x8a, 0x5d, 0x78, 0x45, 0x63, 0x01,
     // the rates, at 27
@@ -184,7 +184,7 @@ pub const SPEND: [u8; 69] = [
 ];
 
 /// Changes of the commitment to spend.
-pub const SPEND_CHANGES: &[Change] = &[
+pub(crate) const SPEND_CHANGES: &[Change] = &[
     (5, 3, 5),
     // The first hour of the year 10000, an hour more, a nano more.
     (11, 0x18, 11),
@@ -206,7 +206,7 @@ pub const SPEND_CHANGES: &[Change] = &[
 
 /// A policy. Key `team`; `y` gives to `a` by the weight 1,000,000,000 and to `b` by 0; `x` gives in proportion, and so
 /// do the lines without the key.
-pub const POLICY: [u8; 59] = [
+pub(crate) const POLICY: [u8; 59] = [
     4, 0, 0, 0, b't', b'e', b'a', b'm', 3, 0, 0, 0, // the first rule, at 12
     1, 0, 0, 0, b'y', 1, 2, 0, 0, 0, // its targets, at 22
     1, 0, 0, 0, b'a', 0x00, 0xca, 0x9a, 0x3b, 0, 0, 0, 0, 1, 0, 0, 0, b'b', 0, 0, 0, 0, 0, 0, 0, 0,
@@ -215,7 +215,7 @@ pub const POLICY: [u8; 59] = [
 ];
 
 /// Changes of the policy.
-pub const POLICY_CHANGES: &[Change] = &[
+pub(crate) const POLICY_CHANGES: &[Change] = &[
     // The key: of no byte, longer than the bytes, no UTF-8.
     (0, 0, 0),
     (3, 1, 0),
@@ -245,7 +245,7 @@ pub const POLICY_CHANGES: &[Change] = &[
 ];
 
 /// Fronts of the policy.
-pub const POLICY_FRONTS: &[Front] = &[
+pub(crate) const POLICY_FRONTS: &[Front] = &[
     (0, 0),
     (11, 8),
     (16, 12),
@@ -286,7 +286,7 @@ const OUTSIDE: [u8; 23] = [
 ];
 
 /// The parts that a value's bytes are made of, and what it prints.
-pub const VALUES: [(What, &[&[u8]], &str); 12] = [
+pub(crate) const VALUES: &[(What, &[&[u8]], &str)] = &[
     (
         What::Row,
         &[&TAX],
@@ -384,7 +384,7 @@ pub const VALUES: [(What, &[&[u8]], &str); 12] = [
 ];
 
 /// Parts, and the place of the fault in what they make together.
-pub const FAULTS: [(What, &[&[u8]], Option<usize>); 24] = [
+pub(crate) const FAULTS: &[(What, &[&[u8]], Option<usize>)] = &[
     // Numbers and texts that are cut off, and a text that is no UTF-8.
     (What::U32, &[&[1, 2, 3]], Some(0)),
     (What::U64, &[&[1, 2, 3, 4, 5, 6, 7]], Some(0)),

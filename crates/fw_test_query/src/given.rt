@@ -13,28 +13,28 @@ CommitmentDiscountId,CommitmentDiscountCategory,CommitmentDiscountStatus,\
 ConsumedQuantity,ConsumedUnit,SkuId,SubAccountId,Tags\n";
 
 /// The first hour of 2024.
-pub const HOUR: u32 = 473_352;
+pub(crate) const HOUR: u32 = 473_352;
 
 /// Ends a test: what it looked at has to hold, unless memory ran out.
-pub fn check(rt: &impl Abort, outcome: Result<bool, AllocError>) -> Result<(), Fail> {
+pub(crate) fn check(rt: &impl Abort, outcome: Result<bool, AllocError>) -> Result<(), Fail> {
     assert!(rt; outcome?);
     Ok(())
 }
 
 /// Rows and commitments.
 #[derive(Drop)]
-pub struct Given {
-    pub commitments: Vec<Commitment>,
-    pub rows: Vec<Row>,
+pub(crate) struct Given {
+    pub(crate) commitments: Vec<Commitment>,
+    pub(crate) rows: Vec<Row>,
 }
 
 /// The dollar.
-pub fn dollar() -> Result<Currency, AllocError> {
+pub(crate) fn dollar() -> Result<Currency, AllocError> {
     Currency::new(b"USD").ok_or(AllocError)
 }
 
 /// The rows of these records.
-pub fn rows(alloc: Global, records: &str) -> Result<Vec<Row>, AllocError> {
+pub(crate) fn rows(alloc: Global, records: &str) -> Result<Vec<Row>, AllocError> {
     let text = format!(in alloc; "{HEADER}{records}")?;
     read_rows(alloc, text.as_bytes(), dollar()?).or(Err(AllocError))
 }
@@ -49,7 +49,7 @@ fn commitments(alloc: Global, texts: &[&str]) -> Result<Vec<Commitment>, Commitm
 }
 
 /// The commitments of these texts and the rows of these records.
-pub fn read(alloc: Global, texts: &[&str], records: &str) -> Result<Box<Given>, AllocError> {
+pub(crate) fn read(alloc: Global, texts: &[&str], records: &str) -> Result<Box<Given>, AllocError> {
     let commitments = commitments(alloc, texts).or(Err(AllocError))?;
     beside(alloc, commitments, rows(alloc, records))
 }

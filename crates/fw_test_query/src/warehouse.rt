@@ -12,17 +12,17 @@ use fw_snapshot::{Snapshot, State, Verdict, judge};
 use std::alloc::{AllocError, Global};
 
 /// A snapshot of a state.
-pub fn shared(state: State) -> Result<Snapshot, AllocError> {
+pub(crate) fn shared(state: State) -> Result<Snapshot, AllocError> {
     Snapshot::new(state).ok().ok_or(AllocError)
 }
 
 /// A warehouse of dollars that has accepted nothing.
-pub fn empty(alloc: Global) -> Result<Snapshot, AllocError> {
+pub(crate) fn empty(alloc: Global) -> Result<Snapshot, AllocError> {
     shared(State::empty(alloc, dollar()?))
 }
 
 /// The warehouse after a post of these records, which is accepted.
-pub fn posted(
+pub(crate) fn posted(
     alloc: Global,
     before: &Snapshot,
     origin: &str,
@@ -44,7 +44,7 @@ fn post(rows: Vec<Row>) -> Result<Command, AllocError>
 }
 
 /// The warehouse after a commitment, which is accepted.
-pub fn committed(
+pub(crate) fn committed(
     alloc: Global,
     before: &Snapshot,
     origin: &str,
@@ -58,7 +58,7 @@ pub fn committed(
 }
 
 /// The warehouse after a policy, which is accepted.
-pub fn ruled(
+pub(crate) fn ruled(
     alloc: Global,
     before: &Snapshot,
     origin: &str,

@@ -1,9 +1,6 @@
 //! Sequences and counters, added to and read back.
-ghost use Rattle.std.specs.Prelude.{◌≡◌, ◌+◌, ◌<◌, ◌≤◌, ◌∷◌, ◌++◌, [], length, IfOk, Some, slice_get};
-
-use crate::{Counters, Sequence};
+use fw_persistent::{Counters, Sequence};
 use std::alloc::{AllocError, Global};
-use std::marker::Model;
 use std::sync::Arc;
 use std::test::Fail;
 
@@ -49,102 +46,23 @@ fn each_item_is_at_its_place(rt: HostRuntime) -> Result<(), Fail> {
     Ok(())
 }
 
+/// Whether a sequence stays as it was beside one that was made of it.
+fn stays(alloc: Global, old: &Sequence<u32>, item: u32) -> Result<bool, AllocError> {
+    let longer = Box::new(alloc, old.push(alloc, item)?)?;
+    Ok(old.len() == 9 && longer.len() == 10 && *longer.get(9) == item && counts_up(old))
+}
+
 /// Whether a sequence stays as it was beside two that were made of it, and so does a copy.
 fn old_stays(alloc: Global) -> Result<bool, AllocError> {
     let old = Box::new(alloc, numbers(alloc, 9)?)?;
-    let one = Box::new(alloc, old.push(alloc, 9)?)?;
-    let other = Box::new(alloc, old.push(alloc, 100)?)?;
     let copy = Box::new(alloc, old.copy()?)?;
-    let lengths = (old.len(), one.len(), other.len());
-    Ok(lengths == (9, 10, 10) && counts_up(&old) && counts_up(&one) && counts_up(&copy))
+    Ok(stays(alloc, &old, 9)? && stays(alloc, &old, 100)? && copy.len() == 9 && counts_up(&copy))
 }
 
 #[test]
 fn a_push_leaves_the_sequence_as_it_was(rt: HostRuntime) -> Result<(), Fail> {
     let stayed = old_stays(rt.alloc())?;
     assert!(rt; stayed);
-    Ok(())
-}
-
-/// A number that isn't 0.
-#[derive(Drop)]
-struct Head {
-    number: u64,
-}
-
-impl Model for Head {
-    ghost use Rattle.std.specs.Prelude.{ℕ, ◌<◌};
-
-    ghost Value = { ℕ };
-
-    ghost view = { λ head. head.number };
-
-    ghost invariant = { λ head. 0 < head.number };
-}
-
-/// Heads, and how many there are.
-#[derive(Drop)]
-struct Heads {
-    heads: Sequence<Head>,
-    shared: Sequence<Arc<Head>>,
-    count: usize,
-}
-
-impl Model for Heads {
-    ghost use Rattle.std.specs.Prelude.{◌≡◌, ℕ, List, length, map};
-
-    ghost Value = { List ℕ };
-
-    ghost view = { λ heads. heads.heads };
-
-    ghost invariant = { λ heads. (heads.count ≡ length heads.heads) × (map (λ head. head.value) heads.shared ≡ heads.heads) };
-}
-
-impl Heads {
-    fn new() -> Heads
-        ensures { result ≡ [] }
-    {
-        Heads {
-            heads: Sequence::new(),
-            shared: Sequence::new(),
-            count: 0,
-        }
-    }
-
-    fn with(&self, alloc: Global, number: u64) -> Result<Heads, AllocError>
-        requires { 0 < number }
-        ensures { IfOk result (λ heads. heads ≡ self.now ++ number ∷ []) }
-    {
-        let heads = self.heads.push(alloc, Head { number })?;
-        let head = Arc::new(alloc, Head { number })?;
-        let shared = self.shared.push(alloc, head)?;
-        let count = heads.len();
-        Ok(Heads {
-            heads,
-            shared,
-            count,
-        })
-    }
-
-    fn number(&self, place: usize) -> u64
-        requires { place < length self.now }
-        ensures { slice_get self.now place ≡ Some result }
-    {
-        self.heads.get(place).number
-    }
-}
-
-/// The numbers of two heads.
-fn two_heads(alloc: Global) -> Result<(u64, u64), AllocError> {
-    let one = Heads::new().with(alloc, 7)?;
-    let heads = one.with(alloc, 5)?;
-    Ok((heads.number(0), heads.number(1)))
-}
-
-#[test]
-fn a_struct_sees_a_sequence_as_a_list(rt: HostRuntime) -> Result<(), Fail> {
-    let seen = two_heads(rt.alloc())?;
-    assert!(rt; seen == (7, 5), "{seen:?}");
     Ok(())
 }
 
@@ -209,13 +127,20 @@ fn raised_counters_leave_the_old_ones(rt: HostRuntime) -> Result<(), Fail> {
     Ok(())
 }
 
+/// Whether counters lend a text that equals this one.
+fn lend(counters: &Counters, text: &str) -> bool {
+    match counters.key(text) {
+        Some(key) => key.as_str() == text,
+        None => false,
+    }
+}
+
 /// Whether counters share a text that they count, and lend it, and none that they don't.
 fn shares_its_texts(alloc: Global) -> Result<bool, AllocError> {
     let text = shared(alloc, "a")?;
     let old = Box::new(alloc, counted(alloc, &["b", "c"])?)?;
     let counters = Box::new(alloc, old.raised(alloc, &text)?)?;
-    let key = counters.key("a").map(|key| key.as_str());
-    Ok(Arc::strong_count(&text) == 2 && counters.key("x").is_none() && key == Some("a"))
+    Ok(Arc::strong_count(&text) == 2 && lend(&counters, "a") && !lend(&counters, "x"))
 }
 
 #[test]
@@ -225,19 +150,61 @@ fn texts_are_shared(rt: HostRuntime) -> Result<(), Fail> {
     Ok(())
 }
 
-/// The height of the counters of 10,000 rising texts.
-fn height_of_rising(alloc: Global) -> Result<u32, AllocError> {
-    let mut counters = Counters::new();
-    for number in 0..10_000 {
-        let text = Arc::new(alloc, format!(in alloc; "{number:05}")?)?;
-        counters = counters.raised(alloc, &text)?;
+/// The texts of the numbers below 255, which rise.
+fn rising(alloc: Global) -> Result<Vec<Arc<String>>, AllocError> {
+    let mut texts = Vec::new(alloc);
+    for number in 0..255 {
+        texts.push(Arc::new(alloc, format!(in alloc; "{number:03}")?)?)?;
     }
-    Ok(counters.height())
+    Ok(texts)
+}
+
+/// How many of the texts have three owners.
+fn owned_by_three(texts: &[Arc<String>]) -> usize {
+    let mut count = 0_usize;
+    for text in texts {
+        if Arc::strong_count(text) == 3 {
+            count = count.saturating_add(1);
+        }
+    }
+    count
+}
+
+/// The counters of the texts, each counted once.
+fn counted_once(alloc: Global, texts: &[Arc<String>]) -> Result<Counters, AllocError> {
+    let mut counters = Counters::new();
+    for text in texts {
+        counters = counters.raised(alloc, text)?;
+    }
+    Ok(counters)
+}
+
+/// How many of the counted texts get a third owner where one of them is counted once more: those on the way down to it.
+fn way(
+    alloc: Global,
+    counters: &Counters,
+    texts: &[Arc<String>],
+    text: &Arc<String>,
+) -> Result<usize, AllocError> {
+    let more = Box::new(alloc, counters.raised(alloc, text)?)?;
+    let way = owned_by_three(texts);
+    Ok(if more.count(text) == 2 { way } else { 0 })
+}
+
+/// The longest way down to one of the texts.
+fn longest_way(alloc: Global) -> Result<usize, AllocError> {
+    let texts = Box::new(alloc, rising(alloc)?)?;
+    let counters = Box::new(alloc, counted_once(alloc, texts.as_slice())?)?;
+    let mut longest = 0;
+    for text in texts.as_slice() {
+        longest = longest.max(way(alloc, &counters, texts.as_slice(), text)?);
+    }
+    Ok(longest)
 }
 
 #[test]
 fn rising_texts_make_no_high_tree(rt: HostRuntime) -> Result<(), Fail> {
-    let height = height_of_rising(rt.alloc())?;
-    assert!(rt; height == 14, "{height}");
+    let longest = longest_way(rt.alloc())?;
+    assert!(rt; longest == 8, "{longest}");
     Ok(())
 }

@@ -1,4 +1,6 @@
-//! Bytes by hand, read and written.
+//! Entries, groups, segments and states: bytes by hand, read and written.
+use crate::decoders::joined;
+use crate::vectors::TAX;
 use fw_entry_bytes::Form;
 use fw_segment::{
     DecodeFault, Kind, decode_entry, decode_group, decode_segment, decode_state, encode_entry,
@@ -54,14 +56,6 @@ const STORED_RUN: [u8; 404] = [
     97, 109, 4, 0, 0, 0, 100, 97, 116, 97,
 ];
 
-fn joined(alloc: Global, parts: &[&[u8]]) -> Result<Vec<u8>, AllocError> {
-    let mut bytes = Vec::new(alloc);
-    for part in parts {
-        bytes.extend_from_slice(part)?;
-    }
-    Ok(bytes)
-}
-
 /// What bytes are read as.
 #[derive(Clone, Copy, Drop)]
 enum What {
@@ -73,13 +67,32 @@ enum What {
 
 /// Reads the bytes and writes what was read.
 fn again(alloc: Global, what: What, bytes: &[u8]) -> Result<Vec<u8>, DecodeFault> {
-    let written = match what {
-        What::Entry => encode_entry(alloc, &decode_entry(alloc, Form::One, bytes)?),
-        What::Group => encode_group(alloc, &decode_group(alloc, Form::One, bytes)?),
-        What::Segment => encode_segment(alloc, &decode_segment(alloc, bytes)?, Kind::Rows),
-        What::State => encode_state(alloc, &decode_state(alloc, Form::One, bytes)?),
-    };
-    written.or(Err(DecodeFault::NoMemory))
+    match what {
+        What::Entry => entry_again(alloc, bytes),
+        What::Group => group_again(alloc, bytes),
+        What::Segment => segment_again(alloc, bytes),
+        What::State => state_again(alloc, bytes),
+    }
+}
+
+fn entry_again(alloc: Global, bytes: &[u8]) -> Result<Vec<u8>, DecodeFault> {
+    let one = decode_entry(alloc, Form::One, bytes)?;
+    encode_entry(alloc, &one).or(Err(DecodeFault::NoMemory))
+}
+
+fn group_again(alloc: Global, bytes: &[u8]) -> Result<Vec<u8>, DecodeFault> {
+    let one = decode_group(alloc, Form::One, bytes)?;
+    encode_group(alloc, &one).or(Err(DecodeFault::NoMemory))
+}
+
+fn segment_again(alloc: Global, bytes: &[u8]) -> Result<Vec<u8>, DecodeFault> {
+    let one = decode_segment(alloc, bytes)?;
+    encode_segment(alloc, &one, Kind::Rows).or(Err(DecodeFault::NoMemory))
+}
+
+fn state_again(alloc: Global, bytes: &[u8]) -> Result<Vec<u8>, DecodeFault> {
+    let one = decode_state(alloc, Form::One, bytes)?;
+    encode_state(alloc, &one).or(Err(DecodeFault::NoMemory))
 }
 
 /// Where the first fault is, if there is one.
@@ -140,9 +153,9 @@ fn faulty_fronts(alloc: Global, what: What, bytes: &[u8]) -> Result<usize, Alloc
     Ok(count)
 }
 
-/// How many changes of one byte, each to each other value, are told: what is read is written as it was read, and what isn't read has its
-/// fault within the bytes. Each should be.
-fn told_changes(alloc: Global, what: What, bytes: &[u8]) -> Result<usize, AllocError> {
+/// How many changes of one byte, each to each other value, are noticed: the changed bytes are read and written again as they are, or they are
+/// refused with a fault within them. Each should be.
+fn noticed_changes(alloc: Global, what: What, bytes: &[u8]) -> Result<usize, AllocError> {
     let mut count = 0_usize;
     for place in 0..bytes.len() {
         for other in 1..=255_u8 {
@@ -154,12 +167,12 @@ fn told_changes(alloc: Global, what: What, bytes: &[u8]) -> Result<usize, AllocE
                     &bytes[place + 1..],
                 ],
             )?;
-            let is_told = match again(alloc, what, &changed) {
+            let is_noticed = match again(alloc, what, &changed) {
                 Ok(written) => written.as_slice() == changed.as_slice(),
                 Err(DecodeFault::Corrupt { at }) => at <= changed.len(),
                 Err(DecodeFault::NoMemory) => return Err(AllocError),
             };
-            if is_told {
+            if is_noticed {
                 count = count.saturating_add(1);
             }
         }
@@ -201,12 +214,12 @@ fn no_front_is_read(rt: HostRuntime) -> Result<(), Fail> {
     Ok(())
 }
 
-/// The place of the first of the bytes of which some change is not told, and how many changes there are in all.
+/// The place of the first of the bytes of which some change is not noticed, and how many changes there are in all.
 fn changes_of_all(alloc: Global) -> Result<(Option<usize>, usize), AllocError> {
     let mut all = 0_usize;
     for (place, (what, bytes)) in SPELLED.iter().enumerate() {
         let changes = bytes.len().saturating_mul(255);
-        if told_changes(alloc, *what, bytes)? != changes {
+        if noticed_changes(alloc, *what, bytes)? != changes {
             return Ok((Some(place), all));
         }
         all = all.saturating_add(changes);
@@ -215,90 +228,96 @@ fn changes_of_all(alloc: Global) -> Result<(Option<usize>, usize), AllocError> {
 }
 
 #[test]
-fn each_change_of_a_byte_is_told(rt: HostRuntime) -> Result<(), Fail> {
-    let told = changes_of_all(rt.alloc())?;
-    assert!(rt; told == (None, 133_365), "{told:?}");
+fn each_change_of_a_byte_is_noticed(rt: HostRuntime) -> Result<(), Fail> {
+    let noticed = changes_of_all(rt.alloc())?;
+    assert!(rt; noticed == (None, 133_365), "{noticed:?}");
     Ok(())
 }
 
-/// The faults of a group.
-fn group_faults(alloc: Global) -> Result<[Option<usize>; 7], AllocError> {
-    let longer = joined(alloc, &[&GROUP, &[0]])?;
-    let hostile = [255, 255, 255, 255];
-    Ok([
-        fault(alloc, What::Group, &GROUP[..26])?,
-        fault(alloc, What::Group, &longer)?,
-        fault_with(alloc, What::Group, &GROUP, 9, 0)?,
-        fault_with(alloc, What::Group, &GROUP, 17, 9)?,
-        fault_with(alloc, What::Group, &GROUP, 0, 0)?,
-        fault_with(alloc, What::Group, &GROUP, 0, 65)?,
-        fault(alloc, What::Group, &hostile)?,
-    ])
+/// Changes of a byte: its place, what it is then, and the place of the fault.
+const CHANGED: &[(What, &[u8], usize, u8, usize)] = &[
+    // An origin of another letter, kind 9, no entry, 65 entries.
+    (What::Group, &GROUP, 9, 0, 9),
+    (What::Group, &GROUP, 17, 9, 17),
+    (What::Group, &GROUP, 0, 0, 0),
+    (What::Group, &GROUP, 0, 65, 0),
+    // Another layout, no rows, a row that ends before it starts.
+    (What::Segment, &SEGMENT, 0, 2, 0),
+    (What::Segment, &SEGMENT, 1, 0, 1),
+    (What::Segment, &SEGMENT, 25, 1, 5),
+    // A small letter in the currency, a head of one row less, a number that was used, a number too great, a segment of another layout.
+    (What::State, &STORED_RUN, 6, b'd', 0),
+    (What::State, &STORED_RUN, 144, 1, 0),
+    (What::State, &STORED_RUN, 135, 1, 124),
+    (What::State, &STORED_RUN, 159, 5, 148),
+    (What::State, &STORED_RUN, 232, 2, 232),
+];
+
+/// Bytes that spell nothing, part by part, and the place of the fault.
+const BROKEN: &[(What, &[&[u8]], usize)] = &[
+    // The group without its last byte, and a number of entries that no group has.
+    (
+        What::Group,
+        &[&[
+            1, 0, 0, 0, 1, 0, 0, 0, b'a', 1, 0, 0, 0, 0, 0, 0, 0, 3, 1, 0, 0, 0, b't', 0, 0, 0,
+        ]],
+        23,
+    ),
+    (What::Group, &[&[255, 255, 255, 255]], 0),
+    // 65,537 rows.
+    (What::Segment, &[&[1, 1, 0, 1, 0], &TAX], 1),
+    // A byte too many.
+    (What::Group, &[&GROUP, &[0]], 27),
+    (What::Segment, &[&SEGMENT, &[0]], 50),
+    (What::State, &[&STORED_RUN, &[0]], 404),
+];
+
+/// The place of the first of the changes that has no fault or has it elsewhere.
+fn first_wrong_change(alloc: Global) -> Result<Option<usize>, AllocError> {
+    for (i, (what, bytes, place, byte, at)) in CHANGED.iter().enumerate() {
+        if fault_with(alloc, *what, bytes, *place, *byte)? != Some(*at) {
+            return Ok(Some(i));
+        }
+    }
+    Ok(None)
+}
+
+/// Where the first fault is in the bytes that the parts make.
+fn fault_of_parts(alloc: Global, what: What, parts: &[&[u8]]) -> Result<Option<usize>, AllocError> {
+    let bytes = joined(alloc, parts)?;
+    fault(alloc, what, &bytes)
+}
+
+/// The place of the first of the broken bytes that have no fault or have it elsewhere.
+fn first_wrong_break(alloc: Global) -> Result<Option<usize>, AllocError> {
+    for (i, (what, parts, at)) in BROKEN.iter().enumerate() {
+        if fault_of_parts(alloc, *what, parts)? != Some(*at) {
+            return Ok(Some(i));
+        }
+    }
+    Ok(None)
 }
 
 #[test]
-fn faults_of_a_group(rt: HostRuntime) -> Result<(), Fail> {
-    let faults = group_faults(rt.alloc())?;
-    let wanted = [
-        Some(23),
-        Some(27),
-        Some(9),
-        Some(17),
-        Some(0),
-        Some(0),
-        Some(0),
-    ];
-    assert!(rt; faults == wanted, "{faults:?}");
+fn changed_bytes_have_their_faults(rt: HostRuntime) -> Result<(), Fail> {
+    let wrong = first_wrong_change(rt.alloc())?;
+    assert!(rt; wrong.is_none(), "{wrong:?}");
     Ok(())
 }
 
-/// The faults of a segment: another layout, no rows, 65,537 rows, a row that ends before it starts, a byte too many.
-fn segment_faults(alloc: Global) -> Result<[Option<usize>; 5], AllocError> {
-    let many = joined(alloc, &[&[1, 1, 0, 1, 0], &SEGMENT[5..]])?;
-    let longer = joined(alloc, &[&SEGMENT, &[0]])?;
-    Ok([
-        fault_with(alloc, What::Segment, &SEGMENT, 0, 2)?,
-        fault_with(alloc, What::Segment, &SEGMENT, 1, 0)?,
-        fault(alloc, What::Segment, &many)?,
-        fault_with(alloc, What::Segment, &SEGMENT, 25, 1)?,
-        fault(alloc, What::Segment, &longer)?,
-    ])
-}
-
 #[test]
-fn faults_of_a_segment(rt: HostRuntime) -> Result<(), Fail> {
-    let faults = segment_faults(rt.alloc())?;
-    let wanted = [Some(0), Some(1), Some(1), Some(5), Some(50)];
-    assert!(rt; faults == wanted, "{faults:?}");
-    Ok(())
-}
-
-/// The faults of the stored run: a small letter in the currency, a head of one row less, a number that was used, a number too great, a segment
-/// of another layout, a byte too many.
-fn state_faults(alloc: Global) -> Result<[Option<usize>; 6], AllocError> {
-    let longer = joined(alloc, &[&STORED_RUN, &[0]])?;
-    Ok([
-        fault_with(alloc, What::State, &STORED_RUN, 6, b'd')?,
-        fault_with(alloc, What::State, &STORED_RUN, 144, 1)?,
-        fault_with(alloc, What::State, &STORED_RUN, 135, 1)?,
-        fault_with(alloc, What::State, &STORED_RUN, 159, 5)?,
-        fault_with(alloc, What::State, &STORED_RUN, 232, 2)?,
-        fault(alloc, What::State, &longer)?,
-    ])
-}
-
-#[test]
-fn faults_of_a_state(rt: HostRuntime) -> Result<(), Fail> {
-    let faults = state_faults(rt.alloc())?;
-    let wanted = [Some(0), Some(0), Some(124), Some(148), Some(232), Some(404)];
-    assert!(rt; faults == wanted, "{faults:?}");
+fn broken_bytes_have_their_faults(rt: HostRuntime) -> Result<(), Fail> {
+    let wrong = first_wrong_break(rt.alloc())?;
+    assert!(rt; wrong.is_none(), "{wrong:?}");
     Ok(())
 }
 
 /// Whether two posts of one row each, whose rows stand in one segment or in two, are one state, written with a segment for each post.
 fn cuts_are_one_state(alloc: Global) -> Result<bool, AllocError> {
-    let row = &SEGMENT[5..];
-    let one = joined(alloc, &[&TWO_POSTS, &[1, 0, 0, 0, 1, 2, 0, 0, 0], row, row])?;
+    let one = joined(
+        alloc,
+        &[&TWO_POSTS, &[1, 0, 0, 0, 1, 2, 0, 0, 0], &TAX, &TAX],
+    )?;
     let two = joined(alloc, &[&TWO_POSTS, &[2, 0, 0, 0], &SEGMENT, &SEGMENT])?;
     Ok(
         is_written_as(alloc, What::State, &two, &two)?
