@@ -25,7 +25,7 @@ use Rattle.fw_cover.proofs.Whole.{row_whole, takes_meet}
 use Rattle.fw_cover.proofs.Within.{all_enumerate, all_flat_map, commitments_in_order_places, get_at}
 use Rattle.fw_amortise.specs.LineValue.{LineValue}
 use Rattle.fw_amortise.specs.Lines.{AreHourLines, AreLinesAt, given_line, given_lines, purchase_line, purchase_lines, purchase_lines_of, rest_line, rest_lines, rest_of, running, shared_lines, unused_line, used_line}
-use Rattle.fw_amortise.specs.Sources.{AreAccounted, ComesFrom, SourceValue, is_of_row, lines_of_row, quantity_of_all}
+use Rattle.fw_amortise.specs.Sources.{AreAccounted, ComesFrom, SourceValue, is_bought_by, is_of_row, lines_bought_by, lines_from, lines_of_row, quantity_of_all}
 use Rattle.fw_amortise.specs.Sources.SourceValue.{bought_by, row_given, used_by, unused_by, row_left}
 use Rattle.fw_amortise.proofs.Carrying.{fold_from}
 use Rattle.fw_amortise.proofs.Weights.{length-weights_of}
@@ -53,27 +53,25 @@ none_pass : {X : Type 0} (p : X → Bool) (xs : List X) → All (λ x. p x ≡ f
 none_pass p [] all = refl
 none_pass {X} p (x ∷ xs) all = let P : X → Type 0 = λ x. p x ≡ false in rw (All-head P x xs all) (none_pass p xs (All-tail P x xs all))
 
--- ---- the lines of a row
-own_append : (r : ℕ) (xs ys : List Sourced) → lines_of_row r (xs ++ ys) ≡ lines_of_row r xs ++ lines_of_row r ys
-unfolding lines_of_row
-own_append r xs ys = ap (map (λ (s : Sourced). s.1)) (filter-append (λ (s : Sourced). is_of_row r s.0) xs ys) ∙ map-append (λ (s : Sourced). s.1) (filter (λ s. is_of_row r s.0) xs) (filter (λ s. is_of_row r s.0) ys)
+-- ---- the lines of some sources
+own_append : (test : SourceValue → Bool) (xs ys : List Sourced) → lines_from test (xs ++ ys) ≡ lines_from test xs ++ lines_from test ys
+unfolding lines_from
+own_append test xs ys = ap (map (λ (s : Sourced). s.1)) (filter-append (λ (s : Sourced). test s.0) xs ys) ∙ map-append (λ (s : Sourced). s.1) (filter (λ s. test s.0) xs) (filter (λ s. test s.0) ys)
 
-own_none : (r : ℕ) (xs : List Sourced) → All (λ s. is_of_row r s.0 ≡ false) xs → lines_of_row r xs ≡ []
-unfolding lines_of_row
-own_none r [] all = refl
-own_none r (x ∷ xs) all =
-    let P : Sourced → Type 0 = λ s. is_of_row r s.0 ≡ false in
-    let here : is_of_row r x.0 ≡ false = All-head P x xs all in
-    let rest : map (λ (s : Sourced). s.1) (filter (λ (s : Sourced). is_of_row r s.0) xs) ≡ [] = own_none r xs (All-tail P x xs all) in
-    rw here rest
+own_none : (test : SourceValue → Bool) (xs : List Sourced) → All (λ s. test s.0 ≡ false) xs → lines_from test xs ≡ []
+unfolding lines_from
+own_none test xs all = ap (map (λ (s : Sourced). s.1)) (none_pass (λ (s : Sourced). test s.0) xs all)
 
-own_one : (r : ℕ) (s : SourceValue) (line : LineValue) → lines_of_row r ((s, line) ∷ []) ≡ cond (is_of_row r s) (line ∷ []) []
-unfolding lines_of_row
-own_one r s line = two_ways (is_of_row r s) (λ holds. rw holds refl) (λ fails. rw fails refl)
+own_one : (test : SourceValue → Bool) (s : SourceValue) (line : LineValue) → lines_from test ((s, line) ∷ []) ≡ cond (test s) (line ∷ []) []
+unfolding lines_from
+own_one test s line = two_ways (test s) (λ holds. rw holds refl) (λ fails. rw fails refl)
 
-own_nil : (r : ℕ) → lines_of_row r [] ≡ []
-unfolding lines_of_row
-own_nil r = refl
+own_nil : (test : SourceValue → Bool) → lines_from test [] ≡ []
+unfolding lines_from
+own_nil test = refl
+
+own_cons : (test : SourceValue → Bool) (s : SourceValue) (line : LineValue) (xs : List Sourced) → lines_from test ((s, line) ∷ xs) ≡ cond (test s) (line ∷ []) [] ++ lines_from test xs
+own_cons test s line xs = own_append test ((s, line) ∷ []) xs ∙ ap (λ l. l ++ lines_from test xs) (own_one test s line)
 
 -- ---- what is made of elements beside their places
 mapped_lines : {X : Type 0} (f : ℕ × X → List Sourced) (g : X → List LineValue) → ((x : ℕ × X) → lines_of (f x) ≡ g x.1) → (n : ℕ) (xs : List X) → lines_of (flat_map f (enumerate_from n xs)) ≡ flat_map g xs
@@ -82,27 +80,27 @@ mapped_lines f g same n (x ∷ xs) =
     map-append (λ (s : Sourced). s.1) (f (n, x)) (flat_map f (enumerate_from (n + 1) xs))
     ∙ (rw (same (n, x), mapped_lines f g same (n + 1) xs) refl)
 
-own_past : {X : Type 0} (r : ℕ) (f : ℕ × X → List Sourced) (h : ℕ × X → List LineValue) → ((x : ℕ × X) → lines_of_row r (f x) ≡ cond (x.0 == r) (h x) []) → (n : ℕ) (xs : List X) → r < n
-    → lines_of_row r (flat_map f (enumerate_from n xs)) ≡ []
-own_past r f h is n [] past = own_nil r
-own_past r f h is n (x ∷ xs) past =
+own_past : {X : Type 0} (test : SourceValue → Bool) (r : ℕ) (f : ℕ × X → List Sourced) (h : ℕ × X → List LineValue) → ((x : ℕ × X) → lines_from test (f x) ≡ cond (x.0 == r) (h x) []) → (n : ℕ) (xs : List X) → r < n
+    → lines_from test (flat_map f (enumerate_from n xs)) ≡ []
+own_past test r f h is n [] past = own_nil test
+own_past test r f h is n (x ∷ xs) past =
     let other : (n == r) ≡ false = ne_eqb n r (λ e. omega (arith, e)) in
-    let rest = own_past r f h is (n + 1) xs (omega arith) in
-    own_append r (f (n, x)) (flat_map f (enumerate_from (n + 1) xs)) ∙ (rw (is (n, x), other, rest) refl)
+    let rest = own_past test r f h is (n + 1) xs (omega arith) in
+    own_append test (f (n, x)) (flat_map f (enumerate_from (n + 1) xs)) ∙ (rw (is (n, x), other, rest) refl)
 
-own_at : {X : Type 0} (r : ℕ) (f : ℕ × X → List Sourced) (h : ℕ × X → List LineValue) → ((x : ℕ × X) → lines_of_row r (f x) ≡ cond (x.0 == r) (h x) []) → (n i : ℕ) (xs : List X) (x : X) → r ≡ n + i → slice_get xs i ≡ Some x
-    → lines_of_row r (flat_map f (enumerate_from n xs)) ≡ h (r, x)
-own_at r f h is n i [] x at there = absurd (cc)
-own_at r f h is n zero (y ∷ xs) x at there =
+own_at : {X : Type 0} (test : SourceValue → Bool) (r : ℕ) (f : ℕ × X → List Sourced) (h : ℕ × X → List LineValue) → ((x : ℕ × X) → lines_from test (f x) ≡ cond (x.0 == r) (h x) []) → (n i : ℕ) (xs : List X) (x : X) → r ≡ n + i → slice_get xs i ≡ Some x
+    → lines_from test (flat_map f (enumerate_from n xs)) ≡ h (r, x)
+own_at test r f h is n i [] x at there = absurd (cc)
+own_at test r f h is n zero (y ∷ xs) x at there =
     let same : (n == r) ≡ true = eq-eqb n r (omega arith) in
     let here : n ≡ r = omega arith in
     let value : y ≡ x = cc in
-    let rest = own_past r f h is (n + 1) xs (omega arith) in
-    own_append r (f (n, y)) (flat_map f (enumerate_from (n + 1) xs)) ∙ (rw (is (n, y), same, rest, append-nil (h (n, y))) (ap (λ k. h (k, y)) here ∙ ap (λ v. h (r, v)) value))
-own_at r f h is n (suc i) (y ∷ xs) x at there =
+    let rest = own_past test r f h is (n + 1) xs (omega arith) in
+    own_append test (f (n, y)) (flat_map f (enumerate_from (n + 1) xs)) ∙ (rw (is (n, y), same, rest, append-nil (h (n, y))) (ap (λ k. h (k, y)) here ∙ ap (λ v. h (r, v)) value))
+own_at test r f h is n (suc i) (y ∷ xs) x at there =
     let other : (n == r) ≡ false = ne_eqb n r (λ e. omega (arith, e)) in
-    let rest = own_at r f h is (n + 1) i xs x (omega arith) there in
-    own_append r (f (n, y)) (flat_map f (enumerate_from (n + 1) xs)) ∙ (rw (is (n, y), other) rest)
+    let rest = own_at test r f h is (n + 1) i xs x (omega arith) there in
+    own_append test (f (n, y)) (flat_map f (enumerate_from (n + 1) xs)) ∙ (rw (is (n, y), other) rest)
 
 -- ---- purchases
 bought_of : ℕ → ℕ × CommitmentValue → List Sourced
@@ -137,10 +135,24 @@ bought_from cs rows hour =
       line_is = refl;
     })))
 
+-- lines of one source, all or none of which pass
+same_source : {X : Type 0} (test : SourceValue → Bool) (s : SourceValue) (f : X → LineValue) (xs : List X) → lines_from test (map (λ x. (s, f x)) xs) ≡ cond (test s) (map f xs) []
+same_source test s f [] = own_nil test ∙ two_ways (test s) (λ holds. rw holds refl) (λ fails. rw fails refl)
+same_source test s f (x ∷ xs) =
+    own_cons test s (f x) (map (λ x. (s, f x)) xs)
+    ∙ (rw (same_source test s f xs) (two_ways (test s) (λ holds. rw holds refl) (λ fails. rw fails refl)))
+
+bought_at : (cs : List CommitmentValue) (hour place : ℕ) (c : CommitmentValue) → slice_get cs place ≡ Some c → lines_bought_by place (bought cs hour) ≡ purchase_lines_of hour c
+unfolding bought bought_of purchase_lines_of
+bought_at cs hour place c there =
+    own_at (is_bought_by place) place (bought_of hour) (λ c. purchase_lines_of hour c.1)
+    (λ c. same_source (is_bought_by place) (bought_by c.0) (purchase_line hour c.1) (filter (λ p. hour_of p.at == hour) c.1.purchases))
+    0 place cs c (omega arith) there
+
 bought_none : (cs : List CommitmentValue) (hour r : ℕ) → lines_of_row r (bought cs hour) ≡ []
 unfolding bought bought_of
 bought_none cs hour r =
-    own_none r (bought cs hour)
+    own_none (is_of_row r) (bought cs hour)
     (all_flat_map (λ s. is_of_row r s.0 ≡ false) (bought_of hour) (enumerate_from 0 cs)
     (λ k d l. All-map (λ s. is_of_row r s.0 ≡ false) (λ p. (bought_by (get_or (enumerate_from 0 cs) k d).0, purchase_line hour (get_or (enumerate_from 0 cs) k d).1 p)) (filter (λ p. hour_of p.at == hour) (get_or (enumerate_from 0 cs) k d).1.purchases) (λ j e m. refl)))
 
@@ -180,12 +192,21 @@ given_from cs rows hour =
 given_own_is : (hour r : ℕ) (row : ℕ × Charge) → lines_of_row r (given_of hour row) ≡ cond (row.0 == r) (given_own hour row) []
 unfolding given_of given_own
 given_own_is hour r row = two_ways (is_eligible row.1)
-    (λ holds. rw holds (own_nil r ∙ two_ways (row.0 == r) (λ here. rw here refl) (λ there. rw there refl)))
-    (λ fails. rw fails (own_one r (row_given row.0) (given_line hour row.1)))
+    (λ holds. rw holds (own_nil (is_of_row r) ∙ two_ways (row.0 == r) (λ here. rw here refl) (λ there. rw there refl)))
+    (λ fails. rw fails (own_one (is_of_row r) (row_given row.0) (given_line hour row.1)))
 
 given_at : (rows : List Charge) (hour r : ℕ) (row : Charge) → slice_get rows r ≡ Some row → lines_of_row r (given rows hour) ≡ given_own hour (r, row)
 unfolding given
-given_at rows hour r row there = own_at r (given_of hour) (given_own hour) (given_own_is hour r) 0 r rows row (omega arith) there
+given_at rows hour r row there = own_at (is_of_row r) r (given_of hour) (given_own hour) (given_own_is hour r) 0 r rows row (omega arith) there
+
+given_unbought : (rows : List Charge) (hour place : ℕ) → lines_bought_by place (given rows hour) ≡ []
+unfolding given given_of
+given_unbought rows hour place =
+    own_none (is_bought_by place) (given rows hour)
+    (all_flat_map (λ s. is_bought_by place s.0 ≡ false) (given_of hour) (enumerate_from 0 rows)
+    (λ k d l. two_ways (is_eligible (get_or (enumerate_from 0 rows) k d).1)
+    (λ holds. rw holds (All-nil (λ s. is_bought_by place s.0 ≡ false)))
+    (λ fails. rw fails (All-cons (λ s. is_bought_by place s.0 ≡ false) (row_given (get_or (enumerate_from 0 rows) k d).0, given_line hour (get_or (enumerate_from 0 rows) k d).1) [] refl (All-nil (λ s. is_bought_by place s.0 ≡ false))))))
 
 -- ---- what is left of rows
 rest_from : ℕ → ℕ × Charge → ℕ → List Sourced
@@ -227,13 +248,22 @@ rests_from cs rows taken hour =
 rest_own : (hour r : ℕ) (row : ℕ × Charge) (u : ℕ) → lines_of_row r (rest_from hour row u) ≡ cond (row.0 == r) (rest_of hour row.1 u) []
 unfolding rest_from rest_of
 rest_own hour r row u = two_ways (is_eligible row.1 && nat_lt 0 u)
-    (λ holds. rw holds (own_one r (row_left row.0) (rest_line hour row.1 u)))
-    (λ fails. rw fails (own_nil r ∙ two_ways (row.0 == r) (λ here. rw here refl) (λ there. rw there refl)))
+    (λ holds. rw holds (own_one (is_of_row r) (row_left row.0) (rest_line hour row.1 u)))
+    (λ fails. rw fails (own_nil (is_of_row r) ∙ two_ways (row.0 == r) (λ here. rw here refl) (λ there. rw there refl)))
 
 rest_at : (rows : List Charge) (taken : List Taken) (hour r : ℕ) (row : Charge) → slice_get rows r ≡ Some row → lines_of_row r (rests rows taken hour) ≡ rest_of hour row (left_of rows taken r)
 unfolding rests
 rest_at rows taken hour r row there =
-    own_at r (λ row. rest_from hour row (left_of rows taken row.0)) (λ row. rest_of hour row.1 (left_of rows taken row.0)) (λ row. rest_own hour r row (left_of rows taken row.0)) 0 r rows row (omega arith) there
+    own_at (is_of_row r) r (λ row. rest_from hour row (left_of rows taken row.0)) (λ row. rest_of hour row.1 (left_of rows taken row.0)) (λ row. rest_own hour r row (left_of rows taken row.0)) 0 r rows row (omega arith) there
+
+rests_unbought : (rows : List Charge) (taken : List Taken) (hour place : ℕ) → lines_bought_by place (rests rows taken hour) ≡ []
+unfolding rests rest_from
+rests_unbought rows taken hour place =
+    own_none (is_bought_by place) (rests rows taken hour)
+    (all_flat_map (λ s. is_bought_by place s.0 ≡ false) (λ row. rest_from hour row (left_of rows taken row.0)) (enumerate_from 0 rows)
+    (λ k d l. two_ways (is_eligible (get_or (enumerate_from 0 rows) k d).1 && nat_lt 0 (left_of rows taken (get_or (enumerate_from 0 rows) k d).0))
+    (λ holds. rw holds (All-cons (λ s. is_bought_by place s.0 ≡ false) (row_left (get_or (enumerate_from 0 rows) k d).0, rest_line hour (get_or (enumerate_from 0 rows) k d).1 (left_of rows taken (get_or (enumerate_from 0 rows) k d).0)) [] refl (All-nil (λ s. is_bought_by place s.0 ≡ false))))
+    (λ fails. rw fails (All-nil (λ s. is_bought_by place s.0 ≡ false)))))
 
 -- ---- what the commitments took, and what they left unused
 shared_by : ℕ → ℕ × CommitmentValue → List Charge → List Taken → List ℕ → List Sourced
@@ -255,6 +285,7 @@ record SharedBy (cs : List CommitmentValue) (rows : List Charge) (hour : ℕ) (t
   sourced : List Sourced
   lines_are : lines ≡ lines_of sourced
   each : All (FromIts cs rows hour) sourced
+  unbought : (place : ℕ) → lines_bought_by place sourced ≡ []
   untaken : (r : ℕ) → All (λ t. (t.row == r) ≡ false) taken → lines_of_row r sourced ≡ []
   quantity : (r : ℕ) → quantity_of_all (lines_of_row r sourced) ≡ pos (sum_by (λ c. taken_of_row r (takes_of c.0 taken)) some)
 
@@ -290,19 +321,27 @@ shared_by_from cs rows hour c takes shares runs meet =
 
 unused_none : (hour r : ℕ) (c : ℕ × CommitmentValue) (shares : List ℕ) → lines_of_row r (map (λ share. (unused_by c.0, unused_line hour c.1 share)) shares) ≡ []
 unused_none hour r c shares =
-    own_none r (map (λ share. (unused_by c.0, unused_line hour c.1 share)) shares) (All-map (λ s. is_of_row r s.0 ≡ false) (λ share. (unused_by c.0, unused_line hour c.1 share)) shares (λ k d l. refl))
+    own_none (is_of_row r) (map (λ share. (unused_by c.0, unused_line hour c.1 share)) shares) (All-map (λ s. is_of_row r s.0 ≡ false) (λ share. (unused_by c.0, unused_line hour c.1 share)) shares (λ k d l. refl))
 
 uses_none : (hour r : ℕ) (c : ℕ × CommitmentValue) (rows : List Charge) (takes : List Taken) (shares : List ℕ) → All (λ t. (t.row == r) ≡ false) takes
     → lines_of_row r (map (λ p. (used_by c.0 p.0.row, used_line hour c.1 rows p.0 p.1)) (zip takes shares)) ≡ []
 uses_none hour r c rows takes shares none =
-    own_none r (map (λ p. (used_by c.0 p.0.row, used_line hour c.1 rows p.0 p.1)) (zip takes shares))
+    own_none (is_of_row r) (map (λ p. (used_by c.0 p.0.row, used_line hour c.1 rows p.0 p.1)) (zip takes shares))
     (All-map (λ s. is_of_row r s.0 ≡ false) (λ p. (used_by c.0 p.0.row, used_line hour c.1 rows p.0 p.1)) (zip takes shares) (all_zip (λ (t : Taken). (t.row == r) ≡ false) takes shares none))
 
 shared_by_none : (hour r : ℕ) (c : ℕ × CommitmentValue) (rows : List Charge) (takes : List Taken) (shares : List ℕ) → All (λ t. (t.row == r) ≡ false) takes → lines_of_row r (shared_by hour c rows takes shares) ≡ []
 unfolding shared_by
 shared_by_none hour r c rows takes shares none =
-    own_append r (map (λ p. (used_by c.0 p.0.row, used_line hour c.1 rows p.0 p.1)) (zip takes shares)) (map (λ share. (unused_by c.0, unused_line hour c.1 share)) (drop (length takes) shares))
+    own_append (is_of_row r) (map (λ p. (used_by c.0 p.0.row, used_line hour c.1 rows p.0 p.1)) (zip takes shares)) (map (λ share. (unused_by c.0, unused_line hour c.1 share)) (drop (length takes) shares))
     ∙ (rw (uses_none hour r c rows takes shares none, unused_none hour r c (drop (length takes) shares)) refl)
+
+shared_by_unbought : (hour place : ℕ) (c : ℕ × CommitmentValue) (rows : List Charge) (takes : List Taken) (shares : List ℕ) → lines_bought_by place (shared_by hour c rows takes shares) ≡ []
+unfolding shared_by
+shared_by_unbought hour place c rows takes shares =
+    own_none (is_bought_by place) (shared_by hour c rows takes shares)
+    (All-append (λ s. is_bought_by place s.0 ≡ false) (map (λ p. (used_by c.0 p.0.row, used_line hour c.1 rows p.0 p.1)) (zip takes shares)) (map (λ share. (unused_by c.0, unused_line hour c.1 share)) (drop (length takes) shares))
+    (All-map (λ s. is_bought_by place s.0 ≡ false) (λ p. (used_by c.0 p.0.row, used_line hour c.1 rows p.0 p.1)) (zip takes shares) (λ k d l. refl))
+    (All-map (λ s. is_bought_by place s.0 ≡ false) (λ share. (unused_by c.0, unused_line hour c.1 share)) (drop (length takes) shares) (λ k d l. refl)))
 
 -- ---- sums of quantities
 quantity_cons : (line : LineValue) (lines : List LineValue) → quantity_of_all (line ∷ lines) ≡ unwrap_or line.quantity (pos 0) +ℤ quantity_of_all lines
@@ -331,13 +370,13 @@ use_quantity false hour c rows t share = quantity_none
 uses_quantity : (hour r : ℕ) (c : ℕ × CommitmentValue) (rows : List Charge) (takes : List Taken) (shares : List ℕ) → length takes ≤ length shares
     → quantity_of_all (lines_of_row r (map (λ p. (used_by c.0 p.0.row, used_line hour c.1 rows p.0 p.1)) (zip takes shares))) ≡ pos (taken_of_row r takes)
 unfolding taken_of_row
-uses_quantity hour r c rows [] shares long = ap quantity_of_all (own_nil r) ∙ quantity_none
+uses_quantity hour r c rows [] shares long = ap quantity_of_all (own_nil (is_of_row r)) ∙ quantity_none
 uses_quantity hour r c rows (t ∷ takes) [] long = absurd (omega arith)
 uses_quantity hour r c rows (t ∷ takes) (s ∷ shares) long =
     let rest : List Sourced = map (λ p. (used_by c.0 p.0.row, used_line hour c.1 rows p.0 p.1)) (zip takes shares) in
-    let one : lines_of_row r ((used_by c.0 t.row, used_line hour c.1 rows t s) ∷ []) ≡ cond (t.row == r) (used_line hour c.1 rows t s ∷ []) [] = own_one r (used_by c.0 t.row) (used_line hour c.1 rows t s) in
+    let one : lines_of_row r ((used_by c.0 t.row, used_line hour c.1 rows t s) ∷ []) ≡ cond (t.row == r) (used_line hour c.1 rows t s ∷ []) [] = own_one (is_of_row r) (used_by c.0 t.row) (used_line hour c.1 rows t s) in
     let later : quantity_of_all (lines_of_row r rest) ≡ pos (taken_of_row r takes) = uses_quantity hour r c rows takes shares (omega arith) in
-    ap quantity_of_all (own_append r ((used_by c.0 t.row, used_line hour c.1 rows t s) ∷ []) rest)
+    ap quantity_of_all (own_append (is_of_row r) ((used_by c.0 t.row, used_line hour c.1 rows t s) ∷ []) rest)
     ∙ quantity_append (lines_of_row r ((used_by c.0 t.row, used_line hour c.1 rows t s) ∷ [])) (lines_of_row r rest)
     ∙ (rw (one, later, use_quantity (t.row == r) hour c.1 rows t s) (ap pos (sym (sum_by-cons (λ (u : Taken). cond (u.row == r) u.quantity 0) t takes))))
 
@@ -345,7 +384,7 @@ shared_by_quantity : (hour r : ℕ) (c : ℕ × CommitmentValue) (rows : List Ch
     → quantity_of_all (lines_of_row r (shared_by hour c rows takes shares)) ≡ pos (taken_of_row r takes)
 unfolding shared_by
 shared_by_quantity hour r c rows takes shares long =
-    ap quantity_of_all (own_append r (map (λ p. (used_by c.0 p.0.row, used_line hour c.1 rows p.0 p.1)) (zip takes shares)) (map (λ share. (unused_by c.0, unused_line hour c.1 share)) (drop (length takes) shares))
+    ap quantity_of_all (own_append (is_of_row r) (map (λ p. (used_by c.0 p.0.row, used_line hour c.1 rows p.0 p.1)) (zip takes shares)) (map (λ share. (unused_by c.0, unused_line hour c.1 share)) (drop (length takes) shares))
     ∙ ap (λ l. lines_of_row r (map (λ p. (used_by c.0 p.0.row, used_line hour c.1 rows p.0 p.1)) (zip takes shares)) ++ l) (unused_none hour r c (drop (length takes) shares)) ∙ append-nil (lines_of_row r (map (λ p. (used_by c.0 p.0.row, used_line hour c.1 rows p.0 p.1)) (zip takes shares))))
     ∙ uses_quantity hour r c rows takes shares long
 
@@ -368,8 +407,9 @@ all_shared_by cs rows hour taken [] [] runs meet a = record {
   sourced = [];
   lines_are = refl;
   each = All-nil (FromIts cs rows hour);
-  untaken = λ r none. own_nil r;
-  quantity = λ r. ap quantity_of_all (own_nil r) ∙ quantity_none;
+  unbought = λ place. own_nil (is_bought_by place);
+  untaken = λ r none. own_nil (is_of_row r);
+  quantity = λ r. ap quantity_of_all (own_nil (is_of_row r)) ∙ quantity_none;
 }
 all_shared_by cs rows hour taken [] (ls ∷ shared) runs meet a = absurd a
 all_shared_by cs rows hour taken (c ∷ some) [] runs meet a = absurd a
@@ -385,12 +425,13 @@ all_shared_by cs rows hour taken (c ∷ some) (ls ∷ shared) runs meet a =
           let later : flat_map (λ (l : List LineValue). l) shared ≡ lines_of rest.sourced = rest.lines_are in
           (rw (here, later) refl) ∙ sym (map-append (λ (s : Sourced). s.1) own rest.sourced);
       each = All-append (FromIts cs rows hour) own rest.sourced (shared_by_from cs rows hour c takes a.0.shares (All-head (Runs cs hour) c some runs) (takes_of_meet cs rows hour c.0 taken meet)) rest.each;
-      untaken = λ r none. own_append r own rest.sourced ∙ (rw (shared_by_none hour r c rows takes a.0.shares (takes_of_others c.0 r taken none), rest.untaken r none) refl);
+      unbought = λ place. own_append (is_bought_by place) own rest.sourced ∙ (rw (shared_by_unbought hour place c rows takes a.0.shares, rest.unbought place) refl);
+      untaken = λ r none. own_append (is_of_row r) own rest.sourced ∙ (rw (shared_by_none hour r c rows takes a.0.shares (takes_of_others c.0 r taken none), rest.untaken r none) refl);
       quantity = λ r.
           let here : quantity_of_all (lines_of_row r own) ≡ pos (taken_of_row r takes) = shared_by_quantity hour r c rows takes a.0.shares long in
           let later : quantity_of_all (lines_of_row r rest.sourced) ≡ pos (sum_by (λ c. taken_of_row r (takes_of c.0 taken)) some) = rest.quantity r in
           let sum = sum_by-cons (λ (c : ℕ × CommitmentValue). taken_of_row r (takes_of c.0 taken)) c some in
-          ap quantity_of_all (own_append r own rest.sourced) ∙ quantity_append (lines_of_row r own) (lines_of_row r rest.sourced) ∙ (rw (here, later) (ap pos (sym sum)));
+          ap quantity_of_all (own_append (is_of_row r) own rest.sourced) ∙ quantity_append (lines_of_row r own) (lines_of_row r rest.sourced) ∙ (rw (here, later) (ap pos (sym sum)));
     }
 
 -- ---- what is known of what applies
@@ -515,8 +556,8 @@ hour_accounted cs rows hour lines a =
     let most : List Sourced = first ++ by.sourced in
     let own_all : (r : ℕ) (row : Charge) → slice_get rows r ≡ Some row → lines_of_row r (most ++ rests rows taken hour) ≡ given_own hour (r, row) ++ lines_of_row r by.sourced ++ rest_of hour row (left_of rows taken r) =
     (λ r row there.
-    own_append r most (rests rows taken hour)
-    ∙ (rw (own_append r first by.sourced, own_append r (bought cs hour) (given rows hour), bought_none cs hour r, given_at rows hour r row there, rest_at rows taken hour r row there) refl)) in
+    own_append (is_of_row r) most (rests rows taken hour)
+    ∙ (rw (own_append (is_of_row r) first by.sourced, own_append (is_of_row r) (bought cs hour) (given rows hour), bought_none cs hour r, given_at rows hour r row there, rest_at rows taken hour r row there) refl)) in
     record {
       sourced = most ++ rests rows taken hour;
       lines_are =
@@ -530,6 +571,10 @@ hour_accounted cs rows hour lines a =
       each = All-append (FromIts cs rows hour) most (rests rows taken hour)
           (All-append (FromIts cs rows hour) first by.sourced (All-append (FromIts cs rows hour) (bought cs hour) (given rows hour) (bought_from cs rows hour) (given_from cs rows hour)) by.each)
           (rests_from cs rows taken hour);
+      purchases_are = λ place c there.
+          own_append (is_bought_by place) most (rests rows taken hour)
+          ∙ (rw (own_append (is_bought_by place) first by.sourced, own_append (is_bought_by place) (bought cs hour) (given rows hour), bought_at cs hour place c there, given_unbought rows hour place, by.unbought place, rests_unbought rows taken hour place)
+          (append-nil _ ∙ append-nil _ ∙ append-nil (purchase_lines_of hour c)));
       rows_are = λ r row there. two_ways (is_eligible row)
           (λ eligible. rw eligible (accounted_eligible cs rows hour r row there eligible (lines_of_row r (most ++ rests rows taken hour)) (lines_of_row r by.sourced) (own_all r row there) (by.quantity r)))
           (λ never. rw never (accounted_given cs rows hour r row never (lines_of_row r (most ++ rests rows taken hour)) (lines_of_row r by.sourced) (own_all r row there) (by.untaken r (not_taken cs rows hour r row there never))));

@@ -7,7 +7,7 @@ use Rattle.fw_cover.specs.Applies.{is_in_term}
 use Rattle.fw_cover.specs.Eligible.{is_eligible}
 use Rattle.fw_cover.specs.Meeting.{Meets}
 use Rattle.fw_amortise.specs.LineValue.{LineValue}
-use Rattle.fw_amortise.specs.Lines.{purchase_line, given_line, used_line, unused_line, rest_line}
+use Rattle.fw_amortise.specs.Lines.{purchase_line, purchase_lines_of, given_line, used_line, unused_line, rest_line}
 
 -- where a line comes from: a purchase of a commitment; a row, as it was given; what a commitment took of a row; what a commitment left unused; what
 -- is left of a row. Commitments and rows are named by their places
@@ -75,9 +75,25 @@ is_of_row r (used_by place row) = row == r
 is_of_row r (unused_by place) = false
 is_of_row r (row_left row) = row == r
 
--- the lines that come from the row at a place, where beside each line stands its source
-unfoldable pub lines_of_row : ℕ → List (SourceValue × LineValue) → List LineValue
-lines_of_row r sourced = map (λ s. s.1) (filter (λ s. is_of_row r s.0) sourced)
+-- whether a source is a purchase of the commitment at a place
+abbrev pub is_bought_by : ℕ → SourceValue → Bool
+is_bought_by c (bought_by place) = place == c
+is_bought_by c (row_given row) = false
+is_bought_by c (used_by place row) = false
+is_bought_by c (unused_by place) = false
+is_bought_by c (row_left row) = false
+
+-- the lines whose source passes a test, where beside each line stands its source
+unfoldable pub lines_from : (SourceValue → Bool) → List (SourceValue × LineValue) → List LineValue
+lines_from test sourced = map (λ s. s.1) (filter (λ s. test s.0) sourced)
+
+-- the lines that come from the row at a place
+abbrev pub lines_of_row : ℕ → List (SourceValue × LineValue) → List LineValue
+lines_of_row r sourced = lines_from (is_of_row r) sourced
+
+-- the lines of purchases of the commitment at a place
+abbrev pub lines_bought_by : ℕ → List (SourceValue × LineValue) → List LineValue
+lines_bought_by c sourced = lines_from (is_bought_by c) sourced
 
 -- the sum of the quantities of lines; a line without one has 0
 unfoldable pub quantity_of_all : List LineValue → ℤ
@@ -87,9 +103,11 @@ quantity_of_all lines = fold ◌+ℤ◌ (pos 0) (map (λ line. unwrap_or line.qu
 abbrev pub IsAccounted : ℕ → Charge → List LineValue → Type 0
 IsAccounted hour row own = MatchBool (is_eligible row) (row.quantity ≡ Some (quantity_of_all own)) (own ≡ given_line hour row ∷ [])
 
--- each line comes from one purchase, one row, or one commitment, and each row is accounted for by the lines that come from it
+-- each line comes from one purchase, one row, or one commitment; each row is accounted for by the lines that come from it; and of each commitment
+-- each purchase of the hour is one line
 pub record AreAccounted (cs : List CommitmentValue) (rows : List Charge) (hour : ℕ) (lines : List LineValue) : Type 0 where
   pub sourced : List (SourceValue × LineValue)
   pub lines_are : lines ≡ map (λ s. s.1) sourced
   pub each : All (λ s. ComesFrom cs rows hour s.0 s.1) sourced
   pub rows_are : (r : ℕ) (row : Charge) → slice_get rows r ≡ Some row → IsAccounted hour row (lines_of_row r sourced)
+  pub purchases_are : (place : ℕ) (c : CommitmentValue) → slice_get cs place ≡ Some c → lines_bought_by place sourced ≡ purchase_lines_of hour c

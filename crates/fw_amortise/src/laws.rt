@@ -31,7 +31,8 @@ pub fn lines_carry_the_purchases()
 {}
 
 /// No row of an hour is left out, and none is counted twice: a row that no commitment may cover is one line, as it was given; of another row the
-/// quantities of its lines, used and rest, sum to its quantity. And each line comes from one purchase of the hour, one row, or one commitment.
+/// quantities of its lines, used and rest, sum to its quantity. Each purchase of the hour is one line. And each line comes from one purchase of the
+/// hour, one row, or one commitment.
 pub fn rows_are_accounted_for()
     ensures { (cs : List CommitmentValue) (rows : List Charge) (hour : ℕ) (lines : List LineValue) → AreHourLines cs rows hour lines → AreAccounted cs rows hour lines }
 {}

@@ -51,8 +51,8 @@ pub fn commitments_are_carried()
 {}
 
 /// No row is left out of the lines of its hour, and none is counted twice. The rows of a range are those of its hours, each in one hour; and of each, in
-/// its hour, either one line is it, as it was given, or the quantities of its lines, used and rest, sum to its quantity. Each line comes from one
-/// purchase, one row, or one commitment.
+/// its hour, either one line is it, as it was given, or the quantities of its lines, used and rest, sum to its quantity. Each purchase of an hour is
+/// one line. Each line comes from one purchase, one row, or one commitment.
 pub fn rows_are_counted_once()
     ensures { (history : List entry.EntryValue) (from to : ℕ) (lines : List LineValue) → from ≤ to → AreLinesOf history from to lines → AreAccountedBetween (commitments_of history) (rows_of history) from to lines }
 {}

@@ -2,6 +2,9 @@
 //!
 //! [`report`] sums the lines of a range of hours by group, and [`report_csv`] writes what it found; [`lines_csv`] writes the lines. Costs are
 //! counted in nanos, which are 10^-9 of the currency unit, and hours from 1970.
+//!
+//! What holds of every report and of its lines is said by laws: [`charged_is_direct`], [`commitments_are_carried`], [`rows_are_counted_once`],
+//! [`answers_are_one`].
 #![tactic(auto)]
 
 mod charges;
