@@ -13,7 +13,7 @@ use Rattle.fw_snapshot.specs.History.{History}
 use Rattle.fw_snapshot.specs.Judging.{IsLegal, IsLegalAfter}
 use Rattle.fw_snapshot.specs.Verdicts.{with_more}
 use Rattle.fw_recover.specs.Sides.{generation_of, log_start_of}
-use Rattle.fw_recover.specs.Stands.{StandsFor, EachStandsFor}
+use Rattle.fw_recover.specs.Stands.{StandsFor, StandsForEither, EachStandsFor}
 use Rattle.fw_recover.specs.Making.{AllSettled}
 use Rattle.fw_recover.specs.Opening.{GoesBehind}
 use Rattle.fw_recover.specs.Store.{StoreState, IsFresh, IsKept}
@@ -127,6 +127,52 @@ module _ {V : Type 0} (tells : Bool) (view : V → View) (s : StoreState V) (kep
   pub still : (P : Image → Type 0) → ((c : Image) → (view s.volume).left_since (view s.volume).moment c → (view s.volume).may_leave c) → ((c : Image) → StandsFor s.history c → P c)
       → LeavesOnly (view s.volume) (view s.volume) P
   still P only weaker = started (view s.volume) P (λ c left. weaker c (each_now c (only c left)))
+
+-- a payload is appended to the log of a store that goes on; within the call the store is open, and `inside` is what it holds
+module _ {V : Type 0} (tells : Bool) (view : V → View) (inside s : StoreState V) (same : inside ≡ s) (kept : IsKept tells view inside) (going : s.failed ≡ false) (payload : List ℕ) (next : History)
+    (goes : GoesBehind s.history payload next) (new : View) (told : IsTrue tells)
+    (moments : inside.log.failed ≡ false → (payloads : List (List ℕ)) → Stands inside.log payloads (view inside.volume) → LeavesOnly (view inside.volume) new (Appends inside.log payloads payload (view inside.volume))) where
+  abbrev old : View
+  old = view inside.volume
+
+  goes_on : inside.failed ≡ false
+  goes_on = ap (λ (x : StoreState V). x.failed) same ∙ going
+
+  goes_there : GoesBehind inside.history payload next
+  goes_there = subst (λ (x : StoreState V). GoesBehind x.history payload next) (sym same) goes
+
+  abbrev fresh : IsFresh inside.generation inside.log inside.history old
+  fresh = kept.fresh told goes_on
+
+  abbrev payloads : List (List ℕ)
+  payloads = map group fresh.standing.tells.groups
+
+  run : LeavesOnly old new (Appends inside.log payloads payload old)
+  run = moments (kept.log goes_on) payloads fresh.stands
+
+  either_there : LeavesOnly old new (λ c. StandsFor inside.history c ⊎ StandsFor next c)
+  either_there = either_run old new inside.generation inside.log inside.history next payload fresh goes_there run
+
+  pub either_since : LeavesOnly (view s.volume) new (λ c. StandsFor s.history c ⊎ StandsFor next c)
+  either_since = subst (λ (x : StoreState V). LeavesOnly (view x.volume) new (λ c. StandsFor x.history c ⊎ StandsFor next c)) same either_there
+
+  module _ (counts : (t : ℕ) (c : Image) → t ≤ new.moment → new.may_leave c → new.left_since t c) where
+    -- after the device failed
+    pub either_left : (more : List EntryValue) × ((c : Image) → new.may_leave c → StandsForEither inside.history more c)
+    either_left =
+        let goes = goes_there in
+        (goes.more, λ c now. subst (λ (k : History). StandsFor inside.history c ⊎ StandsFor k c) goes.is (either_there.each c (counts old.moment c run.later now)))
+
+    -- after the append
+    pub next_in_use : (after : LogState) → (after.side ≡ inside.log.side) × (after.start ≡ inside.log.start) → new.seen (other inside.log.side) ≡ old.seen (other inside.log.side) → new.may_leave new.seen
+        → ((ps : List (List ℕ)) → Stands inside.log ps old → Stands after (ps ++ payload ∷ []) new) → IsFresh inside.generation after next new
+    next_in_use after place seen_other now stands =
+        fresh_after old new inside.generation inside.log inside.history next payload fresh goes_there after place.0 place.1 seen_other (λ c left. run.each c (counts old.moment c run.later left)) now
+        (stands payloads fresh.stands)
+
+-- the state with one entry more
+pub with_one : (h before state next : History) (e : EntryValue) → before ≡ h → state ≡ record { currency = before.currency; entries = before.entries ++ e ∷ [] } → next ≡ state → next ≡ with_more h (e ∷ [])
+with_one h before state next e same more shared = shared ∙ more ∙ ap (λ (k : History). with_more k (e ∷ [])) same
 
 -- nothing was added
 pub added_none : {V : Type 0} (tells : Bool) (view : V → View) (s : StoreState V) (accepted : List EntryValue) → IsKept tells view s → s.failed ≡ false → accepted ≡ []
