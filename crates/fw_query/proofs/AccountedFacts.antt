@@ -18,7 +18,7 @@ use Rattle.fw_query.specs.OfHistory.{AreLinesOf}
 
 -- ---- the rows of all the hours are those of the range
 -- those that pass either of two tests, which none passes both of
-either_passes : {X : Type 0} (p q r : X → Bool) → ((x : X) → p x ≡ true → (q x ≡ false) × (r x ≡ true)) → ((x : X) → p x ≡ false → r x ≡ q x) → (xs : List X) → IsPermutation (filter p xs ++ filter q xs) (filter r xs)
+pub either_passes : {X : Type 0} (p q r : X → Bool) → ((x : X) → p x ≡ true → (q x ≡ false) × (r x ≡ true)) → ((x : X) → p x ≡ false → r x ≡ q x) → (xs : List X) → IsPermutation (filter p xs ++ filter q xs) (filter r xs)
 either_passes p q r one other [] = IsPermutation-refl []
 either_passes {X} p q r one other (x ∷ xs) =
     let rest : IsPermutation (filter p xs ++ filter q xs) (filter r xs) = either_passes p q r one other xs in

@@ -45,7 +45,7 @@ unfolding status_word
 status_shown status.Used = refl
 status_shown status.Unused = refl
 
-and_false : (b : Bool) → (b && false) ≡ false
+pub and_false : (b : Bool) → (b && false) ≡ false
 and_false true = refl
 and_false false = refl
 
@@ -75,7 +75,7 @@ free_of id (Some d) apart = by (bytes_eq d.id id) refl
     by true e = absurd (apart d refl ((bytes_eq-Decides d.id id).0 e))
     by false e = e
 
-rows_free : (history : List entry.EntryValue) (place : ℕ) (c : CommitmentValue) → IsLegal history → slice_get (commitments_of history) place ≡ Some c → All (IsFree c.id) (rows_of history)
+pub rows_free : (history : List entry.EntryValue) (place : ℕ) (c : CommitmentValue) → IsLegal history → slice_get (commitments_of history) place ≡ Some c → All (IsFree c.id) (rows_of history)
 rows_free history place c legal at k row l =
     free_of c.id (get_or (rows_of history) k row).discount
     (λ d is. other_ids history legal k place (get_or (rows_of history) k row) d c (slice_get_read (rows_of history) (length (rows_of history)) k (get_or (rows_of history) k row) refl l (get_or_default (rows_of history) k row (get_or (rows_of history) k row) l)) is at)
@@ -90,7 +90,7 @@ unfolding commitments_of
 commitments_keep history each =
     all_flat_map IsCommitment (λ (e : entry.EntryValue). committed e.command) history (λ k d l. command_commits (get_or history k d).command (each k d l).command)
 
-commitment_keeps : (history : List entry.EntryValue) (place : ℕ) (c : CommitmentValue) → All IsEntry history → slice_get (commitments_of history) place ≡ Some c → IsCommitment c
+pub commitment_keeps : (history : List entry.EntryValue) (place : ℕ) (c : CommitmentValue) → All IsEntry history → slice_get (commitments_of history) place ≡ Some c → IsCommitment c
 commitment_keeps history place c each at =
     subst IsCommitment (get_or_from_slice_get (commitments_of history) place c c at) (commitments_keep history each place c (slice_get_within (commitments_of history) place c at))
 

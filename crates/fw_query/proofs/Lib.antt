@@ -14,3 +14,4 @@ pub mod OneAnswer
 pub mod DirectFacts
 pub mod CarriedFacts
 pub mod AccountedFacts
+pub mod BoughtFacts
