@@ -2,7 +2,7 @@
 use Rattle.std.proofs.Common.{◌≡◌, ◌≤◌, ℕ, zero, suc, List, [], ◌∷◌, ◌++◌, Some, Bool, true, false, if◌then◌else◌, length, take, slice_get, refl, sym, ap, ◌∙◌, arith, length-append}
 use Rattle.std.proofs.lemmas.List.{append-nil, append_assoc}
 use Rattle.std.specs.List.{All, Contains, flat_map}
-use Rattle.std.proofs.lemmas.List.Elements.{All-nil, All-cons, All-append, All-weaker, Contains-append_left, Contains-append_right}
+use Rattle.std.proofs.lemmas.List.Elements.{All-nil, All-cons, All-append, All-contains, All-weaker, Contains-append_left, Contains-append_right}
 use Rattle.fw_entry.specs.Entry.{EntryValue}
 use Rattle.fw_snapshot.specs.Judging.{judged, IsLegal, IsLegalAfter}
 use Rattle.fw_snapshot.specs.Verdicts.{is_accept, kept_by, taken, verdicts_on, accepted_of, chosen}
@@ -134,3 +134,7 @@ all_accepted before [] legal = refl
 all_accepted before (e ∷ es) legal =
     let alone : taken before e ≡ e ∷ [] = ap (λ v. kept_by v e) legal.0 in
     ap (λ (l : List EntryValue). l ++ accepted_of (before ++ l) es) alone ∙ ap (λ (l : List EntryValue). e ∷ l) (all_accepted (before ++ e ∷ []) es legal.1)
+
+-- what holds of each entry that was sent holds of each that is accepted
+pub accepted_each : (P : EntryValue → Type 0) (before es : List EntryValue) → All P es → All P (accepted_of before es)
+accepted_each P before es each = All-weaker (Contains es) P (λ x within. All-contains P es x each within) (accepted_of before es) (accepted_sent before es)

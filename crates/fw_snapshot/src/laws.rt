@@ -7,6 +7,7 @@ ghost use Rattle.fw_terms.specs.Commitment.{CommitmentValue};
 ghost use Rattle.fw_terms.specs.Policy.{PolicyValue};
 ghost use Rattle.fw_entry.specs.Entry.{EntryValue};
 ghost use Rattle.fw_entry.specs.Entry.CommandValue.{post, commit, set_policy};
+ghost use Rattle.fw_entry.specs.Spelling.{IsEntry};
 ghost use Rattle.fw_snapshot.specs.History.{rows_posted, rows_of, commitments_of, entries_from};
 ghost use Rattle.fw_snapshot.specs.Ids.{NoRowHasIdOf, NoneHasIdOf};
 ghost use Rattle.fw_snapshot.specs.Judging.{IsLegal, IsLegalAfter, judged, most_commitments, most_rows};
@@ -68,11 +69,13 @@ pub fn entries_are_judged_in_turn()
 {}
 
 /// What is accepted in turn stays legal: the accepted ones of any entries are legal after those that they were judged
-/// on. They are of the entries that were sent, and each that was answered `Accept` is among them. A list is legal where
-/// it is so up to a place and from there on. Entries that are legal after others are all accepted.
+/// on. They are of the entries that were sent, so they keep the limits of entries where these do, and each that was
+/// answered `Accept` is among them. A list is legal where it is so up to a place and from there on. Entries that are
+/// legal after others are all accepted.
 pub fn accepted_entries_are_legal()
     ensures legal { (before entries : List EntryValue) → IsLegalAfter before (accepted_of before entries) }
     ensures sent { (before entries : List EntryValue) → All (Contains entries) (accepted_of before entries) }
+    ensures whole { (before entries : List EntryValue) → All IsEntry entries → All IsEntry (accepted_of before entries) }
     ensures kept { (before entries : List EntryValue) (place : ℕ) (e : EntryValue) → slice_get entries place ≡ Some e
         → slice_get (verdicts_on before entries) place ≡ Some verdict.Accept → Contains (accepted_of before entries) e }
     ensures joined { (before first second : List EntryValue) → IsLegalAfter before first → IsLegalAfter (before ++ first) second → IsLegalAfter before (first ++ second) }

@@ -1,4 +1,5 @@
-use Rattle.fw_snapshot.proofs.VerdictFacts.{accepted_legal_after, accepted_sent, accepted_kept, legal_append, legal_parts, all_accepted}
+use Rattle.fw_snapshot.proofs.VerdictFacts.{accepted_legal_after, accepted_sent, accepted_each, accepted_kept, legal_append, legal_parts, all_accepted}
+use Rattle.fw_entry.specs.Spelling.{IsEntry}
 use Rattle.fw_snapshot.proofs.laws.accepted_entries_are_legal.Goals as goal
 
 pub returns-clause-legal : goal.returns-clause-legal
@@ -18,3 +19,6 @@ returns-clause-parted c = legal_parts
 
 pub returns-clause-all : goal.returns-clause-all
 returns-clause-all c = all_accepted
+
+pub returns-clause-whole : goal.returns-clause-whole
+returns-clause-whole c = accepted_each IsEntry
