@@ -6,3 +6,6 @@ pub mod Appending
 pub mod Headers
 pub mod Found
 pub mod Made
+pub mod Committing
+pub mod Judged
+pub mod Running

@@ -7,3 +7,5 @@ pub mod Headers
 pub mod Opening
 pub mod Creating
 pub mod Checkpoints
+pub mod Committing
+pub mod Prepared
