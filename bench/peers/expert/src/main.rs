@@ -3,15 +3,18 @@
 //! It reads the same script from standard input, checks the same rules of each
 //! row, tells posts apart that are sent twice or out of turn, keeps every accepted row
 //! in memory, and answers posts and reports in the same words. Rows are kept as an expert would keep them: amounts as whole nanos
-//! (10^-9 of the currency unit), times as seconds since 1970.
+//! (10^-9 of the currency unit), times as seconds since 1970. By `--log FILE --syncs 1|2` each post is appended to a file and synced,
+//! once or twice, before it is answered.
 mod fields;
+mod log;
 mod names;
 mod rows;
 mod warehouse;
 
+use log::Log;
+use std::collections::BTreeMap;
 use std::fmt;
 use std::io::{self, BufRead, BufReader, BufWriter, Write};
-use std::collections::BTreeMap;
 use warehouse::{NoReport, Sums, Verdict, Warehouse};
 
 const BUFFER: usize = 1 << 18;
@@ -124,8 +127,12 @@ impl fmt::Display for Nanos {
 fn main() -> io::Result<()> {
     let mut input = BufReader::with_capacity(BUFFER, io::stdin().lock());
     let mut output = BufWriter::new(io::stdout().lock());
-    let currency = std::env::args().nth(3).unwrap_or("USD".to_string());
-    let mut warehouse = Warehouse::new(currency.as_bytes().try_into().unwrap());
+    let words: Vec<String> = std::env::args().collect();
+    let option = |name: &str| words.iter().position(|word| word == name).and_then(|place| words.get(place + 1));
+    let currency = option("--currency").map_or("USD", String::as_str);
+    let has_gates = option("--syncs").is_some_and(|syncs| syncs == "2");
+    let log = option("--log").map(|path| Log::create(path, has_gates)).transpose()?;
+    let mut warehouse = Warehouse::new(currency.as_bytes().try_into().unwrap(), log);
     let (mut line, mut text) = (Vec::new(), Vec::new());
     while read_lines(&mut input, 1, &mut line)? == 1 {
         match Command::read(line.strip_suffix(b"\n").unwrap_or(&line)) {
@@ -140,7 +147,7 @@ fn main() -> io::Result<()> {
                     writeln!(output, "bad end")?;
                     break;
                 }
-                match warehouse.post(&origin, number, &text) {
+                match warehouse.post(&origin, number, &text)? {
                     Ok(Verdict::Accepted(number)) => writeln!(output, "accepted {number}")?,
                     Ok(Verdict::Already(last)) => writeln!(output, "already {last}")?,
                     Ok(Verdict::Gap(expected)) => writeln!(output, "gap {expected}")?,

@@ -74,6 +74,16 @@ impl Names {
         self.tags.iter().map(group).collect()
     }
 
+    /// The texts, by number.
+    pub fn texts(&self) -> &[Box<str>] {
+        &self.texts
+    }
+
+    /// The lists of tags, by number, each with the numbers of its keys and words.
+    pub fn lists(&self) -> &[Vec<(u32, u32)>] {
+        &self.tags
+    }
+
     pub fn text(&self, number: u32) -> &str {
         &self.texts[number as usize]
     }

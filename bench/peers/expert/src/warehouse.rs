@@ -1,7 +1,9 @@
 //! The rows posted so far, and reports over them.
+use crate::log::Log;
 use crate::names::Names;
 use crate::rows::{self, Fault, Row};
 use std::collections::{BTreeMap, HashMap};
+use std::io;
 
 /// The most hours of a report: three years.
 const MOST_HOURS: i64 = 26_304;
@@ -18,6 +20,7 @@ pub struct Warehouse {
     origins: HashMap<Vec<u8>, u64>,
     rows: Vec<Row>,
     names: Names,
+    log: Option<Log>,
 }
 
 /// What becomes of a post.
@@ -41,13 +44,15 @@ pub enum NoReport {
 }
 
 impl Warehouse {
-    pub fn new(currency: [u8; 3]) -> Warehouse {
+    /// An empty warehouse, which appends each post that it accepts to the log, if there is one.
+    pub fn new(currency: [u8; 3], log: Option<Log>) -> Warehouse {
         Warehouse {
             currency,
             posts: 0,
             origins: HashMap::new(),
             rows: Vec::new(),
             names: Names::new(),
+            log,
         }
     }
 
@@ -60,20 +65,23 @@ impl Warehouse {
     }
 
     /// Keeps the rows of a CSV text where the post is the next of its origin, or keeps none of them. The rows are read first.
-    pub fn post(&mut self, origin: &[u8], number: Option<u64>, text: &[u8]) -> Result<Verdict, Fault> {
+    pub fn post(&mut self, origin: &[u8], number: Option<u64>, text: &[u8]) -> io::Result<Result<Verdict, Fault>> {
         let before = self.rows.len();
         if let Err(fault) = rows::read(text, &self.currency, &mut self.names, &mut self.rows) {
             self.rows.truncate(before);
-            return Err(fault);
+            return Ok(Err(fault));
         }
         let verdict = self.judge(origin, number);
         if let Verdict::Accepted(posts) = verdict {
+            if let Some(log) = &mut self.log {
+                log.append(origin, number.unwrap_or(0), &self.rows[before..], &self.names)?;
+            }
             self.posts = posts;
             *self.origins.entry(origin.to_vec()).or_default() += 1;
         } else {
             self.rows.truncate(before);
         }
-        Ok(verdict)
+        Ok(Ok(verdict))
     }
 
     /// What becomes of a post whose rows are right, and are at the end of the rows.
