@@ -8,3 +8,4 @@ pub mod Index
 pub mod RosterFacts
 pub mod Taking
 pub mod Grouping
+pub mod Untouched

@@ -8,3 +8,4 @@ pub mod PlacedView
 pub mod Ranked
 pub mod Offers
 pub mod RosterView
+pub mod Untouched
