@@ -28,12 +28,12 @@ add_assoc_ℤ a b c = omega (arith, ints)
 zero_add_ℤ : (a : ℤ) → pos 0 +ℤ a ≡ a
 zero_add_ℤ a = omega (arith, ints)
 
-fold_from : (a : ℤ) (zs : List ℤ) → fold ◌+ℤ◌ a zs ≡ a +ℤ fold ◌+ℤ◌ (pos 0) zs
+pub fold_from : (a : ℤ) (zs : List ℤ) → fold ◌+ℤ◌ a zs ≡ a +ℤ fold ◌+ℤ◌ (pos 0) zs
 fold_from a [] = omega (arith, ints)
 fold_from a (z ∷ zs) =
     fold_from (a +ℤ z) zs ∙ (add_assoc_ℤ a z (fold ◌+ℤ◌ (pos 0) zs) ∙ ap (λ x. a +ℤ x) (sym (fold_from (pos 0 +ℤ z) zs ∙ ap (λ x. x +ℤ fold ◌+ℤ◌ (pos 0) zs) (zero_add_ℤ z))))
 
-carried-append : (id : List ℕ) (xs ys : List LineValue) → carried id (xs ++ ys) ≡ carried id xs +ℤ carried id ys
+pub carried-append : (id : List ℕ) (xs ys : List LineValue) → carried id (xs ++ ys) ≡ carried id xs +ℤ carried id ys
 unfolding carried cost_of_all
 carried-append id xs ys =
     ap (λ ls. fold ◌+ℤ◌ (pos 0) (map (λ (line : LineValue). line.effective) ls)) (filter-append (is_share_of id) xs ys)
@@ -49,7 +49,7 @@ carried-one id line rest = by_test (is_share_of id line)
     by_test true = ap (λ z. fold ◌+ℤ◌ z (map (λ (l : LineValue). l.effective) (filter (is_share_of id) rest))) (zero_add_ℤ line.effective) ∙ fold_from line.effective (map (λ (l : LineValue). l.effective) (filter (is_share_of id) rest))
     by_test false = sym (zero_add_ℤ (fold ◌+ℤ◌ (pos 0) (map (λ (l : LineValue). l.effective) (filter (is_share_of id) rest))))
 
-carried-nil : (id : List ℕ) → carried id [] ≡ pos 0
+pub carried-nil : (id : List ℕ) → carried id [] ≡ pos 0
 unfolding carried cost_of_all
 carried-nil id = refl
 
@@ -157,7 +157,7 @@ sum_insert before f x (y ∷ ys) = by_test (before y x) (sum_insert before f x y
     by_test true ih = sum_by-cons f y (insert_by before x ys) ∙ omega (arith, ih, sum_by-cons f y ys)
     by_test false ih = sum_by-cons f x (y ∷ ys)
 
-sum_in_order : {X : Type 0} (before : X → X → Bool) (f : X → ℕ) (xs : List X) → sum_by f (in_order before xs) ≡ sum_by f xs
+pub sum_in_order : {X : Type 0} (before : X → X → Bool) (f : X → ℕ) (xs : List X) → sum_by f (in_order before xs) ≡ sum_by f xs
 sum_in_order before f [] = refl
 sum_in_order before f (x ∷ xs) = sum_insert before f x (in_order before xs) ∙ (ap (λ n. f x + n) (sum_in_order before f xs) ∙ sym (sum_by-cons f x xs))
 
@@ -220,7 +220,7 @@ fold_range z g a (suc n) each =
     fold_from (pos 0 +ℤ z a) (map z (range_with_len (a + 1) n))
     ∙ (rw (rest, here) (add_up (g a) (sum_by g (range_with_len (a + 1) n)) (sum_by g (range_with_len a (suc n))) (sum_by-cons g a (range_with_len (a + 1) n))))
 
-amount_at : (c : CommitmentValue) (k : ℕ) → k < c.hours → amount_in c (c.start + k) ≡ amount_of (cost_of c.purchases) c.hours k
+pub amount_at : (c : CommitmentValue) (k : ℕ) → k < c.hours → amount_in c (c.start + k) ≡ amount_of (cost_of c.purchases) c.hours k
 unfolding amount_in is_in_term
 amount_at c k h =
     let runs : (nat_le c.start (c.start + k) && nat_lt (c.start + k) (c.start + c.hours)) ≡ true = grind (arith, nat_tests) in

@@ -5,5 +5,8 @@ pub mod Places
 pub mod Sharing
 pub mod Runs
 pub mod OneList
+pub mod EachLine
 pub mod Purchases
 pub mod Carrying
+pub mod Named
+pub mod Accounting

@@ -13,7 +13,7 @@ commitment_lines_same : (hour : ℕ) (c : CommitmentValue) (rows : List Charge) 
 commitment_lines_same hour c rows takes unused xs ys a b =
     a.are_lines ∙ (ap (shared_lines hour c rows takes) (shares_same (amount_in c hour) (weights_of takes unused) a.shares b.shares a.are_shares b.are_shares) ∙ sym b.are_lines)
 
-AllZip-same : {A B : Type 0} (R : A → B → Type 0) → ((a : A) (x y : B) → R a x → R a y → x ≡ y) → (ws : List A) (xs ys : List B) → AllZip R ws xs → AllZip R ws ys → xs ≡ ys
+pub AllZip-same : {A B : Type 0} (R : A → B → Type 0) → ((a : A) (x y : B) → R a x → R a y → x ≡ y) → (ws : List A) (xs ys : List B) → AllZip R ws xs → AllZip R ws ys → xs ≡ ys
 AllZip-same R one [] [] [] p q = refl
 AllZip-same R one [] [] (y ∷ ys) p q = absurd q
 AllZip-same R one [] (x ∷ xs) ys p q = absurd p

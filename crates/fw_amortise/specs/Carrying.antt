@@ -1,5 +1,6 @@
 -- What the lines carry of a commitment's purchases.
-use Rattle.std.specs.Prelude.{◌≡◌, ◌&&◌, ℕ, ℤ, pos, ◌+ℤ◌, Bool, true, false, List, [], ◌∷◌, fold, map, filter, Option, None, Some}
+use Rattle.std.specs.Prelude.{◌≡◌, ◌&&◌, ℕ, ℤ, pos, ◌+ℤ◌, Bool, true, false, List, [], ◌∷◌, fold, map, filter, Option, None, Some, is_some}
+use Rattle.std.specs.Option.{option_map_or}
 use Rattle.std.specs.Str.{bytes_eq}
 use Rattle.fw_charge.specs.Charge.{DiscountText}
 use Rattle.fw_terms.specs.Commitment.{CommitmentValue}
@@ -22,6 +23,10 @@ has_id id (Some d) = bytes_eq d.id id
 -- whether a line carries a share of the commitment with this id
 unfoldable pub is_share_of : List ℕ → LineValue → Bool
 is_share_of id line = is_share line.kind && has_id id line.commitment
+
+-- whether a line names the commitment with this id, and a status: how the lines of shares are known from their text
+unfoldable pub names_share_of : List ℕ → LineValue → Bool
+names_share_of id line = option_map_or (λ d. bytes_eq d.id id && is_some d.status) line.commitment false
 
 -- the sum of the effective costs of lines
 unfoldable pub cost_of_all : List LineValue → ℤ

@@ -4,3 +4,4 @@ pub mod LineView
 pub mod Lines
 pub mod Adding
 pub mod Carrying
+pub mod Sources

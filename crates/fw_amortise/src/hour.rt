@@ -1,6 +1,7 @@
 //! The lines of an hour.
 ghost use Rattle.std.specs.Prelude.{◌≡◌, ◌≤◌, ◌<◌, ◌+◌, ◌++◌, ◌==◌, ℕ, length, map, filter, slice_index, slice_get, ◌∷◌, [], All, IfOk, OnOk};
 ghost use Rattle.std.specs.List.{flat_map, prefix_len};
+ghost use Rattle.fw_charge.specs.Charge.{hour_of};
 ghost use Rattle.fw_cover.specs.Eligible.{is_of_hour};
 ghost use Rattle.fw_terms.specs.Commitment.{CommitmentValue};
 ghost use Rattle.fw_cover.specs.Applies.{is_in_term};
@@ -195,6 +196,7 @@ pub fn lines_by_roster<'a>(
     rows: &[&'a Row],
     hour: u32,
 ) -> Result<Vec<Line<'a>>, AllocError>
+    requires { All (λ r. hour_of r.start ≡ hour) (map (λ r. r.now) rows.now) }
     ensures { IfOk result (λ v. AreHourLines roster.now (map (λ r. r.now) rows.now) hour v.items) }
 {
     let cover = roster.cover(alloc, rows, hour)?;
@@ -217,6 +219,7 @@ pub fn lines_of_hour<'a>(
     rows: &[&'a Row],
     hour: u32,
 ) -> Result<Vec<Line<'a>>, AllocError>
+    requires { All (λ r. hour_of r.start ≡ hour) (map (λ r. r.now) rows.now) }
     ensures { IfOk result (λ v. AreHourLines commitments.now (map (λ r. r.now) rows.now) hour v.items) }
 {
     let roster = Roster::new(alloc, commitments)?;

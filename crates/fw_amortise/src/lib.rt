@@ -16,6 +16,7 @@ mod single;
 pub use amount::{amounts_are_the_total, hour_amount};
 pub use hour::{lines, lines_by_roster, lines_of_hour};
 pub use laws::{
-    lines_are_one, lines_carry_the_amount, lines_carry_the_purchases, purchases_cost_nothing,
+    lines_are_known_by_their_text, lines_are_one, lines_carry_the_amount,
+    lines_carry_the_purchases, purchases_cost_nothing, rows_are_accounted_for,
 };
 pub use line::{Line, LineDiscount, LineFields, LineKind};

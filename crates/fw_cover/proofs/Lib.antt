@@ -9,3 +9,4 @@ pub mod RosterFacts
 pub mod Taking
 pub mod Grouping
 pub mod Untouched
+pub mod Whole

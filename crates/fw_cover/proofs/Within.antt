@@ -146,7 +146,7 @@ pairs_within cs rows hour valid small few =
     all_flat_map (IsWithin cs rows) (pairs_of_commitment hour rows) (commitments_in_order cs) (λ k d lt. commitment_within cs rows hour (get_or (commitments_in_order cs) k d) small few (placed k d lt) numbered)
 
 -- ---- the places in the order are those in the list
-get_at : {X : Type 0} (xs : List X) (k : ℕ) (d : X) → k < length xs → slice_get xs k ≡ Some (get_or xs k d)
+pub get_at : {X : Type 0} (xs : List X) (k : ℕ) (d : X) → k < length xs → slice_get xs k ≡ Some (get_or xs k d)
 get_at [] k d lt = absurd (omega (arith, lt))
 get_at (x ∷ xs) zero d lt = refl
 get_at (x ∷ xs) (suc k) d lt = get_at xs k d (omega (arith, lt))

@@ -9,3 +9,4 @@ pub mod Ranked
 pub mod Offers
 pub mod RosterView
 pub mod Untouched
+pub mod Meeting

@@ -1,15 +1,30 @@
 //! What holds of each cover: laws, each the contract of a function that does nothing.
-ghost use Rattle.std.specs.Prelude.{◌≡◌, ◌==◌, ◌∷◌, ◌++◌, ℕ, false, length, map, List, All};
+ghost use Rattle.std.specs.Prelude.{◌≡◌, ◌==◌, ◌+◌, ◌∷◌, ◌++◌, ℕ, false, length, map, List, All, slice_index};
 ghost use Rattle.std.specs.List.{flat_map};
 ghost use Rattle.fw_charge.specs.Charge.{Charge};
 ghost use Rattle.fw_terms.specs.Commitment.{CommitmentValue};
+ghost use Rattle.fw_cover.specs.Cover.{taken_of_row, used_of};
+ghost use Rattle.fw_cover.specs.Hour.{capacities_of, hour_cover, left_of, quantities_of, quantity_of, takes_of, unused_of};
+ghost use Rattle.fw_cover.specs.Meeting.{Meets};
 ghost use Rattle.fw_cover.specs.Order.{commitments_in_order, pairs_of};
-ghost use Rattle.fw_cover.specs.Hour.{hour_cover, left_of, quantity_of, takes_of, unused_of};
 ghost use Rattle.fw_cover.specs.Untouched.{IsUntouched, place_past, take_past};
 
 /// What the commitments took stands commitment by commitment, in their order.
 pub fn takes_stand_by_commitment()
     ensures { (cs : List CommitmentValue) (rows : List Charge) (hour : ℕ) → hour_cover cs rows hour ≡ flat_map (λ c. takes_of c.0 (hour_cover cs rows hour)) (commitments_in_order cs) }
+{}
+
+/// What was taken of a row and what is left of it are its quantity, and what was used of a commitment and what is left unused are its capacity:
+/// nothing is taken twice.
+pub fn takes_stay_within()
+    ensures rows { (cs : List CommitmentValue) (rows : List Charge) (hour row : ℕ) → taken_of_row row (hour_cover cs rows hour) + left_of rows (hour_cover cs rows hour) row ≡ slice_index (quantities_of rows) row }
+    ensures commitments { (cs : List CommitmentValue) (rows : List Charge) (hour place : ℕ) → used_of place (hour_cover cs rows hour) + unused_of cs (hour_cover cs rows hour) place ≡ slice_index (capacities_of cs) place }
+{}
+
+/// Whatever was taken is of a row that a commitment applies to: a row of the hour that commitments may cover, in the commitment's term, of a SKU
+/// that it lists, and of its sub-account and unit.
+pub fn takes_apply()
+    ensures { (cs : List CommitmentValue) (rows : List Charge) (hour : ℕ) → All (λ t. Meets cs rows hour t.commitment t.row) (hour_cover cs rows hour) }
 {}
 
 /// A row that no commitment applies to changes nothing. It is in no pair, and the whole of its quantity is left. What is taken of the other

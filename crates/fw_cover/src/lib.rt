@@ -27,7 +27,9 @@ mod taken;
 
 pub use eligible::is_eligible;
 pub use hour::{HourCover, cover, cover_hour};
-pub use laws::{takes_stand_by_commitment, untouched_rows_change_nothing};
+pub use laws::{
+    takes_apply, takes_stand_by_commitment, takes_stay_within, untouched_rows_change_nothing,
+};
 pub use order::{in_order, is_in_term};
 pub use roster::Roster;
 pub use taken::Taken;

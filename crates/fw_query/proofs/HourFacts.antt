@@ -1,5 +1,5 @@
 -- Lemmas on rows by hour.
-use Rattle.std.proofs.Common.{◌≡◌, ◌≢◌, ◌∙◌, ℕ, zero, suc, ◌+◌, ◌<◌, ◌≤◌, ◌==◌, true, false, All, Bor, List, [], ◌∷◌, ◌++◌, length, map, filter, take, get_or, set, Some, None, Vec, sym, ap, refl, arith, append-nil, append_assoc, subst, ⊎_elim}
+use Rattle.std.proofs.Common.{◌≡◌, ◌≢◌, ◌∙◌, ℕ, zero, suc, ◌+◌, ◌<◌, ◌==◌, true, false, All, Bor, List, [], ◌∷◌, ◌++◌, length, map, filter, take, get_or, set, Some, Vec, sym, ap, refl, arith, append-nil, append_assoc, ⊎_elim}
 use Rattle.std.specs.Prelude.{slice_get}
 use Rattle.std.specs.declared.alloc.Global.{Global}
 use Rattle.std.proofs.lemmas.Bool.{cases_eq}
@@ -10,7 +10,7 @@ use Rattle.std.proofs.lemmas.List.Elements.{All-nil, filter-append, filter_map-a
 use Rattle.std.proofs.lemmas.List.FromFn.{length-map-range_with_len, get_or-map-range_with_len}
 use Rattle.std.proofs.lemmas.Option.{get_or_from_slice_get, slice_get_cases, slice_get_read, slice_get_within}
 use Rattle.std.proofs.lemmas.Simd.{map-map}
-use Rattle.std.specs.List.{filter_map, range_with_len}
+use Rattle.std.specs.List.{range_with_len}
 use Rattle.fw_charge.specs.Charge.{Charge, hour_of}
 use Rattle.fw_cover.specs.Eligible.{is_of_hour}
 use Rattle.fw_amortise.specs.Lines.{rows_in}

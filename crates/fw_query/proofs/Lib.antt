@@ -10,3 +10,7 @@ pub mod MovedFacts
 pub mod RangeFacts
 mod ListingFacts
 pub mod TotalFacts
+pub mod OneAnswer
+pub mod DirectFacts
+pub mod CarriedFacts
+pub mod AccountedFacts

@@ -1,21 +1,19 @@
 -- Lemmas on the text of lines, hour by hour.
-use Rattle.std.proofs.Common.{◌≡◌, ◌∙◌, ℕ, ◌+◌, ◌<◌, ◌-◌, ◌==◌, Some, true, false, All, List, [], ◌∷◌, ◌++◌, length, map, filter, get_or, subst, sym, ap, refl, arith, append-nil, append_assoc, Vec}
+use Rattle.std.proofs.Common.{◌≡◌, ◌∙◌, ℕ, ◌+◌, ◌<◌, ◌-◌, Some, false, All, List, [], ◌∷◌, ◌++◌, length, map, get_or, subst, sym, ap, refl, arith, append-nil, append_assoc, Vec}
 use Rattle.std.specs.declared.alloc.Global.{Global}
 use Rattle.std.specs.List.{concat, range_with_len}
 use Rattle.std.specs.Io.KnownBytes.{Keeps}
 use Rattle.csv.specs.Writing.{text_written}
 use Rattle.std.proofs.lemmas.Grind.{flat_map-append}
-use Rattle.std.proofs.lemmas.Bool.Decides.{nat_tests}
 use Rattle.std.proofs.lemmas.List.{get_or-map, map-append}
-use Rattle.std.proofs.lemmas.List.Elements.{filter_passes}
 use Rattle.std.proofs.lemmas.List.FromFn.{get_or-map-range_with_len}
 use Rattle.std.proofs.lemmas.List.Folds.{concat-append}
 use Rattle.csv.specs.declared.writer.Writer.{Writer}
 use Rattle.fw_charge.specs.Charge.{Charge, hour_of}
-use Rattle.fw_cover.specs.Eligible.{is_of_hour}
 use Rattle.fw_amortise.specs.Lines.{AreHourLines, given_lines, rest_lines, rows_in}
 use Rattle.fw_terms.specs.Commitment.{CommitmentValue}
 use Rattle.fw_amortise.specs.LineValue.{LineValue}
+use Rattle.fw_amortise.proofs.EachLine.{rows_are_of_hour}
 use Rattle.fw_query.specs.Hours.{AreByHour, is_touched, rows_of_list}
 use Rattle.fw_query.specs.declared.hours.RowPlace.{RowPlace}
 use Rattle.fw_query.specs.Listing.{IsListing, WritesHour, WritesHours, records}
@@ -38,13 +36,6 @@ no_lines writer text cs rows hour none untouched has =
     let plain : plain_lines rows hour ≡ [] = ap (λ r. plain_lines r hour) none ∙ no_plain hour in
     record { lines = []; are_lines = subst (AreHourLines cs rows hour) plain (are_plain cs rows hour untouched); wrote = subst (HasWritten writer) (sym (append-nil text)) has }
 
--- the rows of an hour are of it
-of_this_hour : (h : ℕ) (rows : List Charge) → All (λ (r : Charge). hour_of r.start ≡ h) (rows_in h rows)
-unfolding rows_in is_of_hour
-of_this_hour h rows = λ k d below.
-    let test : (hour_of (get_or (filter (is_of_hour h) rows) k d).start == h) ≡ true = filter_passes (is_of_hour h) rows k d below in
-    grind (arith, nat_tests)
-
 -- the rows at the places of a list are of its hour
 pub of_hour : (segments : List (List Charge)) (rows : List Charge) (by_hour : List (Vec RowPlace Global)) (from i : ℕ) (v : Vec RowPlace Global) → AreByHour segments rows from (length by_hour) by_hour → i < length by_hour
     → v ≡ get_or by_hour i v → All (λ (r : Charge). hour_of r.start ≡ from + i) (rows_of_list segments v)
@@ -52,7 +43,7 @@ of_hour segments rows by_hour from i v by below is =
     let here : rows_of_list segments v ≡ rows_in (from + i) rows =
     ap (rows_of_list segments) is ∙ sym (get_or-map (rows_of_list segments) by_hour i v (rows_of_list segments v) below) ∙ ap (λ l. get_or l i (rows_of_list segments v)) by.each
     ∙ get_or-map-range_with_len (λ h. rows_in h rows) from (length by_hour) i (from + i) (rows_of_list segments v) below refl in
-    rw here (of_this_hour (from + i) rows)
+    rw here (rows_are_of_hour (from + i) rows)
 
 -- the records of lines after those of others
 pub records-append : (xs ys : List LineValue) → records (xs ++ ys) ≡ records xs ++ records ys

@@ -1,5 +1,5 @@
 -- Lemmas on the groups of segments' rows.
-use Rattle.std.proofs.Common.{◌≡◌, ◌∙◌, ℕ, ℤ, ◌+◌, ◌<◌, All, Bor, List, [], ◌∷◌, ◌++◌, length, map, take, get_or, Some, IfSome, Vec, append_assoc, sym, ap, refl, arith}
+use Rattle.std.proofs.Common.{◌≡◌, ◌∙◌, ℕ, ℤ, ◌+◌, ◌<◌, All, Bor, List, [], ◌∷◌, ◌++◌, length, map, take, get_or, IfSome, Vec, append_assoc, sym, ap, arith}
 use Rattle.std.specs.declared.alloc.Global.{Global}
 use Rattle.std.proofs.lemmas.List.{get_or-map, length-map, map_push, take_more}
 use Rattle.std.proofs.lemmas.Option.{get_or_from_slice_get, slice_get_within}

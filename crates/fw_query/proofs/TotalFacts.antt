@@ -1,5 +1,5 @@
 -- What a report charges sums to what its lines cost.
-use Rattle.std.proofs.Common.{◌≡◌, ◌∙◌, ℕ, suc, ℤ, pos, ◌+ℤ◌, Bool, true, false, cond, Option, Some, None, IfSome, List, [], ◌∷◌, map, fold, sym, ap, refl, arith}
+use Rattle.std.proofs.Common.{◌≡◌, ◌∙◌, ℕ, suc, ℤ, pos, ◌+ℤ◌, Bool, true, false, cond, Option, Some, None, IfSome, List, [], ◌∷◌, map, sym, ap, refl, arith}
 use Rattle.std.proofs.lemmas.Int.{ints}
 use Rattle.std.proofs.lemmas.Cmp.{nat_list_eq_equiv}
 use Rattle.std.specs.Bool.{MatchBool}
@@ -13,7 +13,7 @@ use Rattle.fw_amortise.specs.LineValue.{LineValue}
 use Rattle.fw_terms.specs.Policy.{IsPolicy, PolicyValue}
 use Rattle.fw_terms.specs.Texts.{IsRising}
 use Rattle.fw_query.specs.Costs.{Cost, direct_costs, groups_of, lines_in, sum_in}
-use Rattle.fw_query.specs.Reports.{AreChargedBy, EntryValue, IsReportOf, costs_of, entries_of, line_cost}
+use Rattle.fw_query.specs.Reports.{AreChargedBy, EntryValue, IsReportOf, costs_of, entries_of}
 use Rattle.fw_query.proofs.ReportFacts.{groups_in_direct}
 
 -- ---- the sums of all groups are the sum over all lines
@@ -35,7 +35,7 @@ unfolding sum_in
 sums_of_nothing amount [] = refl
 sums_of_nothing amount (g ∷ groups) = sums_of_nothing amount groups
 
-sum_of_groups : (amount : Cost → ℤ) (costs : List Cost) (groups : List (List ℕ)) → IsRising groups → ((g : List ℕ) → Contains (groups_of costs) g → Contains groups g)
+pub sum_of_groups : (amount : Cost → ℤ) (costs : List Cost) (groups : List (List ℕ)) → IsRising groups → ((g : List ℕ) → Contains (groups_of costs) g → Contains groups g)
     → sum_of (sum_in amount costs) groups ≡ sum_of amount costs
 sum_of_groups amount [] groups rising there = sums_of_nothing amount groups
 sum_of_groups amount (c ∷ costs) groups rising there =
@@ -56,7 +56,7 @@ unfolding entries_of
 charged_in_entries costs [] = refl
 charged_in_entries costs (c ∷ charged) = let rest = charged_in_entries costs charged in ap (λ l. c.cost ∷ l) rest
 
-effective_in_lines : (key : List ℕ) (lines : List LineValue) → map (λ (c : Cost). c.effective) (costs_of key lines) ≡ map (λ (l : LineValue). l.effective) lines
+pub effective_in_lines : (key : List ℕ) (lines : List LineValue) → map (λ (c : Cost). c.effective) (costs_of key lines) ≡ map (λ (l : LineValue). l.effective) lines
 effective_in_lines key [] = refl
 effective_in_lines key (l ∷ lines) = let rest = effective_in_lines key lines in ap (λ r. l.effective ∷ r) rest
 

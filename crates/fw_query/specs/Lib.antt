@@ -9,3 +9,7 @@ pub mod Hours
 pub mod Sums
 pub mod Listing
 pub mod LineTexts
+pub mod OfHistory
+pub mod OneAnswer
+pub mod Carried
+pub mod Accounted

@@ -1,7 +1,8 @@
 //! Sums by group, as they grow line by line.
 ghost use Rattle.std.specs.Prelude.{◌≡◌, ◌+ℤ◌, ◌+◌, ◌<◌, ◌^◌, length, ◌++◌, ◌∷◌, List, [], map, All, IfOk, IfSome, OnOk};
+ghost use Rattle.fw_charge.specs.Charge.{Charge, hour_of};
 ghost use Rattle.fw_query.specs.Costs.{Cost};
-ghost use Rattle.fw_query.specs.Hours.{AreThere, IsGrouped, IsThere, lent, row_cost, rows_at, rows_of_list};
+ghost use Rattle.fw_query.specs.Hours.{AreByHour, IsGrouped, IsThere, lent, row_cost, rows_at, rows_of_list};
 ghost use Rattle.fw_query.specs.Reports.{costs_of};
 ghost use Rattle.fw_query.specs.Sums.{AddsLine, AreAmounts, AreEntries, AreSums, Counts, CountsHour, CountsHours, HasRoom, IsInOrder, kept_entry, sums_at};
 
@@ -57,7 +58,8 @@ pub(crate) struct Groups {
 impl Groups {
     // No groups.
     pub(crate) fn new(alloc: Global) -> Groups
-        ensures { Counts result [] }
+        ensures counts { Counts result [] }
+        ensures no_lines { result.lines ≡ 0 }
     {
         Groups {
             alloc,
@@ -76,7 +78,7 @@ impl Groups {
     ) -> Result<Groups, AllocError>
         requires fits { from + length by_hour.now < 2 ^ 64 }
         requires grouped { IsGrouped grouped.now }
-        requires there { All (AreThere (lent grouped.now.segments.now)) by_hour.now }
+        requires by_hour { (rows : List Charge) × AreByHour (lent grouped.now.segments.now) rows from (length by_hour.now) by_hour.now }
         ensures { IfOk result (λ groups. CountsHours groups grouped.now.key.now roster.now (map (rows_of_list (lent grouped.now.segments.now)) by_hour.now) from) }
     {
         let mut groups = Groups::new(alloc);
@@ -100,6 +102,7 @@ impl Groups {
         requires counts { (costs : List Cost) × Counts self.old costs }
         requires grouped { IsGrouped grouped.now }
         requires there { All (IsThere (lent grouped.now.segments.now)) places.now }
+        requires of_hour { All (λ r. hour_of r.start ≡ hour) (rows_at (lent grouped.now.segments.now) places.now) }
         ensures { OnOk result ((costs : List Cost) → Counts self.old costs → CountsHour self.new costs grouped.now.key.now roster.now (rows_at (lent grouped.now.segments.now) places.now) hour) }
     {
         if !is_touched(roster.commitments(), hour) {
@@ -117,7 +120,8 @@ impl Groups {
         rows: &[Row],
         hour: u32,
     ) -> Result<(), AllocError>
-        requires { (costs : List Cost) × Counts self.old costs }
+        requires counts { (costs : List Cost) × Counts self.old costs }
+        requires of_hour { All (λ r. hour_of r.start ≡ hour) rows.now }
         ensures { OnOk result ((costs : List Cost) → Counts self.old costs → CountsHour self.new costs key.now roster.now rows.now hour) }
     {
         let rows = lend(self.alloc, rows)?;

@@ -20,7 +20,10 @@ mod total;
 
 pub use entries::{Entry, Report};
 pub use fault::QueryFault;
-pub use laws::reports_keep_the_total;
+pub use laws::{
+    answers_are_one, charged_is_direct, commitments_are_carried, reports_keep_the_total,
+    rows_are_counted_once,
+};
 pub use listing::lines_csv;
 pub use query::Query;
 pub use reporting::report;

@@ -9,20 +9,13 @@ use fw_entry_bytes::put_entry;
 use fw_snapshot::Verdict;
 use std::alloc::AllocError;
 
-/// Whether a verdict accepts its entry.
-pub fn is_accept(verdict: Verdict) -> bool
-    ensures { result ≡ is_accept verdict }
-{
-    matches!(verdict, Verdict::Accept)
-}
-
 /// How many of these verdicts accept their entries.
 fn accepted_count(verdicts: &[Verdict]) -> usize
     ensures { result ≡ count_by is_accept verdicts.now }
 {
     verdicts
         .iter()
-        .filter(|verdict| is_accept(**verdict))
+        .filter(|verdict| verdict.is_accept())
         .count()
 }
 
@@ -43,7 +36,7 @@ pub fn append_accepted(
 {
     put_u32(out, accepted_count(verdicts) as u32)?;
     for (entry, verdict) in entries.iter().zip(verdicts) {
-        if is_accept(*verdict) {
+        if verdict.is_accept() {
             out.reserve(entry.encoded_len())?;
             put_entry(out, entry)?;
         }

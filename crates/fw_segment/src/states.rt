@@ -15,7 +15,6 @@ ghost use Rattle.fw_segment.specs.Segments.{IsSegment, segment};
 ghost use Rattle.fw_segment.specs.States.{Spells, currency_at, followed, most_segments, parts_at, replayed_state, state_at};
 ghost use Rattle.fw_segment.specs.declared.kind.Kind.TheVariants.{Rows};
 
-use crate::accepted::is_accept;
 use crate::heads::{ReadContent, ReadHead, heads_of, put_head};
 use crate::kind::Kind;
 use crate::rows_left::RowsLeft;
@@ -168,7 +167,7 @@ fn state_after(
             EntryFault::Seq => unreachable!("the head has a number"),
         },
     };
-    if !is_accept(judge(state, &entry)) {
+    if !judge(state, &entry).is_accept() {
         return Ok(None);
     }
     Ok(Some(state.apply(&entry)?))

@@ -28,6 +28,10 @@ pub rows_posted_more : (es : List EntryValue) (e : EntryValue) → rows_posted (
 unfolding rows_posted
 rows_posted_more es e = sym (flat_map_more (λ e. posted e.command) [] es e)
 
+pub rows_of_more : (es : List EntryValue) (e : EntryValue) → rows_of (es ++ e ∷ []) ≡ rows_of es ++ posted e.command
+unfolding rows_of
+rows_of_more es e = rows_posted_more es e
+
 pub commitments_of_more : (es : List EntryValue) (e : EntryValue) → commitments_of (es ++ e ∷ []) ≡ commitments_of es ++ committed e.command
 unfolding commitments_of
 commitments_of_more es e = sym (flat_map_more (λ e. committed e.command) [] es e)

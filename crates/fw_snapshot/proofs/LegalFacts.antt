@@ -6,12 +6,13 @@ use Rattle.std.proofs.Math.Seq.{take-nil}
 use Rattle.std.proofs.lemmas.Option.{slice_get_within, get_or_from_slice_get}
 use Rattle.std.proofs.lemmas.Slice.Eq.{bytes_eq-Decides}
 use Rattle.std.proofs.lemmas.Bool.Decides.{nat_tests}
+use Rattle.fw_charge.specs.Charge.{Charge}
+use Rattle.fw_terms.specs.Commitment.{CommitmentValue}
 use Rattle.fw_entry.specs.Entry.{CommandValue, EntryValue}
 use Rattle.fw_entry.specs.Entry.CommandValue.{post, commit, set_policy}
 use Rattle.fw_snapshot.specs.History.{posted, committed, rows_posted, rows_of, commitments_of, entries_from}
-use Rattle.fw_snapshot.specs.Judging.{judged, IsLegal, IsLegalAfter, command_conflict, rows_conflict, commitment_conflict, most_rows, most_commitments, verdict_on, carries, is_registered}
+use Rattle.fw_snapshot.specs.Judging.{judged, IsLegal, IsLegalAfter, command_conflict, rows_conflict, commitment_conflict, most_rows, most_commitments, verdict_on, carries, carries_any, is_registered}
 use Rattle.fw_snapshot.specs.declared.verdict.Conflict.{Conflict}
-use Rattle.fw_snapshot.specs.declared.verdict.Conflict.TheVariants as conflict
 use Rattle.fw_snapshot.specs.declared.verdict.Verdict.TheVariants as verdict
 use Rattle.fw_snapshot.proofs.EntryFacts.{rows_posted_more, commitments_of_more, entries_from_more, entries_from_grows}
 
@@ -32,21 +33,10 @@ accepted_number es e h =
     let parts = accepted_parts (nat_le e.seq (entries_from e.origin es)) (nat_lt (entries_from e.origin es + 1) e.seq) _ _ _ h in
     next_number (entries_from e.origin es) e.seq parts.0 parts.1
 
-accepted_command : (es : List EntryValue) (e : EntryValue) → judged es e ≡ verdict.Accept → command_conflict es e.command ≡ None
+pub accepted_command : (es : List EntryValue) (e : EntryValue) → judged es e ≡ verdict.Accept → command_conflict es e.command ≡ None
 unfolding judged
 accepted_command es e h =
     (accepted_parts (nat_le e.seq (entries_from e.origin es)) (nat_lt (entries_from e.origin es + 1) e.seq) _ _ _ h).2
-
--- where nothing is found, no test holds
-first_none : (b : Bool) (why : Conflict) (rest : Option Conflict) → (if b then Some why else rest) ≡ None → (b ≡ false) × (rest ≡ None)
-first_none true why rest h = absurd (cc)
-first_none false why rest h = (refl, h)
-
-third_none : (a b c : Bool) → (if a then Some conflict.DoubleId else (if b then Some conflict.IdInUse else (if c then Some conflict.TooManyCommitments else None))) ≡ None → c ≡ false
-third_none true b c h = absurd (cc)
-third_none false true c h = absurd (cc)
-third_none false false true h = absurd (cc)
-third_none false false false h = refl
 
 at_most : (n m : ℕ) → nat_lt n m ≡ false → m ≤ n
 at_most n m h = grind (arith, nat_tests)
@@ -56,7 +46,9 @@ below n m h = grind (arith, nat_tests)
 
 rows_room : (es : List EntryValue) (c : CommandValue) → command_conflict es c ≡ None → length (rows_posted es) ≤ most_rows → length (rows_posted es) + length (posted c) ≤ most_rows
 unfolding command_conflict rows_conflict
-rows_room es (post more) h few = at_most _ _ (first_none (nat_lt most_rows (length (rows_posted es) + length more)) _ _ h).0
+rows_room es (post more) h few =
+    let room : nat_lt most_rows (length (rows_posted es) + length more) ≡ false = grind (arith, h) in
+    at_most _ _ room
 rows_room es (commit c) h few = omega arith
 rows_room es (set_policy p) h few = omega arith
 
@@ -65,10 +57,23 @@ unfolding command_conflict commitment_conflict
 commitments_room es (post more) h few = omega arith
 commitments_room es (commit c) h few =
     let list = commitments_of es in
-    let room = third_none (is_registered c.id list) (carries c.id (rows_of es)) (nat_le most_commitments (length list)) h in
-    let full = below most_commitments (length list) room in
+    let full : nat_le most_commitments (length list) ≡ false = grind (arith, h) in
+    let room = below most_commitments (length list) full in
     omega arith
 commitments_room es (set_policy p) h few = omega arith
+
+-- the ids of an accepted entry: a commitment's is neither registered nor carried, and rows carry none that is registered
+pub new_id : (es : List EntryValue) (c : CommitmentValue) → command_conflict es (commit c) ≡ None → is_registered c.id (commitments_of es) ≡ false
+unfolding command_conflict commitment_conflict
+new_id es c h = grind (arith, h)
+
+pub unused_id : (es : List EntryValue) (c : CommitmentValue) → command_conflict es (commit c) ≡ None → carries c.id (rows_of es) ≡ false
+unfolding command_conflict commitment_conflict
+unused_id es c h = grind (arith, h)
+
+pub no_registered_id : (es : List EntryValue) (more : List Charge) → command_conflict es (post more) ≡ None → carries_any more (commitments_of es) ≡ false
+unfolding command_conflict rows_conflict
+no_registered_id es more h = grind (arith, h)
 
 -- the rows of an accepted entry fit behind the others
 pub accepted_rows : (es : List EntryValue) (e : EntryValue) → judged es e ≡ verdict.Accept → length (rows_posted es) ≤ most_rows → length (rows_posted es) + length (posted e.command) ≤ most_rows
@@ -76,6 +81,12 @@ accepted_rows es e h few = rows_room es e.command (accepted_command es e h) few
 
 accepted_commitments : (es : List EntryValue) (e : EntryValue) → judged es e ≡ verdict.Accept → length (commitments_of es) ≤ most_commitments → length (commitments_of es) + length (committed e.command) ≤ most_commitments
 accepted_commitments es e h few = commitments_room es e.command (accepted_command es e h) few
+
+-- what stays so with each entry that is accepted holds of each legal list
+pub legal_kept : (P : List EntryValue → Type 0) → ((es : List EntryValue) (e : EntryValue) → P es → judged es e ≡ verdict.Accept → P (es ++ e ∷ [])) → (first es : List EntryValue) → P first → IsLegalAfter first es → P (first ++ es)
+unfolding IsLegalAfter
+legal_kept P step first [] holds legal = rw append-nil holds
+legal_kept P step first (e ∷ es) holds legal = rw append_assoc at (legal_kept P step (first ++ e ∷ []) es (step first e holds legal.0) legal.1)
 
 -- an accepted entry goes behind a legal list
 pub legal_more : (first es : List EntryValue) (e : EntryValue) → IsLegalAfter first es → judged (first ++ es) e ≡ verdict.Accept → IsLegalAfter first (es ++ e ∷ [])
@@ -93,27 +104,19 @@ legal_at first (x ∷ es) legal zero e h =
 legal_at first (x ∷ es) legal (suc place) e h = rw append_assoc at (legal_at (first ++ x ∷ []) es legal.1 place e h)
 
 -- a legal list has few rows and commitments
-legal_rows : (first es : List EntryValue) → length (rows_posted first) ≤ most_rows → IsLegalAfter first es → length (rows_posted (first ++ es)) ≤ most_rows
-unfolding IsLegalAfter
-legal_rows first [] few legal = rw append-nil few
-legal_rows first (x ∷ es) few legal =
-    let more : length (rows_posted (first ++ x ∷ [])) ≤ most_rows = rw rows_posted_more (rw length-append (accepted_rows first x legal.0 few)) in
-    rw append_assoc at (legal_rows (first ++ x ∷ []) es more legal.1)
+rows_kept : (es : List EntryValue) (e : EntryValue) → length (rows_posted es) ≤ most_rows → judged es e ≡ verdict.Accept → length (rows_posted (es ++ e ∷ [])) ≤ most_rows
+rows_kept es e few h = rw rows_posted_more (rw length-append (accepted_rows es e h few))
 
-legal_commitments : (first es : List EntryValue) → length (commitments_of first) ≤ most_commitments → IsLegalAfter first es → length (commitments_of (first ++ es)) ≤ most_commitments
-unfolding IsLegalAfter
-legal_commitments first [] few legal = rw append-nil few
-legal_commitments first (x ∷ es) few legal =
-    let more : length (commitments_of (first ++ x ∷ [])) ≤ most_commitments = rw commitments_of_more (rw length-append (accepted_commitments first x legal.0 few)) in
-    rw append_assoc at (legal_commitments (first ++ x ∷ []) es more legal.1)
+commitments_kept : (es : List EntryValue) (e : EntryValue) → length (commitments_of es) ≤ most_commitments → judged es e ≡ verdict.Accept → length (commitments_of (es ++ e ∷ [])) ≤ most_commitments
+commitments_kept es e few h = rw commitments_of_more (rw length-append (accepted_commitments es e h few))
 
 pub few_rows : (es : List EntryValue) → IsLegal es → length (rows_posted es) ≤ most_rows
 unfolding rows_posted
-few_rows es legal = legal_rows [] es (omega arith) legal
+few_rows es legal = legal_kept (λ es. length (rows_posted es) ≤ most_rows) rows_kept [] es (omega arith) legal
 
 pub few_commitments : (es : List EntryValue) → IsLegal es → length (commitments_of es) ≤ most_commitments
 unfolding commitments_of
-few_commitments es legal = legal_commitments [] es (omega arith) legal
+few_commitments es legal = legal_kept (λ es. length (commitments_of es) ≤ most_commitments) commitments_kept [] es (omega arith) legal
 
 -- each entry has the number that follows those of its origin before it
 pub in_turn : (es : List EntryValue) → IsLegal es → (place : ℕ) (e : EntryValue) → slice_get es place ≡ Some e → e.seq ≡ entries_from e.origin (take place es) + 1
@@ -129,7 +132,7 @@ take_within (x ∷ es) (suc i) zero h = absurd (omega arith)
 take_within (x ∷ es) (suc i) (suc j) h = ap (λ xs. x ∷ xs) (take_within es i j (omega arith))
 
 -- an entry counts among those of its origin before any later one
-counts_before : (es : List EntryValue) (i j : ℕ) (a : EntryValue) → slice_get es i ≡ Some a → i < j → entries_from a.origin (take i es) + 1 ≤ entries_from a.origin (take j es)
+pub counts_before : (es : List EntryValue) (i j : ℕ) (a : EntryValue) → slice_get es i ≡ Some a → i < j → entries_from a.origin (take i es) + 1 ≤ entries_from a.origin (take j es)
 counts_before es i j a h before =
     let within : i < length es = slice_get_within es i a h in
     let step = take_more es i a within in

@@ -3,3 +3,5 @@ pub mod HeadFacts
 pub mod LegalFacts
 pub mod Following
 pub mod VerdictFacts
+pub mod IdFacts
+pub mod RepeatFacts

@@ -1,5 +1,5 @@
 -- Entries that are judged one after the other: each after those that a warehouse has, and those before it that were accepted.
-use Rattle.std.specs.Prelude.{Bool, true, false, List, [], ◌∷◌, ◌++◌, if◌then◌else◌}
+use Rattle.std.specs.Prelude.{◌≡◌, ℕ, Bool, true, false, List, [], ◌∷◌, ◌++◌, slice_get, Some, if◌then◌else◌}
 use Rattle.fw_entry.specs.Entry.{EntryValue}
 use Rattle.fw_snapshot.specs.History.{History}
 use Rattle.fw_snapshot.specs.Judging.{judged}
@@ -36,6 +36,14 @@ unfoldable pub chosen : List EntryValue → List Verdict → List EntryValue
 chosen [] vs = []
 chosen (e ∷ es) [] = []
 chosen (e ∷ es) (v ∷ vs) = kept_by v e ++ chosen es vs
+
+-- an entry is a repeat of one of these: one of the same origin and number, whatever the two hold
+pub record IsRepeat (entries : List EntryValue) (e : EntryValue) : Type 0 where
+  pub place : ℕ
+  pub first : EntryValue
+  pub stands : slice_get entries place ≡ Some first
+  pub same_origin : first.origin ≡ e.origin
+  pub same_number : first.seq ≡ e.seq
 
 -- a warehouse after more entries
 abbrev pub with_more : History → List EntryValue → History

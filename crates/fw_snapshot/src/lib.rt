@@ -21,7 +21,12 @@ mod verdict;
 pub use fw_entry::{Command, Entry, EntryFault};
 pub use head::{Content, Head};
 pub use judging::judge;
-pub use laws::{each_entry_once, entries_are_judged_in_turn, numbers_are_in_turn};
+pub use laws::{
+    a_repeat_changes_nothing, a_repeat_is_answered_already, accepted_entries_are_legal,
+    each_commitment_has_its_own_id, each_entry_once, entries_are_judged_in_turn,
+    no_number_is_missing, no_row_has_the_id_of_a_commitment, numbers_are_in_turn,
+    rows_and_commitments_are_few, sending_again_changes_nothing, what_is_sent_often_stands_once,
+};
 pub use snapshot::Snapshot;
 pub use state::State;
 pub use verdict::{Conflict, Verdict};

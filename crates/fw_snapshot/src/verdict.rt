@@ -1,4 +1,6 @@
 //! The verdict on an entry.
+ghost use Rattle.std.specs.Prelude.{◌≡◌};
+ghost use Rattle.fw_snapshot.specs.Verdicts.{is_accept};
 
 /// Why what an entry brings doesn't go with what was accepted before.
 #[derive(Clone, Copy, Debug, Drop, PartialEq, Eq)]
@@ -27,4 +29,13 @@ pub enum Verdict {
     Gap { expected: u64 },
     /// The number is the next one, but what the entry brings doesn't go with what was accepted before.
     Refused(Conflict),
+}
+
+impl Verdict {
+    /// Whether the entry is accepted.
+    pub fn is_accept(&self) -> bool
+        ensures { result ≡ is_accept self.now }
+    {
+        matches!(self, Verdict::Accept)
+    }
 }

@@ -2,7 +2,6 @@ use Rattle.std.proofs.Common.{◌≡◌, ◌∙◌, ◌+◌, map, get_or, arith,
 use Rattle.std.proofs.lemmas.Option.{slice_get_within}
 use Rattle.std.proofs.lemmas.List.{length-map, take_all}
 use Rattle.fw_cover.specs.Order.{commitments_in_order}
-use Rattle.fw_cover.specs.Hour.{takes_of}
 use Rattle.fw_cover.proofs.Grouping.{order_places_apart}
 use Rattle.fw_amortise.specs.Lines.{running}
 use Rattle.fw_amortise.proofs.Places.{order_placed, placed_at}

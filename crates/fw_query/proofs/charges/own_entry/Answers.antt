@@ -1,4 +1,4 @@
-use Rattle.std.proofs.Common.{rules, ◌≡◌, ◌∙◌, ap, get_or, nat_cmp, sym, Some}
+use Rattle.std.proofs.Common.{rules, ◌∙◌, ap, nat_cmp, sym, Some}
 use Rattle.std.specs.Cmp.Lexicographic.{slice_cmp}
 use Rattle.std.proofs.lemmas.Fn.{always_returns_same}
 use Rattle.fw_allocate.proofs.Rising.{none_at, searchable, tied_texts}

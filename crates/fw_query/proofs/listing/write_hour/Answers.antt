@@ -10,6 +10,11 @@ use Rattle.fw_query.proofs.listing.write_hour.Goals as goal
 pub returns-in_default : goal.returns-in_default
 returns-in_default c = λ text has. no_lines c.args.writer.now text c.args.roster.now c.args.rows.now c.args.hour c.in_default.ensures.0 (ap (λ cs. is_touched cs c.args.hour) (sym c.commitments.ensures) ∙ c.in_default.ensures.1) has
 
+pub lines_by_roster-requires : goal.lines_by_roster-requires
+lines_by_roster-requires c =
+    let rows : map (λ (r : Bor Charge). r.now) c.as_slice.result.now ≡ c.args.rows.now = ap (map (λ (r : Bor Charge). r.now)) c.as_slice.ensures.value ∙ c.in_ok-rows.ensures in
+    rw (rows, c.in-Some.ensures) c.requires
+
 pub returns : goal.returns
 returns c =
     let rows : map (λ (r : Bor Charge). r.now) c.as_slice.result.now ≡ c.args.rows.now = ap (map (λ (r : Bor Charge). r.now)) c.as_slice.ensures.value ∙ c.in_ok-rows.ensures in

@@ -1,4 +1,4 @@
-use Rattle.std.proofs.Common.{◌≡◌, ◌∙◌, ◌+◌, ◌++◌, ◌∷◌, [], All, List, ap, length, map, sym, take, arith}
+use Rattle.std.proofs.Common.{◌≡◌, ◌∙◌, ◌+◌, ◌++◌, ◌∷◌, [], All, ap, length, map, sym, take, arith}
 use Rattle.std.proofs.lemmas.List.{length-map, length-take-le, map_more, take_all}
 use Rattle.fw_charge.specs.Charge.{Charge, hour_of}
 use Rattle.fw_query.specs.Hours.{AreThere, lent, rows_at, rows_of_list}

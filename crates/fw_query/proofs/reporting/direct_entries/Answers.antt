@@ -1,8 +1,7 @@
-use Rattle.std.proofs.Common.{◌≡◌, ◌∙◌, ◌-◌, All, Bor, List, ap, length, map, refl, rules, arith}
+use Rattle.std.proofs.Common.{◌≡◌, ◌-◌, List, length, map, refl, arith}
 use Rattle.std.proofs.lemmas.Result.{IfOk-weaker}
-use Rattle.fw_charge.specs.Charge.{Charge}
 use Rattle.fw_query.specs.Costs.{Cost}
-use Rattle.fw_query.specs.Hours.{AreThere, all_rows, lent, rows_of_list}
+use Rattle.fw_query.specs.Hours.{all_rows, lent, rows_of_list}
 use Rattle.fw_query.specs.RangeLines.{joined}
 use Rattle.fw_query.specs.Sums.{AreEntries, AreSums, CountsHours, HasDirect}
 use Rattle.fw_query.proofs.HourFacts.{by_hour_long}
@@ -14,9 +13,10 @@ of_hours-requires-clause-fits c =
     let long : length c.in_ok-by_hour.by_hour.items ≡ c.args.query.now.to_hour - c.args.query.now.from_hour = by_hour_long _ _ _ _ _ c.in_ok-by_hour.ensures in
     rw (c.as_slice.ensures.value, long) (omega arith)
 
-pub of_hours-requires-clause-there : goal.of_hours-requires-clause-there
-of_hours-requires-clause-there c =
-    rw (c.as_slice.ensures.value, c.in_ok-grouped.ensures.segments) c.in_ok-by_hour.ensures.there
+pub of_hours-requires-clause-by_hour : goal.of_hours-requires-clause-by_hour
+of_hours-requires-clause-by_hour c =
+    let long : length c.in_ok-by_hour.by_hour.items ≡ c.args.query.now.to_hour - c.args.query.now.from_hour = by_hour_long _ _ _ _ _ c.in_ok-by_hour.ensures in
+    (all_rows (lent c.args.segments.now), rw (c.as_slice.ensures.value, c.in_ok-grouped.ensures.segments, long) c.in_ok-by_hour.ensures)
 
 pub returns : goal.returns
 returns c =

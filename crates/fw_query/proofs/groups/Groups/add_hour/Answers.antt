@@ -22,5 +22,8 @@ returns-then-not-is_touched c =
     })
     c.add_rows.ensures
 
+pub add_touched-requires-clause-of_hour : goal.add_touched-requires-clause-of_hour
+add_touched-requires-clause-of_hour c = rw (c.as_slice.ensures.value, c.in_ok-rows.ensures) c.requires.of_hour
+
 pub returns : goal.returns
 returns c = rw (c.as_slice.ensures.value, c.in_ok-rows.ensures) at c.add_touched.ensures

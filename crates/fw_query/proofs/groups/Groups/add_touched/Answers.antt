@@ -6,6 +6,11 @@ use Rattle.fw_query.specs.Reports.{costs_of}
 use Rattle.fw_query.specs.Sums.{Counts, CountsHour}
 use Rattle.fw_query.proofs.groups.Groups.add_touched.Goals as goal
 
+pub lines_by_roster-requires : goal.lines_by_roster-requires
+lines_by_roster-requires c =
+    let rows : map (λ (r : Bor Charge). r.now) c.as_slice.result.now ≡ c.args.rows.now = ap (map (λ (r : Bor Charge). r.now)) c.as_slice.ensures.value ∙ c.in_ok-rows.ensures in
+    rw rows c.requires.of_hour
+
 pub returns : goal.returns
 returns c =
     let rows : map (λ (r : Bor Charge). r.now) c.as_slice.result.now ≡ c.args.rows.now = ap (map (λ (r : Bor Charge). r.now)) c.as_slice.ensures.value ∙ c.in_ok-rows.ensures in

@@ -1,17 +1,27 @@
-use Rattle.std.proofs.Common.{◌≡◌, ◌∙◌, ◌+◌, ◌++◌, ◌∷◌, [], ap, length, map, sym, take, arith}
+use Rattle.std.proofs.Common.{All, ◌≡◌, ◌∙◌, ◌+◌, ◌++◌, ◌∷◌, [], ap, length, map, sym, take, arith}
 use Rattle.std.proofs.lemmas.List.{length-map, length-take-le, map_more}
+use Rattle.fw_charge.specs.Charge.{Charge, hour_of}
 use Rattle.fw_query.specs.Hours.{AreThere, lent, rows_of_list}
 use Rattle.fw_query.specs.RangeLines.{joined}
 use Rattle.fw_query.specs.Reports.{costs_of}
 use Rattle.fw_query.specs.Sums.{CountsHour}
+use Rattle.fw_query.proofs.ListingFacts.{of_hour}
 use Rattle.fw_query.proofs.RangeFacts.{CountsHours-more}
 use Rattle.fw_query.proofs.groups.Groups.of_hours.Goals as goal
 
 pub add_hour-requires-clause-there : goal.add_hour-requires-clause-there
 add_hour-requires-clause-there c =
     let there : AreThere (lent c.args.grouped.now.segments.now) c.places-item.result =
-    rw c.places-item.is (c.requires.there c.loop-places.places-index c.places-item.result c.loop-places-test.true) in
+    rw c.places-item.is (c.requires.by_hour.1.there c.loop-places.places-index c.places-item.result c.loop-places-test.true) in
     rw c.as_slice.ensures.value there
+
+pub add_hour-requires-clause-of_hour : goal.add_hour-requires-clause-of_hour
+add_hour-requires-clause-of_hour c =
+    let (rows, by) = c.requires.by_hour in
+    let kept = c.loop-places.invariant in
+    let of : All (λ (r : Charge). hour_of r.start ≡ c.args.from + c.loop-places.places-index) (rows_of_list (lent c.args.grouped.now.segments.now) c.places-item.result) =
+    of_hour (lent c.args.grouped.now.segments.now) rows c.args.by_hour.now c.args.from c.loop-places.places-index c.places-item.result by c.loop-places-test.true c.places-item.is in
+    rw (c.as_slice.ensures.value, kept.at) of
 
 pub loop-places-preserved : goal.loop-places-preserved
 loop-places-preserved c =

@@ -1,0 +1,191 @@
+-- The ids of a legal list: no two commitments have the same, and no row carries one of them.
+use Rattle.std.proofs.Common.{◌≡◌, ◌≢◌, ◌||◌, ◌∙◌, ℕ, zero, suc, List, [], ◌∷◌, ◌++◌, Option, Some, None, Bool, true, false, cond, filter, slice_get, refl, sym, ap}
+use Rattle.std.specs.Bool.{⊤}
+use Rattle.std.specs.Option.{option_map_or}
+use Rattle.std.specs.List.{list_any}
+use Rattle.std.specs.Str.{bytes_eq}
+use Rattle.std.proofs.Math.Bool.{or-false}
+use Rattle.std.proofs.lemmas.Bool.Decides.{same_from_decides}
+use Rattle.std.proofs.lemmas.List.{append-nil}
+use Rattle.std.proofs.lemmas.List.Folds.{list_any-append, list_any_at}
+use Rattle.std.proofs.lemmas.Option.{slice_get_within, get_or_from_slice_get}
+use Rattle.std.proofs.lemmas.Slice.Eq.{bytes_eq-Decides}
+use Rattle.fw_charge.specs.Charge.{Charge, DiscountText}
+use Rattle.fw_terms.specs.Commitment.{CommitmentValue}
+use Rattle.fw_entry.specs.Entry.{CommandValue, EntryValue}
+use Rattle.fw_entry.specs.Entry.CommandValue.{post, commit, set_policy}
+use Rattle.fw_snapshot.specs.History.{posted, committed, rows_posted, rows_of, commitments_of}
+use Rattle.fw_snapshot.specs.Judging.{judged, IsLegal, has_id, carries, is_registered, has_registered_id, carries_any, command_conflict}
+use Rattle.fw_snapshot.specs.declared.verdict.Verdict.TheVariants as verdict
+use Rattle.fw_snapshot.proofs.EntryFacts.{rows_of_more, commitments_of_more}
+use Rattle.fw_snapshot.proofs.LegalFacts.{accepted_command, legal_kept, new_id, unused_id, no_registered_id}
+
+-- tests of texts and of lists
+same_text : (id : List ℕ) → bytes_eq id id ≡ true
+same_text id = (bytes_eq-Decides id id).1 refl
+
+swapped : (a b : List ℕ) → bytes_eq a b ≡ bytes_eq b a
+swapped a b =
+    same_from_decides (bytes_eq a b) (bytes_eq b a) (bytes_eq-Decides a b)
+    (λ e. sym ((bytes_eq-Decides b a).0 e), λ e. (bytes_eq-Decides b a).1 (sym e))
+
+both_false : (a b : Bool) → a ≡ false → b ≡ false → (a || b) ≡ false
+both_false true b h k = h
+both_false false b h k = k
+
+false_parts : (a b : Bool) → (a || b) ≡ false → (a ≡ false) × (b ≡ false)
+false_parts true b h = absurd (cc)
+false_parts false b h = (refl, h)
+
+left_out : {A : Type 0} (b : Bool) (x : A) (l m : List A) → b ≡ false → l ≡ m → cond b (x ∷ l) l ≡ m
+left_out true x l m h e = absurd (cc)
+left_out false x l m h e = e
+
+left_in : {A : Type 0} (b : Bool) (x : A) (l m : List A) → b ≡ true → l ≡ m → cond b (x ∷ l) l ≡ x ∷ m
+left_in true x l m h e = ap (λ l. x ∷ l) e
+left_in false x l m h e = absurd (cc)
+
+-- each commitment has another id than those behind it
+abbrev Apart : List CommitmentValue → Type 0
+Apart [] = ⊤
+Apart (c ∷ cs) = (is_registered c.id cs ≡ false) × Apart cs
+
+registered_more : (id : List ℕ) (cs : List CommitmentValue) (c : CommitmentValue) → is_registered id (cs ++ c ∷ []) ≡ (is_registered id cs || bytes_eq id c.id)
+unfolding is_registered
+registered_more id cs c =
+    list_any-append (λ d. bytes_eq id d.id) cs (c ∷ [])
+    ∙ ap (λ b. list_any (λ d. bytes_eq id d.id) cs || b) (or-false (bytes_eq id c.id))
+
+registered_parts : (id : List ℕ) (d : CommitmentValue) (cs : List CommitmentValue) → is_registered id (d ∷ cs) ≡ false → (bytes_eq id d.id ≡ false) × (is_registered id cs ≡ false)
+unfolding is_registered
+registered_parts id d cs h = false_parts (bytes_eq id d.id) (list_any (λ d. bytes_eq id d.id) cs) h
+
+none_registered : (id : List ℕ) → is_registered id [] ≡ false
+unfolding is_registered
+none_registered id = refl
+
+apart_more : (cs : List CommitmentValue) (c : CommitmentValue) → Apart cs → is_registered c.id cs ≡ false → Apart (cs ++ c ∷ [])
+apart_more [] c apart new = (none_registered c.id, tt)
+apart_more (d ∷ cs) c apart new =
+    let parts = registered_parts c.id d cs new in
+    let other = both_false (is_registered d.id cs) (bytes_eq d.id c.id) apart.0 (swapped d.id c.id ∙ parts.0) in
+    (registered_more d.id cs c ∙ other, apart_more cs c apart.1 parts.1)
+
+registered_at : (id : List ℕ) (cs : List CommitmentValue) (place : ℕ) (c : CommitmentValue) → slice_get cs place ≡ Some c → id ≡ c.id → is_registered id cs ≡ true
+unfolding is_registered
+registered_at id cs place c h same =
+    let equal : bytes_eq id c.id ≡ true = (bytes_eq-Decides id c.id).1 same in
+    let read = get_or_from_slice_get cs place c c h in
+    list_any_at (λ d. bytes_eq id d.id) cs place c (slice_get_within cs place c h) (ap (λ (d : CommitmentValue). bytes_eq id d.id) read ∙ equal)
+
+apart_once : (cs : List CommitmentValue) → Apart cs → (i j : ℕ) (a b : CommitmentValue) → slice_get cs i ≡ Some a → slice_get cs j ≡ Some b → a.id ≡ b.id → i ≡ j
+apart_once [] apart i j a b ha hb same = absurd (cc)
+apart_once (c ∷ cs) apart zero zero a b ha hb same = refl
+apart_once (c ∷ cs) apart zero (suc j) a b ha hb same =
+    let first : c ≡ a = cc in
+    let found = registered_at c.id cs j b hb (ap (λ (d : CommitmentValue). d.id) first ∙ same) in
+    let none = apart.0 in
+    absurd (cc)
+apart_once (c ∷ cs) apart (suc i) zero a b ha hb same =
+    let first : c ≡ b = cc in
+    let found = registered_at c.id cs i a ha (ap (λ (d : CommitmentValue). d.id) first ∙ sym same) in
+    let none = apart.0 in
+    absurd (cc)
+apart_once (c ∷ cs) apart (suc i) (suc j) a b ha hb same = ap suc (apart_once cs apart.1 i j a b ha hb same)
+
+none_with : (id : List ℕ) (cs : List CommitmentValue) → is_registered id cs ≡ false → filter (λ d. bytes_eq d.id id) cs ≡ []
+none_with id [] none = refl
+none_with id (d ∷ cs) none =
+    let parts = registered_parts id d cs none in
+    left_out (bytes_eq d.id id) d (filter (λ d. bytes_eq d.id id) cs) [] (swapped d.id id ∙ parts.0) (none_with id cs parts.1)
+
+other_id : (id : List ℕ) (cs : List CommitmentValue) (place : ℕ) (c : CommitmentValue) → is_registered id cs ≡ false → slice_get cs place ≡ Some c → bytes_eq id c.id ≡ false
+other_id id [] place c none h = absurd (cc)
+other_id id (d ∷ cs) zero c none h =
+    let same : d ≡ c = cc in
+    ap (λ (c : CommitmentValue). bytes_eq id c.id) (sym same) ∙ (registered_parts id d cs none).0
+other_id id (d ∷ cs) (suc place) c none h = other_id id cs place c (registered_parts id d cs none).1 h
+
+apart_alone : (cs : List CommitmentValue) → Apart cs → (place : ℕ) (c : CommitmentValue) → slice_get cs place ≡ Some c → filter (λ d. bytes_eq d.id c.id) cs ≡ c ∷ []
+apart_alone [] apart place c h = absurd (cc)
+apart_alone (d ∷ cs) apart zero c h =
+    let same : d ≡ c = cc in
+    let none : is_registered c.id cs ≡ false = ap (λ (c : CommitmentValue). is_registered c.id cs) (sym same) ∙ apart.0 in
+    left_in (bytes_eq d.id c.id) d (filter (λ d. bytes_eq d.id c.id) cs) [] (ap (λ (d : CommitmentValue). bytes_eq d.id c.id) same ∙ same_text c.id) (none_with c.id cs none)
+    ∙ ap (λ d. d ∷ []) same
+apart_alone (d ∷ cs) apart (suc place) c h =
+    left_out (bytes_eq d.id c.id) d (filter (λ d. bytes_eq d.id c.id) cs) (c ∷ []) (other_id d.id cs place c apart.0 h) (apart_alone cs apart.1 place c h)
+
+-- no row carries the id of a commitment more
+discount_more : (cs : List CommitmentValue) (c : CommitmentValue) (discount : Option DiscountText)
+    → option_map_or (λ d. is_registered d.id (cs ++ c ∷ [])) discount false ≡ (option_map_or (λ d. is_registered d.id cs) discount false || option_map_or (λ d. bytes_eq c.id d.id) discount false)
+discount_more cs c None = refl
+discount_more cs c (Some d) = registered_more d.id cs c ∙ ap (λ b. is_registered d.id cs || b) (swapped d.id c.id)
+
+commitment_apart : (rows : List Charge) (cs : List CommitmentValue) (c : CommitmentValue) → carries_any rows cs ≡ false → carries c.id rows ≡ false → carries_any rows (cs ++ c ∷ []) ≡ false
+unfolding carries_any carries
+commitment_apart [] cs c none unused = refl
+commitment_apart (row ∷ rows) cs c none unused =
+    let here = false_parts (has_registered_id cs row) (carries_any rows cs) none in
+    let new = false_parts (has_id c.id row) (carries c.id rows) unused in
+    both_false (has_registered_id (cs ++ c ∷ []) row) (carries_any rows (cs ++ c ∷ []))
+    (discount_more cs c row.discount ∙ both_false (has_registered_id cs row) (has_id c.id row) here.0 new.0) (commitment_apart rows cs c here.1 new.1)
+
+rows_apart : (rows more : List Charge) (cs : List CommitmentValue) → carries_any rows cs ≡ false → carries_any more cs ≡ false → carries_any (rows ++ more) cs ≡ false
+unfolding carries_any
+rows_apart rows more cs none new = list_any-append (has_registered_id cs) rows more ∙ both_false _ _ none new
+
+other_row : (cs : List CommitmentValue) (rows : List Charge) (i : ℕ) (row : Charge) → carries_any rows cs ≡ false → slice_get rows i ≡ Some row → has_registered_id cs row ≡ false
+unfolding carries_any
+other_row cs [] i row none h = absurd (cc)
+other_row cs (r ∷ rows) zero row none h =
+    let same : r ≡ row = cc in
+    ap (has_registered_id cs) (sym same) ∙ (false_parts (has_registered_id cs r) (carries_any rows cs) none).0
+other_row cs (r ∷ rows) (suc i) row none h = other_row cs rows i row (false_parts (has_registered_id cs r) (carries_any rows cs) none).1 h
+
+-- both stay so with each entry that is accepted
+command_apart : (es : List EntryValue) (c : CommandValue) → command_conflict es c ≡ None → Apart (commitments_of es) → Apart (commitments_of es ++ committed c)
+command_apart es (post more) h apart = rw append-nil apart
+command_apart es (commit c) h apart = apart_more (commitments_of es) c apart (new_id es c h)
+command_apart es (set_policy p) h apart = rw append-nil apart
+
+apart_kept : (es : List EntryValue) (e : EntryValue) → Apart (commitments_of es) → judged es e ≡ verdict.Accept → Apart (commitments_of (es ++ e ∷ []))
+apart_kept es e apart h = rw commitments_of_more (command_apart es e.command (accepted_command es e h) apart)
+
+first_apart : Apart (commitments_of [])
+unfolding commitments_of
+first_apart = tt
+
+commitments_apart : (es : List EntryValue) → IsLegal es → Apart (commitments_of es)
+commitments_apart es legal = legal_kept (λ es. Apart (commitments_of es)) apart_kept [] es first_apart legal
+
+abbrev NoneCarried : List EntryValue → Type 0
+NoneCarried es = carries_any (rows_of es) (commitments_of es) ≡ false
+
+command_carried : (es : List EntryValue) (c : CommandValue) → command_conflict es c ≡ None → NoneCarried es → carries_any (rows_of es ++ posted c) (commitments_of es ++ committed c) ≡ false
+command_carried es (post more) h none = rw append-nil (rows_apart (rows_of es) more (commitments_of es) none (no_registered_id es more h))
+command_carried es (commit c) h none = rw append-nil (commitment_apart (rows_of es) (commitments_of es) c none (unused_id es c h))
+command_carried es (set_policy p) h none = simp append-nil none
+
+carried_kept : (es : List EntryValue) (e : EntryValue) → NoneCarried es → judged es e ≡ verdict.Accept → NoneCarried (es ++ e ∷ [])
+carried_kept es e none h = rw (rows_of_more es e, commitments_of_more es e) (command_carried es e.command (accepted_command es e h) none)
+
+first_carried : NoneCarried []
+unfolding rows_of rows_posted carries_any
+first_carried = refl
+
+none_carried : (es : List EntryValue) → IsLegal es → NoneCarried es
+none_carried es legal = legal_kept NoneCarried carried_kept [] es first_carried legal
+
+pub own_id : (es : List EntryValue) → IsLegal es → (i j : ℕ) (a b : CommitmentValue) → slice_get (commitments_of es) i ≡ Some a → slice_get (commitments_of es) j ≡ Some b → a.id ≡ b.id → i ≡ j
+own_id es legal = apart_once (commitments_of es) (commitments_apart es legal)
+
+pub alone : (es : List EntryValue) → IsLegal es → (place : ℕ) (c : CommitmentValue) → slice_get (commitments_of es) place ≡ Some c → filter (λ d. bytes_eq d.id c.id) (commitments_of es) ≡ c ∷ []
+alone es legal = apart_alone (commitments_of es) (commitments_apart es legal)
+
+pub other_ids : (es : List EntryValue) → IsLegal es → (i j : ℕ) (row : Charge) (discount : DiscountText) (c : CommitmentValue) → slice_get (rows_of es) i ≡ Some row → row.discount ≡ Some discount → slice_get (commitments_of es) j ≡ Some c → discount.id ≢ c.id
+other_ids es legal i j row discount c hr hd hc same =
+    let none = other_row (commitments_of es) (rows_of es) i row (none_carried es legal) hr in
+    let read : has_registered_id (commitments_of es) row ≡ is_registered discount.id (commitments_of es) = ap (λ o. option_map_or (λ d. is_registered d.id (commitments_of es)) o false) hd in
+    let found = registered_at discount.id (commitments_of es) j c hc same in
+    absurd (cc)

@@ -1,0 +1,12 @@
+use Rattle.fw_snapshot.proofs.LegalFacts.{few_rows, few_commitments}
+use Rattle.fw_snapshot.proofs.EntryFacts.{rows_count}
+use Rattle.fw_snapshot.proofs.laws.rows_and_commitments_are_few.Goals as goal
+
+pub returns-clause-posted : goal.returns-clause-posted
+returns-clause-posted c = few_rows
+
+pub returns-clause-rows : goal.returns-clause-rows
+returns-clause-rows c = λ es legal. rw (← rows_count) (few_rows es legal)
+
+pub returns-clause-commitments : goal.returns-clause-commitments
+returns-clause-commitments c = few_commitments
