@@ -59,7 +59,7 @@ rising_listings (usage unit skus) is = rw (skus_listed skus) is.1.rising
 rising_listings (spend rates) is = rw (rates_listed rates) is.rising
 
 -- ---- the offers of one commitment
-filter_map_of : {X Y : Type 0} (f : X → Y) (p : Y → Bool) (xs : List X) → filter p (map f xs) ≡ map f (filter (λ x. p (f x)) xs)
+pub filter_map_of : {X Y : Type 0} (f : X → Y) (p : Y → Bool) (xs : List X) → filter p (map f xs) ≡ map f (filter (λ x. p (f x)) xs)
 filter_map_of f p [] = refl
 filter_map_of f p (x ∷ xs) = two_ways (p (f x)) (λ holds. rw holds (ap (λ l. f x ∷ l) (filter_map_of f p xs))) (λ fails. rw fails (filter_map_of f p xs))
 

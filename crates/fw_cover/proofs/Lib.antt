@@ -8,4 +8,5 @@ pub mod Index
 pub mod RosterFacts
 pub mod Taking
 pub mod Grouping
+pub mod Untouched
 pub mod Whole

@@ -1,7 +1,7 @@
 -- No more is taken than there is, and only where a commitment applies.
 use Rattle.std.proofs.Common.{◌≡◌, ℕ, ◌+◌, ◌-◌, ◌*◌, ◌/◌, ◌≤◌, ◌==◌, Bool, true, false, cond, nat_le, List, [], ◌∷◌, ◌++◌, get_or, filter, fold, sum_by, All, Option, Some, None, option_map, refl, subst, arith}
 use Rattle.std.specs.Prelude.{slice_get, slice_index}
-use Rattle.std.specs.List.{enumerate_from}
+use Rattle.std.specs.List.{enumerate_from, filter_map}
 use Rattle.std.proofs.Math.Nat.{div-le_of_le-mul}
 use Rattle.std.proofs.lemmas.Bool.{eqb-true}
 use Rattle.std.proofs.lemmas.Bool.Decides.{nat_tests}
@@ -13,7 +13,7 @@ use Rattle.fw_cover.specs.Applies.{applied}
 use Rattle.fw_cover.specs.Cover.{cover_of, taken_by, taken_by_all, taken_of_row, takes_something, used_of}
 use Rattle.fw_cover.specs.Hour.{billed_of, capacities_of, hour_cover, left_of, quantities_of, unused_of}
 use Rattle.fw_cover.specs.Meeting.{Meets}
-use Rattle.fw_cover.specs.Order.{commitments_in_order, pair_before, pair_for, pairs_at, pairs_by_row, pairs_of}
+use Rattle.fw_cover.specs.Order.{commitments_in_order, has_lower_rate, pair_for, pairs_of_commitment, pairs_of}
 use Rattle.fw_cover.specs.Part.{need_of, part_of, spend_part_for}
 use Rattle.fw_cover.specs.declared.pair.Pair.{Pair}
 use Rattle.fw_cover.specs.declared.taken.Taken.{Taken}
@@ -100,28 +100,26 @@ commitment_whole cs rows hour place = let h = commitment_within cs rows hour pla
 abbrev MeetsBy : List CommitmentValue → List Charge → ℕ → Pair → Type 0
 MeetsBy cs rows hour p = Meets cs rows hour p.commitment p.row
 
-meets_of : (cs : List CommitmentValue) (rows : List Charge) (hour : ℕ) (row : ℕ × Charge) (c : ℕ × (ℕ × CommitmentValue)) → slice_get cs c.1.0 ≡ Some c.1.1 → slice_get rows row.0 ≡ Some row.1
-    → (o : Option (Option ℕ)) → applied c.1.1 hour row.1 ≡ o → (p : Pair) → option_map (λ rate. record { rank = c.0; commitment = c.1.0; row = row.0; rate = rate }) o ≡ Some p → MeetsBy cs rows hour p
-meets_of cs rows hour row c at_place at_row None by p h = absurd (let e : None ≡ Some p = h in cc)
-meets_of cs rows hour row c at_place at_row (Some rate) by p h =
-    let made : record { rank = c.0; commitment = c.1.0; row = row.0; rate = rate } ≡ p = cc in
-    subst (MeetsBy cs rows hour) made (record { commitment = c.1.1; charge = row.1; at_place = at_place; at_row = at_row; applies = rw by refl })
+meets_of : (cs : List CommitmentValue) (rows : List Charge) (hour : ℕ) (c : ℕ × CommitmentValue) (row : ℕ × Charge) → slice_get cs c.0 ≡ Some c.1 → slice_get rows row.0 ≡ Some row.1
+    → (o : Option (Option ℕ)) → applied c.1 hour row.1 ≡ o → (p : Pair) → option_map (λ rate. record { commitment = c.0; row = row.0; rate = rate }) o ≡ Some p → MeetsBy cs rows hour p
+meets_of cs rows hour c row at_place at_row None by p h = absurd (let e : None ≡ Some p = h in cc)
+meets_of cs rows hour c row at_place at_row (Some rate) by p h =
+    let made : record { commitment = c.0; row = row.0; rate = rate } ≡ p = cc in
+    subst (MeetsBy cs rows hour) made (record { commitment = c.1; charge = row.1; at_place = at_place; at_row = at_row; applies = rw by refl })
 
-pairs_at_meet : (cs : List CommitmentValue) (rows : List Charge) (hour : ℕ) (row : ℕ × Charge) → slice_get rows row.0 ≡ Some row.1 → All (MeetsBy cs rows hour) (pairs_at hour (commitments_in_order cs) row)
-unfolding pairs_at pair_for
-pairs_at_meet cs rows hour row at =
-    all_filter_map (MeetsBy cs rows hour) (pair_for hour row) (enumerate_from 0 (commitments_in_order cs))
-    (all_enumerate (λ c. (p : Pair) → pair_for hour row c ≡ Some p → MeetsBy cs rows hour p) (commitments_in_order cs)
-    (λ k d lt p h. meets_of cs rows hour row (k, get_or (commitments_in_order cs) k d) (commitments_in_order_places cs k d lt) at
-    (applied (get_or (commitments_in_order cs) k d).1 hour row.1) refl p h))
+commitment_meets : (cs : List CommitmentValue) (rows : List Charge) (hour : ℕ) (c : ℕ × CommitmentValue) → slice_get cs c.0 ≡ Some c.1 → All (MeetsBy cs rows hour) (pairs_of_commitment hour rows c)
+unfolding pairs_of_commitment pair_for
+commitment_meets cs rows hour c at =
+    all_in_order has_lower_rate (MeetsBy cs rows hour) (filter_map (pair_for hour c) (enumerate_from 0 rows))
+    (all_filter_map (MeetsBy cs rows hour) (pair_for hour c) (enumerate_from 0 rows)
+    (all_enumerate (λ row. (p : Pair) → pair_for hour c row ≡ Some p → MeetsBy cs rows hour p) rows
+    (λ k d lt p h. meets_of cs rows hour c (k, get_or rows k d) at (get_at rows k d lt) (applied c.1 hour (get_or rows k d)) refl p h)))
 
 pairs_meet : (cs : List CommitmentValue) (rows : List Charge) (hour : ℕ) → All (MeetsBy cs rows hour) (pairs_of cs rows hour)
-unfolding pairs_of pairs_by_row
+unfolding pairs_of
 pairs_meet cs rows hour =
-    all_in_order pair_before (MeetsBy cs rows hour) (pairs_by_row (commitments_in_order cs) rows hour)
-    (all_flat_map (MeetsBy cs rows hour) (pairs_at hour (commitments_in_order cs)) (enumerate_from 0 rows)
-    (all_enumerate (λ row. All (MeetsBy cs rows hour) (pairs_at hour (commitments_in_order cs) row)) rows
-    (λ k d lt. pairs_at_meet cs rows hour (k, get_or rows k d) (get_at rows k d lt))))
+    all_flat_map (MeetsBy cs rows hour) (pairs_of_commitment hour rows) (commitments_in_order cs)
+    (λ k d lt. commitment_meets cs rows hour (get_or (commitments_in_order cs) k d) (commitments_in_order_places cs k d lt))
 
 -- ---- and so is each take
 takes_by : (Q : ℕ → ℕ → Type 0) (bs qs ks : List ℕ) (done : List Taken) (ps : List Pair) → All (λ t. Q t.commitment t.row) done → All (λ p. Q p.commitment p.row) ps

@@ -8,4 +8,5 @@ pub mod PlacedView
 pub mod Ranked
 pub mod Offers
 pub mod RosterView
+pub mod Untouched
 pub mod Meeting

@@ -1,13 +1,15 @@
 //! Which commitment covers which charge row in an hour, and how much of it.
 //!
-//! In each hour of its term a commitment has a capacity: a quantity, or a cost. The commitments meet the rows of the hour one after
-//! another, in the order that [`in_order`] returns, and each takes of a row what the ones before it left ([`cover_hour`], [`cover`]). Only
-//! some rows are eligible for that ([`is_eligible`]). `specs/Applies.antt` says which commitment applies to which row, `specs/Order.antt`
-//! in which order they meet, and `specs/Part.antt` and `specs/Cover.antt` what is taken.
+//! In each hour of its term a commitment has a capacity: a quantity, or a cost. The commitments come one after another, in the order that
+//! [`in_order`] returns. Each meets the rows of the hour that it applies to, at lower rates first and then as they stand in the list, and
+//! takes of each what is left of it ([`cover_hour`], [`cover`]). Only some rows are eligible for that ([`is_eligible`]).
+//! `specs/Applies.antt` says which commitment applies to which row, `specs/Order.antt` in which order they meet, and `specs/Part.antt` and
+//! `specs/Cover.antt` what is taken.
 //!
 //! The cost of an hour grows as the rows and the pairs of a row and a commitment that lists its SKU do, times a logarithm: what the
 //! commitments list is sorted by SKU once, each row finds its own SKU there, and the pairs are sorted once. A [`Roster`] keeps what is
-//! sorted for the hours that follow. What was taken stands commitment by commitment ([`takes_stand_by_commitment`]).
+//! sorted for the hours that follow. What was taken stands commitment by commitment ([`takes_stand_by_commitment`]), and a row that no
+//! commitment applies to changes nothing ([`untouched_rows_change_nothing`]).
 #![tactic(auto)]
 
 mod covering;
@@ -25,7 +27,9 @@ mod taken;
 
 pub use eligible::is_eligible;
 pub use hour::{HourCover, cover, cover_hour};
-pub use laws::{takes_apply, takes_stand_by_commitment, takes_stay_within};
+pub use laws::{
+    takes_apply, takes_stand_by_commitment, takes_stay_within, untouched_rows_change_nothing,
+};
 pub use order::{in_order, is_in_term};
 pub use roster::Roster;
 pub use taken::Taken;

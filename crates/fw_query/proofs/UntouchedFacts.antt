@@ -14,7 +14,7 @@ use Rattle.fw_cover.specs.Applies.{applied, fits, is_in_term, is_open}
 use Rattle.fw_cover.specs.Cover.{cover_of, taken_by_all, taken_of_row}
 use Rattle.fw_cover.specs.Eligible.{is_eligible, is_positive}
 use Rattle.fw_cover.specs.Hour.{billed_of, capacities_of, hour_cover, left_of, quantities_of, quantity_of}
-use Rattle.fw_cover.specs.Order.{commitment_before, commitments_in_order, in_order, insert_by, pair_before, pair_for, pairs_at, pairs_by_row, pairs_of}
+use Rattle.fw_cover.specs.Order.{commitment_before, commitments_in_order, has_lower_rate, in_order, insert_by, pair_for, pairs_of, pairs_of_commitment}
 use Rattle.fw_amortise.specs.LineValue.{LineValue}
 use Rattle.fw_amortise.specs.Lines.{AreHourLines, given_line, given_lines, purchase_lines, purchase_lines_of, rest_line, rest_lines, rest_of, running}
 use Rattle.fw_query.specs.Reports.{costs_of, line_cost}
@@ -90,16 +90,15 @@ not_applied : (c : CommitmentValue) (hour : ℕ) (row : Charge) → is_in_term c
 unfolding applied
 not_applied c hour row h = rw (not_fitting c hour row h, never (is_open hour row)) refl
 
-no_pairs_at : (hour : ℕ) (cs : List (ℕ × CommitmentValue)) (row : ℕ × Charge) → AllByRecursion (λ (c : ℕ × CommitmentValue). is_in_term c.1 hour ≡ false) cs → pairs_at hour cs row ≡ []
-unfolding pairs_at pair_for
-no_pairs_at hour cs row h = filter_map_none (pair_for hour row) (enumerate_from 0 cs)
-    (weaker (λ (c : ℕ × (ℕ × CommitmentValue)). is_in_term c.1.1 hour ≡ false) (λ c. pair_for hour row c ≡ None) (λ c e. rw (not_applied c.1.1 hour row.1 e) refl) (enumerate_from 0 cs)
-    (each_enumerated (λ (c : ℕ × CommitmentValue). is_in_term c.1 hour ≡ false) 0 cs h))
+no_pairs_of : (hour : ℕ) (rows : List Charge) (c : ℕ × CommitmentValue) → is_in_term c.1 hour ≡ false → pairs_of_commitment hour rows c ≡ []
+unfolding pairs_of_commitment pair_for
+no_pairs_of hour rows c h = ap (in_order has_lower_rate) (filter_map_none (pair_for hour c) (enumerate_from 0 rows)
+    (each_of_all (λ row. pair_for hour c row ≡ None) (λ row. rw (not_applied c.1 hour row.1 h) refl) (enumerate_from 0 rows)))
 
 no_pairs : (cs : List CommitmentValue) (rows : List Charge) (hour : ℕ) → is_touched cs hour ≡ false → pairs_of cs rows hour ≡ []
-unfolding pairs_of pairs_by_row
-no_pairs cs rows hour h = ap (in_order pair_before) (flat_map_none (pairs_at hour (commitments_in_order cs)) (enumerate_from 0 rows)
-    (each_of_all (λ row. pairs_at hour (commitments_in_order cs) row ≡ []) (λ row. no_pairs_at hour (commitments_in_order cs) row (none_runs cs hour h)) (enumerate_from 0 rows)))
+unfolding pairs_of
+no_pairs cs rows hour h = flat_map_none (pairs_of_commitment hour rows) (commitments_in_order cs)
+    (weaker (λ (c : ℕ × CommitmentValue). is_in_term c.1 hour ≡ false) (λ c. pairs_of_commitment hour rows c ≡ []) (λ c e. no_pairs_of hour rows c e) (commitments_in_order cs) (none_runs cs hour h))
 
 no_cover : (cs : List CommitmentValue) (rows : List Charge) (hour : ℕ) → is_touched cs hour ≡ false → hour_cover cs rows hour ≡ []
 unfolding hour_cover cover_of taken_by_all
