@@ -74,7 +74,7 @@ one_verdict_of : (before : List EntryValue) (e : EntryValue) → verdicts_on bef
 unfolding verdicts_on
 one_verdict_of before e = refl
 
-one_accepted_of : (before : List EntryValue) (e : EntryValue) → accepted_of before (e ∷ []) ≡ taken before e
+pub one_accepted_of : (before : List EntryValue) (e : EntryValue) → accepted_of before (e ∷ []) ≡ taken before e
 unfolding accepted_of
 one_accepted_of before e = append-nil (taken before e)
 

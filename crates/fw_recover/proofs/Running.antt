@@ -1,12 +1,13 @@
 -- Entries are committed one by one: what a crash leaves of them.
-use Rattle.std.proofs.Common.{◌≡◌, inl, inr, ℕ, ◌+◌, ◌<◌, List, length, get_or, subst, arith}
+use Rattle.std.proofs.Common.{◌≡◌, inl, inr, ℕ, ◌+◌, ◌<◌, List, [], ◌∷◌, length, take, drop, get_or, sym, ◌∙◌, ap, subst, arith}
+use Rattle.std.proofs.lemmas.List.{drop_more}
 use Rattle.fw_disk.specs.Volume.{Image}
 use Rattle.fw_entry.specs.Entry.{EntryValue}
 use Rattle.fw_snapshot.specs.History.{History}
-use Rattle.fw_snapshot.specs.Verdicts.{taken}
+use Rattle.fw_snapshot.specs.Verdicts.{taken, accepted_of}
 use Rattle.fw_recover.specs.Stands.{StandsFor, StandsForEither}
 use Rattle.fw_recover.specs.Committing.{with_first, StandsForFirst, HasAnswered}
-use Rattle.fw_recover.proofs.Judged.{history_more, none_yet}
+use Rattle.fw_recover.proofs.Judged.{one_accepted_of, history_more, none_yet}
 
 -- where the first entries stand, and no more
 pub answered_all : (h now : History) (es : List EntryValue) (i : ℕ) (c : Image) → now ≡ with_first h i es → StandsFor now c → HasAnswered h es i c
@@ -18,6 +19,12 @@ answered_all h now es i c is stands = record {
 }
 
 module _ (h now : History) (es : List EntryValue) (i : ℕ) (e : EntryValue) (within : i < length es) (is : e ≡ get_or es i e) (so_far : now ≡ with_first h i es) where
+  pub next_taken : accepted_of now.entries (take 1 (drop i es)) ≡ taken now.entries e
+  next_taken =
+      ap (λ (l : List EntryValue). accepted_of now.entries (take 1 l)) (drop_more es i e within)
+      ∙ ap (λ (x : EntryValue). accepted_of now.entries (x ∷ [])) (sym is)
+      ∙ one_accepted_of now.entries e
+
   -- while one more is committed
   pub answered : (c : Image) → StandsForEither now (taken now.entries e) c → HasAnswered h es i c
   answered c (inl stands) = answered_all h now es i c so_far stands

@@ -1,11 +1,11 @@
 //! Entries that are committed one by one, and what a crash leaves of them.
-ghost use Rattle.std.specs.Prelude.{◌≡◌, ◌≢◌, ◌⊎◌, ◌↔◌, ◌+◌, ◌<◌, ◌≤◌, ℕ, true, false, length, take, IsOk, IfOk, IfErr, IsTrue};
+ghost use Rattle.std.specs.Prelude.{◌≡◌, ◌≢◌, ◌+◌, ◌≤◌, ℕ, true, false, length, take, drop, IfOk, IfErr, IsTrue};
 ghost use Rattle.fw_disk.specs.declared.volume.Side.{Side};
-ghost use Rattle.fw_disk.specs.Volume.{Image, LeavesOnly};
-ghost use Rattle.fw_snapshot.specs.Verdicts.{verdicts_on};
-ghost use Rattle.fw_recover.specs.declared.fault.StoreFault.TheVariants.{NoHouse, Corrupt, Device, Failed};
+ghost use Rattle.fw_disk.specs.Volume.{Image, LeavesOnly, Rose};
+ghost use Rattle.fw_snapshot.specs.Verdicts.{verdicts_on, accepted_of};
+ghost use Rattle.fw_recover.specs.declared.fault.StoreFault.TheVariants.{NoHouse, Corrupt, Device, Failed, TooLarge};
 ghost use Rattle.fw_recover.specs.Stands.{EachStandsFor};
-ghost use Rattle.fw_recover.specs.Committing.{with_first, StandsForFirst, HasAnswered, IsCommitFault};
+ghost use Rattle.fw_recover.specs.Committing.{HasNoRoom, with_first, StandsForFirst, HasAnswered, IsCommitFault};
 
 use crate::{Store, StoreFault};
 use fw_disk::{Stoppable, Volume};
@@ -36,6 +36,10 @@ impl<V: Volume> Store<V> {
         ensures each_so_far { IfErr result (λ e. IsTrue V.tells → self.old.failed ≡ false → (c : Image) → (V.view self.new.volume).may_leave c
             → HasAnswered self.old.history entries.now (length e.0.items) c) }
         ensures lost { IfErr result (λ e. e.1 ≡ Device → self.new.failed ≡ true) }
+        ensures failed { IfErr result (λ e. e.1 ≡ Failed → self.old.failed ≡ true) }
+        ensures too_large { IfErr result (λ e. e.1 ≡ TooLarge
+            → HasNoRoom (V.view self.new.volume).limit self.new (accepted_of self.new.history.entries (take 1 (drop (length e.0.items) entries.now)))) }
+        ensures device { IfErr result (λ e. e.1 ≡ Device → Rose (V.view self.old.volume).failures (V.view self.new.volume).failures) }
         ensures which { IfErr result (λ e. IsCommitFault e.1) }
         ensures later { (V.view self.old.volume).failures ≤ (V.view self.new.volume).failures }
         ensures limit { (V.view self.new.volume).limit ≡ (V.view self.old.volume).limit }

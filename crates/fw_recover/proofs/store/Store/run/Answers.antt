@@ -1,14 +1,17 @@
-use Rattle.std.proofs.Common.{◌≡◌, ◌≤◌, ◌+◌, ◌++◌, [], ◌∷◌, length, take, List, ℕ, refl, sym, ◌∙◌, ap, subst, arith}
+use Rattle.std.proofs.Common.{◌≡◌, inl, inr, ◌≤◌, ◌+◌, ◌++◌, [], ◌∷◌, length, take, drop, List, ℕ, Err, refl, sym, ◌∙◌, ap, subst, arith}
 use Rattle.std.proofs.lemmas.List.{length-take}
 use Rattle.fw_disk.proofs.Moments.{goes_through}
-use Rattle.fw_snapshot.specs.Verdicts.{taken, verdicts_on}
+use Rattle.fw_entry.specs.Entry.{EntryValue}
+use Rattle.fw_snapshot.specs.Verdicts.{taken, verdicts_on, accepted_of}
 use Rattle.fw_snapshot.specs.declared.verdict.Verdict.{Verdict}
 use Rattle.fw_snapshot.proofs.VerdictFacts.{as_many}
+use Rattle.fw_recover.specs.declared.fault.StoreFault.{StoreFault}
+use Rattle.fw_recover.specs.Store.{StoreState}
 use Rattle.fw_recover.specs.Stands.{StandsForEither}
-use Rattle.fw_recover.specs.Committing.{with_first, StandsForFirst, HasAnswered}
+use Rattle.fw_recover.specs.Committing.{HasNoRoom, with_first, StandsForFirst, HasAnswered}
 use Rattle.fw_recover.proofs.Committing.{each_now, still}
 use Rattle.fw_recover.proofs.Judged.{no_verdicts, none_yet, verdicts_more, history_more}
-use Rattle.fw_recover.proofs.Running.{answered_all, answered, first_stand, none_stand}
+use Rattle.fw_recover.proofs.Running.{answered_all, answered, first_stand, next_taken, none_stand}
 use Rattle.fw_recover.proofs.store.Store.run.Goals as goal
 
 pub returns-in_default-clause-any_moment : goal.returns-in_default-clause-any_moment
@@ -102,3 +105,23 @@ loop-entry-preserved g c =
       later = omega (arith, was.later, c.commit.ensures.later);
       limit = c.commit.ensures.limit ∙ was.limit;
     }
+
+pub returns-in-Err-clause-too_large : goal.returns-in-Err-clause-too_large
+returns-in-Err-clause-too_large g c is =
+    let h = c.args.self.now.history in
+    let es = c.args.entries.now in
+    let i = c.loop-entry.entry-index in
+    let e = c.entry-item.result in
+    let s = c.loop-entry.self in
+    let was = c.loop-entry.invariant in
+    let within = c.loop-entry-test.true in
+    let long : length c.loop-entry.verdicts.items ≡ i =
+    omega (arith, ap (λ (vs : List Verdict). length vs) was.verdicts, as_many h.entries (take i es), length-take i es, within) in
+    let same : c.commit.new.self ≡ s = elim c.in-Err.ensures.unchanged [
+      | inl device ↦ (let both = sym device ∙ ap (λ (f : StoreFault). Err f) is in absurd (cc))
+      | inr stays ↦ stays
+    ] in
+    let P : StoreState _ → ℕ → Type 0 = λ x n. HasNoRoom (g.V.Volume.view x.volume).limit x (accepted_of x.history.entries (take 1 (drop n es))) in
+    let room = c.commit.ensures.too_large (c.in-Err.is ∙ ap (λ (f : StoreFault). Err f) is) in
+    let there = subst (λ (l : List EntryValue). HasNoRoom (g.V.Volume.view s.volume).limit s l) (sym (next_taken h s.history es i e within c.entry-item.is was.history)) room in
+    subst (λ (x : StoreState _). P x (length c.loop-entry.verdicts.items)) (sym same) (subst (λ (n : ℕ). P s n) (sym long) there)
