@@ -48,7 +48,7 @@ fn charged(alloc: Global, row: &Row) -> Result<String, AllocError> {
 }
 
 /// All that a row says: costs, category, period, class, hour, discount, quantity, unit, SKU, account and tags.
-pub fn row_line(alloc: Global, row: &Row) -> Result<String, AllocError> {
+pub(crate) fn row_line(alloc: Global, row: &Row) -> Result<String, AllocError> {
     let mut line = charged(alloc, row)?;
     write!(line, " {} {}", row.is_correction(), row.hour())?;
     push_discount(&mut line, row)?;
@@ -81,7 +81,7 @@ fn push_terms(line: &mut String, terms: &Terms) -> Result<(), AllocError> {
 }
 
 /// A commitment's id, first hour, hours, capacity and cost in nanos, terms, account and tags.
-pub fn commitment_line(alloc: Global, one: &Commitment) -> Result<String, AllocError> {
+pub(crate) fn commitment_line(alloc: Global, one: &Commitment) -> Result<String, AllocError> {
     let (capacity, cost) = (one.capacity().count(), one.cost().count());
     let (start, hours) = (one.start(), one.hours());
     let mut line = format!(in alloc; "{} {start} {hours} {capacity} {cost}", one.id())?;
@@ -107,7 +107,7 @@ fn push_give(line: &mut String, give: &Give) -> Result<(), AllocError> {
 }
 
 /// A policy's key, and each rule: who gives, and to whom.
-pub fn policy_line(alloc: Global, policy: &Policy) -> Result<String, AllocError> {
+pub(crate) fn policy_line(alloc: Global, policy: &Policy) -> Result<String, AllocError> {
     let mut line = String::from_str(alloc, policy.key())?;
     for rule in policy.rules() {
         line.push_str("; '")?;
@@ -119,7 +119,7 @@ pub fn policy_line(alloc: Global, policy: &Policy) -> Result<String, AllocError>
 }
 
 /// Tags alone.
-pub fn tags_line(alloc: Global, tags: &Tags) -> Result<String, AllocError> {
+pub(crate) fn tags_line(alloc: Global, tags: &Tags) -> Result<String, AllocError> {
     let mut line = String::new(alloc);
     push_tags(&mut line, tags)?;
     Ok(line)
