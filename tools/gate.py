@@ -1,17 +1,15 @@
 #!/usr/bin/env python3
 """Runs the toolchain's gate, `rt ci`, over a copy of the tree that has only the must-fail edits that are due.
 
-    tools/gate.py             tries the edits of each crate whose folder changed since the last full run, of a quarter
-                              of the crates that stand on one that changed, and of an eighth of the others; the
-                              commit's hash picks which
+    tools/gate.py             tries the edits of each crate whose folder changed since the last full run, and of a
+                              quarter of the other crates, which the commit's hash picks
     tools/gate.py --all       tries every edit
     tools/gate.py --program   tries none: proves and builds focusd and the crates that it stands on, and no more
     tools/gate.py --list      says which edits are due, and runs nothing
 
 Every run proves every crate and its tests from nothing, runs them, and prints what each crate cost. The edits alone are
-sampled: they show that contracts have teeth, and what they show changes only with their own crate, a crate below it, or the
-toolchain. So after a change of toolchain every edit is due, and so it is where the commit of the last full run isn't in this
-clone. Where a crate and all crates below it are as they were at the last full run, its edits are tried only to check the record.
+sampled: they show that contracts have teeth, and what they show changes only with their own crate or with the toolchain.
+So after a change of toolchain every edit is due, and so it is where the commit of the last full run isn't in this clone.
 
 It leaves the built program in out/focusd, the built tests in out/tests/, and all that `rt ci` printed in out/gate.log.
 
@@ -35,10 +33,8 @@ from meter import Meter, table
 TOP = os.path.dirname(os.path.dirname(os.path.abspath(__file__)))
 # The record of the last full run: three lines, `commit`, `date` and `kit`.
 RECORD = "tools/last-full-run"
-# The crates that did not change are tried in so many parts, one a run: those that stand on one that changed, and the others.
-SHAKEN_PARTS, STILL_PARTS = 4, 8
-# The first edit of a crate costs a proof of the crate, which takes about as long as so many further edits.
-FIRST = 8
+# The crates that did not change are tried in so many parts, one a run.
+PARTS = 4
 # A line of `rt ci` that says no more than that all is well with one item.
 ITEM = re.compile(r"(fn|struct|enum|union|impl|trait|type|const|static) \S.*: (proved|assumed)$|statements |crate .*: modules ")
 
@@ -135,47 +131,39 @@ def changed_crates(top, commit):
     return changed | {crate for crate, line in now.items() if then.get(crate) != line}
 
 
-def shaken_crates(changed, lines):
-    """The crates that didn't change and stand on one that did."""
-    return {crate for crate in lines if crate not in changed and below(crate, lines) & changed}
-
-
-def part_of(counts, number, commit):
-    """One of so many parts of these crates, alike in what their edits cost, which the commit's hash picks: each crate is in one part."""
-    parts, loads = [[] for _ in range(number)], [0] * number
+def part_of(counts, commit):
+    """A quarter of these crates by their number of edits, which the commit's hash picks: four picks see them all."""
+    parts, loads = [[] for _ in range(PARTS)], [0] * PARTS
     for crate in sorted(counts, key=lambda crate: (-counts[crate], crate)):
         lightest = loads.index(min(loads))
         parts[lightest].append(crate)
-        loads[lightest] += FIRST + counts[crate]
-    return set(parts[int(commit[:8], 16) % number])
+        loads[lightest] += counts[crate]
+    return set(parts[int(commit[:8], 16) % PARTS])
 
 
-def due(counts, changed, shaken, commit):
+def due(counts, changed, commit):
     """Why each crate's edits are due; the others are left."""
-    of_shaken = {crate: count for crate, count in counts.items() if crate in shaken}
-    of_still = {crate: count for crate, count in counts.items() if crate not in shaken | changed}
-    reasons = {crate: "changed" for crate in changed}
-    reasons |= {crate: "its quarter" for crate in part_of(of_shaken, SHAKEN_PARTS, commit)}
-    reasons |= {crate: "its eighth" for crate in part_of(of_still, STILL_PARTS, commit)}
-    return {crate: reasons[crate] for crate in counts if crate in reasons}
+    if changed is None:
+        return {crate: "all" for crate in counts}
+    same = {crate: count for crate, count in counts.items() if crate not in changed}
+    reasons = {crate: "its quarter" for crate in part_of(same, commit)}
+    return {crate: "changed" if crate in changed else reasons[crate] for crate in counts if crate in changed or crate in reasons}
 
 
 def choose(top, counts, kit, tries_all):
     """Why each crate's edits are due, and a line that says what was gone by."""
-    everything = {crate: "all" for crate in counts}
     if tries_all:
-        return everything, "every edit is due"
+        return due(counts, None, ""), "every edit is due"
     record = Record.read(top)
     if record.kit != kit:
-        return everything, f"every edit is due: the last full run was by {record.kit}, and this is {kit}"
+        return due(counts, None, ""), f"every edit is due: the last full run was by {record.kit}, and this is {kit}"
     changed = changed_crates(top, record.commit)
     if changed is None:
-        return everything, f"every edit is due: commit {record.commit} of the last full run isn't in this clone"
+        return due(counts, None, ""), f"every edit is due: commit {record.commit} of the last full run isn't in this clone"
     head = output_of(["git", "rev-parse", "HEAD"], top)
     if head is None:
         raise GateError("git names no commit")
-    shaken = shaken_crates(changed, crates_of(top))
-    return due(counts, changed, shaken, head), f"the last full run was of {record.commit[:12]}, on {record.date}"
+    return due(counts, changed, head), f"the last full run was of {record.commit[:12]}, on {record.date}"
 
 
 def show_choice(counts, reasons, why):

@@ -34,39 +34,20 @@ ACCEPTED = "file: src/lib.rt\nold:     u16::from(byte) + 1\nnew:     1 + u16::fr
 class Choice(unittest.TestCase):
     def test_a_changed_crate_is_due_whatever_the_commit(self):
         for digit in "0123456789abcdef":
-            reasons = gate.due(COUNTS, {"c", "no_edits"}, {"a", "b"}, digit * 40)
+            reasons = gate.due(COUNTS, {"c", "no_edits"}, digit * 40)
             self.assertEqual(reasons["c"], "changed")
             self.assertNotIn("no_edits", reasons)
 
-    def test_four_picks_see_what_stands_on_a_change_and_eight_see_the_rest(self):
-        tried = [gate.due(COUNTS, {"c"}, {"a", "b"}, f"{digit:08x}") for digit in range(8)]
-        for four in tried[:4], tried[4:]:
-            self.assertEqual(sorted(crate for reasons in four for crate in reasons if crate in "ab"), ["a", "b"])
-        self.assertEqual(sorted(crate for reasons in tried for crate in reasons if crate in "def"), ["d", "e", "f"])
-        self.assertEqual({reason for reasons in tried for reason in reasons.values()}, {"changed", "its quarter", "its eighth"})
-
-    def test_a_crate_is_shaken_by_any_crate_below_it(self):
-        lines = gate.crate_lines("low:\nmid: low thiserror\ntop: mid\nother: thiserror\n")
-        self.assertEqual(gate.shaken_crates({"low"}, lines), {"mid", "top"})
-        self.assertEqual(gate.shaken_crates({"top", "other"}, lines), set())
-
-    def test_each_crate_is_in_one_part(self):
-        parts = [gate.part_of(COUNTS, 4, f"{digit:08x}") for digit in range(4)]
+    def test_four_picks_see_each_crate_once(self):
+        parts = [gate.part_of(COUNTS, f"{digit:08x}") for digit in range(4)]
         self.assertEqual(sorted(crate for part in parts for crate in part), sorted(COUNTS))
 
-    def test_the_parts_cost_about_the_same(self):
-        counts = {f"crate_{number}": number for number in range(1, 29)}
-        loads = [sum(gate.FIRST + counts[crate] for crate in gate.part_of(counts, 4, f"{digit:08x}")) for digit in range(4)]
-        self.assertLessEqual(max(loads) - min(loads), gate.FIRST)
+    def test_the_parts_have_about_as_many_edits(self):
+        loads = [sum(COUNTS[crate] for crate in gate.part_of(COUNTS, f"{digit:08x}")) for digit in range(4)]
+        self.assertLessEqual(max(loads) - min(loads), 3)
 
     def test_every_edit_is_due_where_the_commit_is_not_here(self):
-        with tempfile.TemporaryDirectory() as top:
-            repository = Repository(top)
-            repository.fill()
-            gate.Record("0" * 40, "2026-01-01", "a kit").write(top)
-            self.assertEqual(set(gate.choose(top, COUNTS, "a kit", False)[0]), set(COUNTS))
-            self.assertEqual(set(gate.choose(top, COUNTS, "another kit", False)[0]), set(COUNTS))
-            self.assertEqual(set(gate.choose(top, COUNTS, "a kit", True)[0]), set(COUNTS))
+        self.assertEqual(set(gate.due(COUNTS, None, "")), set(COUNTS))
 
     def test_counts_are_of_edits(self):
         files = ["crates/a/must-fail/x.edit", "crates/a/must-fail/notes.md", "crates/a/src/lib.rt", "crates/b/src/lib.rt"]
@@ -172,7 +153,7 @@ class Repository:
     def leave_same(self):
         """Commits until the commit's hash leaves the crate that didn't change."""
         for number in range(1000):
-            if "same" not in gate.due({"same": 2}, {"changed"}, set(), self.commit(f"change {number}")):
+            if "same" not in gate.part_of({"same": 2}, self.commit(f"change {number}")):
                 return
         raise AssertionError("no commit leaves the crate")
 
