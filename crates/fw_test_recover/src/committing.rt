@@ -4,9 +4,9 @@ use fw_disk::{
 };
 use fw_entry_bytes::Form;
 use fw_recover::*;
-use fw_segment::{decode_entry, decode_group};
-use fw_snapshot::{Entry, Verdict};
-use std::alloc::{AllocError, Global};
+use fw_segment::decode_entry;
+use fw_snapshot::{Entry, State, Verdict};
+use std::alloc::Global;
 use std::process::Abort;
 use std::test::Fail;
 
@@ -29,49 +29,66 @@ fn entry(alloc: Global, seq: u8) -> Result<Entry, VolumeFault> {
     }
 }
 
-/// A volume on which an empty warehouse stands, of at most so many bytes a file.
-fn empty(alloc: Global, limit: u64) -> Result<MemVolume, VolumeFault> {
-    let mut volume = MemVolume::new(alloc, limit.clamp(45, 8192), Choice::Old);
+/// What a commit answers.
+type Answer = Result<Verdict, StoreFault>;
+
+/// What the commits of these entries answer. Out of memory is an error of the test.
+fn committed<V: Volume>(
+    alloc: Global,
+    store: &mut Store<V>,
+    seqs: &[u8],
+) -> Result<Vec<Answer>, VolumeFault> {
+    let Ok(mut answers) = Vec::with_capacity(alloc, seqs.len()) else {
+        return Err(VolumeFault::Io);
+    };
+    for seq in seqs {
+        let entry = entry(alloc, *seq)?;
+        let answer = store.commit(alloc, &entry);
+        if answer == Err(StoreFault::NoMemory) || answers.push(answer).is_err() {
+            return Err(VolumeFault::Io);
+        }
+    }
+    Ok(answers)
+}
+
+/// The volume of an empty warehouse, of at most so many bytes a file.
+fn empty(alloc: Global, limit: u64, choice: Choice) -> Result<MemVolume, VolumeFault> {
+    let mut volume = MemVolume::new(alloc, limit.clamp(45, 8192), choice);
     write_synced(&mut volume, Side::Left, 0, &SIDE[..44])?;
     write_synced(&mut volume, Side::Left, 44, &[0])?;
     Ok(volume)
 }
 
-/// The warehouse of a volume. Out of memory is an error of the test.
-fn opened<V: Volume + Drop>(alloc: Global, volume: V) -> Result<Store<V>, VolumeFault> {
-    match Store::open(alloc, volume) {
-        Ok(store) => Ok(store),
-        Err(_) => Err(VolumeFault::Io),
-    }
-}
-
-/// What a commit answers. Out of memory is an error of the test.
-fn committed<V: Volume>(
+/// The answers of the warehouse of a volume, how many entries it has then, and the volume.
+fn played<V: Volume + Drop>(
     alloc: Global,
-    store: &mut Store<V>,
-    seq: u8,
-) -> Result<Result<Verdict, StoreFault>, VolumeFault> {
-    let entry = entry(alloc, seq)?;
-    match store.commit(alloc, &entry) {
-        Err(StoreFault::NoMemory) => Err(VolumeFault::Io),
-        answer => Ok(answer),
-    }
+    volume: V,
+    seqs: &[u8],
+) -> Result<(Vec<Answer>, usize, V), VolumeFault> {
+    let Ok(mut store) = Store::open(alloc, volume) else {
+        return Err(VolumeFault::Io);
+    };
+    let answers = committed(alloc, &mut store, seqs);
+    let entries = store.state().state().entries();
+    let volume = store.close();
+    Ok((answers?, entries, volume))
 }
 
 #[test]
 fn a_frame_is_written_byte_for_byte(rt: HostRuntime) -> Result<(), Fail> {
     let alloc = rt.alloc();
-    let mut store = opened(alloc, empty(alloc, 77)?)?;
-    assert_eq!(rt; committed(alloc, &mut store, 1)?, Ok(Verdict::Accept));
-    assert_eq!(rt;
-        committed(alloc, &mut store, 1)?,
-        Ok(Verdict::Already { last: 1 })
-    );
-    assert_eq!(rt;
-        committed(alloc, &mut store, 3)?,
-        Ok(Verdict::Gap { expected: 2 })
-    );
-    let mut volume = store.close();
+    let volume = empty(alloc, 77, Choice::Old)?;
+    let (answers, entries, mut volume) = played(alloc, volume, &[1, 1, 3])?;
+    let expected = [
+        Ok(Verdict::Accept),
+        Ok(Verdict::Already { last: 1 }),
+        Ok(Verdict::Gap { expected: 2 }),
+    ];
+    if answers.contains(&Err(StoreFault::Device)) {
+        return Err(Fail::from(VolumeFault::Io));
+    }
+    assert_eq!(rt; answers.as_slice(), expected.as_slice());
+    assert_eq!(rt; entries, 1);
     assert_eq!(rt; volume.len(Side::Left), 77);
     assert_eq!(rt; volume.len(Side::Right), 0);
     let mut bytes = [0; 77];
@@ -83,68 +100,18 @@ fn a_frame_is_written_byte_for_byte(rt: HostRuntime) -> Result<(), Fail> {
 #[test]
 fn a_frame_has_to_fit_to_the_byte(rt: HostRuntime) -> Result<(), Fail> {
     let alloc = rt.alloc();
-    let mut store = opened(alloc, empty(alloc, 76)?)?;
-    assert_eq!(rt; committed(alloc, &mut store, 1)?, Err(StoreFault::TooLarge));
-    assert_eq!(rt;
-        committed(alloc, &mut store, 2)?,
-        Ok(Verdict::Gap { expected: 1 })
-    );
-    assert_eq!(rt; store.state().state().entries(), 0);
+    let volume = empty(alloc, 76, Choice::Old)?;
+    let (answers, entries, _) = played(alloc, volume, &[1, 2])?;
+    let expected = [Err(StoreFault::TooLarge), Ok(Verdict::Gap { expected: 1 })];
+    assert_eq!(rt; answers.as_slice(), expected.as_slice());
+    assert_eq!(rt; entries, 0);
     Ok(())
-}
-
-#[test]
-fn a_hundred_entries_stand_when_opened_again(rt: HostRuntime) -> Result<(), Fail> {
-    let alloc = rt.alloc();
-    let mut entries = Vec::with_capacity(alloc, 100)?;
-    for seq in 1..101_u8 {
-        entries.push(entry(alloc, seq)?)?;
-    }
-    let mut store = opened(alloc, empty(alloc, 8192)?)?;
-    let Ok(verdicts) = store.run(alloc, &entries) else {
-        return Err(Fail::from(VolumeFault::Io));
-    };
-    assert_eq!(rt; verdicts.len(), 100);
-    assert!(rt; verdicts.iter().all(|verdict| *verdict == Verdict::Accept));
-    let again = opened(alloc, store.close())?;
-    let state = again.state().state();
-    assert_eq!(rt; state.entries(), 100);
-    for place in 0..state.entries() {
-        let head = state.head(place);
-        assert_eq!(rt; head.origin(), "a");
-        assert_eq!(rt; head.seq(), place as u64 + 1);
-    }
-    Ok(())
-}
-
-/// What a commit answers on a device that fails from the call after `pass` on, and how many entries there are after a stop.
-/// Where no call fails by the plan, a fault is out of memory: an error of the test.
-fn stopped_committing(
-    alloc: Global,
-    choice: Choice,
-    pass: u64,
-) -> Result<(Result<Verdict, StoreFault>, usize), VolumeFault> {
-    let mut volume = MemVolume::new(alloc, 100, choice);
-    write_synced(&mut volume, Side::Left, 0, &SIDE[..44])?;
-    write_synced(&mut volume, Side::Left, 44, &[0])?;
-    let mut store = opened(alloc, FaultVolume::new(volume, 5 + pass, Mode::After))?;
-    let answer = committed(alloc, &mut store, 1)?;
-    if answer.is_err() && pass >= 4 {
-        return Err(VolumeFault::Io);
-    }
-    let then = committed(alloc, &mut store, 1)?;
-    if answer.is_err()
-        && (then != Err(StoreFault::Failed) || store.state().state().entries() != 0)
-    {
-        return Ok((then, 9));
-    }
-    let again = opened(alloc, store.close().stop())?;
-    Ok((answer, again.state().state().entries()))
 }
 
 // A warehouse is opened in five calls, and an entry is added in four: a write and a sync of the frame, and of its gate.
 #[test]
 fn a_stop_leaves_the_entry_or_not(rt: HostRuntime) -> Result<(), Fail> {
+    let alloc = rt.alloc();
     let choices = [
         Choice::Old,
         Choice::New,
@@ -154,57 +121,88 @@ fn a_stop_leaves_the_entry_or_not(rt: HostRuntime) -> Result<(), Fail> {
     ];
     for choice in choices {
         for pass in 0..5 {
-            let (answer, entries) = stopped_committing(rt.alloc(), choice, pass)?;
-            let is_in = pass >= 2 && (choice == Choice::New || choice == Choice::Torn(1));
-            assert_eq!(rt; entries, usize::from(is_in || pass == 4));
-            if pass == 4 {
-                assert_eq!(rt; answer, Ok(Verdict::Accept));
+            let volume = FaultVolume::new(empty(alloc, 100, choice)?, 5 + pass, Mode::After);
+            let (answers, entries, volume) = played(alloc, volume, &[1, 1])?;
+            let (_, left, _) = played(alloc, volume.stop(), &[])?;
+            let expected = if pass == 4 {
+                [Ok(Verdict::Accept), Ok(Verdict::Already { last: 1 })]
             } else {
-                assert_eq!(rt; answer, Err(StoreFault::Device));
+                [Err(StoreFault::Device), Err(StoreFault::Failed)]
+            };
+            let is_in = pass >= 2 && (choice == Choice::New || choice == Choice::Torn(1));
+            // Out of memory, the device fails at another call.
+            if answers.as_slice() != expected.as_slice()
+                || entries != usize::from(pass == 4)
+                || left != usize::from(is_in || pass == 4)
+            {
+                return Err(Fail::from(VolumeFault::Io));
             }
         }
     }
     Ok(())
 }
 
-/// The bytes of a group of entries of these numbers of the origin `a`.
-fn group(alloc: Global, seqs: &[u8]) -> Result<Vec<u8>, AllocError> {
-    let mut bytes = Vec::new(alloc);
-    bytes.extend_from_slice(&[seqs.len() as u8, 0, 0, 0])?;
-    for seq in seqs {
-        bytes.extend_from_slice(&[1, 0, 0, 0, 0x61, *seq])?;
-        bytes.extend_from_slice(&[0, 0, 0, 0, 0, 0, 0, 3, 1, 0, 0, 0, 0x74, 0, 0, 0, 0])?;
+/// Whether these are the entries 1, 2, 3 and so on of the origin `a`.
+fn are_numbered(state: &State, entries: usize) -> bool {
+    for place in 0..entries.min(state.entries()) {
+        let head = state.head(place);
+        if head.origin() != "a" || head.seq() != place as u64 + 1 {
+            return false;
+        }
     }
-    Ok(bytes)
+    state.entries() == entries
+}
+
+/// Whether the warehouse of a volume has these entries of the origin `a`, and its volume.
+fn has_entries<V: Volume + Drop>(
+    alloc: Global,
+    volume: V,
+    entries: usize,
+) -> Result<(bool, V), VolumeFault> {
+    let Ok(store) = Store::open(alloc, volume) else {
+        return Err(VolumeFault::Io);
+    };
+    let are = are_numbered(store.state().state(), entries);
+    Ok((are, store.close()))
+}
+
+/// Whether each of these entries was accepted.
+fn are_accepted(verdicts: &[Verdict]) -> bool {
+    for verdict in verdicts {
+        if *verdict != Verdict::Accept {
+            return false;
+        }
+    }
+    true
+}
+
+/// The volume after a run of these entries, each of which has to be accepted.
+fn after_run(alloc: Global, entries: &[Entry]) -> Result<MemVolume, VolumeFault> {
+    let volume = empty(alloc, 8192, Choice::Old)?;
+    let Ok(mut store) = Store::open(alloc, volume) else {
+        return Err(VolumeFault::Io);
+    };
+    let answers = store.run(alloc, entries);
+    let volume = store.close();
+    let Ok(verdicts) = answers else {
+        return Err(VolumeFault::Io);
+    };
+    if !are_accepted(&verdicts) {
+        return Err(VolumeFault::Io);
+    }
+    Ok(volume)
 }
 
 #[test]
-fn the_accepted_entries_of_a_group_are_one_frame(rt: HostRuntime) -> Result<(), Fail> {
+fn a_hundred_entries_stand_when_opened_again(rt: HostRuntime) -> Result<(), Fail> {
     let alloc = rt.alloc();
-    let mut store = opened(alloc, empty(alloc, 8192)?)?;
-    let bytes = group(alloc, &[1, 1, 3, 2])?;
-    assert!(rt; bytes.len() < 8_388_608);
-    let Ok(entries) = decode_group(alloc, Form::One, &bytes) else {
-        return Err(Fail::from(VolumeFault::Io));
-    };
-    let Ok(verdicts) = store.commit_group(alloc, &entries) else {
-        return Err(Fail::from(VolumeFault::Io));
-    };
-    let expected = [
-        Verdict::Accept,
-        Verdict::Already { last: 1 },
-        Verdict::Gap { expected: 2 },
-        Verdict::Accept,
-    ];
-    assert_eq!(rt; verdicts.as_slice(), expected.as_slice());
-    let mut volume = store.close();
-    let frame = group(alloc, &[1, 2])?;
-    assert_eq!(rt; frame.len(), 50);
-    assert_eq!(rt; volume.len(Side::Left), 100);
-    let mut written = [0; 56];
-    volume.read(Side::Left, 44, &mut written)?;
-    assert_eq!(rt; &written[..5], [1, 50, 0, 0, 0].as_slice());
-    assert_eq!(rt; &written[5..55], frame.as_slice());
-    assert_eq!(rt; written[55], 0);
+    let mut entries = Vec::with_capacity(alloc, 100)?;
+    for seq in 1..101_u8 {
+        entries.push(entry(alloc, seq)?)?;
+    }
+    let volume = after_run(alloc, &entries)?;
+    let (are, volume) = has_entries(alloc, volume, 100)?;
+    assert!(rt; are);
+    assert_eq!(rt; volume.len(Side::Left), 45 + 100 * 32);
     Ok(())
 }
