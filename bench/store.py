@@ -22,6 +22,7 @@ Exit status: 0 measured, 1 a program failed or gave a wrong answer, 2 a wrong co
 import argparse
 import csv
 import glob
+import itertools
 import os
 import re
 import shlex
@@ -266,7 +267,7 @@ class Bench:
             memory = "/dev/shm/focusd-bench-grown" if os.access("/dev/shm", os.W_OK) else self.path("growing")
             shutil.rmtree(memory, ignore_errors=True)
             os.makedirs(memory)
-            script = written(self.path(f"grown-{entries}.script"), [*small_posts(1, entries), b"checkpoint\n"])
+            script = written(self.path(f"grown-{entries}.script"), itertools.chain(small_posts(1, entries), [b"checkpoint\n"]))
             try:
                 self.run_focusd_at(memory, script)
                 shutil.copytree(memory, self.path("grown"), dirs_exist_ok=True)

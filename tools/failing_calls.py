@@ -1,11 +1,11 @@
 #!/usr/bin/env python3
 """Makes each call of a run on its warehouse's files fail, one a run, and looks at the answers and at what stands afterwards.
 
-    tools/failing_calls.py [--program PROGRAM] [--seed N] [--jobs J]
+    tools/failing_calls.py [--program PROGRAM] [--seed N] [--images N] [--jobs J]
 
 A script of entries and checkpoints is run twice by `focusd run --dir`: with --create, and over a folder that has a warehouse. In each,
 every opening, lock, read, write and sync of the folder and its files, each read of the script and each write of the answers is made to
-fail, with EIO and, where the system can give it, ENOSPC. A read of a file is also cut short, and what the program may try again is
+fail, with EIO and, where the system can give it, ENOSPC. A read of a file is also cut short, and each call on the files is
 interrupted (EINTR), which must not show.
 
 The answers have to be these: `focusd: K1 Io` where the folder can't be opened; `focusd: S3 Device` where the warehouse in it can't be
@@ -33,9 +33,8 @@ from store_runs import (
     shown,
 )  # fmt: skip
 
+# How many entries the run that creates a warehouse stores; the run over a folder that has one begins after as many and stores as many more.
 ENTRIES = 7
-# How many images of a failed run are opened beside the folder itself.
-IMAGES = 6
 OPENING = {"openat", "flock", "statx", "newfstatat", "fstat", "fsync"}
 
 
@@ -48,7 +47,8 @@ def errors_of(call):
         yield "error=EACCES", False
     if call.name == "pread64":
         yield "retval=0", False
-    if call.name in ("openat", "pread64", "pwrite64", "fdatasync", "fsync", "write"):
+    # The script and the answers are left out: without a handler of signals the system doesn't interrupt their reads and writes.
+    if call.name in ("openat", "pread64", "pwrite64", "fdatasync", "fsync"):
         yield "error=EINTR", True
 
 
@@ -97,8 +97,8 @@ class Plan:
 class Trial:
     """All runs of a plan."""
 
-    def __init__(self, plan, program, room):
-        self.plan, self.program, self.room = plan, program, room
+    def __init__(self, plan, program, room, images_each):
+        self.plan, self.program, self.room, self.images_each = plan, program, room, images_each
         self.runs = self.images = 0
         self.wrong, self.lock = [], threading.Lock()
         folder = self.folder()
@@ -150,7 +150,7 @@ class Trial:
         choice = random.Random(index)
         images = [("the folder as it is", contents_of(folder))]
         made = progress.disk.images(choice)
-        images += choice.sample(made, min(IMAGES, len(made)))
+        images += choice.sample(made, min(self.images_each, len(made)))
         for name, contents in images:
             folder = self.folder()
             image = Image(self.plan.case, contents, name, progress.least, progress.frames)
@@ -188,6 +188,7 @@ def main():
     parser = argparse.ArgumentParser(description=__doc__, formatter_class=argparse.RawDescriptionHelpFormatter)
     parser.add_argument("--program", default=PROGRAM, help="the program (default: out/focusd)")
     parser.add_argument("--seed", type=int, default=1, metavar="N", help="the script (default: 1)")
+    parser.add_argument("--images", type=int, default=6, metavar="N", help="how many images a run leaves that are opened beside the folder itself (default: 6)")
     parser.add_argument("--jobs", type=int, default=len(os.sched_getaffinity(0)), metavar="J", help="runs at a time")
     parser.add_argument("--room", metavar="DIR", help="where folders are made (default: in memory, /dev/shm, where there is one)")
     options = parser.parse_args()
@@ -204,7 +205,7 @@ def main():
             start = settled(program, os.path.join(room, "start"), longer, ENTRIES)
             plans = [Plan("creating", small, (None, None), 0, ["--create"]), Plan("opening", longer, start, ENTRIES, [])]
             for plan in plans:
-                trial = Trial(plan, program, room)
+                trial = Trial(plan, program, room, options.images)
                 known = [i for i, call in enumerate(trial.calls) if call.name != "mmap"]
                 items = [(i, how, again) for i in known for how, again in errors_of(trial.calls[i])]
                 with ThreadPoolExecutor(options.jobs) as pool:

@@ -5,8 +5,9 @@
 
 PART is one of:
 
-    odd       a folder that isn't there, a file in its place, a folder or a pipe in place of a file, one that may not be written, and
-              one that is empty, or has a warehouse already where --create is given
+    odd       a folder that isn't there, a file in its place, a folder or a pipe in place of a file, one file as both, a file past 2^40
+              bytes, a folder that may not be written, one that is empty, one that has a warehouse already where --create is given, and
+              standard streams that are closed
     in-use    a second process over a folder while a first one has it open
     full      a disk that is full at each moment of a run: a limit on the length of files, and, for the superuser, a small file system
     cut       the files of a warehouse cut at each byte, and made longer
@@ -109,11 +110,51 @@ def odd(program, room, report, case):
         os.symlink(os.path.join(room, "elsewhere", side), os.path.join(linked, side))
     report.judge("links to the files", answers_fault(run(program, linked, ASKED), case.histories[-1]))
     report.judge("a folder that may not be written", not_writable(program, room, kept, case))
+    twice = os.path.join(room, "twice")
+    lay(twice, (kept[0], None))
+    os.symlink("left", os.path.join(twice, "right"))
+    report.judge("one file as both sides", fault_unless(run(program, twice, ASKED), "S2 Corrupt"))
+    for side in SIDES:
+        report.judge(f"a {side} past the limit", too_long(program, os.path.join(room, f"long-{side}"), kept, side))
+    for name in (".", "../there/", "./."):
+        report.judge(f"the folder {name!r}", answers_fault(run(program, name, ASKED, cwd=there), case.histories[-1]))
+    report.judge("the folder ''", fault_unless(run(program, "", ASKED), "K1 Io"))
+    streams(program, os.path.join(room, "streams"), report, case)
 
 
 def answers_fault(ended, answers):
     right = ended.status == 0 and not ended.error and ended.said == answers
     return "" if right else f"it should answer\n{shown(answers)}and it answers\n{ended}"
+
+
+def too_long(program, folder, kept, side):
+    """A file of one byte more than 2^40, most of it a hole."""
+    lay(folder, kept)
+    try:
+        os.truncate(os.path.join(folder, side), 2**40 + 1)
+    except OSError:
+        print("a file past the limit: left out, as the file system can't hold one")
+        return ""
+    return fault_unless(run(program, folder, ASKED), "K1 Io")
+
+
+def streams(program, room, report, case):
+    """Runs whose standard streams are closed, or whose answers nobody reads: what is meant for a stream must not land in a file."""
+    script, closed = os.path.join(room, "script"), {"<&-": 1, ">&-": 1, "2>&-": 0, ">&- 2>&-": 1, "<&- >&- 2>&-": 1}
+    os.makedirs(room)
+    with open(script, "wb") as file:
+        file.write(b"".join(case.commands))
+    for place, (words, status) in enumerate([*closed.items(), ("| true", 1)]):
+        folder = os.path.join(room, str(place))
+        os.makedirs(folder)
+        after = f"exec {words}; " if words != "| true" else ""
+        line = f"{after}'{program}' run --dir '{folder}' --create{'' if words.startswith('<') else f' <{script}'}"
+        line = line if after else f"( {line}; echo $? >'{folder}.status' ) | true; exit $(cat '{folder}.status')"
+        ended = subprocess.run(["sh", "-c", line], capture_output=True, timeout=60, check=False)
+        found = run(program, folder, ASKED)
+        entries = next((n for n, history in enumerate(case.histories) if history == found.said), None)
+        fault = "" if ended.returncode == status and entries is not None and (status or entries == case.entries) else f"status {ended.returncode}, and then:\n{found}"
+        report.judge(f"a run with {words}", fault)
 
 
 def beside_others(program, room, kept, case):

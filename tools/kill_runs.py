@@ -115,18 +115,20 @@ class Killing:
             raise Wrong(f"after run {number} it holds {told} entries, and its reports are others:\n{found}")
 
     def end(self):
-        """Sends what is left and then each entry again, and compares."""
-        rest = self.sent.commands[self.sent.before(self.known or 0) :]
-        ended = run(self.program, self.folder, b"".join(rest), *(["--create"] if self.known is None else []))
+        """Sends one more piece and then each entry again, and compares: how many entries there are."""
+        begin = self.sent.before(self.known or 0)
+        piece = self.sent.commands[begin : begin + PIECE]
+        ended = run(self.program, self.folder, b"".join(piece), *(["--create"] if self.known is None else []))
         if ended.status != 0 or ended.error:
-            raise Wrong(f"the rest of the script is answered\n{ended}")
-        entries = [self.sent.commands[place] for place in self.sent.places]
+            raise Wrong(f"a last piece of the script is answered\n{ended}")
+        entries = [self.sent.commands[place] for place in self.sent.places if place < begin + PIECE]
         again = run(self.program, self.folder, b"".join(entries))
         if again.status != 0 or any(not answer.startswith(b"already ") for answer in answers_of(again.said)):
             raise Wrong(f"entries that are sent again are answered\n{again}")
         found = run(self.program, self.folder, b"".join(QUESTIONS))
         if found.status != 0 or found.error or found.said != self.sent.history(len(entries)):
             raise Wrong(f"at the end it answers\n{found}")
+        return len(entries)
 
 
 def main():
@@ -148,12 +150,11 @@ def main():
                 killing.look(number, killing.piece(number))
                 if number % 50 == 0:
                     print(f"{number} runs, {killing.killed} of them killed before their end, {killing.known or 0} entries", flush=True)
-            killed, entries = killing.killed, killing.known or 0
-            killing.end()
+            entries = killing.end()
         except Wrong as why:
             print(f"WRONG: {why}")
             return 1
-    print(f"{options.runs} runs, {killed} of them killed before their end: {entries} entries are there once, then {len(sent.places)}")
+    print(f"{options.runs} runs, {killing.killed} of them killed before their end: {entries} entries are there, each once")
     return 0
 
 
