@@ -93,19 +93,36 @@ fn a_frame_has_to_fit_to_the_byte(rt: HostRuntime) -> Result<(), Fail> {
     Ok(())
 }
 
+/// Adds entries ten by ten, with a checkpoint after each ten, which makes the other side: whether all are accepted. Out of
+/// memory is an error of the test.
+fn in_tens(
+    alloc: Global,
+    store: &mut Store<MemVolume>,
+    entries: &[Entry],
+) -> Result<bool, VolumeFault> {
+    let mut all = true;
+    for ten in entries.chunks(10) {
+        let Ok(verdicts) = store.run(alloc, ten) else {
+            return Err(VolumeFault::Io);
+        };
+        let accepted = verdicts.iter().all(|verdict| *verdict == Verdict::Accept);
+        all = all && accepted && verdicts.len() == ten.len();
+        if store.checkpoint(alloc).is_err() {
+            return Err(VolumeFault::Io);
+        }
+    }
+    Ok(all)
+}
+
 #[test]
-fn a_hundred_entries_stand_when_opened_again(rt: HostRuntime) -> Result<(), Fail> {
+fn a_hundred_entries_stand_after_ten_checkpoints(rt: HostRuntime) -> Result<(), Fail> {
     let alloc = rt.alloc();
     let mut entries = Vec::with_capacity(alloc, 100)?;
     for seq in 1..101_u8 {
         entries.push(entry(alloc, seq)?)?;
     }
     let mut store = opened(alloc, empty(alloc, 8192)?)?;
-    let Ok(verdicts) = store.run(alloc, &entries) else {
-        return Err(Fail::from(VolumeFault::Io));
-    };
-    assert_eq!(rt; verdicts.len(), 100);
-    assert!(rt; verdicts.iter().all(|verdict| *verdict == Verdict::Accept));
+    assert!(rt; in_tens(alloc, &mut store, &entries)?);
     let again = opened(alloc, store.close())?;
     let state = again.state().state();
     assert_eq!(rt; state.entries(), 100);
@@ -127,7 +144,10 @@ fn stopped_committing(
     let mut volume = MemVolume::new(alloc, 100, choice);
     write_synced(&mut volume, Side::Left, 0, &SIDE[..44])?;
     write_synced(&mut volume, Side::Left, 44, &[0])?;
-    let mut store = opened(alloc, FaultVolume::new(volume, 5 + pass, Mode::After))?;
+    let mut store = opened(
+        alloc,
+        FaultVolume::new(volume, pass.saturating_add(5), Mode::After),
+    )?;
     let answer = committed(alloc, &mut store, 1)?;
     if answer.is_err() && pass >= 4 {
         return Err(VolumeFault::Io);
@@ -167,10 +187,10 @@ fn a_stop_leaves_the_entry_or_not(rt: HostRuntime) -> Result<(), Fail> {
     Ok(())
 }
 
-/// The bytes of a group of entries of these numbers of the origin `a`.
-fn group(alloc: Global, seqs: &[u8]) -> Result<Vec<u8>, AllocError> {
+/// The bytes of a group of so many entries, which have these numbers of the origin `a`.
+fn group(alloc: Global, count: u8, seqs: &[u8]) -> Result<Vec<u8>, AllocError> {
     let mut bytes = Vec::new(alloc);
-    bytes.extend_from_slice(&[seqs.len() as u8, 0, 0, 0])?;
+    bytes.extend_from_slice(&[count, 0, 0, 0])?;
     for seq in seqs {
         bytes.extend_from_slice(&[1, 0, 0, 0, 0x61, *seq])?;
         bytes.extend_from_slice(&[0, 0, 0, 0, 0, 0, 0, 3, 1, 0, 0, 0, 0x74, 0, 0, 0, 0])?;
@@ -182,7 +202,7 @@ fn group(alloc: Global, seqs: &[u8]) -> Result<Vec<u8>, AllocError> {
 fn the_accepted_entries_of_a_group_are_one_frame(rt: HostRuntime) -> Result<(), Fail> {
     let alloc = rt.alloc();
     let mut store = opened(alloc, empty(alloc, 8192)?)?;
-    let bytes = group(alloc, &[1, 1, 3, 2])?;
+    let bytes = group(alloc, 4, &[1, 1, 3, 2])?;
     assert!(rt; bytes.len() < 8_388_608);
     let Ok(entries) = decode_group(alloc, Form::One, &bytes) else {
         return Err(Fail::from(VolumeFault::Io));
@@ -198,7 +218,7 @@ fn the_accepted_entries_of_a_group_are_one_frame(rt: HostRuntime) -> Result<(), 
     ];
     assert_eq!(rt; verdicts.as_slice(), expected.as_slice());
     let mut volume = store.close();
-    let frame = group(alloc, &[1, 2])?;
+    let frame = group(alloc, 2, &[1, 2])?;
     assert_eq!(rt; frame.len(), 50);
     assert_eq!(rt; volume.len(Side::Left), 100);
     let mut written = [0; 56];
