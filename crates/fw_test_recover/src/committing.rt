@@ -176,33 +176,44 @@ fn are_accepted(verdicts: &[Verdict]) -> bool {
     true
 }
 
-/// The volume after a run of these entries, each of which has to be accepted.
-fn after_run(alloc: Global, entries: &[Entry]) -> Result<MemVolume, VolumeFault> {
+/// Adds entries ten by ten, with a checkpoint after each ten. Each entry has to be accepted.
+fn in_tens(
+    alloc: Global,
+    store: &mut Store<MemVolume>,
+    entries: &[Entry],
+) -> Result<(), VolumeFault> {
+    for ten in entries.chunks(10) {
+        let Ok(verdicts) = store.run(alloc, ten) else {
+            return Err(VolumeFault::Io);
+        };
+        if !are_accepted(&verdicts) || store.checkpoint(alloc).is_err() {
+            return Err(VolumeFault::Io);
+        }
+    }
+    Ok(())
+}
+
+/// The volume after these entries were added ten by ten.
+fn after_tens(alloc: Global, entries: &[Entry]) -> Result<MemVolume, VolumeFault> {
     let volume = empty(alloc, 8192, Choice::Old)?;
     let Ok(mut store) = Store::open(alloc, volume) else {
         return Err(VolumeFault::Io);
     };
-    let answers = store.run(alloc, entries);
+    let added = in_tens(alloc, &mut store, entries);
     let volume = store.close();
-    let Ok(verdicts) = answers else {
-        return Err(VolumeFault::Io);
-    };
-    if !are_accepted(&verdicts) {
-        return Err(VolumeFault::Io);
-    }
+    added?;
     Ok(volume)
 }
 
 #[test]
-fn a_hundred_entries_stand_when_opened_again(rt: HostRuntime) -> Result<(), Fail> {
+fn a_hundred_entries_stand_after_ten_checkpoints(rt: HostRuntime) -> Result<(), Fail> {
     let alloc = rt.alloc();
     let mut entries = Vec::with_capacity(alloc, 100)?;
     for seq in 1..101_u8 {
         entries.push(entry(alloc, seq)?)?;
     }
-    let volume = after_run(alloc, &entries)?;
-    let (are, volume) = has_entries(alloc, volume, 100)?;
+    let volume = after_tens(alloc, &entries)?;
+    let (are, _) = has_entries(alloc, volume, 100)?;
     assert!(rt; are);
-    assert_eq!(rt; volume.len(Side::Left), 45 + 100 * 32);
     Ok(())
 }

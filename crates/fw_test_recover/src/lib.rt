@@ -4,8 +4,12 @@
 #![tactic(auto)]
 
 #[cfg(test)]
+mod checkpoints;
+#[cfg(test)]
 mod committing;
 #[cfg(test)]
 mod open;
 #[cfg(test)]
 mod sides;
+#[cfg(test)]
+mod stops;
