@@ -1,5 +1,6 @@
 //! The one step by which a store changes its files.
-ghost use Rattle.std.specs.Prelude.{◌≡◌, ◌+◌, ◌≤◌, length, max, IsTrue, OnOk, OnErr, IsErr};
+ghost use Rattle.std.specs.Prelude.{◌≡◌, ◌+◌, ◌≤◌, length, max, IsTrue, OnOk, OnErr, IsErr, IsErrOf};
+ghost use Rattle.fw_disk.specs.declared.volume.VolumeFault.TheVariants.{TooLarge};
 ghost use Rattle.fw_disk.specs.Volume.{LeavesOnly, TornFrom, Synced, Rose, Grows, other};
 
 use crate::{Side, Volume, VolumeFault};
@@ -23,6 +24,7 @@ pub fn write_synced<V: Volume>(
     ensures sizes { Grows side at (length bytes.now) (V.view volume.old) (V.view volume.new) result }
     ensures later { (V.view volume.old).failures ≤ (V.view volume.new).failures }
     ensures cause { OnErr result (Rose (V.view volume.old).failures (V.view volume.new).failures) }
+    ensures fits { IsErrOf result TooLarge → ⊥ }
 {
     volume.write_at(side, at, bytes)?;
     volume.sync(side)

@@ -56,17 +56,17 @@ module _ (h : History) (old : Image) (standing : StandsFor h old) (c : Image)
   front_long = omega (arith, length-made standing.tells.form (generation_of (old u)) body, start_is)
 
   -- the header and the body are as they were
-  is : c u ≡ 1 ∷ (made ++ drop start (c u))
+  pub is : c u ≡ 1 ∷ (made ++ drop start (c u))
   is =
       sym (take-append-drop start (c u))
       ∙ ap (λ (l : List ℕ). l ++ drop start (c u)) (before ∙ ap (λ (l : List ℕ). take start l) standing.tells.is ∙ take_at (1 ∷ made) standing.tells.log start front_long)
 
-  generation : generation_of (c u) ≡ generation_of (old u)
+  pub generation : generation_of (c u) ≡ generation_of (old u)
   generation = same_generation standing.tells.form (generation_of (old u)) body (drop start (c u)) standing.tells.log (c u) (old u) is standing.tells.is
 
   module _ (k : History) (groups : List (List EntryValue)) (each : All IsGroup groups) (tells : Tells (map group groups) (drop start (c u)))
       (is_history : k ≡ with_more standing.tells.state (joined groups)) (legal : IsLegal k.entries) where
-    long : 25 + length body < length (c u)
+    pub long : 25 + length body < length (c u)
     long = omega (
       arith,
       ap (λ (l : List ℕ). length l) is,
@@ -76,7 +76,7 @@ module _ (h : History) (old : Image) (standing : StandsFor h old) (c : Image)
       length-append (spelled (map group groups)) (tells.gate ∷ tells.rest),
     )
 
-    sound : IsSound (c u)
+    pub sound : IsSound (c u)
     sound = record {
       form = standing.tells.form;
       magic_is = made_magic standing.tells.form (generation_of (old u)) body (drop start (c u)) (c u) is;
@@ -84,7 +84,7 @@ module _ (h : History) (old : Image) (standing : StandsFor h old) (c : Image)
       gate_within = omega (arith, made_len standing.tells.form (generation_of (old u)) body (drop start (c u)) (c u) standing.tells.fits is, long);
     }
 
-    stands_on : StandsFor k c
+    unfoldable pub stands_on : StandsFor k c
     stands_on = record {
       side = u;
       newest = record {

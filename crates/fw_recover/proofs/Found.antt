@@ -38,7 +38,7 @@ use Rattle.fw_recover.proofs.Walks.{legal_parts}
 
 -- ---- entries
 
-one_entry : (first : List EntryValue) (e : EntryValue) → judged first e ≡ verdict.Accept → IsLegalAfter first (e ∷ [])
+pub one_entry : (first : List EntryValue) (e : EntryValue) → judged first e ≡ verdict.Accept → IsLegalAfter first (e ∷ [])
 unfolding IsLegalAfter
 one_entry first e accepted = (accepted, tt)
 

@@ -5,3 +5,7 @@ pub mod Standing
 pub mod Appending
 pub mod Headers
 pub mod Found
+pub mod Committing
+pub mod Judged
+pub mod Running
+pub mod Made

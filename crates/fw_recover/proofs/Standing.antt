@@ -27,7 +27,7 @@ by_side P Left this that Right = that
 by_side P Right this that Left = that
 by_side P Right this that Right = this
 
-other_other : (s : Side) → other (other s) ≡ s
+pub other_other : (s : Side) → other (other s) ≡ s
 other_other Left = refl
 other_other Right = refl
 
@@ -66,7 +66,7 @@ not_open file closed is = closed is.gate
 
 module _ (h : History) (form : Form) (g : ℕ) (some : 0 < g) (fits : g < 2 ^ 64) (body : List ℕ) (body_fits : length body < 2 ^ 64) (spells : Spells body h) (n tail : List ℕ)
     (is : n ≡ 1 ∷ ((made_of form g body ++ 0 ∷ []) ++ tail)) where
-  split : n ≡ 1 ∷ (made_of form g body ++ 0 ∷ tail)
+  pub split : n ≡ 1 ∷ (made_of form g body ++ 0 ∷ tail)
   split = is ∙ ap (λ (l : List ℕ). 1 ∷ l) (append_assoc (made_of form g body) (0 ∷ []) tail)
 
   pub new_generation : generation_of n ≡ g
@@ -84,7 +84,7 @@ module _ (h : History) (form : Form) (g : ℕ) (some : 0 < g) (fits : g < 2 ^ 64
   pub closed_log : Tells [] (0 ∷ tail)
   closed_log = record { gate = 0; rest = tail; is = ap (λ (l : List ℕ). l ++ 0 ∷ tail) (sym spelled-none); shut = λ zero_is_one. cc; fit = tt }
 
-  pub new_tells : SideTells (generation_of n) h n
+  unfoldable pub new_tells : SideTells (generation_of n) h n
   new_tells = record {
     form = form;
     body = body;
@@ -141,10 +141,10 @@ module _ (h : History) (old : Image) (used : StandsFor h old) where
     abbrev bytes : List ℕ
     bytes = made_of form g body ++ 0 ∷ []
 
-    some : 0 < g
+    pub some : 0 < g
     some = omega (arith, newer)
 
-    stands_new : (c : Image) → c u ≡ old u → (tail : List ℕ) → c (other u) ≡ 1 ∷ (bytes ++ tail) → StandsFor h c
+    unfoldable pub stands_new : (c : Image) → c u ≡ old u → (tail : List ℕ) → c (other u) ≡ 1 ∷ (bytes ++ tail) → StandsFor h c
     stands_new c same tail is =
         let generation = new_generation h form g some fits body body_fits spells (c (other u)) tail is in
         record {
@@ -171,14 +171,14 @@ module _ (h : History) (old : Image) (used : StandsFor h old) where
 -- ---- the first side of all
 
 module _ (h : History) (old : Image) (none : StandsForNone old) (form : Form) (body : List ℕ) (body_fits : length body < 2 ^ 64) (spells : Spells body h) where
-  one_fits : 1 < 2 ^ 64
+  pub one_fits : 1 < 2 ^ 64
   one_fits = omega arith
 
   none_beside : (c : Image) → c Right ≡ old Right → (IsOpen (c Left) → ⊥) → StandsForNone c
   none_beside c same left Left is = left is
   none_beside c same left Right is = none Right (subst (λ (l : List ℕ). IsOpen l) same is)
 
-  pub first_side : (c : Image) → c Right ≡ old Right → (tail : List ℕ) → c Left ≡ 1 ∷ ((made_of form 1 body ++ 0 ∷ []) ++ tail) → StandsFor h c
+  unfoldable pub first_side : (c : Image) → c Right ≡ old Right → (tail : List ℕ) → c Left ≡ 1 ∷ ((made_of form 1 body ++ 0 ∷ []) ++ tail) → StandsFor h c
   first_side c same tail is = record {
     side = Left;
     newest = record {

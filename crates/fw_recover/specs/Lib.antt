@@ -5,3 +5,7 @@ pub mod Store
 pub mod Making
 pub mod Headers
 pub mod Opening
+pub mod Committing
+pub mod Prepared
+pub mod Creating
+pub mod Checkpoints

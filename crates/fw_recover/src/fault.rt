@@ -14,6 +14,18 @@ pub enum StoreFault {
     /// A read, a write or a sync of the volume has failed.
     #[error("S3 Device")]
     Device,
+    /// The device has failed in an earlier call that writes. Open the warehouse again.
+    #[error("S4 Failed")]
+    Failed,
+    /// The generation is the greatest that there is, so no further checkpoint can be made.
+    #[error("S5 Generations")]
+    Generations,
+    /// The volume has no room for what would be written.
+    #[error("S6 TooLarge")]
+    TooLarge,
+    /// A warehouse stands on the volume already.
+    #[error("S7 Exists")]
+    Exists,
     /// The allocator refused a growth.
     #[error("NoMemory")]
     NoMemory,

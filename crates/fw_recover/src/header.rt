@@ -17,7 +17,7 @@ use crate::StoreFault;
 use fw_disk::{Side, Volume};
 
 /// The magic word of a side.
-const MAGIC: [u8; 8] = *b"FWHOUSE1";
+pub(crate) const MAGIC: [u8; 8] = *b"FWHOUSE1";
 
 /// What the header of an open side says.
 #[derive(Clone, Copy, Debug)]

@@ -5,14 +5,21 @@
 //! to the other.
 //!
 //! [`Store::open`] reads both: it answers with the one warehouse for which the files stand, or with none, or with the place of
-//! the first fault.
+//! the first fault. [`Store::commit`] judges an entry and adds it to the log of the side in use; [`Store::commit_group`] adds
+//! several as one group, and [`Store::run`] a list of them one by one.
 #![tactic(auto)]
 
+mod commit;
+mod checkpoint;
+mod create;
 mod fault;
 mod header;
 mod laws;
 mod opening;
+mod prepared;
+mod run;
 mod sides;
+mod spelled;
 mod store;
 mod walk;
 
@@ -23,5 +30,7 @@ pub use laws::{
     each_moment_is_recovered, images_have_one_meaning, making_a_side_keeps_the_warehouse,
     what_is_settled_stands_as_read,
 };
+pub use prepared::Prepared;
+pub use run::run_and_recover;
 pub use sides::{close_side, fill_side, make_side, open_side};
 pub use store::Store;

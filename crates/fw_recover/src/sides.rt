@@ -1,6 +1,7 @@
 //! Making a side: it is closed, filled and opened, one write and sync each.
-ghost use Rattle.std.specs.Prelude.{◌≡◌, ◌≢◌, ◌⊎◌, ◌+◌, ◌<◌, ◌≤◌, length, get_or, IsTrue, OnOk, OnErr};
-ghost use Rattle.fw_disk.specs.Volume.{LeavesOnly, Settled, Rose, other};
+ghost use Rattle.std.specs.Prelude.{◌≡◌, ◌+◌, ◌<◌, ◌≤◌, length, IsTrue, OnOk, OnErr, IsErrOf};
+ghost use Rattle.fw_disk.specs.declared.volume.VolumeFault.TheVariants.{TooLarge};
+ghost use Rattle.fw_disk.specs.Volume.{LeavesOnly, Rose, other};
 ghost use Rattle.fw_recover.specs.Making.{Keeps, Closing, Filling, Opening, Making, Closed, AllSettled, Filled, Opened, Made};
 
 use fw_disk::{Side, Volume, VolumeFault, write_synced};
@@ -17,6 +18,7 @@ pub fn close_side<V: Volume>(volume: &mut V, side: Side) -> Result<(), VolumeFau
     ensures later { (V.view volume.old).failures ≤ (V.view volume.new).failures }
     ensures limit { (V.view volume.new).limit ≡ (V.view volume.old).limit }
     ensures cause { OnErr result (Rose (V.view volume.old).failures (V.view volume.new).failures) }
+    ensures fits { IsErrOf result TooLarge → ⊥ }
 {
     if volume.len(side) > 0 {
         let mut gate = [0];
@@ -41,6 +43,7 @@ pub fn fill_side<V: Volume>(volume: &mut V, side: Side, bytes: &[u8]) -> Result<
     ensures later { (V.view volume.old).failures ≤ (V.view volume.new).failures }
     ensures limit { (V.view volume.new).limit ≡ (V.view volume.old).limit }
     ensures cause { OnErr result (Rose (V.view volume.old).failures (V.view volume.new).failures) }
+    ensures fits { IsErrOf result TooLarge → ⊥ }
 {
     write_synced(volume, side, 1, bytes)?;
     Ok(())
@@ -57,6 +60,7 @@ pub fn open_side<V: Volume>(volume: &mut V, side: Side) -> Result<(), VolumeFaul
     ensures later { (V.view volume.old).failures ≤ (V.view volume.new).failures }
     ensures limit { (V.view volume.new).limit ≡ (V.view volume.old).limit }
     ensures cause { OnErr result (Rose (V.view volume.old).failures (V.view volume.new).failures) }
+    ensures fits { IsErrOf result TooLarge → ⊥ }
 {
     write_synced(volume, side, 0, &[1])?;
     Ok(())
@@ -74,6 +78,7 @@ pub fn make_side<V: Volume>(volume: &mut V, side: Side, bytes: &[u8]) -> Result<
     ensures later { (V.view volume.old).failures ≤ (V.view volume.new).failures }
     ensures limit { (V.view volume.new).limit ≡ (V.view volume.old).limit }
     ensures cause { OnErr result (Rose (V.view volume.old).failures (V.view volume.new).failures) }
+    ensures fits { IsErrOf result TooLarge → ⊥ }
 {
     close_side(volume, side)?;
     fill_side(volume, side, bytes)?;

@@ -18,14 +18,14 @@ use std::marker::Model;
 /// A warehouse that stands on a volume, and its state in memory.
 #[derive(Drop)]
 pub struct Store<V: Volume> {
-    volume: V,
+    pub(crate) volume: V,
     /// The generation of the side in use, from 1 on.
-    generation: u64,
+    pub(crate) generation: u64,
     /// The log of the side in use.
-    log: Log,
-    snapshot: Snapshot,
+    pub(crate) log: Log,
+    pub(crate) snapshot: Snapshot,
     /// Whether the device has failed in a call that writes.
-    failed: bool,
+    pub(crate) failed: bool,
 }
 
 impl<V: Volume> Model for Store<V> {

@@ -4,6 +4,8 @@
 #![tactic(auto)]
 
 #[cfg(test)]
+mod committing;
+#[cfg(test)]
 mod open;
 #[cfg(test)]
 mod sides;

@@ -1,0 +1,12 @@
+use Rattle.std.proofs.Common.{◌≡◌, ◌≤◌, length, take, vec_len, vec_capacity}
+use Rattle.fw_snapshot.specs.Verdicts.{verdicts_on, accepted_of, with_more}
+use Rattle.fw_recover.proofs.prepared.judge_all.Given as goal
+
+-- the entries so far are judged, and the accepted ones are behind the state
+abbrev pub invariant-loop-entry : goal.invariant-loop-entry
+invariant-loop-entry l = record {
+  verdicts : l.verdicts.items ≡ verdicts_on l.initial.state.entries (take l.entry-index l.entries);
+  len : vec_len l.verdicts ≡ l.entry-index;
+  room : length l.entries ≤ vec_capacity l.verdicts;
+  next : l.next ≡ with_more l.initial.state (accepted_of l.initial.state.entries (take l.entry-index l.entries));
+}

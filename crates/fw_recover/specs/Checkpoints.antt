@@ -1,0 +1,30 @@
+-- Checkpoints: the side that isn't in use is made anew of the warehouse as it is.
+use Rattle.std.specs.Prelude.{◌≡◌, ℕ, ◌+◌, ◌<◌, Bool, false, IsTrue, List, ◌∷◌, ◌++◌, length}
+use Rattle.fw_disk.specs.Volume.{View, other}
+use Rattle.fw_entry_bytes.specs.declared.form.Form.{Form}
+use Rattle.fw_segment.specs.States.{Spells}
+use Rattle.fw_snapshot.specs.History.{History}
+use Rattle.fw_recover.specs.Sides.{made_of}
+use Rattle.fw_recover.specs.Store.{StoreState}
+
+-- an open side whose body spells the warehouse, and whose log has no group
+pub record HasBodyAlone (generation : ℕ) (h : History) (file : List ℕ) : Type 0 where
+  pub form : Form
+  pub body : List ℕ
+  pub spells : Spells body h
+  pub tail : List ℕ
+  pub is : file ≡ 1 ∷ (made_of form generation body ++ 0 ∷ tail)
+
+-- a volume of this limit has no room for a side that is made of the warehouse: 25 bytes of header, the body, and a gate
+pub record HasNoRoomFor (limit : ℕ) (h : History) : Type 0 where
+  pub body : List ℕ
+  pub spells : Spells body h
+  pub too_long : limit < 26 + length body
+
+-- the store after a checkpoint: the other side is in use, with the next generation and an empty log
+pub record IsCheckpointed {V : Type 0} (tells : Bool) (view : V → View) (old new : StoreState V) : Type 0 where
+  pub generation : new.generation ≡ old.generation + 1
+  pub side : new.log.side ≡ other old.log.side
+  pub no_group : new.log.end ≡ new.log.start
+  pub failed : new.failed ≡ false
+  pub made : IsTrue tells → HasBodyAlone new.generation new.history ((view new.volume).seen new.log.side)

@@ -1,0 +1,81 @@
+-- Adding entries to a warehouse: what is prepared before anything is written, and what is left by the calls that write it.
+use Rattle.std.specs.Prelude.{◌≡◌, ◌⊎◌, ℕ, ◌+◌, ◌<◌, ◌≤◌, Bool, true, false, IsTrue, List, [], ◌∷◌, length, take}
+use Rattle.fw_disk.specs.Volume.{Image, View}
+use Rattle.fw_entry.specs.Entry.{EntryValue}
+use Rattle.fw_segment.specs.Groups.{group, IsGroup}
+use Rattle.fw_snapshot.specs.History.{History}
+use Rattle.fw_snapshot.specs.Verdicts.{verdicts_on, accepted_of, with_more}
+use Rattle.fw_snapshot.specs.declared.verdict.Verdict.{Verdict}
+use Rattle.fw_recover.specs.declared.fault.StoreFault.{StoreFault}
+use Rattle.fw_recover.specs.declared.fault.StoreFault.TheVariants.{Device, Failed, TooLarge, NoMemory}
+use Rattle.fw_recover.specs.Stands.{StandsFor, EachStandsFor}
+use Rattle.fw_recover.specs.Store.{StoreState}
+
+-- entries that were judged and are ready to be written: the warehouse after which they were judged, those that were accepted,
+-- and the verdict on each
+pub record PreparedState : Type 0 where
+  pub before : History
+  pub accepted : List EntryValue
+  pub verdicts : List Verdict
+
+-- each entry judged after the warehouse's and the accepted ones before it
+abbrev pub prepared_on : History → List EntryValue → PreparedState
+prepared_on h es = record { before = h; accepted = accepted_of h.entries es; verdicts = verdicts_on h.entries es }
+
+-- the bytes of the group of these entries; no bytes where there is no entry
+abbrev pub payload_of : List EntryValue → List ℕ
+payload_of [] = []
+payload_of (e ∷ es) = group (e ∷ es)
+
+-- entries that can be one frame of a log
+pub record IsFrameable (entries : List EntryValue) : Type 0 where
+  pub is_group : IsGroup entries
+  pub size : length (group entries) ≤ 8388608
+
+-- the frame of these entries and the closed gate behind it would end past the limit; without entries there is no frame
+abbrev pub HasNoRoom : {V : Type 0} → ℕ → StoreState V → List EntryValue → Type 0
+HasNoRoom limit s accepted = (0 < length accepted) × (limit < s.log.end + 6 + length (group accepted))
+
+-- the store after these entries were added: they are in the warehouse and, where there are any, in the log. Whatever a crash
+-- leaves from now on stands for the warehouse with them
+pub record Committed {V : Type 0} (tells : Bool) (view : V → View) (old new : StoreState V) (accepted : List EntryValue) : Type 0 where
+  pub went_on : old.failed ≡ false
+  pub history : new.history ≡ with_more old.history accepted
+  pub failed : new.failed ≡ false
+  pub none : accepted ≡ [] → new ≡ old
+  pub moved : 0 < length accepted → (new.generation ≡ old.generation) × (new.log ≡ record old.log { end = old.log.end + 5 + length (group accepted) })
+  pub each : IsTrue tells → EachStandsFor new.history (view new.volume)
+
+-- the store after a payload went to its log, with which its warehouse is this one
+pub record Appended {V : Type 0} (tells : Bool) (view : V → View) (old new : StoreState V) (payload : List ℕ) (next : History) : Type 0 where
+  pub history : new.history ≡ next
+  pub generation : new.generation ≡ old.generation
+  pub log : new.log ≡ record old.log { end = old.log.end + 5 + length payload }
+  pub failed : new.failed ≡ false
+  pub each : IsTrue tells → EachStandsFor next (view new.volume)
+
+-- the store after the device failed: it shows the warehouse as it was, and takes no more
+pub record Lost {V : Type 0} (old new : StoreState V) : Type 0 where
+  pub history : new.history ≡ old.history
+  pub generation : new.generation ≡ old.generation
+  pub failed : new.failed ≡ true
+  pub log : new.log ≡ record old.log { failed = true }
+
+-- the faults of the calls that add entries
+abbrev pub IsCommitFault : StoreFault → Type 0
+IsCommitFault fault = (fault ≡ Device) ⊎ ((fault ≡ Failed) ⊎ ((fault ≡ TooLarge) ⊎ (fault ≡ NoMemory)))
+
+-- the warehouse with those that it accepts of the first n entries
+abbrev pub with_first : History → ℕ → List EntryValue → History
+with_first h n es = with_more h (accepted_of h.entries (take n es))
+
+-- the files stand for the warehouse with those that it accepts of some first entries
+abbrev pub StandsForFirst : History → List EntryValue → Image → Type 0
+StandsForFirst h es c = (n : ℕ) × StandsFor (with_first h n es) c
+
+-- the same, where each of the first `answered` entries is among them, and one more at most
+pub record HasAnswered (h : History) (es : List EntryValue) (answered : ℕ) (c : Image) : Type 0 where
+  pub first : ℕ
+  pub all : answered ≤ first
+  pub one_more : first ≤ answered + 1
+  pub stands : StandsFor (with_first h first es) c

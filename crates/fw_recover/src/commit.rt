@@ -1,0 +1,227 @@
+//! Adding entries to a warehouse: they are judged, the state with the accepted ones is made, and then these are written.
+ghost use Rattle.std.specs.Prelude.{◌≡◌, ◌⊎◌, ◌↔◌, ◌+◌, ◌<◌, ◌≤◌, true, false, [], ◌∷◌, length, IsOk, IfOk, IfErr, OnOk, OnErr, IsErrOf, IsTrue};
+ghost use Rattle.fw_disk.specs.Volume.{LeavesOnly, Rose};
+ghost use Rattle.fw_journal.specs.Frames.{IsFit};
+ghost use Rattle.fw_segment.specs.Groups.{group, IsGroup};
+ghost use Rattle.fw_snapshot.specs.Judging.{judged};
+ghost use Rattle.fw_snapshot.specs.Verdicts.{taken, verdicts_on, accepted_of};
+ghost use Rattle.fw_snapshot.specs.declared.verdict.Verdict.TheVariants.{Accept};
+ghost use Rattle.fw_recover.specs.declared.fault.StoreFault.TheVariants.{Device, Failed, TooLarge};
+ghost use Rattle.fw_recover.specs.Stands.{StandsFor, StandsForEither};
+ghost use Rattle.fw_recover.specs.Opening.{GoesBehind};
+ghost use Rattle.fw_recover.specs.Committing.{prepared_on, HasNoRoom, Committed, Appended, Lost, IsCommitFault};
+
+use crate::prepared::group_of_one;
+use crate::{Prepared, Store, StoreFault};
+use fw_disk::Volume;
+use fw_journal::LogFault;
+use fw_snapshot::{Entry, Snapshot, Verdict, judge};
+use std::alloc::Global;
+
+impl<V: Volume> Store<V> {
+    /// Judges an entry after those of the warehouse, and adds it where it is accepted: it is written as a group of its own.
+    /// The state with it is made before the first write, so after `Ok` nothing is left to do: whatever a crash leaves then
+    /// stands for the warehouse with the entry. At each moment since the call's start a crash leaves the warehouse as it
+    /// was, or with the entry. An entry that isn't accepted changes nothing.
+    ///
+    /// # Errors
+    /// `Failed` where an earlier call ended with `Device`, whatever the entry is; then, for an entry that is accepted,
+    /// `TooLarge` where the volume has no room for it, or `NoMemory`. These change nothing. `Device` where a write or a sync
+    /// failed: the state is as it was, the files have the entry or not, and every later call that writes is `Failed`.
+    pub fn commit(&mut self, alloc: Global, entry: &Entry) -> Result<Verdict, StoreFault>
+        ensures any_moment { IsTrue V.tells → self.old.failed ≡ false
+            → LeavesOnly (V.view self.old.volume) (V.view self.new.volume) (StandsForEither self.old.history (taken self.old.history.entries entry.now)) }
+        ensures done { IfOk result (λ verdict. (verdict ≡ judged self.old.history.entries entry.now)
+            × Committed V.tells V.view self.old self.new (taken self.old.history.entries entry.now)) }
+        ensures unchanged { OnErr result (IsErrOf result Device ⊎ (self.new ≡ self.old)) }
+        ensures lost { IsErrOf result Device → Lost self.old self.new }
+
+        ensures failed { IsErrOf result Failed ↔ (self.old.failed ≡ true) }
+        ensures too_large { IsErrOf result TooLarge → HasNoRoom (V.view self.old.volume).limit self.old (taken self.old.history.entries entry.now) }
+        ensures fits { IsOk result → HasNoRoom (V.view self.old.volume).limit self.old (taken self.old.history.entries entry.now) → ⊥ }
+        ensures accepted { IsErrOf result Device → judged self.old.history.entries entry.now ≡ Accept }
+        ensures device { IsErrOf result Device → Rose (V.view self.old.volume).failures (V.view self.new.volume).failures }
+        ensures which { IfErr result IsCommitFault }
+        ensures later { (V.view self.old.volume).failures ≤ (V.view self.new.volume).failures }
+        ensures limit { (V.view self.new.volume).limit ≡ (V.view self.old.volume).limit }
+    {
+        self.keeps();
+        if self.failed {
+            return Err(StoreFault::Failed);
+        }
+        let verdict = judge(self.snapshot.state(), entry);
+        if let Verdict::Accept = verdict {
+            self.add(alloc, entry)?;
+        }
+        Ok(verdict)
+    }
+
+    /// Judges entries in turn, each after those of the warehouse and the accepted ones before it, and adds the accepted ones
+    /// as one group: all of them at once, or none. It is [`Store::prepare`] and then [`Store::write`]. The entries have to
+    /// be 1 to 64, of at most 8,388,608 bytes as a group. Where none is accepted nothing is written.
+    ///
+    /// # Errors
+    /// `Failed` where an earlier call ended with `Device`; then `TooLarge` where the volume has no room for the group, or
+    /// `NoMemory`. These change nothing. `Device` where a write or a sync failed: the state is as it was, the files have all
+    /// accepted entries or none, and every later call that writes is `Failed`.
+    pub fn commit_group(
+        &mut self,
+        alloc: Global,
+        entries: &[Entry],
+    ) -> Result<Vec<Verdict>, StoreFault>
+        requires group { IsGroup entries.now }
+        requires size { length (group entries.now) ≤ 8388608 }
+
+        ensures any_moment { IsTrue V.tells → self.old.failed ≡ false
+            → LeavesOnly (V.view self.old.volume) (V.view self.new.volume) (StandsForEither self.old.history (accepted_of self.old.history.entries entries.now)) }
+        ensures done { IfOk result (λ verdicts. (verdicts.items ≡ verdicts_on self.old.history.entries entries.now)
+            × Committed V.tells V.view self.old self.new (accepted_of self.old.history.entries entries.now)) }
+        ensures unchanged { OnErr result (IsErrOf result Device ⊎ (self.new ≡ self.old)) }
+        ensures lost { IsErrOf result Device → Lost self.old self.new }
+
+        ensures failed { IsErrOf result Failed ↔ (self.old.failed ≡ true) }
+        ensures too_large { IsErrOf result TooLarge → HasNoRoom (V.view self.old.volume).limit self.old (accepted_of self.old.history.entries entries.now) }
+        ensures fits { IsOk result → HasNoRoom (V.view self.old.volume).limit self.old (accepted_of self.old.history.entries entries.now) → ⊥ }
+        ensures device { IsErrOf result Device → Rose (V.view self.old.volume).failures (V.view self.new.volume).failures }
+        ensures which { IfErr result IsCommitFault }
+        ensures later { (V.view self.old.volume).failures ≤ (V.view self.new.volume).failures }
+        ensures limit { (V.view self.new.volume).limit ≡ (V.view self.old.volume).limit }
+    {
+        self.keeps();
+        let prepared = self.prepare(alloc, entries)?;
+        self.write(alloc, prepared)
+    }
+
+    /// Judges entries in turn, and makes all that [`Store::write`] needs to add the accepted ones: the group that is to be
+    /// written, and the state with them. It changes nothing. The entries have to be 1 to 64, of at most 8,388,608 bytes as a
+    /// group.
+    ///
+    /// # Errors
+    /// `Failed` where an earlier call ended with `Device`; then `TooLarge` where the volume has no room for the group, or
+    /// `NoMemory`.
+    pub fn prepare(&self, alloc: Global, entries: &[Entry]) -> Result<Prepared, StoreFault>
+        requires group { IsGroup entries.now }
+        requires size { length (group entries.now) ≤ 8388608 }
+
+        ensures prepared { IfOk result (λ p. p ≡ prepared_on self.now.history entries.now) }
+        ensures room { IfOk result (λ p. HasNoRoom (V.view self.now.volume).limit self.now p.accepted → ⊥) }
+        ensures failed { IsErrOf result Failed ↔ (self.now.failed ≡ true) }
+        ensures too_large { IsErrOf result TooLarge → HasNoRoom (V.view self.now.volume).limit self.now (accepted_of self.now.history.entries entries.now) }
+        ensures not_device { IsErrOf result Device → ⊥ }
+        ensures which { IfErr result IsCommitFault }
+    {
+        if self.failed {
+            return Err(StoreFault::Failed);
+        }
+        let Ok(prepared) = Prepared::new(alloc, self.snapshot.state(), entries) else {
+            return Err(StoreFault::NoMemory);
+        };
+        let len = prepared.payload.len() as u64;
+        if len > 0 && len + 6 > self.volume.limit() - self.log.end() {
+            return Err(StoreFault::TooLarge);
+        }
+        Ok(prepared)
+    }
+
+    /// Adds what was prepared, and answers with the verdict on each entry. The store has to be as it was when the entries
+    /// were prepared. At each moment since the call's start a crash leaves the warehouse as it was, or with all accepted
+    /// entries; after `Ok` with them. Where none was accepted nothing is written.
+    ///
+    /// # Errors
+    /// `NoMemory`, before the first write: nothing changes. `Device` where a write or a sync failed: the state is as it was,
+    /// the files have all accepted entries or none, and every later call that writes is `Failed`. What was prepared is spent.
+    pub fn write(&mut self, alloc: Global, prepared: Prepared) -> Result<Vec<Verdict>, StoreFault>
+        requires before { prepared.before ≡ self.old.history }
+        requires goes_on { self.old.failed ≡ false }
+        requires room { HasNoRoom (V.view self.old.volume).limit self.old prepared.accepted → ⊥ }
+
+        ensures any_moment { IsTrue V.tells → LeavesOnly (V.view self.old.volume) (V.view self.new.volume) (StandsForEither self.old.history prepared.accepted) }
+        ensures done { IfOk result (λ verdicts. (verdicts.items ≡ prepared.verdicts) × Committed V.tells V.view self.old self.new prepared.accepted) }
+        ensures unchanged { OnErr result (IsErrOf result Device ⊎ (self.new ≡ self.old)) }
+        ensures lost { IsErrOf result Device → Lost self.old self.new }
+
+        ensures device { IsErrOf result Device → Rose (V.view self.old.volume).failures (V.view self.new.volume).failures }
+        ensures not_failed { IsErrOf result Failed → ⊥ }
+        ensures not_too_large { IsErrOf result TooLarge → ⊥ }
+        ensures which { IfErr result IsCommitFault }
+        ensures later { (V.view self.old.volume).failures ≤ (V.view self.new.volume).failures }
+        ensures limit { (V.view self.new.volume).limit ≡ (V.view self.old.volume).limit }
+    {
+        let Prepared {
+            next,
+            verdicts,
+            payload,
+            ..
+        } = prepared;
+        self.keeps();
+        if payload.is_empty() {
+            return Ok(verdicts);
+        }
+        self.append(alloc, &payload, next)?;
+        Ok(verdicts)
+    }
+
+    // Adds an entry that is accepted.
+    fn add(&mut self, alloc: Global, entry: &Entry) -> Result<(), StoreFault>
+        requires goes_on { self.old.failed ≡ false }
+        requires accepted { judged self.old.history.entries entry.now ≡ Accept }
+
+        ensures any_moment { IsTrue V.tells → LeavesOnly (V.view self.old.volume) (V.view self.new.volume) (StandsForEither self.old.history (entry.now ∷ [])) }
+        ensures done { OnOk result (Committed V.tells V.view self.old self.new (entry.now ∷ [])) }
+        ensures unchanged { OnErr result (IsErrOf result Device ⊎ (self.new ≡ self.old)) }
+        ensures lost { IsErrOf result Device → Lost self.old self.new }
+
+        ensures not_failed { IsErrOf result Failed → ⊥ }
+        ensures too_large { IsErrOf result TooLarge → HasNoRoom (V.view self.old.volume).limit self.old (entry.now ∷ []) }
+        ensures fits { IsOk result → HasNoRoom (V.view self.old.volume).limit self.old (entry.now ∷ []) → ⊥ }
+        ensures device { IsErrOf result Device → Rose (V.view self.old.volume).failures (V.view self.new.volume).failures }
+        ensures which { IfErr result IsCommitFault }
+        ensures later { (V.view self.old.volume).failures ≤ (V.view self.new.volume).failures }
+        ensures limit { (V.view self.new.volume).limit ≡ (V.view self.old.volume).limit }
+    {
+        self.keeps();
+        let Ok(state) = self.snapshot.state().apply(entry) else {
+            return Err(StoreFault::NoMemory);
+        };
+        let Ok(next) = Snapshot::new(state) else {
+            return Err(StoreFault::NoMemory);
+        };
+        let Ok(payload) = group_of_one(alloc, entry) else {
+            return Err(StoreFault::NoMemory);
+        };
+        self.append(alloc, &payload, next)
+    }
+
+    // Writes a group to the log, and shows the state with it from then on.
+    fn append(&mut self, alloc: Global, payload: &[u8], next: Snapshot) -> Result<(), StoreFault>
+        requires goes_on { self.old.failed ≡ false }
+        requires fit { IsFit payload.now }
+        requires goes { GoesBehind self.old.history payload.now next }
+
+        ensures any_moment { IsTrue V.tells → LeavesOnly (V.view self.old.volume) (V.view self.new.volume) (λ c. StandsFor self.old.history c ⊎ StandsFor next c) }
+        ensures done { OnOk result (Appended V.tells V.view self.old self.new payload.now next) }
+        ensures unchanged { OnErr result (IsErrOf result Device ⊎ (self.new ≡ self.old)) }
+        ensures lost { IsErrOf result Device → Lost self.old self.new }
+
+        ensures not_failed { IsErrOf result Failed → ⊥ }
+        ensures too_large { IsErrOf result TooLarge ↔ ((V.view self.old.volume).limit < self.old.log.end + 6 + length payload.now) }
+        ensures device { IsErrOf result Device → Rose (V.view self.old.volume).failures (V.view self.new.volume).failures }
+        ensures which { IfErr result IsCommitFault }
+        ensures later { (V.view self.old.volume).failures ≤ (V.view self.new.volume).failures }
+        ensures limit { (V.view self.new.volume).limit ≡ (V.view self.old.volume).limit }
+    {
+        match self.log.append(alloc, &mut self.volume, payload) {
+            Ok(()) => {
+                self.snapshot = next;
+                Ok(())
+            }
+            Err(LogFault::Device) => {
+                self.failed = true;
+                Err(StoreFault::Device)
+            }
+            Err(LogFault::TooLarge) => Err(StoreFault::TooLarge),
+            Err(LogFault::NoMemory) => Err(StoreFault::NoMemory),
+            Err(LogFault::Failed | LogFault::Corrupt { .. }) => unreachable!(),
+        }
+    }
+}

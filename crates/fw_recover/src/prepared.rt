@@ -1,0 +1,134 @@
+//! Entries that are judged, and spelled as a group, before anything of them is written.
+ghost use Rattle.std.specs.Prelude.{◌≡◌, ◌<◌, ◌≤◌, [], ◌∷◌, length, IfOk};
+ghost use Rattle.fw_segment.specs.Groups.{group, IsGroup};
+ghost use Rattle.fw_snapshot.specs.Verdicts.{verdicts_on, accepted_of, chosen, with_more};
+ghost use Rattle.fw_recover.specs.Committing.{payload_of, IsFrameable};
+
+use fw_segment::append_accepted;
+use fw_snapshot::{Entry, Snapshot, State, Verdict, judge};
+use std::alloc::{AllocError, Global};
+use std::marker::Model;
+use std::slice;
+
+/// Entries that were judged after those of a warehouse, the accepted ones as a group that is ready to be written, and the
+/// state with them.
+#[derive(Drop)]
+pub struct Prepared {
+    /// How many entries the warehouse had before.
+    entries: usize,
+    /// The state with the accepted entries.
+    pub(crate) next: Snapshot,
+    pub(crate) verdicts: Vec<Verdict>,
+    /// The group of the accepted entries; no bytes where none was accepted.
+    pub(crate) payload: Vec<u8>,
+}
+
+impl Model for Prepared {
+    ghost use Rattle.fw_recover.specs.Committing.{PreparedState};
+    ghost use Rattle.fw_recover.specs.Prepared.{prepared_view, KeepsPrepared};
+
+    ghost Value = { PreparedState };
+
+    ghost view = { prepared_view };
+
+    ghost invariant = { KeepsPrepared };
+}
+
+impl Prepared {
+    ghost use Rattle.fw_recover.specs.Committing.{prepared_on};
+
+    /// Entries that are judged in turn after those of a state, and all that is needed to add the accepted ones. The error
+    /// comes where memory ran out.
+    pub(crate) fn new(
+        alloc: Global,
+        state: &State,
+        entries: &[Entry],
+    ) -> Result<Prepared, AllocError>
+        requires group { IsGroup entries.now }
+        requires size { length (group entries.now) ≤ 8388608 }
+
+        ensures { IfOk result (λ p. p ≡ prepared_on state.now entries.now) }
+    {
+        let (verdicts, next) = judge_all(alloc, state, entries)?;
+        let before = state.entries();
+        let accepted = next.entries() - before;
+        let payload = group_of_accepted(alloc, accepted, entries, &verdicts)?;
+        let Ok(next) = Snapshot::new(next) else {
+            return Err(AllocError);
+        };
+        Ok(Prepared {
+            entries: before,
+            next,
+            verdicts,
+            payload,
+        })
+    }
+
+    /// The state of the warehouse with the accepted entries. It takes no memory.
+    pub fn next(&self) -> &Snapshot
+        ensures { result.now ≡ with_more self.now.before self.now.accepted }
+    {
+        &self.next
+    }
+
+    /// The verdict on each entry, in their order. It takes no memory.
+    pub fn verdicts(&self) -> &[Verdict]
+        ensures { result.now ≡ self.now.verdicts }
+    {
+        &self.verdicts
+    }
+}
+
+/// The verdict on each of these entries, and the state with the accepted ones.
+fn judge_all(
+    alloc: Global,
+    state: &State,
+    entries: &[Entry],
+) -> Result<(Vec<Verdict>, State), AllocError>
+    ensures verdicts { IfOk result (λ r. r.0.items ≡ verdicts_on state.now.entries entries.now) }
+    ensures next { IfOk result (λ r. r.1 ≡ with_more state.now (accepted_of state.now.entries entries.now)) }
+{
+    let mut verdicts = Vec::with_capacity(alloc, entries.len())?;
+    let mut next = state.copy()?;
+    for entry in entries {
+        let verdict = judge(&next, entry);
+        if let Verdict::Accept = verdict {
+            next = next.apply(entry)?;
+        }
+        verdicts.push_reserved(verdict);
+    }
+    Ok((verdicts, next))
+}
+
+/// The bytes of the group of the entries that their verdicts accept, which are so many; no bytes where there is none.
+fn group_of_accepted(
+    alloc: Global,
+    count: usize,
+    entries: &[Entry],
+    verdicts: &[Verdict],
+) -> Result<Vec<u8>, AllocError>
+    requires each { length verdicts.now ≡ length entries.now }
+    requires count { count ≡ length (chosen entries.now verdicts.now) }
+    requires group { 0 < length (chosen entries.now verdicts.now) → IsGroup (chosen entries.now verdicts.now) }
+
+    ensures { IfOk result (λ bytes. bytes.items ≡ payload_of (chosen entries.now verdicts.now)) }
+{
+    let mut payload = Vec::new(alloc);
+    if count == 0 {
+        return Ok(payload);
+    }
+    append_accepted(&mut payload, entries, verdicts)?;
+    Ok(payload)
+}
+
+/// The bytes of the group of one entry.
+pub(crate) fn group_of_one(alloc: Global, entry: &Entry) -> Result<Vec<u8>, AllocError>
+    ensures spelled { IfOk result (λ bytes. bytes.items ≡ group (entry.now ∷ [])) }
+    ensures frameable { IsFrameable (entry.now ∷ []) }
+{
+    // An entry keeps its limits.
+    let _seq = entry.seq();
+    let mut payload = Vec::new(alloc);
+    append_accepted(&mut payload, slice::from_ref(entry), &[Verdict::Accept])?;
+    Ok(payload)
+}
