@@ -8,4 +8,6 @@ mod committing;
 #[cfg(test)]
 mod open;
 #[cfg(test)]
+mod serving;
+#[cfg(test)]
 mod sides;
