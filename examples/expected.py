@@ -449,6 +449,8 @@ def answers(script):
             yield warehouse.lines(words[1], words[2])
         elif words == ["state"]:
             yield warehouse.state()
+        elif words == ["checkpoint"]:
+            yield "checkpointed\n"
         else:
             raise Unknown(f"the command {' '.join(words)!r}")
 

@@ -94,6 +94,10 @@ class Example(unittest.TestCase):
         answers = "accepted 1\naccepted 2\naccepted 3\n"
         self.assertEqual((ran.returncode, ran.stdout.decode()), (0, f"{answers}bytes {len(wanted)}\n{wanted}"))
 
+    def test_a_checkpoint_changes_no_answer_of_the_oracle(self):
+        done = answers_to(b"checkpoint\npolicy a 1 1\nkey = \"t\"\ncheckpoint\nstate\n")
+        self.assertEqual(done.stdout, b"checkpointed\naccepted 1\ncheckpointed\nstate 1 0 0 1\n")
+
     def test_the_oracle_makes_up_no_answer(self):
         for line in ["status", "post a 1 2\nBilledCost\n1"]:
             with self.subTest(line=line):

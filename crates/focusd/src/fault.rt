@@ -1,30 +1,49 @@
-//! Why a script was not served to its end.
-ghost use Rattle.std.specs.Prelude.{◌≡◌};
-ghost use Rattle.focusd.specs.declared.fault.ServeFault.TheVariants.{NoMemory};
-
+//! Why the program ended with status 1.
+use fw_disk::FolderFault;
+use fw_recover::StoreFault;
+use fw_serve::ServeFault;
 use std::alloc::AllocError;
 
-/// Why a script was not served to its end.
-#[derive(Clone, Copy, Debug, Drop, PartialEq, Eq, thiserror::Error)]
-pub enum ServeFault {
-    /// The reader failed. No command was run.
-    #[error("F1 Read")]
-    Read,
-    /// The writer failed. The commands before were run, and stay so.
-    #[error("F2 Write")]
-    Write,
-    /// The script has more than 2^30 bytes, or took more than 2^30 reads. No command was run.
-    #[error("F3 TooLong")]
-    TooLong,
-    /// Out of memory while reading the script. No command was run.
+/// Why the program ended with status 1. The text of each is its code and its name, or `NoMemory`, and fits on one line.
+#[derive(Clone, Copy, Debug, Drop, thiserror::Error)]
+pub enum Fault {
+    /// The folder could not be opened.
+    #[error("K1 Io")]
+    Folder(FolderFault),
+    /// The warehouse could not be opened or created.
+    #[error("{0}")]
+    Store(StoreFault),
+    /// The script was not served to its end.
+    #[error("{0}")]
+    Serve(ServeFault),
+    /// The allocator refused a growth.
     #[error("NoMemory")]
     NoMemory,
 }
 
-impl From<AllocError> for ServeFault {
-    ghost from_gives = { λ _ fault. fault ≡ NoMemory };
+impl From<AllocError> for Fault {
+    fn from(_: AllocError) -> Fault {
+        Fault::NoMemory
+    }
+}
 
-    fn from(_refused: AllocError) -> ServeFault {
-        ServeFault::NoMemory
+impl From<FolderFault> for Fault {
+    fn from(fault: FolderFault) -> Fault {
+        match fault {
+            FolderFault::NoMemory => Fault::NoMemory,
+            _ => Fault::Folder(fault),
+        }
+    }
+}
+
+impl From<StoreFault> for Fault {
+    fn from(fault: StoreFault) -> Fault {
+        Fault::Store(fault)
+    }
+}
+
+impl From<ServeFault> for Fault {
+    fn from(fault: ServeFault) -> Fault {
+        Fault::Serve(fault)
     }
 }

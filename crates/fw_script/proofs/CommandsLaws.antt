@@ -1,12 +1,14 @@
 -- A text holds one list of commands.
 use Rattle.std.proofs.Common.{◌≡◌, ℕ, ◌≤◌, ◌<◌, List, [], ◌∷◌, ◌++◌, length, lit<, refl, sym, ap, subst, ◌∙◌, arith, append_assoc}
-use Rattle.std.specs.Prelude.{codes, IsUtf8, Bool, true, false}
+use Rattle.std.specs.Prelude.{codes, IsUtf8, Bool, true, false, Option, Some, None, MatchOption, unwrap_or, ◌≢◌}
 use Rattle.std.specs.Str.Parse.{digits_value}
+use Rattle.fw_script.specs.declared.commands.Command.{Command}
+use Rattle.fw_script.specs.declared.commands.Command.TheVariants.{BadCommand}
 use Rattle.fw_script.specs.Commands.{IsEntryLine, IsReportLine, IsLinesLine, IsEntry, IsCutShort, IsCommand, FirstCommand, CommandsOf, entry_word}
 use Rattle.fw_script.specs.declared.commands.EntryKind.{EntryKind}
 use Rattle.fw_script.specs.declared.commands.EntryKind.TheVariants as kind
 use Rattle.fw_script.specs.Hours.{IsHourText}
-use Rattle.fw_script.specs.Plain.{PlainCommand, entry, report, lines, state, bad_command, bad_end}
+use Rattle.fw_script.specs.Plain.{PlainCommand, entry, report, lines, state, checkpoint, bad_command, bad_end, plain_command}
 use Rattle.fw_script.specs.Splits.{FirstSplit, LastSplit}
 use Rattle.fw_script.specs.Words.{IsLineCount, space}
 use Rattle.fw_script.specs.Lines.{StartsWithLines, FollowsLines}
@@ -143,6 +145,9 @@ apart x y lt e = omega arith
 heads : (x y : ℕ) (xs ys : List ℕ) → x ∷ xs ≡ y ∷ ys → x ≡ y
 heads x y xs ys e = cc
 
+seconds : (a b x y : ℕ) (xs ys : List ℕ) → a ∷ x ∷ xs ≡ b ∷ y ∷ ys → x ≡ y
+seconds a b x y xs ys e = cc
+
 thirds : (a b c d x y : ℕ) (xs ys : List ℕ) → a ∷ b ∷ x ∷ xs ≡ c ∷ d ∷ y ∷ ys → x ≡ y
 thirds a b c d x y xs ys e = cc
 
@@ -177,6 +182,12 @@ not_state kind.Post xs e = apart 112 115 (lit< tt) (heads _ _ _ _ e)
 not_state kind.Commit xs e = apart 99 115 (lit< tt) (heads _ _ _ _ e)
 not_state kind.Policy xs e = apart 112 115 (lit< tt) (heads _ _ _ _ e)
 
+not_checkpoint : (k : EntryKind) (xs : List ℕ) → entry_word k ++ xs ≡ codes "checkpoint" → ⊥
+unfolding entry_word
+not_checkpoint kind.Post xs e = apart 99 112 (lit< tt) (sym (heads _ _ _ _ e))
+not_checkpoint kind.Commit xs e = apart 104 111 (lit< tt) (sym (seconds _ _ _ _ _ _ e))
+not_checkpoint kind.Policy xs e = apart 99 112 (lit< tt) (sym (heads _ _ _ _ e))
+
 -- a line is of one command
 entry_no_report : (k : EntryKind) (line o s key : List ℕ) (n from to : ℕ) → IsEntryLine (entry_word k) line o s n → IsReportLine line key from to → ⊥
 entry_no_report k line o s key n from to e r = not_report k _ _ (sym e.in_turn ∙ r.in_turn)
@@ -195,6 +206,18 @@ report_no_state line key from to r is = apart 114 115 (lit< tt) (heads _ _ _ _ (
 
 lines_no_state : (line : List ℕ) (from to : ℕ) → IsLinesLine line from to → line ≡ codes "state" → ⊥
 lines_no_state line from to l is = apart 108 115 (lit< tt) (heads _ _ _ _ (sym l.in_turn ∙ is))
+
+entry_no_checkpoint : (k : EntryKind) (line o s : List ℕ) (n : ℕ) → IsEntryLine (entry_word k) line o s n → line ≡ codes "checkpoint" → ⊥
+entry_no_checkpoint k line o s n e is = not_checkpoint k _ (sym e.in_turn ∙ is)
+
+report_no_checkpoint : (line key : List ℕ) (from to : ℕ) → IsReportLine line key from to → line ≡ codes "checkpoint" → ⊥
+report_no_checkpoint line key from to r is = apart 99 114 (lit< tt) (sym (heads _ _ _ _ (sym r.in_turn ∙ is)))
+
+lines_no_checkpoint : (line : List ℕ) (from to : ℕ) → IsLinesLine line from to → line ≡ codes "checkpoint" → ⊥
+lines_no_checkpoint line from to l is = apart 99 108 (lit< tt) (sym (heads _ _ _ _ (sym l.in_turn ∙ is)))
+
+state_no_checkpoint : (line : List ℕ) → line ≡ codes "state" → line ≡ codes "checkpoint" → ⊥
+state_no_checkpoint line is this = apart 99 115 (lit< tt) (sym (heads _ _ _ _ (sym is ∙ this)))
 
 -- an entry's line is of one kind, with one list of arguments
 pub record AreSame (k j : EntryKind) (o s o' s' : List ℕ) (n m : ℕ) : Type 0 where
@@ -222,6 +245,16 @@ entry_not_short k line following o s c rest h short =
     let same = entry_one k short.kind line o s _ _ h.count short.count h.asked short.asked in
     short.too_few rest (subst (λ n. FollowsLines n following rest) same.count h.given.follows)
 
+-- a line that is no entry's, no report's and no list of lines is a word alone or no command
+pub word_or_none : (line : List ℕ) (read : Option Command) → ((k : EntryKind) (o s : List ℕ) (n : ℕ) → IsEntryLine (entry_word k) line o s n → ⊥)
+    → ((key : List ℕ) (from to : ℕ) → IsReportLine line key from to → ⊥) → ((from to : ℕ) → IsLinesLine line from to → ⊥)
+    → MatchOption read ((line ≢ codes "state") × (line ≢ codes "checkpoint")) (λ c. (following : List ℕ) → IsCommand line following (plain_command c) following)
+    → (following : List ℕ) → IsCommand line following (plain_command (unwrap_or read BadCommand)) following
+unfolding IsCommand
+word_or_none line (Some c) no_entry no_report no_lines reads following = reads following
+word_or_none line None no_entry no_report no_lines no_word following =
+    (record { no_entry = no_entry; no_report = no_report; no_lines = no_lines; no_state = no_word.0; no_checkpoint = no_word.1 }, refl)
+
 -- a line and what follows it are one command
 IsCommand-one : (line following : List ℕ) (c d : PlainCommand) (rest rest' : List ℕ) → IsCommand line following c rest → IsCommand line following d rest' → (c ≡ d) × (rest ≡ rest')
 unfolding IsCommand
@@ -229,6 +262,7 @@ IsCommand-one line following (entry k o s c) (entry j o' s' c') rest rest' h g =
 IsCommand-one line following (report key from to) (report key' from' to') rest rest' h g = let same = IsReportLine-one _ _ _ _ _ _ _ h.0 g.0 in (cc, h.1 ∙ sym g.1)
 IsCommand-one line following (lines from to) (lines from' to') rest rest' h g = let same = IsLinesLine-one _ _ _ _ _ h.0 g.0 in (cc, h.1 ∙ sym g.1)
 IsCommand-one line following state state rest rest' h g = (refl, h.1 ∙ sym g.1)
+IsCommand-one line following checkpoint checkpoint rest rest' h g = (refl, h.1 ∙ sym g.1)
 IsCommand-one line following bad_command bad_command rest rest' h g = (refl, h.1 ∙ sym g.1)
 IsCommand-one line following bad_end bad_end rest rest' h g = (refl, h.1 ∙ sym g.1)
 IsCommand-one line following (entry k o s c) (report key from to) rest rest' h g = absurd (entry_no_report _ _ _ _ _ _ _ _ h.asked g.0)
@@ -251,6 +285,18 @@ IsCommand-one line following state bad_command rest rest' h g = absurd (g.0.no_s
 IsCommand-one line following bad_command state rest rest' h g = absurd (h.0.no_state g.0)
 IsCommand-one line following state bad_end rest rest' h g = absurd (entry_no_state _ _ _ _ _ g.0.asked h.0)
 IsCommand-one line following bad_end state rest rest' h g = absurd (entry_no_state _ _ _ _ _ h.0.asked g.0)
+IsCommand-one line following (entry k o s c) checkpoint rest rest' h g = absurd (entry_no_checkpoint _ _ _ _ _ h.asked g.0)
+IsCommand-one line following checkpoint (entry k o s c) rest rest' h g = absurd (entry_no_checkpoint _ _ _ _ _ g.asked h.0)
+IsCommand-one line following (report key from to) checkpoint rest rest' h g = absurd (report_no_checkpoint _ _ _ _ h.0 g.0)
+IsCommand-one line following checkpoint (report key from to) rest rest' h g = absurd (report_no_checkpoint _ _ _ _ g.0 h.0)
+IsCommand-one line following (lines from to) checkpoint rest rest' h g = absurd (lines_no_checkpoint _ _ _ h.0 g.0)
+IsCommand-one line following checkpoint (lines from to) rest rest' h g = absurd (lines_no_checkpoint _ _ _ g.0 h.0)
+IsCommand-one line following state checkpoint rest rest' h g = absurd (state_no_checkpoint _ h.0 g.0)
+IsCommand-one line following checkpoint state rest rest' h g = absurd (state_no_checkpoint _ g.0 h.0)
+IsCommand-one line following checkpoint bad_command rest rest' h g = absurd (g.0.no_checkpoint h.0)
+IsCommand-one line following bad_command checkpoint rest rest' h g = absurd (h.0.no_checkpoint g.0)
+IsCommand-one line following checkpoint bad_end rest rest' h g = absurd (entry_no_checkpoint _ _ _ _ _ g.0.asked h.0)
+IsCommand-one line following bad_end checkpoint rest rest' h g = absurd (entry_no_checkpoint _ _ _ _ _ h.0.asked g.0)
 IsCommand-one line following (report key from to) bad_command rest rest' h g = absurd (g.0.no_report _ _ _ h.0)
 IsCommand-one line following bad_command (report key from to) rest rest' h g = absurd (h.0.no_report _ _ _ g.0)
 IsCommand-one line following (lines from to) bad_command rest rest' h g = absurd (g.0.no_lines _ _ h.0)
@@ -285,6 +331,7 @@ command_length line following (entry k o s c) rest h = StartsWithLines-shorter h
 command_length line following (report key from to) rest h = omega (arith, ap (λ t. length t) h.1)
 command_length line following (lines from to) rest h = omega (arith, ap (λ t. length t) h.1)
 command_length line following state rest h = omega (arith, ap (λ t. length t) h.1)
+command_length line following checkpoint rest h = omega (arith, ap (λ t. length t) h.1)
 command_length line following bad_command rest h = omega (arith, ap (λ t. length t) h.1)
 command_length line following bad_end rest h = rw h.1 (omega arith)
 

@@ -2,7 +2,7 @@
 use Rattle.std.specs.Prelude.{◌≡◌, ◌≢◌, ℕ, List, [], ◌∷◌, ◌++◌, Contains, IsUtf8, codes}
 use Rattle.fw_script.specs.Hours.{IsHourText}
 use Rattle.fw_script.specs.Lines.{StartsWithLine, StartsWithLines, FollowsLines}
-use Rattle.fw_script.specs.Plain.{PlainCommand, entry, report, lines, state, bad_command, bad_end}
+use Rattle.fw_script.specs.Plain.{PlainCommand, entry, report, lines, state, checkpoint, bad_command, bad_end}
 use Rattle.fw_script.specs.declared.commands.EntryKind.{EntryKind}
 use Rattle.fw_script.specs.declared.commands.EntryKind.TheVariants as kind
 use Rattle.fw_script.specs.Words.{space, IsLineCount}
@@ -48,6 +48,7 @@ pub record IsNoCommand (line : List ℕ) : Type 0 where
   pub no_report : (key : List ℕ) (from to : ℕ) → ¬ IsReportLine line key from to
   pub no_lines : (from to : ℕ) → ¬ IsLinesLine line from to
   pub no_state : line ≢ codes "state"
+  pub no_checkpoint : line ≢ codes "checkpoint"
 
 -- the line, with the text that follows it, is this entry, and `rest` follows its content
 pub record IsEntry (k : EntryKind) (line following origin sequence content rest : List ℕ) : Type 0 where
@@ -70,6 +71,7 @@ IsCommand line following (entry k origin sequence content) rest = IsEntry k line
 IsCommand line following (report key from to) rest = IsReportLine line key from to × (rest ≡ following)
 IsCommand line following (lines from to) rest = IsLinesLine line from to × (rest ≡ following)
 IsCommand line following state rest = (line ≡ codes "state") × (rest ≡ following)
+IsCommand line following checkpoint rest = (line ≡ codes "checkpoint") × (rest ≡ following)
 IsCommand line following bad_command rest = IsNoCommand line × (rest ≡ following)
 IsCommand line following bad_end rest = IsCutShort line following × (rest ≡ [])
 

@@ -59,6 +59,8 @@ pub enum Command<'a> {
     },
     /// `state`.
     State,
+    /// `checkpoint`.
+    Checkpoint,
     /// A line that is none of the commands.
     BadCommand,
     /// A command that asks for more lines than follow it. The script ends with it.

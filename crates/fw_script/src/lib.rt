@@ -8,7 +8,7 @@
 //! - `report KEY FROM TO`, where KEY is the UTF-8 text between the first word and the last two, and FROM and TO are instants on
 //!   whole hours, not before 1970;
 //! - `lines FROM TO`, with the same kind of instants;
-//! - `state`, and nothing after it.
+//! - `state` and `checkpoint`, each with nothing after it.
 //!
 //! Any other line is a bad command, and the next line is read as a command. Where fewer lines follow an entry than it asks for,
 //! the script ends.

@@ -1,5 +1,5 @@
 //! A script that is read command by command.
-ghost use Rattle.std.specs.Prelude.{◌≡◌, ◌<◌, ◌↔◌, ℕ, List, [], length, MatchOption, OnSome, IsTrue};
+ghost use Rattle.std.specs.Prelude.{◌≡◌, ◌≢◌, ◌<◌, ◌↔◌, ℕ, List, [], length, codes, MatchOption, OnSome, IsTrue};
 ghost use Rattle.fw_script.specs.Commands.{FirstCommand, IsCommand, IsEntryLine, IsReportLine, IsLinesLine, entry_word};
 ghost use Rattle.fw_script.specs.declared.commands.EntryKind.{EntryKind};
 ghost use Rattle.fw_script.specs.Plain.{plain_command};
@@ -92,9 +92,23 @@ fn read_question(line: &[u8]) -> Command<'_>
     }
     match lines_line(line) {
         Some((from, to)) => Command::Lines { from, to },
-        None if is_word(line, "state") => Command::State,
-        None => Command::BadCommand,
+        None => word_command(line).unwrap_or(Command::BadCommand),
     }
+}
+
+/// The command of a line that is its word alone, or `None` where the line is none of these.
+fn word_command(line: &[u8]) -> Option<Command<'_>>
+    ensures { MatchOption result
+        ((line.now ≢ codes "state") × (line.now ≢ codes "checkpoint"))
+        (λ c. (following : List ℕ) → IsCommand line.now following (plain_command c) following) }
+{
+    if is_word(line, "state") {
+        return Some(Command::State);
+    }
+    if is_word(line, "checkpoint") {
+        return Some(Command::Checkpoint);
+    }
+    None
 }
 
 /// The arguments of an entry's line.

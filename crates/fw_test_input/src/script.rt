@@ -206,7 +206,7 @@ const LINES: &[Case] = &[
     ),
     (
         "words that begin no command",
-        b"checkpoint\nlines  2024-01-01T00:00Z\n",
+        b"commits\nlines  2024-01-01T00:00Z\n",
         &[BAD, BAD],
     ),
     (
@@ -217,6 +217,19 @@ const LINES: &[Case] = &[
             post!(b"a", b"1", b"state\n"),
             Command::State,
             Command::State,
+        ],
+    ),
+    (
+        "checkpoints, and lines that only look like them",
+        b"checkpoint\ncheckpoint \n checkpoint\ncheckpoints\nCheckpoint\ncheckpoint now\ncheckpoint",
+        &[
+            Command::Checkpoint,
+            BAD,
+            BAD,
+            BAD,
+            BAD,
+            BAD,
+            Command::Checkpoint,
         ],
     ),
     (

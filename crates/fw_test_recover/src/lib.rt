@@ -10,6 +10,8 @@ mod committing;
 #[cfg(test)]
 mod open;
 #[cfg(test)]
+mod serving;
+#[cfg(test)]
 mod sides;
 #[cfg(test)]
 mod stops;

@@ -1,0 +1,38 @@
+//! What a person can do about a fault: a further line on standard error, where that is a terminal.
+use crate::fault::Fault;
+use fw_disk::{FolderFault, Side};
+use fw_recover::StoreFault;
+use std::io;
+
+/// Prints what was wrong in words, and what helps, where there is more to say than the fault's own line does.
+pub(crate) fn print_advice(rt: &HostRuntime, folder: &str, fault: &Fault) -> io::Result<()> {
+    match fault {
+        Fault::Folder(FolderFault::InUse) => {
+            eprintln!(rt; "{folder}: another process has this folder open")
+        }
+        Fault::Folder(why) => eprintln!(rt;
+            "{folder}: {why}; the folder must exist, and its files must be readable and writable"
+        ),
+        Fault::Store(StoreFault::NoHouse) => {
+            eprintln!(rt; "{folder} holds no warehouse; make one with --create")
+        }
+        Fault::Store(StoreFault::Exists) => {
+            eprintln!(rt; "{folder} holds a warehouse already; open it without --create")
+        }
+        Fault::Store(StoreFault::Corrupt { side, at }) => {
+            eprintln!(rt; "{folder}/{}: damaged at byte {at}", file_name(*side))
+        }
+        Fault::Store(StoreFault::Device) => {
+            eprintln!(rt; "{folder}: a read, a write or a sync of its files failed")
+        }
+        _ => Ok(()),
+    }
+}
+
+// The name of a side's file.
+fn file_name(side: Side) -> &'static str {
+    match side {
+        Side::Left => "left",
+        Side::Right => "right",
+    }
+}

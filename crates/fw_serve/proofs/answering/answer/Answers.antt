@@ -1,0 +1,47 @@
+use Rattle.std.proofs.Common.{refl, inl}
+use Rattle.fw_serve.specs.Answers.{Answer}
+use Rattle.fw_serve.specs.ReplyText.{reply_text}
+use Rattle.fw_serve.proofs.answering.answer.Goals as goal
+
+pub returns-in-Entry-clause-answer : goal.returns-in-Entry-clause-answer
+unfolding Answer
+returns-in-Entry-clause-answer g c = rw c.in-Entry.is c.enter.ensures.entered
+
+pub returns-in-Checkpoint-clause-answer : goal.returns-in-Checkpoint-clause-answer
+unfolding Answer
+returns-in-Checkpoint-clause-answer g c = rw c.in-Checkpoint.is c.checkpoint.ensures.checkpoints
+
+pub returns-in-Report-clause-answer : goal.returns-in-Report-clause-answer
+unfolding Answer
+returns-in-Report-clause-answer g c = rw c.in-Report.is (rw c.state.ensures at c.answer_report.ensures, refl)
+
+pub returns-in-Report-clause-moves : goal.returns-in-Report-clause-moves
+returns-in-Report-clause-moves g c = inl refl
+
+pub returns-in-Lines-clause-answer : goal.returns-in-Lines-clause-answer
+unfolding Answer
+returns-in-Lines-clause-answer g c = rw c.in-Lines.is (rw c.state-in-Lines.ensures at c.answer_lines.ensures, refl)
+
+pub returns-in-Lines-clause-moves : goal.returns-in-Lines-clause-moves
+returns-in-Lines-clause-moves g c = inl refl
+
+pub returns-in-State-clause-answer : goal.returns-in-State-clause-answer
+unfolding Answer
+returns-in-State-clause-answer g c = rw c.in-State.is (rw c.state-in-State.ensures at c.answer_state.ensures, refl)
+
+pub returns-in-State-clause-moves : goal.returns-in-State-clause-moves
+returns-in-State-clause-moves g c = inl refl
+
+pub returns-in-BadCommand-clause-answer : goal.returns-in-BadCommand-clause-answer
+unfolding Answer reply_text
+returns-in-BadCommand-clause-answer g c = rw c.in-BadCommand.is (refl, refl)
+
+pub returns-in-BadCommand-clause-moves : goal.returns-in-BadCommand-clause-moves
+returns-in-BadCommand-clause-moves g c = inl refl
+
+pub returns-in-BadEnd-clause-answer : goal.returns-in-BadEnd-clause-answer
+unfolding Answer reply_text
+returns-in-BadEnd-clause-answer g c = rw c.in-BadEnd.is (refl, refl)
+
+pub returns-in-BadEnd-clause-moves : goal.returns-in-BadEnd-clause-moves
+returns-in-BadEnd-clause-moves g c = inl refl

@@ -1,0 +1,66 @@
+use Rattle.std.proofs.Common.{refl, inl, inr}
+use Rattle.std.proofs.lemmas.Result.{err_from_is_err_and}
+use Rattle.fw_serve.proofs.MoveFacts.{Moves-then}
+use Rattle.fw_serve.proofs.ServedFacts.{ServesSoFar-none, ServesSoFar-more, Serves-whole}
+use Rattle.fw_script.specs.Plain.{plain_command}
+use Rattle.fw_serve.specs.ReplyText.{reply_text}
+use Rattle.fw_serve.specs.Standings.{standing_of}
+use Rattle.fw_serve.proofs.server.answer_all.Goals as goal
+
+pub loop-command-init : goal.loop-command-init
+loop-command-init g c = record {
+  so_far = ServesSoFar-none _ _ _ _ c.new-script.ensures;
+  moves = inl refl;
+}
+
+pub returns-in_err-write_reply-clause-write : goal.returns-in_err-write_reply-clause-write
+returns-in_err-write_reply-clause-write g c =
+    let p = err_from_is_err_and c.from_residual.result c.from_residual.ensures.1 in
+    let why = c.in_err-write_reply.ensures.part in
+    rw (p.1, p.2) (
+      why.0,
+      record {
+        left = c.loop-command.script;
+        between = standing_of g.V.Volume.view c.loop-command.store;
+        holds_between = g.W.Write.contents c.loop-command.writer;
+        whole = c.loop-command.invariant.so_far;
+        last = inr (record {
+          command = plain_command c.in-Some.command;
+          rest = c.next_command.new.self;
+          reads = c.in-Some.ensures.command;
+          answer = reply_text c.answer-reply.result;
+          answered = c.answer-reply.ensures.answer;
+          writes = why.1;
+        });
+      },
+    )
+
+pub returns-in_err-write_reply-clause-moves : goal.returns-in_err-write_reply-clause-moves
+returns-in_err-write_reply-clause-moves g c = Moves-then _ _ _ _ _ c.loop-command.invariant.moves c.answer-reply.ensures.moves
+
+pub loop-command-preserved-in_ok-write_reply : goal.loop-command-preserved-in_ok-write_reply
+loop-command-preserved-in_ok-write_reply g c = record {
+  so_far = ServesSoFar-more _ _ _ _ _ _ _ _ _ _ _ c.loop-command.invariant.so_far c.in-Some.ensures.command c.answer-reply.ensures.answer c.in_ok-write_reply.ensures.whole;
+  moves = Moves-then _ _ _ _ _ c.loop-command.invariant.moves c.answer-reply.ensures.moves;
+}
+
+pub loop-command-preserved : goal.loop-command-preserved
+loop-command-preserved g c = record {
+  so_far = ServesSoFar-more _ _ _ _ _ _ _ _ _ _ _ c.loop-command.invariant.so_far c.in-Some.ensures.command c.answer-reply.ensures.answer c.in_ok-write_reply.ensures.whole;
+  moves = Moves-then _ _ _ _ _ c.loop-command.invariant.moves c.answer-reply.ensures.moves;
+}
+
+pub returns-in-Ok-clause-done : goal.returns-in-Ok-clause-done
+returns-in-Ok-clause-done g c = Serves-whole _ _ _ _ _ _ _ c.loop-command.invariant.so_far c.in_default.ensures.command.0 c.in-Ok.ensures.bytes
+
+pub returns-in-Err-clause-write : goal.returns-in-Err-clause-write
+returns-in-Err-clause-write g c = (
+  refl,
+  record {
+    left = c.loop-command.script;
+    between = standing_of g.V.Volume.view c.loop-command.store;
+    holds_between = g.W.Write.contents c.loop-command.writer;
+    whole = c.loop-command.invariant.so_far;
+    last = inl (refl, c.in-Err.ensures.bytes);
+  },
+)

@@ -1,0 +1,54 @@
+//! The whole script, read before any of its commands is run.
+ghost use Rattle.std.specs.Prelude.{◌≡◌, ◌≢◌, ◌⊎◌, ◌++◌, ◌≤◌, ℕ, List, length, IfOk, IfErr, IfSome, Err};
+ghost use Rattle.std.specs.Io.KnownBytes.{Consumes, IsAtEnd};
+ghost use Rattle.fw_serve.specs.Served.{most_bytes};
+
+use crate::fault::ServeFault;
+use std::alloc::Global;
+use std::io::Read;
+
+/// The most bytes of a script.
+const MOST_BYTES: usize = 1 << 30;
+
+/// The most reads that a script may take.
+const MOST_READS: usize = 1 << 30;
+
+/// How many bytes one read asks for.
+const PIECE: usize = 64 * 1024;
+
+/// Reads the script to its end. A read that fails, an interrupted one too, is `Read`.
+pub(crate) fn read_script<R: Read>(alloc: Global, reader: &mut R) -> Result<Vec<u8>, ServeFault>
+    ensures whole { IfOk result (λ script. IfSome (R.remaining reader.old) (λ bytes. script.items ≡ bytes)) }
+    ensures short { IfOk result (λ script. length script.items ≤ most_bytes) }
+    ensures too_long { result ≡ Err ServeFault.TooLong → IfSome (R.remaining reader.old) (λ bytes. most_bytes ≤ length bytes) }
+    ensures reads { result ≢ Err ServeFault.Write }
+{
+    let mut script = Vec::new(alloc);
+    for _ in 0..MOST_READS {
+        if read_piece(reader, &mut script)? == 0 {
+            return Ok(script);
+        }
+        if script.len() > MOST_BYTES {
+            return Err(ServeFault::TooLong);
+        }
+    }
+    Err(ServeFault::TooLong)
+}
+
+// One read, whose bytes go to the end of the script. It gives none only at the end of the input.
+fn read_piece<R: Read>(reader: &mut R, script: &mut Vec<u8>) -> Result<usize, ServeFault>
+    requires { length script.old.items ≤ most_bytes }
+    ensures read { IfOk result (λ count. (piece : List ℕ) × (script.new.items ≡ script.old.items ++ piece) × (length piece ≡ count)
+        × Consumes (R.remaining reader.old) (R.remaining reader.new) piece × (count ≡ 0 → IsAtEnd (R.remaining reader.new))) }
+    ensures faults { IfErr result (λ why. (why ≡ ServeFault.Read) ⊎ (why ≡ ServeFault.NoMemory)) }
+{
+    let filled = script.len();
+    script.resize(filled + PIECE, 0)?;
+    match reader.read(&mut script[filled..]) {
+        Ok(count) => {
+            script.truncate(filled + count);
+            Ok(count)
+        }
+        Err(_) => Err(ServeFault::Read),
+    }
+}

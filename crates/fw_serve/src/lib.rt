@@ -1,0 +1,21 @@
+//! Scripts that are served from a store: each command is run and answered in turn.
+//!
+//! [`serve`] is the program over any reader, any writer and any volume: it reads a script whole, runs its commands on a
+//! [`Store`](fw_recover::Store) one after the other, and writes their answers. An entry is answered `accepted` only after its
+//! group is on the volume, synced.
+#![tactic(auto)]
+
+mod answering;
+mod content;
+mod fault;
+mod input;
+mod parts;
+mod questions;
+mod refusals;
+mod reply;
+mod server;
+mod writing;
+
+pub use fault::ServeFault;
+pub use reply::{Detail, Refusal, Reply};
+pub use server::serve;

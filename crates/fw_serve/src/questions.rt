@@ -1,0 +1,69 @@
+//! Questions, which are answered from the state of a warehouse and change nothing.
+ghost use Rattle.std.specs.Prelude.{◌≡◌};
+ghost use Rattle.fw_serve.specs.Questions.{IsReportText, ReportAnswer, LinesAnswer};
+ghost use Rattle.fw_serve.specs.Replies.{state_line};
+ghost use Rattle.fw_serve.specs.ReplyText.{reply_text};
+
+use crate::refusals::query_reply;
+use crate::reply::Reply;
+use fw_query::{Query, QueryFault, lines_csv, report, report_csv};
+use fw_snapshot::Snapshot;
+use std::alloc::Global;
+
+/// The counts of a warehouse.
+pub(crate) fn answer_state(snapshot: &Snapshot) -> Reply
+    ensures { reply_text result ≡ state_line snapshot.now }
+{
+    let state = snapshot.state();
+    Reply::State {
+        entries: state.entries() as u64,
+        rows: state.rows() as u64,
+        commitments: state.commitments() as u64,
+        has_policy: state.policy().is_some(),
+    }
+}
+
+/// The report under a key over the hours from `from` up to, and not including, `to`.
+pub(crate) fn answer_report(
+    alloc: Global,
+    snapshot: &Snapshot,
+    key: &str,
+    from: u64,
+    to: u64,
+) -> Reply
+    ensures { ReportAnswer snapshot.now key.now from to (reply_text result) }
+{
+    match report_text(alloc, snapshot, key, from, to) {
+        Ok(text) => Reply::Text(text),
+        Err(fault) => query_reply(&fault),
+    }
+}
+
+// The text of the report.
+fn report_text(
+    alloc: Global,
+    snapshot: &Snapshot,
+    key: &str,
+    from: u64,
+    to: u64,
+) -> Result<Vec<u8>, QueryFault>
+    ensures { IsReportText snapshot.now key.now from to result }
+{
+    let query = Query {
+        key,
+        from_hour: from,
+        to_hour: to,
+    };
+    let report = report(alloc, snapshot, &query, 1)?;
+    Ok(report_csv(alloc, &report)?)
+}
+
+/// The lines of the hours from `from` up to, and not including, `to`.
+pub(crate) fn answer_lines(alloc: Global, snapshot: &Snapshot, from: u64, to: u64) -> Reply
+    ensures { LinesAnswer snapshot.now from to (reply_text result) }
+{
+    match lines_csv(alloc, snapshot, from, to) {
+        Ok(text) => Reply::Text(text),
+        Err(fault) => query_reply(&fault),
+    }
+}

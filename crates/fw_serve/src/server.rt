@@ -1,0 +1,70 @@
+//! Scripts that are served: read, run command by command, and answered.
+ghost use Rattle.std.specs.Prelude.{◌≡◌, ◌≢◌, ◌≤◌, false, true, length, OnOk, IfErr, IfSome, IsTrue, Err};
+ghost use Rattle.fw_disk.specs.Volume.{LeavesOnly, Rose};
+ghost use Rattle.fw_serve.specs.Served.{IsServed, IsServedInPart, Serves, ServesInPart, most_bytes, most_workers};
+ghost use Rattle.fw_serve.specs.Standings.{standing_of, IsBetween, Moves};
+
+use crate::answering::answer;
+use crate::fault::ServeFault;
+use crate::input::read_script;
+use crate::writing::write_reply;
+use fw_disk::Volume;
+use fw_recover::Store;
+use fw_script::Script;
+use std::alloc::Global;
+use std::io::{Read, Write};
+
+/// Reads a script to its end, runs its commands on the store in order, writes their answers, and flushes the writer.
+///
+/// A script has at most 2^30 bytes, and is read in at most 2^30 reads: beyond these it is `TooLong`. On `Read`, `TooLong`
+/// and `NoMemory` no command was run and nothing written. On `Write` the commands before were run and stay so, and the last
+/// of them may have its answer written in part, or not at all. A command that runs out of memory is answered
+/// `no memory` and changes nothing, and the script goes on.
+///
+/// An entry is answered `accepted` only when it is on the volume, synced. What a crash leaves at any moment stands for the
+/// warehouse before the call with the entries that were accepted by then; where the device fails in the middle of an entry,
+/// it may have that one too, and every later entry is answered `store S4 Failed`.
+///
+/// There are 1 to 64 workers. Their number has no effect yet.
+pub fn serve<R: Read, W: Write, V: Volume>(
+    alloc: Global,
+    reader: &mut R,
+    writer: &mut W,
+    store: &mut Store<V>,
+    _workers: u32,
+) -> Result<(), ServeFault>
+    requires some_worker { 1 ≤ _workers }
+    requires few_workers { _workers ≤ most_workers }
+    ensures done { OnOk result (IsServed (R.remaining reader.old) (standing_of V.view store.old) (standing_of V.view store.new) (W.contents writer.old) (W.contents writer.new)) }
+    ensures write { result ≡ Err ServeFault.Write → IsServedInPart (R.remaining reader.old) (standing_of V.view store.old) (standing_of V.view store.new) (W.contents writer.old) (W.contents writer.new) }
+    ensures untouched { IfErr result (λ why. (why ≢ ServeFault.Write) → (store.new ≡ store.old) × (writer.new ≡ writer.old)) }
+    ensures too_long { result ≡ Err ServeFault.TooLong → IfSome (R.remaining reader.old) (λ bytes. most_bytes ≤ length bytes) }
+    ensures any_moment { IsTrue V.tells → store.old.failed ≡ false → LeavesOnly (V.view store.old.volume) (V.view store.new.volume) (IsBetween store.old.history (standing_of V.view store.new)) }
+    ensures cause { store.old.failed ≡ false → store.new.failed ≡ true → Rose (V.view store.old.volume).failures (V.view store.new.volume).failures }
+{
+    store.keeps();
+    let text = read_script(alloc, reader)?;
+    answer_all(alloc, text.as_slice(), writer, store)
+}
+
+// Runs the commands of a script, and writes their answers.
+fn answer_all<W: Write, V: Volume>(
+    alloc: Global,
+    text: &[u8],
+    writer: &mut W,
+    store: &mut Store<V>,
+) -> Result<(), ServeFault>
+    ensures done { OnOk result (Serves text.now (standing_of V.view store.old) (standing_of V.view store.new) (W.contents writer.old) (W.contents writer.new)) }
+    ensures write { IfErr result (λ why. (why ≡ ServeFault.Write) × ServesInPart text.now (standing_of V.view store.old) (standing_of V.view store.new) (W.contents writer.old) (W.contents writer.new)) }
+    ensures moves { Moves V.tells V.view store.old store.new }
+{
+    let mut script = Script::new(text);
+    while let Some(command) = script.next_command() {
+        let reply = answer(alloc, store, command);
+        write_reply(writer, &reply)?;
+    }
+    match writer.flush() {
+        Ok(()) => Ok(()),
+        Err(_) => Err(ServeFault::Write),
+    }
+}
