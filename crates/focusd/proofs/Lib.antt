@@ -1,3 +1,0 @@
-pub mod PieceFacts
-pub mod AnswerFacts
-pub mod WritingFacts

@@ -1,6 +1,0 @@
-pub mod Replies
-pub mod ReplyText
-pub mod Contents
-pub mod Questions
-pub mod Answers
-pub mod Outcomes
