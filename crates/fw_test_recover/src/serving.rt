@@ -80,7 +80,7 @@ fn dollar_store(alloc: Global, limit: u64) -> Result<Box<Store<MemVolume>>, Serv
 // The text of answers. A volume in memory fails only where memory runs out, so one of these makes the whole out of memory.
 fn text_of(answers: &[u8]) -> Result<&str, ServeFault> {
     let text = str::from_utf8(answers).unwrap_or("no text");
-    if text.contains("no memory") || text.contains("S3 Device") {
+    if text.contains("no memory") || text.contains("store S3") {
         Err(ServeFault::NoMemory)
     } else {
         Ok(text)
