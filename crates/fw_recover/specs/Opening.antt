@@ -1,5 +1,5 @@
 -- What is found while a warehouse is opened.
-use Rattle.std.specs.Prelude.{◌≡◌, ◌≢◌, ◌⊎◌, ℕ, ◌+◌, ◌-◌, List, ◌∷◌, ◌++◌, length, take, drop, map, All, Option, Some, None, Ok, Err}
+use Rattle.std.specs.Prelude.{◌≡◌, ◌≢◌, ◌⊎◌, ⊤, ℕ, ◌+◌, ◌-◌, List, ◌∷◌, ◌++◌, length, take, drop, map, All, Option, Some, None, Ok, Err}
 use Rattle.fw_disk.specs.declared.volume.Side.{Side}
 use Rattle.fw_entry.specs.Entry.{EntryValue}
 use Rattle.fw_entry_bytes.specs.declared.form.Form.TheVariants.{One}
@@ -13,8 +13,19 @@ use Rattle.fw_snapshot.specs.History.{History}
 use Rattle.fw_snapshot.specs.Judging.{IsLegal, IsLegalAfter}
 use Rattle.fw_snapshot.specs.Verdicts.{with_more}
 use Rattle.fw_recover.specs.declared.fault.StoreFault.{StoreFault}
-use Rattle.fw_recover.specs.declared.fault.StoreFault.TheVariants.{Corrupt, Device, NoMemory}
+use Rattle.fw_recover.specs.declared.fault.StoreFault.TheVariants.{NoHouse, Corrupt, Device, Failed, Generations, TooLarge, Exists, NoMemory}
 use Rattle.fw_recover.specs.Stands.{joined}
+
+-- the faults of opening: of reading, of what the files hold, and of memory. The others come from calls that write
+abbrev pub IsOpenFault : StoreFault → Type 0
+IsOpenFault NoHouse = ⊤
+IsOpenFault (Corrupt side at) = ⊤
+IsOpenFault Device = ⊤
+IsOpenFault Failed = ⊥
+IsOpenFault Generations = ⊥
+IsOpenFault TooLarge = ⊥
+IsOpenFault Exists = ⊥
+IsOpenFault NoMemory = ⊤
 
 -- the fault of a log that is read on a side, as that of a store
 abbrev pub log_fault : Side → LogFault → StoreFault

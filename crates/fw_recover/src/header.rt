@@ -12,6 +12,7 @@ ghost use Rattle.fw_recover.specs.Sides.{magic, IsOpen};
 ghost use Rattle.fw_recover.specs.Stands.{IsNewest, StandsForNone};
 ghost use Rattle.fw_recover.specs.Corrupt.{LacksAt, CorruptAt};
 ghost use Rattle.fw_recover.specs.Headers.{HasHeader, IsHeader};
+ghost use Rattle.fw_recover.specs.Opening.{IsOpenFault};
 
 use crate::StoreFault;
 use fw_disk::{Side, Volume};
@@ -39,6 +40,7 @@ pub fn side_in_use<V: Volume>(volume: &mut V) -> Result<(Side, Header), StoreFau
     ensures within { IfOk result (λ r. (0 < r.1.generation) × (25 + r.1.body_len < (V.view volume.old).size r.0)) }
     ensures none { IsErrOf result NoHouse → IsTrue V.tells → StandsForNone (V.view volume.old).seen }
     ensures corrupt { (side : Side) (at : ℕ) → IsErrOf result (Corrupt side at) → IsTrue V.tells → CorruptAt (V.view volume.old).seen side at }
+    ensures which { IfErr result IsOpenFault }
 
     ensures calm { IsTrue V.tells → Calm (V.view volume.old) (V.view volume.new) }
     ensures sizes { SameSizes (V.view volume.old) (V.view volume.new) }
@@ -74,6 +76,7 @@ fn header_of<V: Volume>(volume: &mut V, side: Side) -> Result<Option<Header>, St
     ensures corrupt { (at_side : Side) (at : ℕ) → IsErrOf result (Corrupt at_side at)
         → (at_side ≡ side) × (IsTrue V.tells → IsOpen ((V.view volume.old).seen side) × LacksAt ((V.view volume.old).seen side) at) }
     ensures not_no_house { IsErrOf result NoHouse → ⊥ }
+    ensures which { IfErr result IsOpenFault }
 
     ensures calm { IsTrue V.tells → Calm (V.view volume.old) (V.view volume.new) }
     ensures sizes { SameSizes (V.view volume.old) (V.view volume.new) }

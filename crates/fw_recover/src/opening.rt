@@ -7,7 +7,7 @@ ghost use Rattle.fw_recover.specs.declared.fault.StoreFault.TheVariants.{NoHouse
 ghost use Rattle.fw_recover.specs.Making.{AllSettled};
 ghost use Rattle.fw_recover.specs.Stands.{StandsForNone};
 ghost use Rattle.fw_recover.specs.Corrupt.{CorruptAt};
-ghost use Rattle.fw_recover.specs.Opening.{HasBadBody};
+ghost use Rattle.fw_recover.specs.Opening.{HasBadBody, IsOpenFault};
 ghost use Rattle.fw_recover.specs.Store.{IsInUse};
 
 use crate::StoreFault;
@@ -42,6 +42,7 @@ pub(crate) fn read_sides<V: Volume>(
     ensures found { IfOk result (λ r. IsInUse V.tells r.0 r.1 r.2 (V.view volume.new)) }
     ensures none { IsErrOf result NoHouse → IsTrue V.tells → StandsForNone (V.view volume.old).seen }
     ensures corrupt { (side : Side) (at : ℕ) → IsErrOf result (Corrupt side at) → IsTrue V.tells → CorruptAt (V.view volume.old).seen side at }
+    ensures which { IfErr result IsOpenFault }
 
     ensures calm { IsTrue V.tells → Calm (V.view volume.old) (V.view volume.new) }
     ensures sizes { SameSizes (V.view volume.old) (V.view volume.new) }
@@ -61,6 +62,7 @@ fn read_settled<V: Volume>(alloc: Global, volume: &mut V) -> Result<(u64, Log, S
     ensures found { IfOk result (λ r. IsInUse V.tells r.0 r.1 r.2 (V.view volume.new)) }
     ensures none { IsErrOf result NoHouse → IsTrue V.tells → StandsForNone (V.view volume.old).seen }
     ensures corrupt { (side : Side) (at : ℕ) → IsErrOf result (Corrupt side at) → IsTrue V.tells → CorruptAt (V.view volume.old).seen side at }
+    ensures which { IfErr result IsOpenFault }
 
     ensures calm { IsTrue V.tells → Calm (V.view volume.old) (V.view volume.new) }
     ensures sizes { SameSizes (V.view volume.old) (V.view volume.new) }
@@ -89,6 +91,7 @@ fn body_state<V: Volume>(
     ensures corrupt { (at_side : Side) (at : ℕ) → IsErrOf result (Corrupt at_side at)
         → (at_side ≡ side) × (IsTrue V.tells → HasBadBody body_len at ((V.view volume.old).seen side)) }
     ensures not_no_house { IsErrOf result NoHouse → ⊥ }
+    ensures which { IfErr result IsOpenFault }
 
     ensures calm { IsTrue V.tells → Calm (V.view volume.old) (V.view volume.new) }
     ensures sizes { SameSizes (V.view volume.old) (V.view volume.new) }

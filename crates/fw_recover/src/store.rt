@@ -5,6 +5,7 @@ ghost use Rattle.fw_disk.specs.Volume.{Rose, SameSizes, Calm};
 ghost use Rattle.fw_recover.specs.declared.fault.StoreFault.TheVariants.{NoHouse, Corrupt, Device};
 ghost use Rattle.fw_recover.specs.Stands.{StandsFor, StandsForNone, EachStandsFor};
 ghost use Rattle.fw_recover.specs.Corrupt.{CorruptAt};
+ghost use Rattle.fw_recover.specs.Opening.{IsOpenFault};
 ghost use Rattle.fw_recover.specs.Store.{IsKept};
 
 use crate::StoreFault;
@@ -56,6 +57,7 @@ impl<V: Volume> Store<V> {
         ensures sizes { IfOk result (λ s. SameSizes (V.view volume) (V.view s.volume)) }
         ensures sizes_fault { IfErr result (λ e. SameSizes (V.view volume) (V.view e.0)) }
         ensures device { IfErr result (λ e. e.1 ≡ Device → Rose (V.view volume).failures (V.view e.0).failures) }
+        ensures which { IfErr result (λ e. IsOpenFault e.1) }
     {
         let mut volume = volume;
         match read_sides(alloc, &mut volume) {

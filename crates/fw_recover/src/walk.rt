@@ -1,12 +1,12 @@
 //! The walk over the log of a side, from the state that its body spells on.
-ghost use Rattle.std.specs.Prelude.{◌≡◌, ◌≢◌, ◌+◌, ◌<◌, ◌≤◌, ℕ, IfOk, IsErrOf, IsTrue};
+ghost use Rattle.std.specs.Prelude.{◌≡◌, ◌≢◌, ◌+◌, ◌<◌, ◌≤◌, ℕ, IfOk, IfErr, IsErrOf, IsTrue};
 ghost use Rattle.fw_disk.specs.declared.volume.Side.{Side};
 ghost use Rattle.fw_disk.specs.Volume.{Rose, SameSizes, Calm};
 ghost use Rattle.fw_entry_bytes.specs.declared.form.Form.TheVariants.{One};
 ghost use Rattle.fw_snapshot.specs.Judging.{IsLegal};
 ghost use Rattle.fw_recover.specs.declared.fault.StoreFault.TheVariants.{NoHouse, Corrupt, Device};
 ghost use Rattle.fw_recover.specs.Corrupt.{LogBreaks};
-ghost use Rattle.fw_recover.specs.Opening.{log_fault, IsAfter, IsWithGroup, HasGroups, IsClosedAt};
+ghost use Rattle.fw_recover.specs.Opening.{log_fault, IsOpenFault, IsAfter, IsWithGroup, HasGroups, IsClosedAt};
 
 use crate::StoreFault;
 use fw_disk::{Side, Volume};
@@ -36,6 +36,7 @@ pub(crate) fn walk_log<V: Volume>(
     ensures corrupt { (at_side : Side) (at : ℕ) → IsErrOf result (Corrupt at_side at)
         → (at_side ≡ side) × (IsTrue V.tells → LogBreaks One state start at ((V.view volume.old).seen side)) }
     ensures not_no_house { IsErrOf result NoHouse → ⊥ }
+    ensures which { IfErr result IsOpenFault }
 
     ensures calm { IsTrue V.tells → Calm (V.view volume.old) (V.view volume.new) }
     ensures sizes { SameSizes (V.view volume.old) (V.view volume.new) }
@@ -62,7 +63,8 @@ pub(crate) fn walk_log<V: Volume>(
 
 /// The fault of a log on a side, as that of a store.
 fn of_log(side: Side, fault: LogFault) -> StoreFault
-    ensures { result ≡ log_fault side fault }
+    ensures value { result ≡ log_fault side fault }
+    ensures which { IsOpenFault result }
 {
     match fault {
         LogFault::Corrupt { at } => StoreFault::Corrupt { side, at },

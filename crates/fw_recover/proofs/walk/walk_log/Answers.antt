@@ -65,7 +65,7 @@ returns-in-Err-clause-corrupt g c at_side at is =
     let kept = c.loop-state.invariant in
     let file = old.seen c.args.side in
     let fault : c.of_log.result ≡ Corrupt at_side at = cc in
-    let found = log_corrupt c.args.side at_side at c.in-Err.fault (sym c.of_log.ensures ∙ fault) in
+    let found = log_corrupt c.args.side at_side at c.in-Err.fault (sym c.of_log.ensures.value ∙ fault) in
     let there = c.frame_at.ensures.corrupt at (c.in-Err.is ∙ ap (λ (f : LogFault). Err f) found.1) in (
       found.0,
       λ told.
@@ -78,13 +78,13 @@ returns-in-Err-clause-corrupt g c at_side at is =
 pub returns-in-Err-clause-not_no_house : goal.returns-in-Err-clause-not_no_house
 returns-in-Err-clause-not_no_house g c is =
     let fault : c.of_log.result ≡ NoHouse = cc in
-    log_not_none c.args.side c.in-Err.fault (sym c.of_log.ensures ∙ fault)
+    log_not_none c.args.side c.in-Err.fault (sym c.of_log.ensures.value ∙ fault)
 
 pub returns-in-Err-clause-device : goal.returns-in-Err-clause-device
 returns-in-Err-clause-device g c is =
     let kept = c.loop-state.invariant in
     let fault : c.of_log.result ≡ Device = cc in
-    elim (log_device c.args.side c.in-Err.fault (sym c.of_log.ensures ∙ fault)) [
+    elim (log_device c.args.side c.in-Err.fault (sym c.of_log.ensures.value ∙ fault)) [
       | inl device ↦ (let rose = c.frame_at.ensures.device (c.in-Err.is ∙ ap (λ (f : LogFault). Err f) device) in omega (arith, rose, kept.later))
       | inr (inl failed) ↦ absurd (c.frame_at.ensures.not_failed (c.in-Err.is ∙ ap (λ (f : LogFault). Err f) failed))
       | inr (inr large) ↦ absurd (c.frame_at.ensures.not_too_large (c.in-Err.is ∙ ap (λ (f : LogFault). Err f) large))
