@@ -79,18 +79,14 @@ def make(path, command):
     os.replace(path + ".part", path)
 
 
-class Program:
-    """One way to do the job, and its turns so far."""
+class Turns:
+    """The turns of a program so far, and what went wrong with it, after which it takes none."""
 
-    def __init__(self, name, command, data, reads_script=False, is_exact=True):
-        self.name, self.command, self.data = name, command, data
-        self.reads_script, self.is_exact = reads_script, is_exact
-        self.turns, self.fault, self.off = [], None, 0
+    def __init__(self, name):
+        self.name, self.turns, self.fault = name, [], None
 
-    def take_turn(self, options):
-        if self.fault:
-            return
-        turn = measure(self.command, self.data.script if self.reads_script else os.devnull, options)
+    def keep(self, turn, options):
+        """Judges a turn, and keeps it where its answer is right."""
         if turn.status is None:
             self.fault = f"stopped after {options.limit} s"
         elif turn.status:
@@ -100,6 +96,19 @@ class Program:
         if not self.fault:
             self.turns.append(turn)
             say(f"  {self.name}: {turn.seconds:.3f} s")
+
+
+class Program(Turns):
+    """One way to do the job, and its turns so far."""
+
+    def __init__(self, name, command, data, reads_script=False, is_exact=True):
+        super().__init__(name)
+        self.command, self.data, self.off = command, data, 0
+        self.reads_script, self.is_exact = reads_script, is_exact
+
+    def take_turn(self, options):
+        if not self.fault:
+            self.keep(measure(self.command, self.data.script if self.reads_script else os.devnull, options), options)
 
     def judge(self, output):
         """What is wrong with an answer, if anything."""

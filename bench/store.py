@@ -33,7 +33,7 @@ import subprocess
 import sys
 import time
 
-from bench import FOCUSD, HERE, ROOT, RUST, Data, Stopped, build_rust, load, machine, measure, say, verdict, whole_number
+from bench import FOCUSD, HERE, ROOT, RUST, Data, Stopped, Turns, build_rust, load, machine, measure, say, verdict, whole_number
 
 PARTS = ["ingest", "small", "checkpoint", "growth"]
 SMALL_POSTS = 5_000
@@ -83,27 +83,17 @@ class Job:
                     yield b"".join(file.readline() for _ in range(int(words[3])))
 
 
-class Peer:
+class Peer(Turns):
     """A program that stores the rows of a job, and its turns."""
 
     def __init__(self, name, start, command, judge, after=None):
-        self.name, self.start, self.command, self.judge, self.after = name, start, command, judge, after
-        self.turns, self.fault = [], None
+        super().__init__(name)
+        self.start, self.command, self.judge, self.after = start, command, judge, after
 
     def take_turn(self, options, stdin):
-        if self.fault:
-            return
-        self.start()
-        turn = measure(self.command, stdin, options)
-        if turn.status is None:
-            self.fault = f"stopped after {options.limit} s"
-        elif turn.status:
-            self.fault = f"failed with status {turn.status}: {turn.complaint.strip()[-200:]}"
-        else:
-            self.fault = self.judge(turn.output)
         if not self.fault:
-            self.turns.append(turn)
-            say(f"  {self.name}: {turn.seconds:.3f} s")
+            self.start()
+            self.keep(measure(self.command, stdin, options), options)
 
     @property
     def seconds(self):

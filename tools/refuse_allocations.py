@@ -29,6 +29,8 @@ import sys
 import tempfile
 from concurrent.futures import ThreadPoolExecutor
 
+from store_runs import answers_of
+
 TOP = os.path.dirname(os.path.dirname(os.path.abspath(__file__)))
 TESTS = os.path.join(TOP, "out", "tests")
 PROGRAM = os.path.join(TOP, "out", "focusd")
@@ -104,17 +106,6 @@ def commands_of(script):
             command, lines = command + lines[:count], lines[count:]
         commands.append(b"".join(command))
     return commands
-
-
-def answers_of(text):
-    """The answers of a run, one for each command: a line, or `bytes N` and the N bytes behind it."""
-    answers = []
-    while text:
-        line, _, rest = text.partition(b"\n")
-        size = int(line[6:]) if line.startswith(b"bytes ") else 0
-        answers.append(line + b"\n" + rest[:size])
-        text = rest[size:]
-    return answers
 
 
 def sweep_case(program, name, most, shim, room):
