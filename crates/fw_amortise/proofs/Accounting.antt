@@ -1,274 +1,48 @@
--- Each line of an hour comes from one purchase, row or commitment, and each row is accounted for.
-use Rattle.std.proofs.Common.{◌≡◌, ◌∙◌, ℕ, zero, suc, ◌+◌, ◌<◌, ◌≤◌, ◌==◌, ◌&&◌, Bool, true, false, cond, not, nat_lt, ℤ, pos, ◌+ℤ◌, List, [], ◌∷◌, ◌++◌, length, get_or, map, filter, drop, sum_by, All, Option, Some, None, refl, sym, ap, subst, arith, append-nil}
-use Rattle.std.specs.Prelude.{negsuc, slice_get, slice_index, unsigned_abs, unwrap_or}
+-- Each line of an hour comes from one purchase, row or commitment; each row is accounted for, and so is each commitment's amount.
+use Rattle.std.proofs.Common.{◌≡◌, ◌∙◌, ℕ, ◌+◌, ◌≤◌, ◌==◌, ◌&&◌, Bool, true, false, cond, nat_lt, ℤ, pos, ◌+ℤ◌, List, [], ◌∷◌, ◌++◌, length, get_or, map, filter, drop, sum_by, All, Option, Some, None, refl, sym, ap, subst, arith, append-nil}
+use Rattle.std.specs.Prelude.{int_lt, is_some, negsuc, not, slice_get, slice_index, unsigned_abs, unwrap_or}
 use Rattle.std.specs.Option.{IsSome}
-use Rattle.std.specs.List.{AllZip, Contains, enumerate_from, flat_map, zip}
-use Rattle.std.proofs.lemmas.Bool.{eqb-true, eq-eqb, ne_eqb, ltb-true}
+use Rattle.std.specs.List.{AllZip, Contains, flat_map, zip}
+use Rattle.std.proofs.lemmas.Bool.{and_parts, eqb-true, eqb-false, eq-eqb, ne_eqb, not-true}
 use Rattle.std.proofs.lemmas.Bool.Decides.{nat_tests}
 use Rattle.std.proofs.lemmas.Int.{ints}
 use Rattle.std.proofs.lemmas.List.{map-append, get_or-map}
-use Rattle.std.proofs.lemmas.List.Elements.{All-append, All-cons, All-contains_itself, All-filter, All-head, All-map, All-nil, All-tail, filter-append, filter_passes}
+use Rattle.std.proofs.lemmas.List.Elements.{All-append, All-cons, All-contains_itself, All-filter, All-head, All-map, All-nil, All-tail, filter_passes}
 use Rattle.std.proofs.lemmas.List.Sums.{sum_by-append, sum_by-cons}
 use Rattle.std.proofs.lemmas.Option.{get_or_from_slice_get, slice_get_within}
-use Rattle.fw_charge.specs.Charge.{Charge, hour_of}
-use Rattle.fw_terms.specs.Commitment.{CommitmentValue, PurchaseValue}
+use Rattle.std.specs.List.{enumerate_from}
+use Rattle.fw_charge.specs.Charge.{Charge}
+use Rattle.fw_terms.specs.Commitment.{CommitmentValue}
 use Rattle.fw_cover.specs.declared.taken.Taken.{Taken}
-use Rattle.fw_cover.specs.Applies.{applied, fits, is_in_term, is_open}
+use Rattle.fw_cover.specs.Applies.{allows, applied, fits, has_unit, is_in_term, is_open}
 use Rattle.fw_cover.specs.Cover.{taken_of_row}
 use Rattle.fw_cover.specs.Eligible.{is_eligible, is_measured, is_open_use, is_positive}
 use Rattle.fw_cover.specs.Hour.{hour_cover, left_of, quantities_of, quantity_of, takes_of, unused_of}
 use Rattle.fw_cover.specs.Meeting.{Meets}
-use Rattle.fw_cover.specs.Order.{commitments_in_order}
-use Rattle.fw_cover.proofs.Grouping.{cover_grouped}
+use Rattle.fw_cover.specs.Order.{commitment_before, commitments_in_order, in_order}
+use Rattle.fw_cover.proofs.ByCommitment.{filter_none}
+use Rattle.fw_cover.proofs.Filling.{element_at, of_in_order}
+use Rattle.fw_cover.proofs.Grouping.{PlacesApart, cover_grouped, order_places_apart}
 use Rattle.fw_cover.proofs.Sorting.{two_ways}
 use Rattle.fw_cover.proofs.Whole.{row_whole, takes_meet}
-use Rattle.fw_cover.proofs.Within.{all_enumerate, all_flat_map, commitments_in_order_places, get_at}
+use Rattle.fw_cover.proofs.Within.{commitments_in_order_places, eligible_from, open_from}
 use Rattle.fw_amortise.specs.LineValue.{LineValue}
-use Rattle.fw_amortise.specs.Lines.{AreHourLines, AreLinesAt, given_line, given_lines, purchase_line, purchase_lines, purchase_lines_of, rest_line, rest_lines, rest_of, running, shared_lines, unused_line, used_line}
-use Rattle.fw_amortise.specs.Sources.{AreAccounted, ComesFrom, SourceValue, is_bought_by, is_of_row, lines_bought_by, lines_from, lines_of_row, quantity_of_all}
-use Rattle.fw_amortise.specs.Sources.SourceValue.{bought_by, row_given, used_by, unused_by, row_left}
+use Rattle.fw_amortise.specs.Lines.{AreHourLines, AreLinesAt, given_line, given_lines, purchase_lines, purchase_lines_of, rest_line, rest_lines, rest_of, running, shared_lines, unused_line, used_line, weights_of}
+use Rattle.fw_amortise.specs.Sources.{AreAccounted, SourceValue, is_bought_by, is_of_row, is_rest_of, is_share_by, lines_from, lines_of_row, quantity_of_all}
+use Rattle.fw_amortise.specs.Sources.SourceValue.{used_by, unused_by}
 use Rattle.fw_amortise.proofs.Carrying.{fold_from}
-use Rattle.fw_amortise.proofs.Weights.{length-weights_of}
-
--- a line beside its source
-abbrev Sourced : Type 0
-Sourced = SourceValue × LineValue
-
-abbrev lines_of : List Sourced → List LineValue
-lines_of sourced = map (λ s. s.1) sourced
-
-abbrev FromIts : List CommitmentValue → List Charge → ℕ → Sourced → Type 0
-FromIts cs rows hour s = ComesFrom cs rows hour s.0 s.1
-
--- ---- tests that both hold
-both_left : (a b : Bool) → (a && b) ≡ true → a ≡ true
-both_left true b h = refl
-both_left false b h = h
-
-both_right : (a b : Bool) → (a && b) ≡ true → b ≡ true
-both_right true b h = h
-both_right false b h = absurd (let e : false ≡ true = h in cc)
-
-none_pass : {X : Type 0} (p : X → Bool) (xs : List X) → All (λ x. p x ≡ false) xs → filter p xs ≡ []
-none_pass p [] all = refl
-none_pass {X} p (x ∷ xs) all = let P : X → Type 0 = λ x. p x ≡ false in rw (All-head P x xs all) (none_pass p xs (All-tail P x xs all))
-
--- ---- the lines of some sources
-own_append : (test : SourceValue → Bool) (xs ys : List Sourced) → lines_from test (xs ++ ys) ≡ lines_from test xs ++ lines_from test ys
-unfolding lines_from
-own_append test xs ys = ap (map (λ (s : Sourced). s.1)) (filter-append (λ (s : Sourced). test s.0) xs ys) ∙ map-append (λ (s : Sourced). s.1) (filter (λ s. test s.0) xs) (filter (λ s. test s.0) ys)
-
-own_none : (test : SourceValue → Bool) (xs : List Sourced) → All (λ s. test s.0 ≡ false) xs → lines_from test xs ≡ []
-unfolding lines_from
-own_none test xs all = ap (map (λ (s : Sourced). s.1)) (none_pass (λ (s : Sourced). test s.0) xs all)
-
-own_one : (test : SourceValue → Bool) (s : SourceValue) (line : LineValue) → lines_from test ((s, line) ∷ []) ≡ cond (test s) (line ∷ []) []
-unfolding lines_from
-own_one test s line = two_ways (test s) (λ holds. rw holds refl) (λ fails. rw fails refl)
-
-own_nil : (test : SourceValue → Bool) → lines_from test [] ≡ []
-unfolding lines_from
-own_nil test = refl
-
-own_cons : (test : SourceValue → Bool) (s : SourceValue) (line : LineValue) (xs : List Sourced) → lines_from test ((s, line) ∷ xs) ≡ cond (test s) (line ∷ []) [] ++ lines_from test xs
-own_cons test s line xs = own_append test ((s, line) ∷ []) xs ∙ ap (λ l. l ++ lines_from test xs) (own_one test s line)
-
--- ---- what is made of elements beside their places
-mapped_lines : {X : Type 0} (f : ℕ × X → List Sourced) (g : X → List LineValue) → ((x : ℕ × X) → lines_of (f x) ≡ g x.1) → (n : ℕ) (xs : List X) → lines_of (flat_map f (enumerate_from n xs)) ≡ flat_map g xs
-mapped_lines f g same n [] = refl
-mapped_lines f g same n (x ∷ xs) =
-    map-append (λ (s : Sourced). s.1) (f (n, x)) (flat_map f (enumerate_from (n + 1) xs))
-    ∙ (rw (same (n, x), mapped_lines f g same (n + 1) xs) refl)
-
-own_past : {X : Type 0} (test : SourceValue → Bool) (r : ℕ) (f : ℕ × X → List Sourced) (h : ℕ × X → List LineValue) → ((x : ℕ × X) → lines_from test (f x) ≡ cond (x.0 == r) (h x) []) → (n : ℕ) (xs : List X) → r < n
-    → lines_from test (flat_map f (enumerate_from n xs)) ≡ []
-own_past test r f h is n [] past = own_nil test
-own_past test r f h is n (x ∷ xs) past =
-    let other : (n == r) ≡ false = ne_eqb n r (λ e. omega (arith, e)) in
-    let rest = own_past test r f h is (n + 1) xs (omega arith) in
-    own_append test (f (n, x)) (flat_map f (enumerate_from (n + 1) xs)) ∙ (rw (is (n, x), other, rest) refl)
-
-own_at : {X : Type 0} (test : SourceValue → Bool) (r : ℕ) (f : ℕ × X → List Sourced) (h : ℕ × X → List LineValue) → ((x : ℕ × X) → lines_from test (f x) ≡ cond (x.0 == r) (h x) []) → (n i : ℕ) (xs : List X) (x : X) → r ≡ n + i → slice_get xs i ≡ Some x
-    → lines_from test (flat_map f (enumerate_from n xs)) ≡ h (r, x)
-own_at test r f h is n i [] x at there = absurd (cc)
-own_at test r f h is n zero (y ∷ xs) x at there =
-    let same : (n == r) ≡ true = eq-eqb n r (omega arith) in
-    let here : n ≡ r = omega arith in
-    let value : y ≡ x = cc in
-    let rest = own_past test r f h is (n + 1) xs (omega arith) in
-    own_append test (f (n, y)) (flat_map f (enumerate_from (n + 1) xs)) ∙ (rw (is (n, y), same, rest, append-nil (h (n, y))) (ap (λ k. h (k, y)) here ∙ ap (λ v. h (r, v)) value))
-own_at test r f h is n (suc i) (y ∷ xs) x at there =
-    let other : (n == r) ≡ false = ne_eqb n r (λ e. omega (arith, e)) in
-    let rest = own_at test r f h is (n + 1) i xs x (omega arith) there in
-    own_append test (f (n, y)) (flat_map f (enumerate_from (n + 1) xs)) ∙ (rw (is (n, y), other) rest)
-
--- ---- purchases
-bought_of : ℕ → ℕ × CommitmentValue → List Sourced
-bought_of hour c = map (λ p. (bought_by c.0, purchase_line hour c.1 p)) (filter (λ p. hour_of p.at == hour) c.1.purchases)
-
-bought : List CommitmentValue → ℕ → List Sourced
-bought cs hour = flat_map (bought_of hour) (enumerate_from 0 cs)
-
-second_of : {X : Type 0} (s : SourceValue) (f : X → LineValue) (xs : List X) → lines_of (map (λ x. (s, f x)) xs) ≡ map f xs
-second_of s f [] = refl
-second_of s f (x ∷ xs) = ap (λ l. f x ∷ l) (second_of s f xs)
-
-bought_lines : (cs : List CommitmentValue) (hour : ℕ) → lines_of (bought cs hour) ≡ purchase_lines cs hour
-unfolding bought bought_of purchase_lines purchase_lines_of
-bought_lines cs hour = mapped_lines (bought_of hour) (purchase_lines_of hour) (λ c. second_of (bought_by c.0) (purchase_line hour c.1) (filter (λ p. hour_of p.at == hour) c.1.purchases)) 0 cs
-
-bought_from : (cs : List CommitmentValue) (rows : List Charge) (hour : ℕ) → All (FromIts cs rows hour) (bought cs hour)
-unfolding bought bought_of
-bought_from cs rows hour =
-    all_flat_map (FromIts cs rows hour) (bought_of hour) (enumerate_from 0 cs)
-    (all_enumerate (λ c. All (FromIts cs rows hour) (bought_of hour c)) cs
-    (λ k d lt.
-    let c : CommitmentValue = get_or cs k d in
-    let kept : List PurchaseValue = filter (λ p. hour_of p.at == hour) c.purchases in
-    All-map (FromIts cs rows hour) (λ p. (bought_by k, purchase_line hour c p)) kept
-    (λ j e l. record {
-      commitment = c;
-      purchase = get_or kept j e;
-      at_place = get_at cs k d lt;
-      bought = All-filter (λ p. hour_of p.at == hour) (Contains c.purchases) c.purchases (All-contains_itself c.purchases) j e l;
-      in_hour = eqb-true (hour_of (get_or kept j e).at) hour (filter_passes (λ (p : PurchaseValue). hour_of p.at == hour) c.purchases j e l);
-      line_is = refl;
-    })))
-
--- lines of one source, all or none of which pass
-same_source : {X : Type 0} (test : SourceValue → Bool) (s : SourceValue) (f : X → LineValue) (xs : List X) → lines_from test (map (λ x. (s, f x)) xs) ≡ cond (test s) (map f xs) []
-same_source test s f [] = own_nil test ∙ two_ways (test s) (λ holds. rw holds refl) (λ fails. rw fails refl)
-same_source test s f (x ∷ xs) =
-    own_cons test s (f x) (map (λ x. (s, f x)) xs)
-    ∙ (rw (same_source test s f xs) (two_ways (test s) (λ holds. rw holds refl) (λ fails. rw fails refl)))
-
-bought_at : (cs : List CommitmentValue) (hour place : ℕ) (c : CommitmentValue) → slice_get cs place ≡ Some c → lines_bought_by place (bought cs hour) ≡ purchase_lines_of hour c
-unfolding bought bought_of purchase_lines_of
-bought_at cs hour place c there =
-    own_at (is_bought_by place) place (bought_of hour) (λ c. purchase_lines_of hour c.1)
-    (λ c. same_source (is_bought_by place) (bought_by c.0) (purchase_line hour c.1) (filter (λ p. hour_of p.at == hour) c.1.purchases))
-    0 place cs c (omega arith) there
-
-bought_none : (cs : List CommitmentValue) (hour r : ℕ) → lines_of_row r (bought cs hour) ≡ []
-unfolding bought bought_of
-bought_none cs hour r =
-    own_none (is_of_row r) (bought cs hour)
-    (all_flat_map (λ s. is_of_row r s.0 ≡ false) (bought_of hour) (enumerate_from 0 cs)
-    (λ k d l. All-map (λ s. is_of_row r s.0 ≡ false) (λ p. (bought_by (get_or (enumerate_from 0 cs) k d).0, purchase_line hour (get_or (enumerate_from 0 cs) k d).1 p)) (filter (λ p. hour_of p.at == hour) (get_or (enumerate_from 0 cs) k d).1.purchases) (λ j e m. refl)))
-
--- ---- rows as they were given
-given_own : ℕ → ℕ × Charge → List LineValue
-given_own hour row = cond (is_eligible row.1) [] (given_line hour row.1 ∷ [])
-
-given_of : ℕ → ℕ × Charge → List Sourced
-given_of hour row = cond (is_eligible row.1) [] ((row_given row.0, given_line hour row.1) ∷ [])
-
-given : List Charge → ℕ → List Sourced
-given rows hour = flat_map (given_of hour) (enumerate_from 0 rows)
-
-given_filtered : (hour : ℕ) (rows : List Charge) → flat_map (λ row. cond (is_eligible row) [] (given_line hour row ∷ [])) rows ≡ map (given_line hour) (filter (λ row. not (is_eligible row)) rows)
-given_filtered hour [] = refl
-given_filtered hour (row ∷ rows) =
-    let rest = given_filtered hour rows in
-    two_ways (is_eligible row) (λ holds. rw holds rest) (λ fails. rw fails (ap (λ l. given_line hour row ∷ l) rest))
-
-given_seconds : (hour : ℕ) (row : ℕ × Charge) → lines_of (given_of hour row) ≡ cond (is_eligible row.1) [] (given_line hour row.1 ∷ [])
-unfolding given_of
-given_seconds hour row = two_ways (is_eligible row.1) (λ holds. rw holds refl) (λ fails. rw fails refl)
-
-given_are : (rows : List Charge) (hour : ℕ) → lines_of (given rows hour) ≡ given_lines rows hour
-unfolding given given_lines
-given_are rows hour = mapped_lines (given_of hour) (λ row. cond (is_eligible row) [] (given_line hour row ∷ [])) (given_seconds hour) 0 rows ∙ given_filtered hour rows
-
-given_from : (cs : List CommitmentValue) (rows : List Charge) (hour : ℕ) → All (FromIts cs rows hour) (given rows hour)
-unfolding given given_of
-given_from cs rows hour =
-    all_flat_map (FromIts cs rows hour) (given_of hour) (enumerate_from 0 rows)
-    (all_enumerate (λ row. All (FromIts cs rows hour) (given_of hour row)) rows
-    (λ k d lt. two_ways (is_eligible (get_or rows k d))
-    (λ holds. rw holds (All-nil (FromIts cs rows hour)))
-    (λ fails. rw fails (All-cons (FromIts cs rows hour) (row_given k, given_line hour (get_or rows k d)) [] (record { charge = get_or rows k d; at_row = get_at rows k d lt; not_eligible = fails; line_is = refl }) (All-nil (FromIts cs rows hour))))))
-
-given_own_is : (hour r : ℕ) (row : ℕ × Charge) → lines_of_row r (given_of hour row) ≡ cond (row.0 == r) (given_own hour row) []
-unfolding given_of given_own
-given_own_is hour r row = two_ways (is_eligible row.1)
-    (λ holds. rw holds (own_nil (is_of_row r) ∙ two_ways (row.0 == r) (λ here. rw here refl) (λ there. rw there refl)))
-    (λ fails. rw fails (own_one (is_of_row r) (row_given row.0) (given_line hour row.1)))
-
-given_at : (rows : List Charge) (hour r : ℕ) (row : Charge) → slice_get rows r ≡ Some row → lines_of_row r (given rows hour) ≡ given_own hour (r, row)
-unfolding given
-given_at rows hour r row there = own_at (is_of_row r) r (given_of hour) (given_own hour) (given_own_is hour r) 0 r rows row (omega arith) there
-
-given_unbought : (rows : List Charge) (hour place : ℕ) → lines_bought_by place (given rows hour) ≡ []
-unfolding given given_of
-given_unbought rows hour place =
-    own_none (is_bought_by place) (given rows hour)
-    (all_flat_map (λ s. is_bought_by place s.0 ≡ false) (given_of hour) (enumerate_from 0 rows)
-    (λ k d l. two_ways (is_eligible (get_or (enumerate_from 0 rows) k d).1)
-    (λ holds. rw holds (All-nil (λ s. is_bought_by place s.0 ≡ false)))
-    (λ fails. rw fails (All-cons (λ s. is_bought_by place s.0 ≡ false) (row_given (get_or (enumerate_from 0 rows) k d).0, given_line hour (get_or (enumerate_from 0 rows) k d).1) [] refl (All-nil (λ s. is_bought_by place s.0 ≡ false))))))
-
--- ---- what is left of rows
-rest_from : ℕ → ℕ × Charge → ℕ → List Sourced
-rest_from hour row u = cond (is_eligible row.1 && nat_lt 0 u) ((row_left row.0, rest_line hour row.1 u) ∷ []) []
-
-rests : List Charge → List Taken → ℕ → List Sourced
-rests rows taken hour = flat_map (λ row. rest_from hour row (left_of rows taken row.0)) (enumerate_from 0 rows)
-
-rest_second : (hour : ℕ) (row : ℕ × Charge) (u : ℕ) → lines_of (rest_from hour row u) ≡ rest_of hour row.1 u
-unfolding rest_from rest_of
-rest_second hour row u = two_ways (is_eligible row.1 && nat_lt 0 u) (λ holds. rw holds refl) (λ fails. rw fails refl)
-
-flat_lines : {X : Type 0} (f : X → List Sourced) (g : X → List LineValue) → ((x : X) → lines_of (f x) ≡ g x) → (xs : List X) → lines_of (flat_map f xs) ≡ flat_map g xs
-flat_lines f g same [] = refl
-flat_lines f g same (x ∷ xs) = map-append (λ (s : Sourced). s.1) (f x) (flat_map f xs) ∙ (rw (same x, flat_lines f g same xs) refl)
-
-rests_are : (rows : List Charge) (taken : List Taken) (hour : ℕ) → lines_of (rests rows taken hour) ≡ rest_lines rows taken hour
-unfolding rests rest_lines
-rests_are rows taken hour = flat_lines (λ row. rest_from hour row (left_of rows taken row.0)) (λ row. rest_of hour row.1 (left_of rows taken row.0)) (λ row. rest_second hour row (left_of rows taken row.0)) (enumerate_from 0 rows)
-
-rests_from : (cs : List CommitmentValue) (rows : List Charge) (taken : List Taken) (hour : ℕ) → All (FromIts cs rows hour) (rests rows taken hour)
-unfolding rests rest_from
-rests_from cs rows taken hour =
-    all_flat_map (FromIts cs rows hour) (λ row. rest_from hour row (left_of rows taken row.0)) (enumerate_from 0 rows)
-    (all_enumerate (λ row. All (FromIts cs rows hour) (rest_from hour row (left_of rows taken row.0))) rows
-    (λ k d lt. two_ways (is_eligible (get_or rows k d) && nat_lt 0 (left_of rows taken k))
-    (λ holds. rw holds (All-cons (FromIts cs rows hour) (row_left k, rest_line hour (get_or rows k d) (left_of rows taken k)) []
-    (record {
-      charge = get_or rows k d;
-      left = left_of rows taken k;
-      at_row = get_at rows k d lt;
-      eligible = both_left (is_eligible (get_or rows k d)) (nat_lt 0 (left_of rows taken k)) holds;
-      some = ltb-true 0 (left_of rows taken k) (both_right (is_eligible (get_or rows k d)) (nat_lt 0 (left_of rows taken k)) holds);
-      line_is = refl;
-    })
-    (All-nil (FromIts cs rows hour))))
-    (λ fails. rw fails (All-nil (FromIts cs rows hour)))))
-
-rest_own : (hour r : ℕ) (row : ℕ × Charge) (u : ℕ) → lines_of_row r (rest_from hour row u) ≡ cond (row.0 == r) (rest_of hour row.1 u) []
-unfolding rest_from rest_of
-rest_own hour r row u = two_ways (is_eligible row.1 && nat_lt 0 u)
-    (λ holds. rw holds (own_one (is_of_row r) (row_left row.0) (rest_line hour row.1 u)))
-    (λ fails. rw fails (own_nil (is_of_row r) ∙ two_ways (row.0 == r) (λ here. rw here refl) (λ there. rw there refl)))
-
-rest_at : (rows : List Charge) (taken : List Taken) (hour r : ℕ) (row : Charge) → slice_get rows r ≡ Some row → lines_of_row r (rests rows taken hour) ≡ rest_of hour row (left_of rows taken r)
-unfolding rests
-rest_at rows taken hour r row there =
-    own_at (is_of_row r) r (λ row. rest_from hour row (left_of rows taken row.0)) (λ row. rest_of hour row.1 (left_of rows taken row.0)) (λ row. rest_own hour r row (left_of rows taken row.0)) 0 r rows row (omega arith) there
-
-rests_unbought : (rows : List Charge) (taken : List Taken) (hour place : ℕ) → lines_bought_by place (rests rows taken hour) ≡ []
-unfolding rests rest_from
-rests_unbought rows taken hour place =
-    own_none (is_bought_by place) (rests rows taken hour)
-    (all_flat_map (λ s. is_bought_by place s.0 ≡ false) (λ row. rest_from hour row (left_of rows taken row.0)) (enumerate_from 0 rows)
-    (λ k d l. two_ways (is_eligible (get_or (enumerate_from 0 rows) k d).1 && nat_lt 0 (left_of rows taken (get_or (enumerate_from 0 rows) k d).0))
-    (λ holds. rw holds (All-cons (λ s. is_bought_by place s.0 ≡ false) (row_left (get_or (enumerate_from 0 rows) k d).0, rest_line hour (get_or (enumerate_from 0 rows) k d).1 (left_of rows taken (get_or (enumerate_from 0 rows) k d).0)) [] refl (All-nil (λ s. is_bought_by place s.0 ≡ false))))
-    (λ fails. rw fails (All-nil (λ s. is_bought_by place s.0 ≡ false)))))
+use Rattle.fw_amortise.proofs.Sourced.{FromIts, Sourced, bought, bought_at, bought_from, bought_lines, bought_none, given, given_are, given_at, given_from, given_none, given_own, lines_of, own_append, own_every, own_nil, own_none, own_one, rest_at, rests, rests_are, rests_from, rests_none, second_of}
+use Rattle.fw_amortise.proofs.Weights.{length-weights_of, spare_weight}
 
 -- ---- what the commitments took, and what they left unused
+abbrev uses : ℕ → ℕ × CommitmentValue → List Charge → List Taken → List ℕ → List Sourced
+uses hour c rows takes shares = map (λ p. (used_by c.0 p.0.row, used_line hour c.1 rows p.0 p.1)) (zip takes shares)
+
+abbrev spares : ℕ → ℕ × CommitmentValue → List ℕ → List Sourced
+spares hour c shares = map (λ share. (unused_by c.0, unused_line hour c.1 share)) shares
+
 shared_by : ℕ → ℕ × CommitmentValue → List Charge → List Taken → List ℕ → List Sourced
-shared_by hour c rows takes shares =
-    map (λ p. (used_by c.0 p.0.row, used_line hour c.1 rows p.0 p.1)) (zip takes shares) ++ map (λ share. (unused_by c.0, unused_line hour c.1 share)) (drop (length takes) shares)
+shared_by hour c rows takes shares = uses hour c rows takes shares ++ spares hour c (drop (length takes) shares)
 
 seconds_of : {X : Type 0} (s : X → SourceValue) (f : X → LineValue) (xs : List X) → lines_of (map (λ x. (s x, f x)) xs) ≡ map f xs
 seconds_of s f [] = refl
@@ -277,17 +51,19 @@ seconds_of s f (x ∷ xs) = ap (λ l. f x ∷ l) (seconds_of s f xs)
 shared_by_are : (hour : ℕ) (c : ℕ × CommitmentValue) (rows : List Charge) (takes : List Taken) (shares : List ℕ) → lines_of (shared_by hour c rows takes shares) ≡ shared_lines hour c.1 rows takes shares
 unfolding shared_by shared_lines
 shared_by_are hour c rows takes shares =
-    map-append (λ (s : Sourced). s.1) (map (λ p. (used_by c.0 p.0.row, used_line hour c.1 rows p.0 p.1)) (zip takes shares)) (map (λ share. (unused_by c.0, unused_line hour c.1 share)) (drop (length takes) shares))
+    map-append (λ (s : Sourced). s.1) (uses hour c rows takes shares) (spares hour c (drop (length takes) shares))
     ∙ (rw (seconds_of (λ p. used_by c.0 p.0.row) (λ p. used_line hour c.1 rows p.0 p.1) (zip takes shares), second_of (unused_by c.0) (unused_line hour c.1) (drop (length takes) shares)) refl)
 
 -- the lines of the commitments that run, beside their sources
-record SharedBy (cs : List CommitmentValue) (rows : List Charge) (hour : ℕ) (taken : List Taken) (some : List (ℕ × CommitmentValue)) (lines : List LineValue) : Type 0 where
+record SharedBy (cs : List CommitmentValue) (rows : List Charge) (hour : ℕ) (some : List (ℕ × CommitmentValue)) (lines : List LineValue) : Type 0 where
   sourced : List Sourced
   lines_are : lines ≡ lines_of sourced
   each : All (FromIts cs rows hour) sourced
-  unbought : (place : ℕ) → lines_bought_by place sourced ≡ []
-  untaken : (r : ℕ) → All (λ t. (t.row == r) ≡ false) taken → lines_of_row r sourced ≡ []
-  quantity : (r : ℕ) → quantity_of_all (lines_of_row r sourced) ≡ pos (sum_by (λ c. taken_of_row r (takes_of c.0 taken)) some)
+  unmatched : (test : SourceValue → Bool) → ((place row : ℕ) → test (used_by place row) ≡ false) → ((place : ℕ) → test (unused_by place) ≡ false) → lines_from test sourced ≡ []
+  untaken : (r : ℕ) → All (λ t. (t.row == r) ≡ false) (hour_cover cs rows hour) → lines_of_row r sourced ≡ []
+  quantity : (r : ℕ) → quantity_of_all (lines_of_row r sourced) ≡ pos (sum_by (λ c. taken_of_row r (takes_of c.0 (hour_cover cs rows hour))) some)
+  unshared : (place : ℕ) → All (λ c. (c.0 == place) ≡ false) some → lines_from (is_share_by place) sourced ≡ []
+  shares : All (λ c. AreLinesAt cs rows (hour_cover cs rows hour) hour c (lines_from (is_share_by c.0) sourced)) some
 
 all_zip : {X Y : Type 0} (Q : X → Type 0) (xs : List X) (ys : List Y) → All Q xs → All (λ p. Q p.0) (zip xs ys)
 all_zip Q [] ys all = All-nil (λ p. Q p.0)
@@ -298,13 +74,24 @@ all_zip Q (x ∷ xs) (y ∷ ys) all = All-cons (λ p. Q p.0) (x, y) (zip xs ys) 
 abbrev Runs : List CommitmentValue → ℕ → ℕ × CommitmentValue → Type 0
 Runs cs hour c = (slice_get cs c.0 ≡ Some c.1) × (is_in_term c.1 hour ≡ true)
 
-shared_by_from : (cs : List CommitmentValue) (rows : List Charge) (hour : ℕ) (c : ℕ × CommitmentValue) (takes : List Taken) (shares : List ℕ) → Runs cs hour c → All (λ t. Meets cs rows hour c.0 t.row) takes
-    → All (FromIts cs rows hour) (shared_by hour c rows takes shares)
+takes_of_meet : (cs : List CommitmentValue) (rows : List Charge) (hour place : ℕ) → All (λ t. Meets cs rows hour place t.row) (takes_of place (hour_cover cs rows hour))
+unfolding takes_of
+takes_of_meet cs rows hour place k d l =
+    let taken : List Taken = hour_cover cs rows hour in
+    let t : Taken = get_or (filter (λ t. t.commitment == place) taken) k d in
+    let m : Meets cs rows hour t.commitment t.row = All-filter (λ t. t.commitment == place) (λ t. Meets cs rows hour t.commitment t.row) taken (takes_meet cs rows hour) k d l in
+    let e : t.commitment ≡ place = eqb-true t.commitment place (filter_passes (λ (t : Taken). t.commitment == place) taken k d l) in
+    subst (λ (x : ℕ). Meets cs rows hour x t.row) e m
+
+shared_by_from : (cs : List CommitmentValue) (rows : List Charge) (hour : ℕ) (c : ℕ × CommitmentValue) (shares : List ℕ) → Runs cs hour c
+    → length shares ≡ length (weights_of (takes_of c.0 (hour_cover cs rows hour)) (unused_of cs (hour_cover cs rows hour) c.0)) → All (FromIts cs rows hour) (shared_by hour c rows (takes_of c.0 (hour_cover cs rows hour)) shares)
 unfolding shared_by
-shared_by_from cs rows hour c takes shares runs meet =
+shared_by_from cs rows hour c shares runs one_each =
     let F : Sourced → Type 0 = FromIts cs rows hour in
-    let met = all_zip (λ (t : Taken). Meets cs rows hour c.0 t.row) takes shares meet in
-    All-append F _ _
+    let takes : List Taken = takes_of c.0 (hour_cover cs rows hour) in
+    let met = all_zip (λ (t : Taken). Meets cs rows hour c.0 t.row) takes shares (takes_of_meet cs rows hour c.0) in
+    let own = all_zip (Contains takes) takes shares (All-contains_itself takes) in
+    All-append F (uses hour c rows takes shares) (spares hour c (drop (length takes) shares))
     (All-map F (λ p. (used_by c.0 p.0.row, used_line hour c.1 rows p.0 p.1)) (zip takes shares)
     (λ k d l.
     let m = met k d l in
@@ -313,35 +100,52 @@ shared_by_from cs rows hour c takes shares runs meet =
       meets = m;
       take = (get_or (zip takes shares) k d).0;
       share = (get_or (zip takes shares) k d).1;
+      taken = own k d l;
       of_row = refl;
       line_is = ap (λ (b : CommitmentValue). used_line hour b rows (get_or (zip takes shares) k d).0 (get_or (zip takes shares) k d).1) same;
     }))
     (All-map F (λ share. (unused_by c.0, unused_line hour c.1 share)) (drop (length takes) shares)
-    (λ k d l. record { commitment = c.1; share = get_or (drop (length takes) shares) k d; at_place = runs.0; runs = runs.1; line_is = refl }))
+    (λ k d l. record {
+      commitment = c.1;
+      share = get_or (drop (length takes) shares) k d;
+      at_place = runs.0;
+      runs = runs.1;
+      some = spare_weight takes (unused_of cs (hour_cover cs rows hour) c.0) shares k one_each l;
+      line_is = refl;
+    }))
 
-unused_none : (hour r : ℕ) (c : ℕ × CommitmentValue) (shares : List ℕ) → lines_of_row r (map (λ share. (unused_by c.0, unused_line hour c.1 share)) shares) ≡ []
-unused_none hour r c shares =
-    own_none (is_of_row r) (map (λ share. (unused_by c.0, unused_line hour c.1 share)) shares) (All-map (λ s. is_of_row r s.0 ≡ false) (λ share. (unused_by c.0, unused_line hour c.1 share)) shares (λ k d l. refl))
+-- a test that all sources of a commitment pass, or none
+shared_by_tested : (test : SourceValue → Bool) (b : Bool) (hour : ℕ) (c : ℕ × CommitmentValue) (rows : List Charge) (takes : List Taken) (shares : List ℕ) → ((row : ℕ) → test (used_by c.0 row) ≡ b) → test (unused_by c.0) ≡ b
+    → All (λ s. test s.0 ≡ b) (shared_by hour c rows takes shares)
+unfolding shared_by
+shared_by_tested test b hour c rows takes shares used unused =
+    All-append (λ s. test s.0 ≡ b) (uses hour c rows takes shares) (spares hour c (drop (length takes) shares))
+    (All-map (λ s. test s.0 ≡ b) (λ p. (used_by c.0 p.0.row, used_line hour c.1 rows p.0 p.1)) (zip takes shares) (λ k d l. used (get_or (zip takes shares) k d).0.row))
+    (All-map (λ s. test s.0 ≡ b) (λ share. (unused_by c.0, unused_line hour c.1 share)) (drop (length takes) shares) (λ k d l. unused))
 
-uses_none : (hour r : ℕ) (c : ℕ × CommitmentValue) (rows : List Charge) (takes : List Taken) (shares : List ℕ) → All (λ t. (t.row == r) ≡ false) takes
-    → lines_of_row r (map (λ p. (used_by c.0 p.0.row, used_line hour c.1 rows p.0 p.1)) (zip takes shares)) ≡ []
+-- the shares of a commitment are its own lines, all of them
+shared_by_own : (hour : ℕ) (c : ℕ × CommitmentValue) (rows : List Charge) (takes : List Taken) (shares : List ℕ) → lines_from (is_share_by c.0) (shared_by hour c rows takes shares) ≡ shared_lines hour c.1 rows takes shares
+shared_by_own hour c rows takes shares =
+    let same : (c.0 == c.0) ≡ true = eq-eqb c.0 c.0 refl in
+    own_every (is_share_by c.0) (shared_by hour c rows takes shares) (shared_by_tested (is_share_by c.0) true hour c rows takes shares (λ row. same) same) ∙ shared_by_are hour c rows takes shares
+
+shared_by_other : (hour place : ℕ) (c : ℕ × CommitmentValue) (rows : List Charge) (takes : List Taken) (shares : List ℕ) → (c.0 == place) ≡ false → lines_from (is_share_by place) (shared_by hour c rows takes shares) ≡ []
+shared_by_other hour place c rows takes shares other =
+    own_none (is_share_by place) (shared_by hour c rows takes shares) (shared_by_tested (is_share_by place) false hour c rows takes shares (λ row. other) other)
+
+unused_none : (hour r : ℕ) (c : ℕ × CommitmentValue) (shares : List ℕ) → lines_of_row r (spares hour c shares) ≡ []
+unused_none hour r c shares = own_none (is_of_row r) (spares hour c shares) (All-map (λ s. is_of_row r s.0 ≡ false) (λ share. (unused_by c.0, unused_line hour c.1 share)) shares (λ k d l. refl))
+
+uses_none : (hour r : ℕ) (c : ℕ × CommitmentValue) (rows : List Charge) (takes : List Taken) (shares : List ℕ) → All (λ t. (t.row == r) ≡ false) takes → lines_of_row r (uses hour c rows takes shares) ≡ []
 uses_none hour r c rows takes shares none =
-    own_none (is_of_row r) (map (λ p. (used_by c.0 p.0.row, used_line hour c.1 rows p.0 p.1)) (zip takes shares))
+    own_none (is_of_row r) (uses hour c rows takes shares)
     (All-map (λ s. is_of_row r s.0 ≡ false) (λ p. (used_by c.0 p.0.row, used_line hour c.1 rows p.0 p.1)) (zip takes shares) (all_zip (λ (t : Taken). (t.row == r) ≡ false) takes shares none))
 
 shared_by_none : (hour r : ℕ) (c : ℕ × CommitmentValue) (rows : List Charge) (takes : List Taken) (shares : List ℕ) → All (λ t. (t.row == r) ≡ false) takes → lines_of_row r (shared_by hour c rows takes shares) ≡ []
 unfolding shared_by
 shared_by_none hour r c rows takes shares none =
-    own_append (is_of_row r) (map (λ p. (used_by c.0 p.0.row, used_line hour c.1 rows p.0 p.1)) (zip takes shares)) (map (λ share. (unused_by c.0, unused_line hour c.1 share)) (drop (length takes) shares))
+    own_append (is_of_row r) (uses hour c rows takes shares) (spares hour c (drop (length takes) shares))
     ∙ (rw (uses_none hour r c rows takes shares none, unused_none hour r c (drop (length takes) shares)) refl)
-
-shared_by_unbought : (hour place : ℕ) (c : ℕ × CommitmentValue) (rows : List Charge) (takes : List Taken) (shares : List ℕ) → lines_bought_by place (shared_by hour c rows takes shares) ≡ []
-unfolding shared_by
-shared_by_unbought hour place c rows takes shares =
-    own_none (is_bought_by place) (shared_by hour c rows takes shares)
-    (All-append (λ s. is_bought_by place s.0 ≡ false) (map (λ p. (used_by c.0 p.0.row, used_line hour c.1 rows p.0 p.1)) (zip takes shares)) (map (λ share. (unused_by c.0, unused_line hour c.1 share)) (drop (length takes) shares))
-    (All-map (λ s. is_bought_by place s.0 ≡ false) (λ p. (used_by c.0 p.0.row, used_line hour c.1 rows p.0 p.1)) (zip takes shares) (λ k d l. refl))
-    (All-map (λ s. is_bought_by place s.0 ≡ false) (λ share. (unused_by c.0, unused_line hour c.1 share)) (drop (length takes) shares) (λ k d l. refl)))
 
 -- ---- sums of quantities
 quantity_cons : (line : LineValue) (lines : List LineValue) → quantity_of_all (line ∷ lines) ≡ unwrap_or line.quantity (pos 0) +ℤ quantity_of_all lines
@@ -368,12 +172,12 @@ use_quantity true hour c rows t share = let one = quantity_cons (used_line hour 
 use_quantity false hour c rows t share = quantity_none
 
 uses_quantity : (hour r : ℕ) (c : ℕ × CommitmentValue) (rows : List Charge) (takes : List Taken) (shares : List ℕ) → length takes ≤ length shares
-    → quantity_of_all (lines_of_row r (map (λ p. (used_by c.0 p.0.row, used_line hour c.1 rows p.0 p.1)) (zip takes shares))) ≡ pos (taken_of_row r takes)
+    → quantity_of_all (lines_of_row r (uses hour c rows takes shares)) ≡ pos (taken_of_row r takes)
 unfolding taken_of_row
 uses_quantity hour r c rows [] shares long = ap quantity_of_all (own_nil (is_of_row r)) ∙ quantity_none
 uses_quantity hour r c rows (t ∷ takes) [] long = absurd (omega arith)
 uses_quantity hour r c rows (t ∷ takes) (s ∷ shares) long =
-    let rest : List Sourced = map (λ p. (used_by c.0 p.0.row, used_line hour c.1 rows p.0 p.1)) (zip takes shares) in
+    let rest : List Sourced = uses hour c rows takes shares in
     let one : lines_of_row r ((used_by c.0 t.row, used_line hour c.1 rows t s) ∷ []) ≡ cond (t.row == r) (used_line hour c.1 rows t s ∷ []) [] = own_one (is_of_row r) (used_by c.0 t.row) (used_line hour c.1 rows t s) in
     let later : quantity_of_all (lines_of_row r rest) ≡ pos (taken_of_row r takes) = uses_quantity hour r c rows takes shares (omega arith) in
     ap quantity_of_all (own_append (is_of_row r) ((used_by c.0 t.row, used_line hour c.1 rows t s) ∷ []) rest)
@@ -384,37 +188,31 @@ shared_by_quantity : (hour r : ℕ) (c : ℕ × CommitmentValue) (rows : List Ch
     → quantity_of_all (lines_of_row r (shared_by hour c rows takes shares)) ≡ pos (taken_of_row r takes)
 unfolding shared_by
 shared_by_quantity hour r c rows takes shares long =
-    ap quantity_of_all (own_append (is_of_row r) (map (λ p. (used_by c.0 p.0.row, used_line hour c.1 rows p.0 p.1)) (zip takes shares)) (map (λ share. (unused_by c.0, unused_line hour c.1 share)) (drop (length takes) shares))
-    ∙ ap (λ l. lines_of_row r (map (λ p. (used_by c.0 p.0.row, used_line hour c.1 rows p.0 p.1)) (zip takes shares)) ++ l) (unused_none hour r c (drop (length takes) shares)) ∙ append-nil (lines_of_row r (map (λ p. (used_by c.0 p.0.row, used_line hour c.1 rows p.0 p.1)) (zip takes shares))))
+    ap quantity_of_all (own_append (is_of_row r) (uses hour c rows takes shares) (spares hour c (drop (length takes) shares))
+    ∙ ap (λ l. lines_of_row r (uses hour c rows takes shares) ++ l) (unused_none hour r c (drop (length takes) shares)) ∙ append-nil (lines_of_row r (uses hour c rows takes shares)))
     ∙ uses_quantity hour r c rows takes shares long
-
-takes_of_meet : (cs : List CommitmentValue) (rows : List Charge) (hour place : ℕ) (taken : List Taken) → All (λ t. Meets cs rows hour t.commitment t.row) taken → All (λ t. Meets cs rows hour place t.row) (takes_of place taken)
-unfolding takes_of
-takes_of_meet cs rows hour place taken meet k d l =
-    let t : Taken = get_or (filter (λ t. t.commitment == place) taken) k d in
-    let m : Meets cs rows hour t.commitment t.row = All-filter (λ t. t.commitment == place) (λ t. Meets cs rows hour t.commitment t.row) taken meet k d l in
-    let e : t.commitment ≡ place = eqb-true t.commitment place (filter_passes (λ (t : Taken). t.commitment == place) taken k d l) in
-    subst (λ (x : ℕ). Meets cs rows hour x t.row) e m
 
 takes_of_others : (place r : ℕ) (taken : List Taken) → All (λ t. (t.row == r) ≡ false) taken → All (λ t. (t.row == r) ≡ false) (takes_of place taken)
 unfolding takes_of
 takes_of_others place r taken none = All-filter (λ t. t.commitment == place) (λ t. (t.row == r) ≡ false) taken none
 
-all_shared_by : (cs : List CommitmentValue) (rows : List Charge) (hour : ℕ) (taken : List Taken) (some : List (ℕ × CommitmentValue)) (shared : List (List LineValue))
-    → All (Runs cs hour) some → All (λ t. Meets cs rows hour t.commitment t.row) taken → AllZip (AreLinesAt cs rows taken hour) some shared
-    → SharedBy cs rows hour taken some (flat_map (λ ls. ls) shared)
-all_shared_by cs rows hour taken [] [] runs meet a = record {
+all_shared_by : (cs : List CommitmentValue) (rows : List Charge) (hour : ℕ) (some : List (ℕ × CommitmentValue)) (shared : List (List LineValue)) → All (Runs cs hour) some → PlacesApart some → AllZip (AreLinesAt cs rows (hour_cover cs rows hour) hour) some shared
+    → SharedBy cs rows hour some (flat_map (λ ls. ls) shared)
+all_shared_by cs rows hour [] [] runs apart a = record {
   sourced = [];
   lines_are = refl;
   each = All-nil (FromIts cs rows hour);
-  unbought = λ place. own_nil (is_bought_by place);
+  unmatched = λ test used unused. own_nil test;
   untaken = λ r none. own_nil (is_of_row r);
   quantity = λ r. ap quantity_of_all (own_nil (is_of_row r)) ∙ quantity_none;
+  unshared = λ place none. own_nil (is_share_by place);
+  shares = All-nil (λ c. AreLinesAt cs rows (hour_cover cs rows hour) hour c (lines_from (is_share_by c.0) []));
 }
-all_shared_by cs rows hour taken [] (ls ∷ shared) runs meet a = absurd a
-all_shared_by cs rows hour taken (c ∷ some) [] runs meet a = absurd a
-all_shared_by cs rows hour taken (c ∷ some) (ls ∷ shared) runs meet a =
-    let rest = all_shared_by cs rows hour taken some shared (All-tail (Runs cs hour) c some runs) meet a.1 in
+all_shared_by cs rows hour [] (ls ∷ shared) runs apart a = absurd a
+all_shared_by cs rows hour (c ∷ some) [] runs apart a = absurd a
+all_shared_by cs rows hour (c ∷ some) (ls ∷ shared) runs apart a =
+    let taken : List Taken = hour_cover cs rows hour in
+    let rest = all_shared_by cs rows hour some shared (All-tail (Runs cs hour) c some runs) apart.1 a.1 in
     let takes : List Taken = takes_of c.0 taken in
     let own : List Sourced = shared_by hour c rows takes a.0.shares in
     let long : length takes ≤ length a.0.shares = omega (arith, a.0.are_shares.one_each, length-weights_of takes (unused_of cs taken c.0)) in
@@ -424,27 +222,41 @@ all_shared_by cs rows hour taken (c ∷ some) (ls ∷ shared) runs meet a =
           let here : ls ≡ lines_of own = a.0.are_lines ∙ sym (shared_by_are hour c rows takes a.0.shares) in
           let later : flat_map (λ (l : List LineValue). l) shared ≡ lines_of rest.sourced = rest.lines_are in
           (rw (here, later) refl) ∙ sym (map-append (λ (s : Sourced). s.1) own rest.sourced);
-      each = All-append (FromIts cs rows hour) own rest.sourced (shared_by_from cs rows hour c takes a.0.shares (All-head (Runs cs hour) c some runs) (takes_of_meet cs rows hour c.0 taken meet)) rest.each;
-      unbought = λ place. own_append (is_bought_by place) own rest.sourced ∙ (rw (shared_by_unbought hour place c rows takes a.0.shares, rest.unbought place) refl);
+      each = All-append (FromIts cs rows hour) own rest.sourced (shared_by_from cs rows hour c a.0.shares (All-head (Runs cs hour) c some runs) a.0.are_shares.one_each) rest.each;
+      unmatched = λ test used unused.
+          own_append test own rest.sourced
+          ∙ (rw (own_none test own (shared_by_tested test false hour c rows takes a.0.shares (used c.0) (unused c.0)), rest.unmatched test used unused) refl);
       untaken = λ r none. own_append (is_of_row r) own rest.sourced ∙ (rw (shared_by_none hour r c rows takes a.0.shares (takes_of_others c.0 r taken none), rest.untaken r none) refl);
       quantity = λ r.
           let here : quantity_of_all (lines_of_row r own) ≡ pos (taken_of_row r takes) = shared_by_quantity hour r c rows takes a.0.shares long in
           let later : quantity_of_all (lines_of_row r rest.sourced) ≡ pos (sum_by (λ c. taken_of_row r (takes_of c.0 taken)) some) = rest.quantity r in
           let sum = sum_by-cons (λ (c : ℕ × CommitmentValue). taken_of_row r (takes_of c.0 taken)) c some in
           ap quantity_of_all (own_append (is_of_row r) own rest.sourced) ∙ quantity_append (lines_of_row r own) (lines_of_row r rest.sourced) ∙ (rw (here, later) (ap pos (sym sum)));
+      unshared = λ place none.
+          let P : ℕ × CommitmentValue → Type 0 = λ c. (c.0 == place) ≡ false in
+          own_append (is_share_by place) own rest.sourced
+          ∙ (rw (shared_by_other hour place c rows takes a.0.shares (All-head P c some none), rest.unshared place (All-tail P c some none)) refl);
+      shares = All-cons (λ d. AreLinesAt cs rows taken hour d (lines_from (is_share_by d.0) (own ++ rest.sourced))) c some
+          (record {
+            shares = a.0.shares;
+            are_shares = a.0.are_shares;
+            are_lines = own_append (is_share_by c.0) own rest.sourced ∙ (rw (shared_by_own hour c rows takes a.0.shares, rest.unshared c.0 apart.0) (append-nil (shared_lines hour c.1 rows takes a.0.shares)));
+          })
+          (λ k e l.
+          let d : ℕ × CommitmentValue = get_or some k e in
+          let other : (c.0 == d.0) ≡ false = ne_eqb c.0 d.0 (λ same. eqb-false d.0 c.0 (apart.0 k e l) (sym same)) in
+          let past : lines_from (is_share_by d.0) (own ++ rest.sourced) ≡ lines_from (is_share_by d.0) rest.sourced =
+          own_append (is_share_by d.0) own rest.sourced ∙ (rw (shared_by_other hour d.0 c rows takes a.0.shares other) refl) in
+          subst (AreLinesAt cs rows taken hour d) (sym past) (rest.shares k e l));
     }
 
 -- ---- what is known of what applies
-open_from : (c : CommitmentValue) (hour : ℕ) (row : Charge) → IsSome (applied c hour row) → (is_open hour row && fits c hour row) ≡ true
-unfolding applied
-open_from c hour row some = two_ways (is_open hour row && fits c hour row) (λ holds. holds) (λ fails. let none : false ≡ true = rw fails at some in absurd (cc))
-
-eligible_from : (c : CommitmentValue) (hour : ℕ) (row : Charge) → IsSome (applied c hour row) → is_eligible row ≡ true
-eligible_from c hour row some = both_left (is_eligible row) _ (both_left (is_open hour row) (fits c hour row) (open_from c hour row some))
-
 term_from : (c : CommitmentValue) (hour : ℕ) (row : Charge) → IsSome (applied c hour row) → is_in_term c hour ≡ true
 unfolding fits
-term_from c hour row some = both_left (is_in_term c hour) _ (both_left _ _ (both_right (is_open hour row) (fits c hour row) (open_from c hour row some)))
+term_from c hour row some =
+    let both = and_parts (is_open hour row) (fits c hour row) (open_from c hour row some) in
+    let fitting = and_parts (is_in_term c hour && allows c.sub_account row.sub_account) (has_unit c.terms row.unit) both.1 in
+    (and_parts (is_in_term c hour) (allows c.sub_account row.sub_account) fitting.0).0
 
 -- nothing is taken of a row that commitments may not cover
 not_taken : (cs : List CommitmentValue) (rows : List Charge) (hour r : ℕ) (row : Charge) → slice_get rows r ≡ Some row → is_eligible row ≡ false → All (λ t. (t.row == r) ≡ false) (hour_cover cs rows hour)
@@ -464,7 +276,7 @@ not_taken cs rows hour r row there never k d l =
 -- a commitment that doesn't run takes nothing
 idle_takes : (cs : List CommitmentValue) (rows : List Charge) (hour r : ℕ) (c : ℕ × CommitmentValue) → slice_get cs c.0 ≡ Some c.1 → is_in_term c.1 hour ≡ false → taken_of_row r (takes_of c.0 (hour_cover cs rows hour)) ≡ 0
 unfolding takes_of taken_of_row
-idle_takes cs rows hour r c at idle = ap (sum_by (λ (t : Taken). cond (t.row == r) t.quantity 0)) (none_pass (λ t. t.commitment == c.0) (hour_cover cs rows hour) (λ k d l.
+idle_takes cs rows hour r c at idle = ap (sum_by (λ (t : Taken). cond (t.row == r) t.quantity 0)) (filter_none (λ t. t.commitment == c.0) (hour_cover cs rows hour) (λ k d l.
     let t : Taken = get_or (hour_cover cs rows hour) k d in
     let m : Meets cs rows hour t.commitment t.row = takes_meet cs rows hour k d l in
     two_ways (t.commitment == c.0)
@@ -515,9 +327,25 @@ whole_quantity None h = absurd (let e : false ≡ true = h in cc)
 whole_quantity (Some (pos n)) h = refl
 whole_quantity (Some (negsuc n)) h = absurd (let e : false ≡ true = h in cc)
 
-eligible_whole : (row : Charge) → is_eligible row ≡ true → row.quantity ≡ Some (pos (quantity_of row))
+-- what a row that commitments may cover has
+pub record Measured (row : Charge) : Type 0 where
+  pub quantity : is_positive row.quantity ≡ true
+  pub billed : int_lt row.billed (pos 0) ≡ false
+  pub effective : int_lt row.effective (pos 0) ≡ false
+
+measured_parts : (row : Charge) → is_measured row ≡ true → Measured row
+measured_parts row h =
+    let sku = and_parts (is_positive row.quantity && not (int_lt row.billed (pos 0)) && not (int_lt row.effective (pos 0))) (is_some row.sku) h in
+    let effective = and_parts (is_positive row.quantity && not (int_lt row.billed (pos 0))) (not (int_lt row.effective (pos 0))) sku.0 in
+    let billed = and_parts (is_positive row.quantity) (not (int_lt row.billed (pos 0))) effective.0 in
+    record { quantity = billed.0; billed = not-true _ billed.1; effective = not-true _ effective.1 }
+
+pub measured_of : (row : Charge) → is_eligible row ≡ true → Measured row
 unfolding is_eligible
-eligible_whole row h = whole_quantity row.quantity (both_left (is_positive row.quantity) _ (both_left _ _ (both_left _ _ (both_right (is_open_use row) (is_measured row) h))))
+measured_of row h = measured_parts row (and_parts (is_open_use row) (is_measured row) h).1
+
+pub eligible_whole : (row : Charge) → is_eligible row ≡ true → row.quantity ≡ Some (pos (quantity_of row))
+eligible_whole row h = whole_quantity row.quantity (measured_of row h).quantity
 
 rest_quantity : (hour : ℕ) (row : Charge) (u : ℕ) → is_eligible row ≡ true → quantity_of_all (rest_of hour row u) ≡ pos u
 unfolding rest_of rest_line
@@ -548,34 +376,67 @@ accounted_given : (cs : List CommitmentValue) (rows : List Charge) (hour r : ℕ
 unfolding given_own rest_of
 accounted_given cs rows hour r row never own used is none = is ∙ (rw (never, none) refl)
 
+-- ---- the shares of the commitment at a place
+filter_apart : (p : ℕ × CommitmentValue → Bool) (cs : List (ℕ × CommitmentValue)) → PlacesApart cs → PlacesApart (filter p cs)
+filter_apart p [] apart = tt
+filter_apart p (c ∷ cs) apart = two_ways (p c)
+    (λ holds. rw holds (All-filter p (λ d. (d.0 == c.0) ≡ false) cs apart.0, filter_apart p cs apart.1))
+    (λ fails. rw fails (filter_apart p cs apart.1))
+
+running_apart : (cs : List CommitmentValue) (hour : ℕ) → PlacesApart (running cs hour)
+unfolding running
+running_apart cs hour = filter_apart (λ c. is_in_term c.1 hour) (commitments_in_order cs) (order_places_apart cs)
+
+of_filter : {X : Type 0} (p : X → Bool) (P : X → Type 0) (xs : List X) → All P (filter p xs) → All (λ x. p x ≡ true → P x) xs
+of_filter p P [] all = All-nil (λ x. p x ≡ true → P x)
+of_filter p P (x ∷ xs) all = two_ways (p x)
+    (λ holds. let all' : All P (x ∷ filter p xs) = rw holds at all in All-cons (λ x. p x ≡ true → P x) x xs (λ h. All-head P x (filter p xs) all') (of_filter p P xs (All-tail P x (filter p xs) all')))
+    (λ fails. let all' : All P (filter p xs) = rw fails at all in All-cons (λ x. p x ≡ true → P x) x xs (λ h. let clash : false ≡ true = sym fails ∙ h in absurd (cc)) (of_filter p P xs all'))
+
+running_at : (P : ℕ × CommitmentValue → Type 0) (cs : List CommitmentValue) (hour place : ℕ) (c : CommitmentValue) → All P (running cs hour) → slice_get cs place ≡ Some c → is_in_term c hour ≡ true → P (place, c)
+unfolding running commitments_in_order
+running_at P cs hour place c all there runs =
+    let Q : ℕ × CommitmentValue → Type 0 = λ c. is_in_term c.1 hour ≡ true → P c in
+    element_at Q cs place c (of_in_order commitment_before Q (enumerate_from 0 cs) (of_filter (λ c. is_in_term c.1 hour) P (in_order commitment_before (enumerate_from 0 cs)) all)) there runs
+
 pub hour_accounted : (cs : List CommitmentValue) (rows : List Charge) (hour : ℕ) (lines : List LineValue) → AreHourLines cs rows hour lines → AreAccounted cs rows hour lines
 hour_accounted cs rows hour lines a =
     let taken : List Taken = hour_cover cs rows hour in
-    let by = all_shared_by cs rows hour taken (running cs hour) a.shared (running_known cs hour) (takes_meet cs rows hour) a.are_shared in
+    let by = all_shared_by cs rows hour (running cs hour) a.shared (running_known cs hour) (running_apart cs hour) a.are_shared in
     let first : List Sourced = bought cs hour ++ given rows hour in
     let most : List Sourced = first ++ by.sourced in
-    let own_all : (r : ℕ) (row : Charge) → slice_get rows r ≡ Some row → lines_of_row r (most ++ rests rows taken hour) ≡ given_own hour (r, row) ++ lines_of_row r by.sourced ++ rest_of hour row (left_of rows taken r) =
-    (λ r row there.
-    own_append (is_of_row r) most (rests rows taken hour)
-    ∙ (rw (own_append (is_of_row r) first by.sourced, own_append (is_of_row r) (bought cs hour) (given rows hour), bought_none cs hour r, given_at rows hour r row there, rest_at rows taken hour r row there) refl)) in
+    let all : List Sourced = most ++ rests rows taken hour in
+    let parts : (test : SourceValue → Bool) → lines_from test all ≡ ((lines_from test (bought cs hour) ++ lines_from test (given rows hour)) ++ lines_from test by.sourced) ++ lines_from test (rests rows taken hour) =
+    (λ test. own_append test most (rests rows taken hour) ∙ (rw (own_append test first by.sourced, own_append test (bought cs hour) (given rows hour)) refl)) in
+    let own_all : (r : ℕ) (row : Charge) → slice_get rows r ≡ Some row → lines_of_row r all ≡ given_own hour (r, row) ++ lines_of_row r by.sourced ++ rest_of hour row (left_of rows taken r) =
+    (λ r row there. parts (is_of_row r) ∙ (rw (bought_none (is_of_row r) (λ place. refl) cs hour, given_at rows hour r row there, rest_at (is_of_row r) r (λ k. refl) rows taken hour row there) refl)) in
     record {
-      sourced = most ++ rests rows taken hour;
+      sourced = all;
       lines_are =
           let shared : flat_map (λ (ls : List LineValue). ls) a.shared ≡ lines_of by.sourced = by.lines_are in
-          let parts : lines_of (most ++ rests rows taken hour) ≡ lines_of (bought cs hour) ++ lines_of (given rows hour) ++ lines_of by.sourced ++ lines_of (rests rows taken hour) =
+          let made : lines_of all ≡ lines_of (bought cs hour) ++ lines_of (given rows hour) ++ lines_of by.sourced ++ lines_of (rests rows taken hour) =
           map-append (λ (s : Sourced). s.1) most (rests rows taken hour)
           ∙ ap (λ l. l ++ lines_of (rests rows taken hour)) (map-append (λ (s : Sourced). s.1) first by.sourced ∙ ap (λ l. l ++ lines_of by.sourced) (map-append (λ (s : Sourced). s.1) (bought cs hour) (given rows hour))) in
           let known : lines_of (bought cs hour) ++ lines_of (given rows hour) ++ lines_of by.sourced ++ lines_of (rests rows taken hour) ≡ purchase_lines cs hour ++ given_lines rows hour ++ flat_map (λ (ls : List LineValue). ls) a.shared ++ rest_lines rows taken hour =
           rw (bought_lines cs hour, given_are rows hour, rests_are rows taken hour, ← shared) refl in
-          a.are_lines ∙ sym (parts ∙ known);
+          a.are_lines ∙ sym (made ∙ known);
       each = All-append (FromIts cs rows hour) most (rests rows taken hour)
           (All-append (FromIts cs rows hour) first by.sourced (All-append (FromIts cs rows hour) (bought cs hour) (given rows hour) (bought_from cs rows hour) (given_from cs rows hour)) by.each)
-          (rests_from cs rows taken hour);
-      purchases_are = λ place c there.
-          own_append (is_bought_by place) most (rests rows taken hour)
-          ∙ (rw (own_append (is_bought_by place) first by.sourced, own_append (is_bought_by place) (bought cs hour) (given rows hour), bought_at cs hour place c there, given_unbought rows hour place, by.unbought place, rests_unbought rows taken hour place)
-          (append-nil _ ∙ append-nil _ ∙ append-nil (purchase_lines_of hour c)));
+          (rests_from cs rows hour);
       rows_are = λ r row there. two_ways (is_eligible row)
-          (λ eligible. rw eligible (accounted_eligible cs rows hour r row there eligible (lines_of_row r (most ++ rests rows taken hour)) (lines_of_row r by.sourced) (own_all r row there) (by.quantity r)))
-          (λ never. rw never (accounted_given cs rows hour r row never (lines_of_row r (most ++ rests rows taken hour)) (lines_of_row r by.sourced) (own_all r row there) (by.untaken r (not_taken cs rows hour r row there never))));
+          (λ eligible. rw eligible (accounted_eligible cs rows hour r row there eligible (lines_of_row r all) (lines_of_row r by.sourced) (own_all r row there) (by.quantity r)))
+          (λ never. rw never (accounted_given cs rows hour r row never (lines_of_row r all) (lines_of_row r by.sourced) (own_all r row there) (by.untaken r (not_taken cs rows hour r row there never))));
+      rests_are = λ r row there.
+          parts (is_rest_of r)
+          ∙ (rw (bought_none (is_rest_of r) (λ place. refl) cs hour, given_none (is_rest_of r) (λ row. refl) rows hour, by.unmatched (is_rest_of r) (λ place row. refl) (λ place. refl), rest_at (is_rest_of r) r (λ k. refl) rows taken hour row there) refl);
+      shares_are = λ place c there runs.
+          let P : ℕ × CommitmentValue → Type 0 = λ c. AreLinesAt cs rows taken hour c (lines_from (is_share_by c.0) by.sourced) in
+          let same : lines_from (is_share_by place) all ≡ lines_from (is_share_by place) by.sourced =
+          parts (is_share_by place)
+          ∙ (rw (bought_none (is_share_by place) (λ p. refl) cs hour, given_none (is_share_by place) (λ row. refl) rows hour, rests_none (is_share_by place) (λ row. refl) rows taken hour) (append-nil (lines_from (is_share_by place) by.sourced))) in
+          subst (AreLinesAt cs rows taken hour (place, c)) (sym same) (running_at P cs hour place c by.shares there runs);
+      purchases_are = λ place c there.
+          parts (is_bought_by place)
+          ∙ (rw (bought_at cs hour place c there, given_none (is_bought_by place) (λ row. refl) rows hour, by.unmatched (is_bought_by place) (λ p row. refl) (λ p. refl), rests_none (is_bought_by place) (λ row. refl) rows taken hour)
+          (append-nil _ ∙ append-nil _ ∙ append-nil (purchase_lines_of hour c)));
     }

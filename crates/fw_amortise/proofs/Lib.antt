@@ -9,4 +9,8 @@ pub mod EachLine
 pub mod Purchases
 pub mod Carrying
 pub mod Named
+pub mod Sourced
 pub mod Accounting
+pub mod Beside
+pub mod Split
+pub mod Costs

@@ -42,7 +42,7 @@ each_known id hour = record {
   rest = λ row u free. free_names_none id row.discount free;
 }
 
-filter_same : {X : Type 0} (p q : X → Bool) (xs : List X) → All (λ x. p x ≡ q x) xs → filter p xs ≡ filter q xs
+pub filter_same : {X : Type 0} (p q : X → Bool) (xs : List X) → All (λ x. p x ≡ q x) xs → filter p xs ≡ filter q xs
 filter_same p q [] all = refl
 filter_same {X} p q (x ∷ xs) all =
     let P : X → Type 0 = λ x. p x ≡ q x in

@@ -1,5 +1,5 @@
 -- The weights that share an hour's amount, the shares, and their lines.
-use Rattle.std.proofs.Common.{◌≡◌, ℕ, ◌+◌, ◌-◌, ◌≤◌, List, [], ◌∷◌, ◌++◌, length, map, Bool, true, false, ◌==◌, cond, add-zero, arith, refl, sym, ◌∙◌, sum, sum_by, All, length-append, length-drop, take, drop}
+use Rattle.std.proofs.Common.{◌≡◌, ℕ, zero, suc, ◌+◌, ◌-◌, ◌<◌, ◌≤◌, ap, List, [], ◌∷◌, ◌++◌, length, map, Bool, true, false, ◌==◌, cond, add-zero, arith, refl, sym, ◌∙◌, sum, sum_by, All, length-append, length-drop, take, drop}
 use Rattle.std.specs.List.{zip}
 use Rattle.std.proofs.lemmas.List.{length-map, take_all, append_assoc}
 use Rattle.std.proofs.lemmas.List.Sums.{sum_by-cons, sum_by-append, get_or-le-sum_by}
@@ -39,3 +39,16 @@ unfolding shared_lines
 shared_lines-added hour c rows takes s s1 s2 old mid new e1 e2 em en =
     let rest : take (length s2 - length takes) (drop (length takes) s2) ≡ drop (length takes) s2 = take_all _ _ (omega (arith, length-drop (length takes) s2)) in
     en ∙ (rw (rest, em, e1, e2) (append_assoc old (map (λ p. used_line hour c rows p.0 p.1) (zip takes s)) (map (unused_line hour c) (drop (length takes) s))))
+
+-- there is a share beyond those of the things taken only where capacity is unused
+pub spare_weight : (ts : List Taken) (unused : ℕ) (s : List ℕ) (k : ℕ) → length s ≡ length (weights_of ts unused) → k < length (drop (length ts) s) → 0 < unused
+unfolding weights_of
+spare_weight ts unused s k one_each lt =
+    let both = length-append (map (λ t. t.weight) ts) (cond (unused == 0) [] (unused ∷ [])) in
+    let few = length-map ts (λ t. t.weight) in
+    let beyond = length-drop (length ts) s in
+    by_unused unused (cond (unused == 0) [] (unused ∷ [])) refl (omega (arith, both, few, beyond, one_each, lt))
+  where
+    by_unused : (n : ℕ) (spare : List ℕ) → spare ≡ cond (n == 0) [] (n ∷ []) → k < length spare → 0 < n
+    by_unused zero spare is lt = let none : length spare ≡ 0 = ap length is in absurd (omega (arith, none, lt))
+    by_unused (suc n) spare is lt = omega arith

@@ -1,5 +1,5 @@
 -- The lines of an hour. Below, `rows` are the rows of that hour alone, and a place is one in them or in the list of commitments.
-use Rattle.std.specs.Prelude.{◌≡◌, ℕ, ◌-◌, ◌*◌, ◌/◌, ◌==◌, ◌&&◌, not, nat_lt, List, [], ◌∷◌, ◌++◌, map, filter, drop, length, Option, Some, None, option_and_then, if◌then◌else◌, pos, unsigned_abs, slice_get}
+use Rattle.std.specs.Prelude.{◌≡◌, ℕ, ◌-◌, ◌==◌, ◌&&◌, not, nat_lt, List, [], ◌∷◌, ◌++◌, map, filter, drop, length, Option, Some, None, option_and_then, if◌then◌else◌, pos, unsigned_abs, slice_get}
 use Rattle.std.specs.Option.{option_map_or}
 use Rattle.std.specs.List.{enumerate_from, flat_map, zip, AllZip}
 use Rattle.fw_shares.specs.Shares.{IsShares}
@@ -12,6 +12,7 @@ use Rattle.fw_cover.specs.declared.taken.Taken.{Taken}
 use Rattle.fw_cover.specs.Eligible.{is_eligible, is_of_hour}
 use Rattle.fw_cover.specs.Applies.{is_in_term}
 use Rattle.fw_cover.specs.Order.{commitments_in_order}
+use Rattle.fw_cover.specs.Part.{in_proportion}
 use Rattle.fw_cover.specs.Hour.{hour_cover, takes_of, unused_of, left_of, quantity_of}
 use Rattle.fw_amortise.specs.Amount.{amount_of}
 use Rattle.fw_amortise.specs.LineValue.{LineValue}
@@ -102,8 +103,8 @@ rest_line hour row u = record {
   kind = kind.Rest;
   category = row.category;
   commitment = row.discount;
-  billed = pos (unsigned_abs row.billed * u / quantity_of row);
-  effective = pos (unsigned_abs row.effective * u / quantity_of row);
+  billed = pos (in_proportion (unsigned_abs row.billed) (quantity_of row) u);
+  effective = pos (in_proportion (unsigned_abs row.effective) (quantity_of row) u);
   quantity = Some (pos u);
   sku = row.sku;
   sub_account = row.sub_account;

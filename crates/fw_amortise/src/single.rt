@@ -1,7 +1,8 @@
 //! Single lines.
-ghost use Rattle.std.specs.Prelude.{◌≡◌, ◌==◌, ◌*◌, ◌/◌, ◌<◌, ◌≤◌, ◌^◌, length, map, option_map, pos, unsigned_abs};
+ghost use Rattle.std.specs.Prelude.{◌≡◌, ◌==◌, ◌<◌, ◌≤◌, ◌^◌, length, map, option_map, pos, unsigned_abs};
 ghost use Rattle.fw_charge.specs.Charge.{hour_of};
 ghost use Rattle.fw_cover.specs.Hour.{quantity_of};
+ghost use Rattle.fw_cover.specs.Part.{in_proportion};
 ghost use Rattle.fw_amortise.specs.LineView.{discount_of};
 ghost use Rattle.fw_amortise.specs.Lines.{purchase_line, given_line, used_line, unused_line, rest_line};
 
@@ -156,7 +157,7 @@ fn quantity_of(row: &Row) -> u64
 fn part_of(cost: Nanos, left: u64, quantity: u64) -> Nanos
     requires some { 0 < quantity }
     requires left { left ≤ quantity }
-    ensures { result ≡ pos (unsigned_abs cost * left / quantity) }
+    ensures { result ≡ pos (in_proportion (unsigned_abs cost) quantity left) }
 {
     let cost = u128::from(cost.count().unsigned_abs());
     let part = cost * u128::from(left) / u128::from(quantity);

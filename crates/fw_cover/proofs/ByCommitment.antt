@@ -15,7 +15,7 @@ use Rattle.fw_cover.proofs.Within.{tail_all, all_in_order}
 
 -- ---- a list of which some stand before all others
 -- an element goes before what it is before, and past what is before it
-insert_before : {X : Type 0} (before : X → X → Bool) (x : X) (front back : List X) → All (λ y. before y x ≡ false) back → insert_by before x (front ++ back) ≡ insert_by before x front ++ back
+pub insert_before : {X : Type 0} (before : X → X → Bool) (x : X) (front back : List X) → All (λ y. before y x ≡ false) back → insert_by before x (front ++ back) ≡ insert_by before x front ++ back
 insert_before before x [] [] all = refl
 insert_before {X} before x [] (y ∷ back) all = let P : X → Type 0 = λ y. before y x ≡ false in rw (All-head P y back all) refl
 insert_before before x (y ∷ front) back all = two_ways (before y x) (λ holds. rw holds (ap (λ l. y ∷ l) (insert_before before x front back all))) (λ fails. rw fails refl)

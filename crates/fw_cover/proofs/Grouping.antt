@@ -53,7 +53,7 @@ own : (c : ℕ × CommitmentValue) (row : ℕ × Charge) (o : Option (Option ℕ
 own c row None p h = absurd (let e : None ≡ Some p = h in cc)
 own c row (Some rate) p h = subst (λ o. IfSome o (λ p. p.commitment ≡ c.0)) h refl
 
-pairs_own : (hour : ℕ) (rows : List Charge) (c : ℕ × CommitmentValue) → All (λ p. p.commitment ≡ c.0) (pairs_of_commitment hour rows c)
+pub pairs_own : (hour : ℕ) (rows : List Charge) (c : ℕ × CommitmentValue) → All (λ p. p.commitment ≡ c.0) (pairs_of_commitment hour rows c)
 unfolding pairs_of_commitment pair_for
 pairs_own hour rows c = let P : Pair → Type 0 = λ p. p.commitment ≡ c.0 in
     all_in_order has_lower_rate P (filter_map (pair_for hour c) (enumerate_from 0 rows))
@@ -65,7 +65,7 @@ unfolding takes_of
 of_first k front back is other = let at : Taken → Bool = λ t. t.commitment == k in
     filter-append at front back ∙ (rw (filter_every at front is, filter_none at back other) (append-nil front))
 
-of_later : (k : ℕ) (front back : List Taken) → All (λ t. (t.commitment == k) ≡ false) front → takes_of k (front ++ back) ≡ takes_of k back
+pub of_later : (k : ℕ) (front back : List Taken) → All (λ t. (t.commitment == k) ≡ false) front → takes_of k (front ++ back) ≡ takes_of k back
 unfolding takes_of
 of_later k front back other = let at : Taken → Bool = λ t. t.commitment == k in
     filter-append at front back ∙ (rw (filter_none at front other) refl)

@@ -10,3 +10,5 @@ pub mod Taking
 pub mod Grouping
 pub mod Untouched
 pub mod Whole
+pub mod Filling
+pub mod Later

@@ -16,7 +16,7 @@ use Rattle.fw_cover.specs.declared.order.Placed.{Placed}
 use Rattle.fw_cover.specs.declared.pair.RankedPair.{RankedPair}
 use Rattle.fw_cover.proofs.ByCommitment.{ranked_at}
 
-enumerate_push : {X : Type 0} (n k : ℕ) (xs : List X) (x : X) → k ≡ n + length xs → enumerate_from n (xs ++ x ∷ []) ≡ enumerate_from n xs ++ (k, x) ∷ []
+pub enumerate_push : {X : Type 0} (n k : ℕ) (xs : List X) (x : X) → k ≡ n + length xs → enumerate_from n (xs ++ x ∷ []) ≡ enumerate_from n xs ++ (k, x) ∷ []
 enumerate_push n k [] x e = ap (λ m. (m, x) ∷ []) (omega (arith, e))
 enumerate_push n k (y ∷ ys) x e = ap (λ l. (n, y) ∷ l) (enumerate_push (n + 1) k ys x (omega (arith, e)))
 

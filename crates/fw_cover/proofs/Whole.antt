@@ -45,29 +45,18 @@ more_within : (same : Bool) (before more whole : ℕ) → before ≤ whole → (
 more_within true before more whole h fits = let m = fits refl in omega arith
 more_within false before more whole h fits = omega arith
 
-rows_within : (bs qs ks : List ℕ) (done : List Taken) (ps : List Pair) → ((r : ℕ) → taken_of_row r done ≤ slice_index qs r)
-    → (r : ℕ) → taken_of_row r (fold (λ done p. done ++ taken_by bs qs ks done p ∷ []) done ps) ≤ slice_index qs r
-unfolding taken_of_row taken_by
-rows_within bs qs ks done [] h r = h r
-rows_within bs qs ks done (p ∷ ps) h r = rows_within bs qs ks (done ++ taken_by bs qs ks done p ∷ []) ps
-    (λ x. rw (sum_by_push (λ (t : Taken). cond (t.row == x) t.quantity 0) done (taken_by bs qs ks done p))
-    (more_within (p.row == x) (taken_of_row x done) _ (slice_index qs x) (h x)
-    (λ same. let here : p.row ≡ x = eqb-true p.row x same in
-    subst (λ (y : ℕ). (taken_by bs qs ks done p).quantity ≤ slice_index qs y - taken_of_row y done) here
-    (part_fits p.rate (slice_index bs p.row) (slice_index qs p.row) (slice_index qs p.row - taken_of_row p.row done) (slice_index ks p.commitment - used_of p.commitment done)).0)))
-    r
-
-commitments_within : (bs qs ks : List ℕ) (done : List Taken) (ps : List Pair) → ((c : ℕ) → used_of c done ≤ slice_index ks c)
-    → (c : ℕ) → used_of c (fold (λ done p. done ++ taken_by bs qs ks done p ∷ []) done ps) ≤ slice_index ks c
-unfolding used_of taken_by
-commitments_within bs qs ks done [] h c = h c
-commitments_within bs qs ks done (p ∷ ps) h c = commitments_within bs qs ks (done ++ taken_by bs qs ks done p ∷ []) ps
-    (λ x. rw (sum_by_push (λ (t : Taken). cond (t.commitment == x) t.weight 0) done (taken_by bs qs ks done p))
-    (more_within (p.commitment == x) (used_of x done) _ (slice_index ks x) (h x)
-    (λ same. let here : p.commitment ≡ x = eqb-true p.commitment x same in
-    subst (λ (y : ℕ). (taken_by bs qs ks done p).weight ≤ slice_index ks y - used_of y done) here
-    (part_fits p.rate (slice_index bs p.row) (slice_index qs p.row) (slice_index qs p.row - taken_of_row p.row done) (slice_index ks p.commitment - used_of p.commitment done)).1)))
-    c
+-- where each take is within what is left at its key, the takes at each key stay within the limit there
+all_within : (key amount : Taken → ℕ) (limit : ℕ → ℕ) (step : List Taken → Pair → Taken)
+    → ((done : List Taken) (p : Pair) → amount (step done p) ≤ limit (key (step done p)) - sum_by (λ t. cond (key t == key (step done p)) (amount t) 0) done)
+    → (done : List Taken) (ps : List Pair) → ((x : ℕ) → sum_by (λ t. cond (key t == x) (amount t) 0) done ≤ limit x)
+    → (x : ℕ) → sum_by (λ t. cond (key t == x) (amount t) 0) (fold (λ done p. done ++ step done p ∷ []) done ps) ≤ limit x
+all_within key amount limit step fits done [] h x = h x
+all_within key amount limit step fits done (p ∷ ps) h x = let t : Taken = step done p in
+    all_within key amount limit step fits (done ++ t ∷ []) ps
+    (λ y. rw (sum_by_push (λ (t : Taken). cond (key t == y) (amount t) 0) done t)
+    (more_within (key t == y) _ (amount t) (limit y) (h y)
+    (λ same. subst (λ (z : ℕ). amount t ≤ limit z - sum_by (λ t. cond (key t == z) (amount t) 0) done) (eqb-true (key t) y same) (fits done p))))
+    x
 
 fewer : {X : Type 0} (p : X → Bool) (f : X → ℕ) (xs : List X) → sum_by f (filter p xs) ≤ sum_by f xs
 fewer p f [] = omega arith
@@ -75,17 +64,27 @@ fewer p f (x ∷ xs) = let rest = fewer p f xs in let whole = sum_by-cons f x xs
     two_ways (p x) (λ holds. rw holds (omega arith)) (λ fails. rw fails (omega arith))
 
 pub row_within : (cs : List CommitmentValue) (rows : List Charge) (hour r : ℕ) → taken_of_row r (hour_cover cs rows hour) ≤ slice_index (quantities_of rows) r
-unfolding hour_cover cover_of taken_by_all taken_of_row
+unfolding hour_cover cover_of taken_by_all taken_by taken_of_row
 row_within cs rows hour r =
-    let all = rows_within (billed_of rows) (quantities_of rows) (capacities_of cs) [] (pairs_of cs rows hour) (λ x. omega arith) r in
-    let few = fewer takes_something (λ (t : Taken). cond (t.row == r) t.quantity 0) (taken_by_all (billed_of rows) (quantities_of rows) (capacities_of cs) (pairs_of cs rows hour)) in
+    let bs : List ℕ = billed_of rows in
+    let qs : List ℕ = quantities_of rows in
+    let ks : List ℕ = capacities_of cs in
+    let all = all_within (λ t. t.row) (λ t. t.quantity) (slice_index qs) (taken_by bs qs ks)
+    (λ done p. (part_fits p.rate (slice_index bs p.row) (slice_index qs p.row) (slice_index qs p.row - taken_of_row p.row done) (slice_index ks p.commitment - used_of p.commitment done)).0)
+    [] (pairs_of cs rows hour) (λ x. omega arith) r in
+    let few = fewer takes_something (λ (t : Taken). cond (t.row == r) t.quantity 0) (taken_by_all bs qs ks (pairs_of cs rows hour)) in
     omega arith
 
 pub commitment_within : (cs : List CommitmentValue) (rows : List Charge) (hour place : ℕ) → used_of place (hour_cover cs rows hour) ≤ slice_index (capacities_of cs) place
-unfolding hour_cover cover_of taken_by_all used_of
+unfolding hour_cover cover_of taken_by_all taken_by used_of
 commitment_within cs rows hour place =
-    let all = commitments_within (billed_of rows) (quantities_of rows) (capacities_of cs) [] (pairs_of cs rows hour) (λ x. omega arith) place in
-    let few = fewer takes_something (λ (t : Taken). cond (t.commitment == place) t.weight 0) (taken_by_all (billed_of rows) (quantities_of rows) (capacities_of cs) (pairs_of cs rows hour)) in
+    let bs : List ℕ = billed_of rows in
+    let qs : List ℕ = quantities_of rows in
+    let ks : List ℕ = capacities_of cs in
+    let all = all_within (λ t. t.commitment) (λ t. t.weight) (slice_index ks) (taken_by bs qs ks)
+    (λ done p. (part_fits p.rate (slice_index bs p.row) (slice_index qs p.row) (slice_index qs p.row - taken_of_row p.row done) (slice_index ks p.commitment - used_of p.commitment done)).1)
+    [] (pairs_of cs rows hour) (λ x. omega arith) place in
+    let few = fewer takes_something (λ (t : Taken). cond (t.commitment == place) t.weight 0) (taken_by_all bs qs ks (pairs_of cs rows hour)) in
     omega arith
 
 pub row_whole : (cs : List CommitmentValue) (rows : List Charge) (hour r : ℕ) → taken_of_row r (hour_cover cs rows hour) + left_of rows (hour_cover cs rows hour) r ≡ slice_index (quantities_of rows) r

@@ -2,6 +2,7 @@
 use Rattle.std.proofs.Common.{◌≡◌, ℕ, zero, suc, ◌<◌, ◌≤◌, ◌^◌, Bool, true, false, ◌&&◌, List, [], ◌∷◌, length, get_or, map, All, Option, Some, None, IfSome, ℤ, pos, negsuc, refl, subst, arith, unwrap_or, option_map, option_and_then, find, zero-add}
 use Rattle.std.specs.Prelude.{unsigned_abs, slice_index, slice_get}
 use Rattle.std.specs.List.{enumerate_from, filter_map, flat_map, cons_option}
+use Rattle.std.specs.Option.{IsSome}
 use Rattle.std.specs.Str.{bytes_eq}
 use Rattle.std.proofs.lemmas.List.{length-map, get_or-map}
 use Rattle.std.proofs.lemmas.List.FromFn.{length-enumerate_from, get_or-enumerate_from}
@@ -62,7 +63,7 @@ positive None h = absurd (let e : false ≡ true = h in cc)
 positive (Some (pos n)) h = ltb-true 0 n h
 positive (Some (negsuc n)) h = omega arith
 
-eligible_quantity : (row : Charge) → is_eligible row ≡ true → 0 < quantity_of row
+pub eligible_quantity : (row : Charge) → is_eligible row ≡ true → 0 < quantity_of row
 unfolding is_eligible
 eligible_quantity row h =
     positive row.quantity (and_left (is_positive row.quantity) _ (and_left _ _ (and_left _ _ (and_right (is_open_use row) (is_measured row) h))))
@@ -79,29 +80,39 @@ find_known : {X : Type 0} (P : X → Type 0) (p : X → Bool) (xs : List X) → 
 find_known P p [] all = tt
 find_known P p (x ∷ xs) all = two_ways (p x) (λ holds. rw holds (All-head P x xs all)) (λ fails. rw fails (find_known P p xs (tail_all P x xs all)))
 
-rate_from : (o : Option Listing) → IfSome o (λ l. IsRate l.rate) → IfSome (option_map (λ l. l.rate) o) IsRate
-rate_from None h = tt
-rate_from (Some l) h = h
+rate_from : (P : Option ℕ → Type 0) (o : Option Listing) → IfSome o (λ l. P l.rate) → IfSome (option_map (λ l. l.rate) o) P
+rate_from P None h = tt
+rate_from P (Some l) h = h
 
-and_then_rate : (terms : TermsValue) (sku : Option (List ℕ)) → IsTerms terms → IfSome (option_and_then (rate_for terms) sku) IsRate
-and_then_rate terms None is = tt
-and_then_rate terms (Some sku) is =
-    rate_from (find (λ l. bytes_eq l.sku sku) (listings terms)) (find_known (λ l. IsRate l.rate) (λ l. bytes_eq l.sku sku) (listings terms) (small_rates terms is))
+and_then_rate : (P : Option ℕ → Type 0) (terms : TermsValue) (sku : Option (List ℕ)) → All (λ l. P l.rate) (listings terms) → IfSome (option_and_then (rate_for terms) sku) P
+and_then_rate P terms None all = tt
+and_then_rate P terms (Some sku) all =
+    rate_from P (find (λ l. bytes_eq l.sku sku) (listings terms)) (find_known (λ l. P l.rate) (λ l. bytes_eq l.sku sku) (listings terms) all)
+
+-- what holds of each rate that a commitment lists holds of the one at which it applies
+pub applied_rate : (P : Option ℕ → Type 0) (c : CommitmentValue) (hour : ℕ) (row : Charge) → All (λ l. P l.rate) (listings c.terms) → IfSome (applied c hour row) P
+unfolding applied
+applied_rate P c hour row all = two_ways (is_open hour row && fits c hour row) (λ holds. rw holds (and_then_rate P c.terms row.sku all)) (λ fails. rw fails tt)
+
+-- a commitment that applies to a row applies to one that commitments may cover, in its term
+pub open_from : (c : CommitmentValue) (hour : ℕ) (row : Charge) → IsSome (applied c hour row) → (is_open hour row && fits c hour row) ≡ true
+unfolding applied
+open_from c hour row some = two_ways (is_open hour row && fits c hour row) (λ holds. holds) (λ fails. let none : false ≡ true = rw fails at some in absurd (cc))
+
+pub eligible_from : (c : CommitmentValue) (hour : ℕ) (row : Charge) → IsSome (applied c hour row) → is_eligible row ≡ true
+eligible_from c hour row some = and_left (is_eligible row) _ (and_left (is_open hour row) (fits c hour row) (open_from c hour row some))
 
 -- what is known of a commitment that applies to a row
 record Applied (row : Charge) (rate : Option ℕ) : Type 0 where
   eligible : is_eligible row ≡ true
   charged : IsRate rate
 
-with_eligible : (row : Charge) (o : Option (Option ℕ)) → is_eligible row ≡ true → IfSome o IsRate → IfSome o (Applied row)
-with_eligible row None e h = tt
-with_eligible row (Some rate) e h = record { eligible = e; charged = h }
-
 applied_known : (c : CommitmentValue) (hour : ℕ) (row : Charge) → IsCommitment c → IfSome (applied c hour row) (Applied row)
-unfolding applied
-applied_known c hour row is = two_ways (is_open hour row && fits c hour row)
-    (λ holds. rw holds (with_eligible row (option_and_then (rate_for c.terms) row.sku) (and_left (is_eligible row) _ (and_left (is_open hour row) _ holds)) (and_then_rate c.terms row.sku is.terms)))
-    (λ fails. rw fails tt)
+applied_known c hour row is = both (applied c hour row) (λ some. eligible_from c hour row some) (applied_rate IsRate c hour row (small_rates c.terms is.terms))
+  where
+    both : (o : Option (Option ℕ)) → (IsSome o → is_eligible row ≡ true) → IfSome o IsRate → IfSome o (Applied row)
+    both None eligible charged = tt
+    both (Some rate) eligible charged = record { eligible = eligible refl; charged = charged }
 
 -- ---- the pairs
 -- a commitment beside its place in cs, and a row beside its place in rows

@@ -1,5 +1,5 @@
 -- The order in which the commitments of an hour meet its rows.
-use Rattle.std.specs.Prelude.{ℕ, Bool, List, [], ◌∷◌, Option, if◌then◌else◌, nat_lt, unwrap_or, option_map}
+use Rattle.std.specs.Prelude.{◌≡◌, ℕ, Bool, false, List, [], ◌∷◌, length, All, Option, if◌then◌else◌, nat_lt, unwrap_or, option_map}
 use Rattle.std.specs.List.{enumerate_from, flat_map, filter_map}
 use Rattle.std.specs.Ordering.{is_lt, nat_cmp, ordering_then}
 use Rattle.std.specs.declared.cmp.Ordering.{Ordering}
@@ -35,6 +35,10 @@ commitment_before x y = is_lt (compare_commitments x y)
 -- the commitments in their order, each beside its place in the list
 unfoldable pub commitments_in_order : List CommitmentValue → List (ℕ × CommitmentValue)
 commitments_in_order cs = in_order commitment_before (enumerate_from 0 cs)
+
+-- a commitment that comes behind the list goes before none of it, and so after all of it
+abbrev pub GoesLast : List CommitmentValue → CommitmentValue → Type 0
+GoesLast cs c = All (λ d. commitment_before (length cs, c) d ≡ false) (enumerate_from 0 cs)
 
 -- the pair of a commitment and a row, each beside its place, where the commitment applies to the row
 unfoldable pub pair_for : ℕ → ℕ × CommitmentValue → ℕ × Charge → Option Pair

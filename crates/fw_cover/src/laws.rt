@@ -1,12 +1,15 @@
 //! What holds of each cover: laws, each the contract of a function that does nothing.
-ghost use Rattle.std.specs.Prelude.{◌≡◌, ◌==◌, ◌+◌, ◌∷◌, ◌++◌, ℕ, false, length, map, List, All, slice_index};
+ghost use Rattle.std.specs.Prelude.{◌≡◌, ◌==◌, ◌+◌, ◌<◌, ◌∷◌, ◌++◌, ℕ, [], false, length, map, List, All, Some, slice_index, unsigned_abs};
 ghost use Rattle.std.specs.List.{flat_map};
 ghost use Rattle.fw_charge.specs.Charge.{Charge};
-ghost use Rattle.fw_terms.specs.Commitment.{CommitmentValue};
+ghost use Rattle.fw_charge.specs.declared.discount.DiscountKind.TheVariants as kind;
+ghost use Rattle.fw_terms.specs.Commitment.{CommitmentValue, kind_of};
+ghost use Rattle.fw_cover.specs.Applies.{applied};
 ghost use Rattle.fw_cover.specs.Cover.{taken_of_row, used_of};
 ghost use Rattle.fw_cover.specs.Hour.{capacities_of, hour_cover, left_of, quantities_of, quantity_of, takes_of, unused_of};
 ghost use Rattle.fw_cover.specs.Meeting.{Meets};
-ghost use Rattle.fw_cover.specs.Order.{commitments_in_order, pairs_of};
+ghost use Rattle.fw_cover.specs.Order.{GoesLast, commitments_in_order, pairs_of};
+ghost use Rattle.fw_cover.specs.Part.{IsOutOfReach};
 ghost use Rattle.fw_cover.specs.Untouched.{IsUntouched, place_past, take_past};
 
 /// What the commitments took stands commitment by commitment, in their order.
@@ -25,6 +28,20 @@ pub fn takes_stay_within()
 /// that it lists, and of its sub-account and unit.
 pub fn takes_apply()
     ensures { (cs : List CommitmentValue) (rows : List Charge) (hour : ℕ) → All (λ t. Meets cs rows hour t.commitment t.row) (hour_cover cs rows hour) }
+{}
+
+/// A commitment takes what it can of the rows that it applies to. Where some of the capacity of a commitment to a quantity is unused, nothing is left
+/// of any such row. Where some of the capacity of a commitment to a cost is unused and something of such a row is left, what is left is out of
+/// reach: it needs none of the capacity, or one nano of the row's quantity costs more, at the rate, than what is unused.
+pub fn commitments_take_what_they_can()
+    ensures quantity { (cs : List CommitmentValue) (rows : List Charge) (hour place row : ℕ) (meets : Meets cs rows hour place row) → kind_of meets.commitment.terms ≡ kind.Usage → 0 < unused_of cs (hour_cover cs rows hour) place → left_of rows (hour_cover cs rows hour) row ≡ 0 }
+    ensures cost { (cs : List CommitmentValue) (rows : List Charge) (hour place row : ℕ) (meets : Meets cs rows hour place row) (rate : ℕ) → applied meets.commitment hour meets.charge ≡ Some (Some rate) → 0 < unused_of cs (hour_cover cs rows hour) place → 0 < left_of rows (hour_cover cs rows hour) row → IsOutOfReach (unsigned_abs meets.charge.billed) (quantity_of meets.charge) rate (left_of rows (hour_cover cs rows hour) row) (unused_of cs (hour_cover cs rows hour) place) }
+{}
+
+/// What commitments take doesn't depend on those that come after them: with one more that goes after all of a list, the others take what they take
+/// without it, and it takes of what they leave.
+pub fn a_commitment_that_goes_last_changes_nothing_before_it()
+    ensures { (cs : List CommitmentValue) (c : CommitmentValue) (rows : List Charge) (hour : ℕ) → GoesLast cs c → hour_cover (cs ++ c ∷ []) rows hour ≡ hour_cover cs rows hour ++ takes_of (length cs) (hour_cover (cs ++ c ∷ []) rows hour) }
 {}
 
 /// A row that no commitment applies to changes nothing. It is in no pair, and the whole of its quantity is left. What is taken of the other
