@@ -9,4 +9,4 @@ mod ColumnFacts
 mod CellFacts
 mod MakingFacts
 mod RowFacts
-mod OneReading
+pub mod OneReading

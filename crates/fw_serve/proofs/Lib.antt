@@ -4,3 +4,7 @@ pub mod AnswerFacts
 pub mod MoveFacts
 pub mod StoreFacts
 pub mod ServedFacts
+pub mod SilentFacts
+pub mod RunFacts
+pub mod OneAnswerFacts
+pub mod WrittenFacts

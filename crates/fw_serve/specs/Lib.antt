@@ -6,3 +6,4 @@ pub mod Standings
 pub mod Answers
 pub mod Writing
 pub mod Served
+pub mod Runs

@@ -13,7 +13,7 @@ pub enum ServeFault {
     /// The writer failed. The commands before were run, and stay so.
     #[error("F2 Write")]
     Write,
-    /// The script has more than 2^30 bytes, or took more than 2^30 reads. No command was run.
+    /// The script has more than 2^30 bytes. No command was run.
     #[error("F3 TooLong")]
     TooLong,
     /// Out of memory while reading the script. No command was run.

@@ -1,5 +1,5 @@
 //! The whole script, read before any of its commands is run.
-ghost use Rattle.std.specs.Prelude.{◌≡◌, ◌≢◌, ◌⊎◌, ◌++◌, ◌≤◌, ℕ, List, length, IfOk, IfErr, IfSome, Err};
+ghost use Rattle.std.specs.Prelude.{◌≡◌, ◌≢◌, ◌⊎◌, ◌++◌, ◌<◌, ◌≤◌, ℕ, List, length, IfOk, IfErr, IfSome, Err};
 ghost use Rattle.std.specs.Io.KnownBytes.{Consumes, IsAtEnd};
 ghost use Rattle.fw_serve.specs.Served.{most_bytes};
 
@@ -10,29 +10,41 @@ use std::io::Read;
 /// The most bytes of a script.
 const MOST_BYTES: usize = 1 << 30;
 
-/// The most reads that a script may take.
-const MOST_READS: usize = 1 << 30;
-
 /// How many bytes one read asks for.
 const PIECE: usize = 64 * 1024;
 
-/// Reads the script to its end. A read that fails, an interrupted one too, is `Read`.
+/// Reads the script to its end. A read that fails, an interrupted one too, is `Read`; a script of more than 2^30 bytes is `TooLong`.
 pub(crate) fn read_script<R: Read>(alloc: Global, reader: &mut R) -> Result<Vec<u8>, ServeFault>
     ensures whole { IfOk result (λ script. IfSome (R.remaining reader.old) (λ bytes. script.items ≡ bytes)) }
     ensures short { IfOk result (λ script. length script.items ≤ most_bytes) }
-    ensures too_long { result ≡ Err ServeFault.TooLong → IfSome (R.remaining reader.old) (λ bytes. most_bytes ≤ length bytes) }
+    ensures too_long { result ≡ Err ServeFault.TooLong → IfSome (R.remaining reader.old) (λ bytes. most_bytes < length bytes) }
     ensures reads { result ≢ Err ServeFault.Write }
 {
-    let mut script = Vec::new(alloc);
-    for _ in 0..MOST_READS {
-        if read_piece(reader, &mut script)? == 0 {
-            return Ok(script);
+    read_within(alloc, reader, MOST_BYTES)
+}
+
+/// Reads a text of at most `limit` bytes to its end; the limit itself is at most 2^30. A read that fails, an interrupted one too, is `Read`, a
+/// longer text is `TooLong`, and out of memory it is `NoMemory`.
+pub fn read_within<R: Read>(
+    alloc: Global,
+    reader: &mut R,
+    limit: usize,
+) -> Result<Vec<u8>, ServeFault>
+    requires { limit ≤ most_bytes }
+    ensures whole { IfOk result (λ text. IfSome (R.remaining reader.old) (λ bytes. text.items ≡ bytes)) }
+    ensures short { IfOk result (λ text. length text.items ≤ limit) }
+    ensures too_long { result ≡ Err ServeFault.TooLong → IfSome (R.remaining reader.old) (λ bytes. limit < length bytes) }
+    ensures reads { result ≢ Err ServeFault.Write }
+{
+    let mut text = Vec::new(alloc);
+    loop {
+        if read_piece(reader, &mut text)? == 0 {
+            return Ok(text);
         }
-        if script.len() > MOST_BYTES {
+        if text.len() > limit {
             return Err(ServeFault::TooLong);
         }
     }
-    Err(ServeFault::TooLong)
 }
 
 // One read, whose bytes go to the end of the script. It gives none only at the end of the input.

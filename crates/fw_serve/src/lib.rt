@@ -9,6 +9,7 @@ mod answering;
 mod content;
 mod fault;
 mod input;
+mod laws;
 mod parts;
 mod questions;
 mod refusals;
@@ -17,5 +18,7 @@ mod server;
 mod writing;
 
 pub use fault::ServeFault;
+pub use input::read_within;
+pub use laws::{answers_say_what_is_held, one_command_has_one_answer, what_is_written_is_true};
 pub use reply::{Detail, Refusal, Reply};
 pub use server::serve;

@@ -1,5 +1,5 @@
 //! Scripts that are served: read, run command by command, and answered.
-ghost use Rattle.std.specs.Prelude.{◌≡◌, ◌≢◌, ◌≤◌, false, true, length, OnOk, IfErr, IfSome, IsTrue, Err};
+ghost use Rattle.std.specs.Prelude.{◌≡◌, ◌≢◌, ◌<◌, ◌≤◌, false, true, length, OnOk, IfErr, IfSome, IsTrue, Err};
 ghost use Rattle.fw_disk.specs.Volume.{LeavesOnly, Rose};
 ghost use Rattle.fw_serve.specs.Served.{IsServed, IsServedInPart, Serves, ServesInPart, most_bytes, most_workers};
 ghost use Rattle.fw_serve.specs.Standings.{standing_of, IsBetween, Moves};
@@ -16,7 +16,7 @@ use std::io::{Read, Write};
 
 /// Reads a script to its end, runs its commands on the store in order, writes their answers, and flushes the writer.
 ///
-/// A script has at most 2^30 bytes, and is read in at most 2^30 reads: beyond these it is `TooLong`. On `Read`, `TooLong`
+/// A script has at most 2^30 bytes: a longer one is `TooLong`. On `Read`, `TooLong`
 /// and `NoMemory` no command was run and nothing written. On `Write` the commands before were run and stay so, and the last
 /// of them may have its answer written in part, or not at all. A command that runs out of memory is answered
 /// `no memory` and changes nothing, and the script goes on.
@@ -38,7 +38,7 @@ pub fn serve<R: Read, W: Write, V: Volume>(
     ensures done { OnOk result (IsServed (R.remaining reader.old) (standing_of V.view store.old) (standing_of V.view store.new) (W.contents writer.old) (W.contents writer.new)) }
     ensures write { result ≡ Err ServeFault.Write → IsServedInPart (R.remaining reader.old) (standing_of V.view store.old) (standing_of V.view store.new) (W.contents writer.old) (W.contents writer.new) }
     ensures untouched { IfErr result (λ why. (why ≢ ServeFault.Write) → (store.new ≡ store.old) × (writer.new ≡ writer.old)) }
-    ensures too_long { result ≡ Err ServeFault.TooLong → IfSome (R.remaining reader.old) (λ bytes. most_bytes ≤ length bytes) }
+    ensures too_long { result ≡ Err ServeFault.TooLong → IfSome (R.remaining reader.old) (λ bytes. most_bytes < length bytes) }
     ensures any_moment { IsTrue V.tells → store.old.failed ≡ false → LeavesOnly (V.view store.old.volume) (V.view store.new.volume) (IsBetween store.old.history (standing_of V.view store.new)) }
     ensures cause { store.old.failed ≡ false → store.new.failed ≡ true → Rose (V.view store.old.volume).failures (V.view store.new.volume).failures }
 {

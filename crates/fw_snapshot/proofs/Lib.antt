@@ -5,4 +5,5 @@ pub mod Following
 pub mod VerdictFacts
 pub mod IdFacts
 pub mod RepeatFacts
+pub mod SenderFacts
 pub mod RuleFacts

@@ -1,8 +1,8 @@
 -- Entries that are sent once more.
-use Rattle.std.proofs.Common.{◌≡◌, ◌+◌, ◌≤◌, ◌<◌, ◌∙◌, ℕ, zero, suc, List, [], ◌∷◌, ◌++◌, All, Option, Some, None, ◌⊎◌, inl, inr, Bool, true, false, cond, filter, nat_le, nat_lt, if◌then◌else◌, length, map, take, slice_get, refl, sym, ap, subst, arith}
+use Rattle.std.proofs.Common.{◌≡◌, ◌+◌, ◌≤◌, ◌<◌, ◌∙◌, ℕ, zero, suc, List, [], ◌∷◌, ◌++◌, All, Option, Some, None, ◌⊎◌, inl, inr, Bool, true, false, cond, drop, filter, nat_le, nat_lt, if◌then◌else◌, length, map, take, slice_get, refl, sym, ap, subst, arith}
 use Rattle.std.specs.List.{Contains, range_with_len}
 use Rattle.std.specs.Str.{bytes_eq}
-use Rattle.std.proofs.Math.Seq.{take-length}
+use Rattle.std.proofs.Math.Seq.{drop-append-add, take-append_seam, take-length}
 use Rattle.std.proofs.lemmas.Bool.Decides.{nat_tests}
 use Rattle.std.proofs.lemmas.List.{append-nil, append_assoc, map-append}
 use Rattle.std.proofs.lemmas.List.Elements.{filter-append, All-head, All-tail, All-weaker, Contains-append_right}
@@ -16,9 +16,8 @@ use Rattle.fw_snapshot.specs.declared.verdict.Verdict.{Verdict}
 use Rattle.fw_snapshot.specs.declared.verdict.Verdict.TheVariants as verdict
 use Rattle.fw_snapshot.specs.declared.verdict.Conflict.{Conflict}
 use Rattle.fw_snapshot.proofs.EntryFacts.{entries_from_more}
-use Rattle.fw_snapshot.proofs.LegalFacts.{accepted_number, counts_before, in_turn, legal_kept, legal_more, once}
-use Rattle.fw_snapshot.proofs.RuleFacts.{gap_judged}
-use Rattle.fw_snapshot.proofs.VerdictFacts.{accepted_legal, verdicts_in_parts, accepted_in_parts, all_accepted}
+use Rattle.fw_snapshot.proofs.LegalFacts.{accepted_number, counts_before, in_turn, legal_kept, once}
+use Rattle.fw_snapshot.proofs.VerdictFacts.{accepted_legal, as_many, verdicts_in_parts, accepted_in_parts, all_accepted}
 
 -- the numbers of an origin
 one_from : (origin : List ℕ) (e : EntryValue) (b : Bool) (n : ℕ) → (b ≡ true → e.seq ≡ n + 1)
@@ -131,12 +130,18 @@ none_yet : (origin : List ℕ) → entries_from origin [] ≡ 0
 unfolding entries_from
 none_yet origin = refl
 
-pub already_repeat : (es : List EntryValue) (e : EntryValue) (last : ℕ) → IsLegal es → 0 < e.seq → judged es e ≡ verdict.Already last → IsRepeat es e × (last ≡ entries_from e.origin es)
+pub already_low : (es : List EntryValue) (e : EntryValue) (last : ℕ) → judged es e ≡ verdict.Already last → (e.seq ≤ entries_from e.origin es) × (last ≡ entries_from e.origin es)
 unfolding judged
-already_repeat es e last legal some h =
+already_low es e last h =
     let parts = low_number (nat_le e.seq (entries_from e.origin es)) (nat_lt (entries_from e.origin es + 1) e.seq) _ _ last _ h in
     let test : nat_le e.seq (entries_from e.origin es) ≡ true = parts.0 in
     let low : e.seq ≤ entries_from e.origin es = grind (arith, nat_tests) in
+    (low, parts.1)
+
+pub already_repeat : (es : List EntryValue) (e : EntryValue) (last : ℕ) → IsLegal es → 0 < e.seq → judged es e ≡ verdict.Already last → IsRepeat es e × (last ≡ entries_from e.origin es)
+already_repeat es e last legal some h =
+    let parts = already_low es e last h in
+    let low = parts.0 in
     let none = none_yet e.origin in
     (found [] es e legal (omega arith) low, parts.1)
 
@@ -165,19 +170,44 @@ pub repeat_nothing : (before first rest : List EntryValue) (e : EntryValue) → 
 repeat_nothing before first rest e legal repeat =
     refused_nothing before first rest e (not_accepted (before ++ accepted_of before first) e (accepted_legal before first legal) repeat)
 
-verdicts_over : (before rest : List EntryValue) (e : EntryValue) → IsLegal before → IsRepeat before e → verdicts_on before (e ∷ rest) ≡ verdict.Already (entries_from e.origin before) ∷ verdicts_on before rest
+verdicts_past : (before rest : List EntryValue) (e : EntryValue) → is_accept (judged before e) ≡ false → verdicts_on before (e ∷ rest) ≡ judged before e ∷ verdicts_on before rest
 unfolding verdicts_on
-verdicts_over before rest e legal repeat =
-    let none : taken before e ≡ [] = kept_none (judged before e) e (not_accepted before e legal repeat) in
+verdicts_past before rest e h =
+    let none : taken before e ≡ [] = kept_none (judged before e) e h in
     let same : before ++ taken before e ≡ before = ap (λ (t : List EntryValue). before ++ t) none ∙ append-nil before in
-    ap (λ (v : Verdict). v ∷ verdicts_on (before ++ taken before e) rest) (repeat_judged before e legal repeat)
-    ∙ ap (λ (l : List EntryValue). verdict.Already (entries_from e.origin before) ∷ verdicts_on l rest) same
+    ap (λ (l : List EntryValue). judged before e ∷ verdicts_on l rest) same
+
+verdicts_over : (before rest : List EntryValue) (e : EntryValue) → IsLegal before → IsRepeat before e → verdicts_on before (e ∷ rest) ≡ verdict.Already (entries_from e.origin before) ∷ verdicts_on before rest
+verdicts_over before rest e legal repeat =
+    verdicts_past before rest e (not_accepted before e legal repeat) ∙ ap (λ (v : Verdict). v ∷ verdicts_on before rest) (repeat_judged before e legal repeat)
 
 pub repeat_verdicts : (before first rest : List EntryValue) (e : EntryValue) → IsLegal before → IsRepeat (before ++ accepted_of before first) e
     → verdicts_on before (first ++ e ∷ rest) ≡ verdicts_on before first ++ verdict.Already (entries_from e.origin (before ++ accepted_of before first)) ∷ verdicts_on (before ++ accepted_of before first) rest
 repeat_verdicts before first rest e legal repeat =
     verdicts_in_parts before first (e ∷ rest)
     ∙ ap (λ (l : List Verdict). verdicts_on before first ++ l) (verdicts_over (before ++ accepted_of before first) rest e (accepted_legal before first legal) repeat)
+
+-- the verdicts on the others are those that they get without it
+without : {A : Type 0} (xs ys : List A) (y : A) (n : ℕ) → length xs ≡ n → take n (xs ++ y ∷ ys) ++ drop (n + 1) (xs ++ y ∷ ys) ≡ xs ++ ys
+without xs ys y n is =
+    ap (λ k. take k (xs ++ y ∷ ys) ++ drop (k + 1) (xs ++ y ∷ ys)) (sym is)
+    ∙ ap (λ l. l ++ drop (length xs + 1) (xs ++ y ∷ ys)) (take-append_seam xs (y ∷ ys))
+    ∙ ap (λ l. xs ++ l) (drop-append-add xs (y ∷ ys) 1)
+
+pub refused_others : (before first rest : List EntryValue) (e : EntryValue) → is_accept (judged (before ++ accepted_of before first) e) ≡ false
+    → take (length first) (verdicts_on before (first ++ e ∷ rest)) ++ drop (length first + 1) (verdicts_on before (first ++ e ∷ rest)) ≡ verdicts_on before (first ++ rest)
+refused_others before first rest e h =
+    let held = before ++ accepted_of before first in
+    let parts : verdicts_on before (first ++ e ∷ rest) ≡ verdicts_on before first ++ judged held e ∷ verdicts_on held rest =
+    verdicts_in_parts before first (e ∷ rest) ∙ ap (λ (l : List Verdict). verdicts_on before first ++ l) (verdicts_past held rest e h) in
+    ap (λ (l : List Verdict). take (length first) l ++ drop (length first + 1) l) parts
+    ∙ without (verdicts_on before first) (verdicts_on held rest) (judged held e) (length first) (as_many before first)
+    ∙ sym (verdicts_in_parts before first rest)
+
+pub repeat_others : (before first rest : List EntryValue) (e : EntryValue) → IsLegal before → IsRepeat (before ++ accepted_of before first) e
+    → take (length first) (verdicts_on before (first ++ e ∷ rest)) ++ drop (length first + 1) (verdicts_on before (first ++ e ∷ rest)) ≡ verdicts_on before (first ++ rest)
+repeat_others before first rest e legal repeat =
+    refused_others before first rest e (not_accepted (before ++ accepted_of before first) e (accepted_legal before first legal) repeat)
 
 -- each entry stands once
 pub once_after : (before es : List EntryValue) → IsLegal before → (i j : ℕ) (a b : EntryValue) → slice_get (before ++ accepted_of before es) i ≡ Some a → slice_get (before ++ accepted_of before es) j ≡ Some b → a.origin ≡ b.origin → a.seq ≡ b.seq → i ≡ j
@@ -236,13 +266,33 @@ first_accepted : (before rest : List EntryValue) (e : EntryValue) → IsLegalAft
 unfolding IsLegalAfter
 first_accepted before rest e legal = legal
 
-pub kept_once : (before entries sent : List EntryValue) → IsLegal before → IsLegalAfter before entries → IsSending before entries sent → accepted_of before sent ≡ entries
+pub kept_once : (before entries sent : List EntryValue) → IsLegalAfter before entries → IsSending before entries sent → accepted_of before sent ≡ entries
 unfolding IsSending
-kept_once before entries [] legal after sending = none_accepted before ∙ sym sending
-kept_once before entries (e ∷ sent) legal after (inl repeat) =
-    passed_over before sent e (not_accepted before e legal repeat.0) ∙ kept_once before entries sent legal after repeat.1
-kept_once before entries (e ∷ sent) legal after (inr (inl early)) =
-    passed_over before sent e (ap is_accept (gap_judged before e early.0)) ∙ kept_once before entries sent legal after early.1
-kept_once before entries (e ∷ sent) legal after (inr (inr next)) =
+kept_once before entries [] after sending = none_accepted before ∙ sym sending
+kept_once before entries (e ∷ sent) after (inl other) = passed_over before sent e other.0 ∙ kept_once before entries sent after other.1
+kept_once before entries (e ∷ sent) after (inr next) =
     let parts = first_accepted before next.0 e (subst (λ (l : List EntryValue). IsLegalAfter before l) next.1 after) in
-    after_one before next.0 sent entries e parts.0 next.1 (kept_once (before ++ e ∷ []) next.0 sent (legal_more [] before e legal parts.0) parts.1 next.2)
+    after_one before next.0 sent entries e parts.0 next.1 (kept_once (before ++ e ∷ []) next.0 sent parts.1 next.2)
+
+-- what is sent is a sending of what is accepted
+nothing_kept : (before sent : List EntryValue) (e : EntryValue) → is_accept (judged before e) ≡ false → IsSending (before ++ []) (accepted_of (before ++ []) sent) sent
+    → IsSending before (accepted_of (before ++ []) sent) (e ∷ sent)
+unfolding IsSending
+nothing_kept before sent e h rest = inl (h, subst (λ (l : List EntryValue). IsSending l (accepted_of (before ++ []) sent) sent) (append-nil before) rest)
+
+sending_first : (before sent : List EntryValue) (e : EntryValue) (v : Verdict) → judged before e ≡ v → IsSending (before ++ kept_by v e) (accepted_of (before ++ kept_by v e) sent) sent
+    → IsSending before (kept_by v e ++ accepted_of (before ++ kept_by v e) sent) (e ∷ sent)
+unfolding IsSending
+sending_first before sent e verdict.Accept h rest = inr (accepted_of (before ++ e ∷ []) sent, refl, rest)
+sending_first before sent e (verdict.Already n) h rest = nothing_kept before sent e (ap is_accept h) rest
+sending_first before sent e (verdict.Gap n) h rest = nothing_kept before sent e (ap is_accept h) rest
+sending_first before sent e (verdict.Refused why) h rest = nothing_kept before sent e (ap is_accept h) rest
+
+no_sending : (before : List EntryValue) → IsSending before [] []
+unfolding IsSending
+no_sending before = refl
+
+pub is_sending : (before sent : List EntryValue) → IsSending before (accepted_of before sent) sent
+unfolding accepted_of
+is_sending before [] = no_sending before
+is_sending before (e ∷ sent) = sending_first before sent e (judged before e) refl (is_sending (before ++ taken before e) sent)

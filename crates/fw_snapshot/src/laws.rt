@@ -1,5 +1,5 @@
 //! What holds of all lists of entries: laws, each the contract of a function that does nothing.
-ghost use Rattle.std.specs.Prelude.{◌≡◌, ◌+◌, ◌≤◌, ◌<◌, ◌++◌, ◌∷◌, [], ℕ, List, All, Some, filter, false, length, map, slice_get, take};
+ghost use Rattle.std.specs.Prelude.{◌≡◌, ◌+◌, ◌≤◌, ◌<◌, ◌++◌, ◌∷◌, [], ℕ, List, All, Some, drop, filter, false, length, map, slice_get, take, true};
 ghost use Rattle.std.specs.List.{Contains, flat_map, range_with_len};
 ghost use Rattle.std.specs.Str.{bytes_eq};
 ghost use Rattle.fw_charge.specs.Charge.{Charge};
@@ -11,9 +11,10 @@ ghost use Rattle.fw_entry.specs.Spelling.{IsEntry};
 ghost use Rattle.fw_snapshot.specs.History.{rows_posted, rows_of, commitments_of, entries_from};
 ghost use Rattle.fw_snapshot.specs.Ids.{NoRowHasIdOf, NoneHasIdOf};
 ghost use Rattle.fw_snapshot.specs.Judging.{IsLegal, IsLegalAfter, judged, most_commitments, most_rows};
-ghost use Rattle.fw_snapshot.specs.Verdicts.{verdicts_on, accepted_of, chosen, is_accept, IsRepeat, IsSending};
+ghost use Rattle.fw_snapshot.specs.Verdicts.{verdicts_on, accepted_of, chosen, is_accept, is_kept, of_origin, AreNumbered, HasOnly, IsRepeat, IsSending};
 ghost use Rattle.fw_snapshot.specs.declared.verdict.Conflict.{Conflict};
 ghost use Rattle.fw_snapshot.specs.declared.verdict.Conflict.TheVariants as conflict;
+ghost use Rattle.fw_snapshot.specs.declared.verdict.Verdict.{Verdict};
 ghost use Rattle.fw_snapshot.specs.declared.verdict.Verdict.TheVariants as verdict;
 
 /// A warehouse holds each entry once: two entries at different places differ in their origin or in their number.
@@ -123,10 +124,14 @@ pub fn a_repeat_is_answered_already()
     ensures only { (before : List EntryValue) (e : EntryValue) (last : ℕ) → IsLegal before → 0 < e.seq → judged before e ≡ verdict.Already last → IsRepeat before e × (last ≡ entries_from e.origin before) }
 {}
 
-/// A repeat changes nothing, wherever it stands among the entries that are sent and whatever came since: the others get
-/// the verdicts that they get without it, and the same ones are accepted. Neither does any other entry that isn't
-/// accepted, as one that leaves a gap.
+/// A repeat changes nothing, wherever it stands among the entries that are sent and whatever came since: the verdicts on the others, those before it and
+/// those behind it, are the ones that they get without it (`others`), and the same ones are accepted. Neither does any other entry that isn't
+/// accepted, as one that leaves a gap (`others_refused`, `refused`).
 pub fn a_repeat_changes_nothing()
+    ensures others { (before first rest : List EntryValue) (e : EntryValue) → IsLegal before → IsRepeat (before ++ accepted_of before first) e
+        → take (length first) (verdicts_on before (first ++ e ∷ rest)) ++ drop (length first + 1) (verdicts_on before (first ++ e ∷ rest)) ≡ verdicts_on before (first ++ rest) }
+    ensures others_refused { (before first rest : List EntryValue) (e : EntryValue) → is_accept (judged (before ++ accepted_of before first) e) ≡ false
+        → take (length first) (verdicts_on before (first ++ e ∷ rest)) ++ drop (length first + 1) (verdicts_on before (first ++ e ∷ rest)) ≡ verdicts_on before (first ++ rest) }
     ensures verdicts { (before first rest : List EntryValue) (e : EntryValue) → IsLegal before → IsRepeat (before ++ accepted_of before first) e
         → verdicts_on before (first ++ e ∷ rest) ≡ verdicts_on before first ++ verdict.Already (entries_from e.origin (before ++ accepted_of before first)) ∷ verdicts_on (before ++ accepted_of before first) rest }
     ensures accepted { (before first rest : List EntryValue) (e : EntryValue) → IsLegal before → IsRepeat (before ++ accepted_of before first) e
@@ -135,10 +140,25 @@ pub fn a_repeat_changes_nothing()
         → accepted_of before (first ++ e ∷ rest) ≡ accepted_of before (first ++ rest) }
 {}
 
-/// Sent at least once, kept exactly once: where entries that a warehouse can take are sent in their order, with repeats
-/// and entries before their turn in between, the warehouse holds what it held and these entries, each once and in order.
+/// Sent at least once, kept exactly once: where entries that a warehouse can take one after the other are sent in that order, each at least once,
+/// among repeats, gaps and entries that are refused, the warehouse then holds what it held and these entries, each once and in order (`kept`).
+/// Nothing else leads there: whatever is sent is a sending of the entries that are accepted (`only`).
 pub fn sent_at_least_once_is_kept_once()
-    ensures { (before entries sent : List EntryValue) → IsLegal before → IsLegalAfter before entries → IsSending before entries sent → accepted_of before sent ≡ entries }
+    ensures kept { (before entries sent : List EntryValue) → IsLegalAfter before entries → IsSending before entries sent → accepted_of before sent ≡ entries }
+    ensures only { (before sent : List EntryValue) → IsSending before (accepted_of before sent) sent }
+{}
+
+/// A sender that numbers its entries 1, 2, 3 .. sends them as it likes: in any order, any number of times, among the entries of others, whatever these
+/// are and whatever becomes of them. What the warehouse has of it are always the first of its entries, each once and in order (`front`). An entry that was
+/// answered `Accept` or `Already` is there, and so is each of a smaller number (`answered`). Once its last entry is answered so, all are there (`all`).
+pub fn a_sender_is_kept_in_its_order()
+    ensures front { (origin : List ℕ) (before sent own : List EntryValue) → IsLegal before → AreNumbered origin own → HasOnly origin own (before ++ sent)
+        → of_origin origin (before ++ accepted_of before sent) ≡ take (entries_from origin (before ++ accepted_of before sent)) own }
+    ensures answered { (before sent : List EntryValue) (place : ℕ) (e : EntryValue) (v : Verdict) → slice_get sent place ≡ Some e
+        → slice_get (verdicts_on before sent) place ≡ Some v → is_kept v ≡ true → e.seq ≤ entries_from e.origin (before ++ accepted_of before sent) }
+    ensures all { (origin : List ℕ) (before sent own : List EntryValue) (place : ℕ) (last : EntryValue) (v : Verdict) → IsLegal before → AreNumbered origin own → HasOnly origin own (before ++ sent)
+        → slice_get sent place ≡ Some last → last.origin ≡ origin → last.seq ≡ length own → slice_get (verdicts_on before sent) place ≡ Some v → is_kept v ≡ true
+        → of_origin origin (before ++ accepted_of before sent) ≡ own }
 {}
 
 /// Each entry counts once, however often it is sent: in what a warehouse holds after any list of entries no two places

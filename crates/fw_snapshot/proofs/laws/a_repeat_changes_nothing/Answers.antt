@@ -1,5 +1,11 @@
-use Rattle.fw_snapshot.proofs.RepeatFacts.{repeat_verdicts, repeat_nothing, refused_nothing}
+use Rattle.fw_snapshot.proofs.RepeatFacts.{repeat_others, refused_others, repeat_verdicts, repeat_nothing, refused_nothing}
 use Rattle.fw_snapshot.proofs.laws.a_repeat_changes_nothing.Goals as goal
+
+pub returns-clause-others : goal.returns-clause-others
+returns-clause-others c = repeat_others
+
+pub returns-clause-others_refused : goal.returns-clause-others_refused
+returns-clause-others_refused c = refused_others
 
 pub returns-clause-verdicts : goal.returns-clause-verdicts
 returns-clause-verdicts c = repeat_verdicts

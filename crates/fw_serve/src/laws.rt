@@ -1,0 +1,59 @@
+//! What holds of every run of commands: laws over the relation that [`serve`](crate::serve) promises between a script and what was written, each the
+//! contract of a function that does nothing.
+ghost use Rattle.std.specs.Prelude.{◌≡◌, ◌⊎◌, ◌+◌, ◌<◌, ◌^◌, All, List, Some, length, slice_get, ℕ};
+ghost use Rattle.std.specs.List.{concat};
+ghost use Rattle.fw_entry.specs.Entry.{EntryValue};
+ghost use Rattle.fw_script.specs.Plain.{PlainCommand};
+ghost use Rattle.fw_serve.specs.Answers.{Answer, Answers};
+ghost use Rattle.fw_serve.specs.Replies.{accepted_line, already_line, conflict_line, gap_line};
+ghost use Rattle.fw_serve.specs.Runs.{AnswersEach, AreTold, AreUnhindered, IsHindered, Sends, StandsAt};
+ghost use Rattle.fw_serve.specs.Standings.{Standing};
+ghost use Rattle.fw_snapshot.specs.History.{entries_from};
+ghost use Rattle.fw_snapshot.specs.Judging.{IsLegal, judged};
+ghost use Rattle.fw_snapshot.specs.Verdicts.{IsRepeat};
+ghost use Rattle.fw_snapshot.specs.declared.verdict.Conflict.{Conflict};
+ghost use Rattle.fw_snapshot.specs.declared.verdict.Verdict.TheVariants as verdict;
+
+/// What is written is one answer for each command, in order (`each`), and these answers say what the warehouse holds (`told`): `entries` are the entries of
+/// the commands that were answered `accepted`, `already`, `gap` or `refused J..`; each of them was answered by the line of its verdict, and the
+/// warehouse holds what it held and those that were accepted. So every law of `fw_snapshot` on entries that are sent is one of what was written.
+pub fn answers_say_what_is_held()
+    ensures each { (before after : Standing) (commands : List PlainCommand) (text : List ℕ) → Answers before commands text after
+        → (answers : List (List ℕ)) × (text ≡ concat answers) × AnswersEach before commands answers after }
+    ensures told { (before after : Standing) (commands : List PlainCommand) (answers : List (List ℕ)) → AnswersEach before commands answers after
+        → AreTold before.history commands answers after.history }
+{}
+
+/// One command has one answer: after the same accepted entries a report, lines, the state, and each other command is answered by the same bytes in two runs, and
+/// leaves the same entries, unless in one of them memory ran out or the store didn't do it (`command`). So is a script (`script`). A
+/// command that is answered so leaves the entries as they were (`hindered`), and all others are answered as if it were not in the
+/// script (`left_out`). A command sends one entry at most (`entry`).
+pub fn one_command_has_one_answer()
+    ensures command { (a b c d : Standing) (command : PlainCommand) (s t : List ℕ) → a.history ≡ b.history → Answer a command s c → Answer b command t d
+        → IsHindered s ⊎ (IsHindered t ⊎ ((s ≡ t) × (c.history ≡ d.history))) }
+    ensures script { (a b c d : Standing) (commands : List PlainCommand) (ss ts : List (List ℕ)) → a.history ≡ b.history → AnswersEach a commands ss c → AnswersEach b commands ts d
+        → All (λ s. ¬ IsHindered s) ss → All (λ t. ¬ IsHindered t) ts → (ss ≡ ts) × (c.history ≡ d.history) }
+    ensures hindered { (before after : Standing) (command : PlainCommand) (text : List ℕ) → Answer before command text after → IsHindered text → after.history ≡ before.history }
+    ensures left_out { (a b c d : Standing) (commands rest : List PlainCommand) (ss rs ts : List (List ℕ)) → a.history ≡ b.history → AnswersEach a commands ss c → AreUnhindered commands ss rest rs
+        → AnswersEach b rest ts d → All (λ t. ¬ IsHindered t) ts → (rs ≡ ts) × (c.history ≡ d.history) }
+    ensures entry { (currency : List ℕ) (command : PlainCommand) (d e : EntryValue) → Sends currency command d → Sends currency command e → d ≡ e }
+{}
+
+/// What is written is true. `accepted N` is answered to the command of an entry, and after the script this is the Nth of the warehouse, counted from 1
+/// (`accepted`). No script moves an entry (`stays`).
+/// `already N`: an entry of its origin and number was there, and the last of its origin has the number N. `gap N`: its number is above N, which
+/// is the next of its origin. `refused J..`: it is refused for this reason. After the last three the warehouse holds what it held. Numbers are
+/// below 2^64, as all numbers that the program counts with.
+pub fn what_is_written_is_true()
+    ensures accepted { (before after : Standing) (commands : List PlainCommand) (answers : List (List ℕ)) (place n : ℕ) (command : PlainCommand) → AnswersEach before commands answers after
+        → slice_get commands place ≡ Some command → slice_get answers place ≡ Some (accepted_line n) → n < 2 ^ 64 → length after.history.entries < 2 ^ 64
+        → (e : EntryValue) × Sends before.history.currency command e × StandsAt after.history.entries n e }
+    ensures stays { (before after : Standing) (commands : List PlainCommand) (answers : List (List ℕ)) (n : ℕ) (e : EntryValue) → AnswersEach before commands answers after
+        → StandsAt before.history.entries n e → StandsAt after.history.entries n e }
+    ensures already { (before after : Standing) (command : PlainCommand) (n : ℕ) → IsLegal before.history.entries → Answer before command (already_line n) after → n < 2 ^ 64 → length before.history.entries < 2 ^ 64
+        → (e : EntryValue) × Sends before.history.currency command e × IsRepeat before.history.entries e × (n ≡ entries_from e.origin before.history.entries) × (after.history ≡ before.history) }
+    ensures gap { (before after : Standing) (command : PlainCommand) (n : ℕ) → Answer before command (gap_line n) after → n < 2 ^ 64
+        → (e : EntryValue) × Sends before.history.currency command e × (n ≡ entries_from e.origin before.history.entries + 1) × (n < e.seq) × (after.history ≡ before.history) }
+    ensures refused { (before after : Standing) (command : PlainCommand) (why : Conflict) → Answer before command (conflict_line why) after
+        → (e : EntryValue) × Sends before.history.currency command e × (judged before.history.entries e ≡ verdict.Refused why) × (after.history ≡ before.history) }
+{}
