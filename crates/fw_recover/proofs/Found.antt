@@ -235,7 +235,7 @@ in_use c side generation body_len end state now settled newest header fits spell
 
 -- ---- where a side breaks
 
-as_one : (form : Form) (file : List ℕ) → HasMagic form file → HasMagic One file
+pub as_one : (form : Form) (file : List ℕ) → HasMagic form file → HasMagic One file
 as_one One file magic_is = magic_is
 
 pub bad_body : (c : Image) (side at_side : Side) (generation body_len at : ℕ) (file : List ℕ) → file ≡ c side → IsNewest c side → HasHeader generation body_len (c side)
