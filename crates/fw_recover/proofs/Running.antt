@@ -70,3 +70,25 @@ none_answered h es vs none =
 
 pub none_stand : (h : History) (es : List EntryValue) (c : Image) → StandsFor h c → StandsForFirst h es c
 none_stand h es c stands = (0, subst (λ (k : History). StandsFor k c) (none_yet h es) stands)
+
+-- ---- opening files that stand for a warehouse
+
+device_or_memory : (c : Image) (h : History) (fault : StoreFault) → StandsFor h c → IsOpenFault fault → (fault ≡ NoHouse → StandsForNone c)
+    → ((side : Side) (at : ℕ) → fault ≡ Corrupt side at → CorruptAt c side at) → (fault ≡ Device) ⊎ (fault ≡ NoMemory)
+device_or_memory c h NoHouse stands which none corrupt = absurd (stands_not_none c h stands (none refl))
+device_or_memory c h (Corrupt side at) stands which none corrupt = absurd (stands_not_corrupt c h side at stands (corrupt side at refl))
+device_or_memory c h Device stands which none corrupt = inl refl
+device_or_memory c h Failed stands which none corrupt = absurd which
+device_or_memory c h Generations stands which none corrupt = absurd which
+device_or_memory c h TooLarge stands which none corrupt = absurd which
+device_or_memory c h Exists stands which none corrupt = absurd which
+device_or_memory c h NoMemory stands which none corrupt = inr refl
+
+-- they are opened, unless the device fails or memory runs out
+pub stands_else_fault : {S V : Type 0} (tells : Bool) (c : Image) (h : IsTrue tells → History) (result : Result S (V × StoreFault)) → ((told : IsTrue tells) → StandsFor (h told) c)
+    → IfErr result (λ e. IsOpenFault e.1) → IfErr result (λ e. e.1 ≡ NoHouse → IsTrue tells → StandsForNone c)
+    → ((side : Side) (at : ℕ) → IfErr result (λ e. e.1 ≡ Corrupt side at → IsTrue tells → CorruptAt c side at))
+    → IfErr result (λ e. IsTrue tells → (e.1 ≡ Device) ⊎ (e.1 ≡ NoMemory))
+stands_else_fault tells c h (Ok s) stands which none corrupt = tt
+stands_else_fault tells c h (Err e) stands which none corrupt = λ told.
+    device_or_memory c (h told) e.1 (stands told) which (λ is. none is told) (λ side at is. corrupt side at is told)

@@ -1,9 +1,8 @@
 //! Entries that are committed one by one, and what a crash leaves of them.
-ghost use Rattle.std.specs.Prelude.{◌≡◌, ◌≢◌, ◌⊎◌, ◌↔◌, ◌+◌, ◌<◌, ◌≤◌, ℕ, true, false, length, take, drop, IfOk, IfErr, IsTrue};
-ghost use Rattle.fw_disk.specs.declared.volume.Side.{Side};
+ghost use Rattle.std.specs.Prelude.{◌≡◌, ◌⊎◌, ◌↔◌, ◌+◌, ◌<◌, ◌≤◌, ℕ, true, false, length, take, drop, IfOk, IfErr, IsTrue};
 ghost use Rattle.fw_disk.specs.Volume.{Image, LeavesOnly, Rose};
 ghost use Rattle.fw_snapshot.specs.Verdicts.{verdicts_on, accepted_of};
-ghost use Rattle.fw_recover.specs.declared.fault.StoreFault.TheVariants.{NoHouse, Corrupt, Device, Failed, TooLarge, NoMemory};
+ghost use Rattle.fw_recover.specs.declared.fault.StoreFault.TheVariants.{Device, Failed, TooLarge, NoMemory};
 ghost use Rattle.fw_recover.specs.Stands.{EachStandsFor};
 ghost use Rattle.fw_recover.specs.Committing.{HasNoRoom, with_first, StandsForFirst, HasAnswered, IsCommitFault};
 
@@ -84,8 +83,8 @@ impl<V: Volume> Store<V> {
 }
 
 /// Commits entries in turn until one fails, is stopped as by a crash, and opened again. Whenever the stop came, the
-/// warehouse has the entries of a prefix in which each answered one is, and one more at most; and it is never missing or
-/// corrupt.
+/// warehouse has the entries of a prefix in which each answered one is, and one more at most. It is never missing or
+/// corrupt: it opens, unless a read or a sync fails or memory runs out.
 pub fn run_and_recover<V: Stoppable>(
     alloc: Global,
     store: Store<V>,
@@ -95,8 +94,7 @@ pub fn run_and_recover<V: Stoppable>(
 
     ensures answered { (length result.0.items ≤ length entries.now) × (result.0.items ≡ verdicts_on store.history.entries (take (length result.0.items) entries.now)) }
     ensures recovered { IfOk result.1 (λ s. IsTrue V.tells → (n : ℕ) × (length result.0.items ≤ n) × (n ≤ length result.0.items + 1) × (s.history ≡ with_first store.history n entries.now)) }
-    ensures not_missing { IfErr result.1 (λ e. IsTrue V.tells → e.1 ≢ NoHouse) }
-    ensures not_corrupt { (side : Side) (at : ℕ) → IfErr result.1 (λ e. IsTrue V.tells → e.1 ≢ Corrupt side at) }
+    ensures else_device_or_memory { IfErr result.1 (λ e. IsTrue V.tells → (e.1 ≡ Device) ⊎ (e.1 ≡ NoMemory)) }
 {
     let mut store = store;
     let verdicts = store.run_until_a_fault(alloc, entries);
