@@ -9,19 +9,12 @@ use Rattle.fw_journal.specs.Frames.{spelled, Tells}
 use Rattle.fw_segment.specs.Groups.{group, IsGroup}
 use Rattle.fw_snapshot.specs.History.{History}
 use Rattle.fw_snapshot.specs.Judging.{IsLegal, IsLegalAfter}
+use Rattle.fw_snapshot.proofs.VerdictFacts.{legal_append}
 use Rattle.fw_snapshot.specs.Verdicts.{with_more}
 use Rattle.fw_recover.specs.Sides.{made_of, generation_of, log_start_of, IsOpen, IsSound}
 use Rattle.fw_recover.specs.Stands.{joined, StandsFor, StandsForEither}
 use Rattle.fw_recover.proofs.Files.{made_magic, made_len, same_generation, length-made}
 use Rattle.fw_recover.proofs.Standing.{by_side}
-
--- a legal list behind a legal list
-pub legal_joined : (first xs ys : List EntryValue) → IsLegalAfter first xs → IsLegalAfter (first ++ xs) ys → IsLegalAfter first (xs ++ ys)
-unfolding IsLegalAfter
-legal_joined first [] ys front back = rw append-nil at back
-legal_joined first (x ∷ xs) ys front back =
-    let more : IsLegalAfter ((first ++ x ∷ []) ++ xs) ys = rw append_assoc back in
-    (front.0, legal_joined (first ++ x ∷ []) xs ys front.1 more)
 
 joined-push : (gs : List (List EntryValue)) (g : List EntryValue) → joined (gs ++ g ∷ []) ≡ joined gs ++ g
 joined-push [] g = append-nil g
@@ -117,4 +110,4 @@ module _ (h : History) (old : Image) (standing : StandsFor h old) (c : Image)
   stands_either more is_group legal (inr with_it) =
       inr (stands_on (with_more h more) (standing.tells.groups ++ more ∷ []) (All-push IsGroup standing.tells.groups more standing.tells.each is_group) with_it
       (more_history h standing.tells.state standing.tells.groups more standing.tells.is_history)
-      (legal_joined [] h.entries more standing.tells.legal legal))
+      (legal_append [] h.entries more standing.tells.legal legal))

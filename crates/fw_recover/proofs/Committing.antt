@@ -12,17 +12,17 @@ use Rattle.fw_segment.specs.Groups.{group, IsGroup}
 use Rattle.fw_snapshot.specs.History.{History}
 use Rattle.fw_snapshot.specs.Judging.{IsLegal, IsLegalAfter}
 use Rattle.fw_snapshot.specs.Verdicts.{with_more}
+use Rattle.fw_snapshot.proofs.VerdictFacts.{legal_append, legal_parts}
 use Rattle.fw_recover.specs.Sides.{generation_of, log_start_of}
 use Rattle.fw_recover.specs.Stands.{StandsFor, StandsForEither, EachStandsFor}
 use Rattle.fw_recover.specs.Making.{AllSettled}
 use Rattle.fw_recover.specs.Opening.{GoesBehind}
 use Rattle.fw_recover.specs.Store.{StoreState, IsFresh, IsKept}
 use Rattle.fw_recover.specs.Committing.{payload_of, IsFrameable, HasNoRoom, Committed, Appended}
-use Rattle.fw_recover.proofs.Appending.{generation, stands_on, stands_either, more_history, legal_joined}
+use Rattle.fw_recover.proofs.Appending.{generation, stands_on, stands_either, more_history}
 use Rattle.fw_recover.proofs.Files.{made_len}
 use Rattle.fw_recover.proofs.Judged.{payload_some, length-group}
 use Rattle.fw_recover.proofs.Standing.{by_side, no_more, stands_same}
-use Rattle.fw_recover.proofs.Walks.{legal_parts}
 
 -- where nothing is pending each image stands for what is in use
 pub each_stands : (g : ℕ) (log : LogState) (h : History) (v : View) → IsFresh g log h v → EachStandsFor h v
@@ -110,7 +110,7 @@ module _ (old new : View) (g : ℕ) (log : LogState) (h next : History) (payload
               stands_on h old.seen used new.seen (same_other new.seen (images new.seen now)) (same_before new.seen (images new.seen now)) (with_more h goes.more) (groups ++ goes.more ∷ [])
               (All-push IsGroup groups goes.more used.tells.each goes.is_group) tells_after
               (more_history h used.tells.state groups goes.more used.tells.is_history)
-              (legal_joined [] h.entries goes.more used.tells.legal goes.legal);
+              (legal_append [] h.entries goes.more used.tells.legal goes.legal);
           in_use = fresh.in_use ∙ sym side_is;
           generation_is = generation_after;
           start = start_stays ∙ fresh.start;

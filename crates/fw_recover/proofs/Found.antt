@@ -25,6 +25,7 @@ use Rattle.fw_snapshot.specs.Judging.{judged, IsLegal, IsLegalAfter}
 use Rattle.fw_snapshot.specs.Verdicts.{with_more}
 use Rattle.fw_snapshot.specs.declared.verdict.Verdict.TheVariants as verdict
 use Rattle.fw_recover.specs.declared.fault.StoreFault.TheVariants as store_faults
+use Rattle.fw_snapshot.proofs.VerdictFacts.{legal_append, legal_parts}
 use Rattle.fw_recover.specs.Sides.{magic, made_of, generation_of, body_of, HasMagic, IsOpen, IsSound}
 use Rattle.fw_recover.specs.Stands.{SideTells, IsNewest, StandsForNone}
 use Rattle.fw_recover.specs.Corrupt.{LacksAt, Lacks, AreTwins, IsBadFrame, LogBreaks, BodyBreaks, BreaksBehind, Breaks, CorruptAt}
@@ -32,9 +33,8 @@ use Rattle.fw_recover.specs.Headers.{HasHeader}
 use Rattle.fw_recover.specs.Making.{AllSettled}
 use Rattle.fw_recover.specs.Opening.{log_fault, IsAfter, GoesNotBehind, GoesBehind, IsWithGroup, HasGroups, IsClosedAt, HasBadBody}
 use Rattle.fw_recover.specs.Store.{IsFresh}
-use Rattle.fw_recover.proofs.Appending.{legal_joined, more_history}
+use Rattle.fw_recover.proofs.Appending.{more_history}
 use Rattle.fw_recover.proofs.Standing.{no_more}
-use Rattle.fw_recover.proofs.Walks.{legal_parts}
 
 -- ---- entries
 
@@ -56,7 +56,7 @@ module _ (first es : List EntryValue) (i : ℕ) (e : EntryValue) (within : i < l
 
   pub accepted_more : IsLegalAfter first (take i es) → judged (first ++ take i es) e ≡ verdict.Accept → IsLegalAfter first (take (i + 1) es)
   accepted_more legal accepted =
-      subst (λ (l : List EntryValue). IsLegalAfter first l) (sym taken_more) (legal_joined first (take i es) (e ∷ []) legal (one_entry (first ++ take i es) e accepted))
+      subst (λ (l : List EntryValue). IsLegalAfter first l) (sym taken_more) (legal_append first (take i es) (e ∷ []) legal (one_entry (first ++ take i es) e accepted))
 
   pub refused_one : (judged (first ++ take i es) e ≡ verdict.Accept → ⊥) → IsLegalAfter first es → ⊥
   refused_one refused all =
@@ -142,7 +142,7 @@ one_group_more state now next start gate behind file payload rest has fit frame 
       fit = subst (λ (ps : List (List ℕ)). AllFit ps) more (AllFit-push passed payload has.fit fit);
       place = there ∙ ap (λ (ps : List (List ℕ)). start + length (spelled ps)) more;
       is_history = goes.is ∙ more_history now state has.groups goes.more has.is_history;
-      legal = subst (λ (k : History). IsLegal k.entries) (sym goes.is) (legal_joined [] now.entries goes.more has.legal goes.legal);
+      legal = subst (λ (k : History). IsLegal k.entries) (sym goes.is) (legal_append [] now.entries goes.more has.legal goes.legal);
     }
 
 pub breaks_there : (state now : History) (start at : ℕ) (file : List ℕ) → HasGroups state start at file now → IsBroken (drop at file) ⊎ IsBadFrame One now.entries (drop at file)
@@ -235,7 +235,7 @@ in_use c side generation body_len end state now settled newest header fits spell
 
 -- ---- where a side breaks
 
-as_one : (form : Form) (file : List ℕ) → HasMagic form file → HasMagic One file
+pub as_one : (form : Form) (file : List ℕ) → HasMagic form file → HasMagic One file
 as_one One file magic_is = magic_is
 
 pub bad_body : (c : Image) (side at_side : Side) (generation body_len at : ℕ) (file : List ℕ) → file ≡ c side → IsNewest c side → HasHeader generation body_len (c side)

@@ -11,7 +11,7 @@ pub header_is : (file into : List ℕ) → length into ≡ 25 → into ≡ take 
 header_is file into long is = is ∙ ap (λ (n : ℕ). take n file) long
 
 -- eight bytes of a header are those of the file
-field : (file : List ℕ) (k m : ℕ) → 8 ≤ m → k + m ≡ 25 → take 8 (drop k (take 25 file)) ≡ take 8 (drop k file)
+pub field : (file : List ℕ) (k m : ℕ) → 8 ≤ m → k + m ≡ 25 → take 8 (drop k (take 25 file)) ≡ take 8 (drop k file)
 field file k m some all =
     ap (λ (n : ℕ). take 8 (drop k (take n file))) (sym all)
     ∙ ap (λ (l : List ℕ). take 8 l) (drop-take k m file)

@@ -1,7 +1,7 @@
 -- Entries that are judged in turn: one more of them, and what is known of the accepted ones.
-use Rattle.std.proofs.Common.{◌≡◌, ◌≢◌, ℕ, ◌+◌, ◌<◌, ◌≤◌, List, [], ◌∷◌, ◌++◌, length, take, drop, get_or, All, refl, sym, ◌∙◌, ap, arith, append_assoc, length-append}
+use Rattle.std.proofs.Common.{◌≡◌, ◌≢◌, ℕ, ◌+◌, ◌<◌, ◌≤◌, List, [], ◌∷◌, ◌++◌, length, take, drop, get_or, refl, sym, ◌∙◌, ap, arith, append_assoc, length-append}
 use Rattle.std.proofs.lemmas.List.{append-nil, take_more, take_at, drop_at}
-use Rattle.std.proofs.lemmas.List.Elements.{All-nil, All-cons, All-head, All-tail}
+use Rattle.std.proofs.lemmas.List.Elements.{All-nil, All-cons}
 use Rattle.std.specs.List.{flat_map}
 use Rattle.fw_entry.specs.Entry.{EntryValue}
 use Rattle.fw_entry.specs.Spelling.{entry, IsEntry}
@@ -11,7 +11,7 @@ use Rattle.fw_snapshot.specs.Judging.{judged}
 use Rattle.fw_snapshot.specs.Verdicts.{kept_by, taken, verdicts_on, accepted_of, chosen, with_more}
 use Rattle.fw_snapshot.specs.declared.verdict.Verdict.{Verdict}
 use Rattle.fw_snapshot.specs.declared.verdict.Verdict.TheVariants as verdict
-use Rattle.fw_snapshot.proofs.VerdictFacts.{chosen_accepted, verdicts_in_parts, accepted_in_parts, accepted_shorter}
+use Rattle.fw_snapshot.proofs.VerdictFacts.{chosen_accepted, verdicts_in_parts, accepted_in_parts, accepted_shorter, accepted_each}
 use Rattle.fw_recover.specs.Committing.{payload_of, IsFrameable}
 use Rattle.fw_recover.proofs.Standing.{no_more}
 
@@ -32,19 +32,7 @@ kept_short (verdict.Already n) e = omega arith
 kept_short (verdict.Gap n) e = omega arith
 kept_short (verdict.Refused why) e = omega arith
 
-all_kept : (P : EntryValue → Type 0) (v : Verdict) (e : EntryValue) (es : List EntryValue) → P e → All P es → All P (kept_by v e ++ es)
-all_kept P verdict.Accept e es one all = All-cons P e es one all
-all_kept P (verdict.Already n) e es one all = all
-all_kept P (verdict.Gap n) e es one all = all
-all_kept P (verdict.Refused why) e es one all = all
-
 -- ---- the accepted ones of a list
-
-all_accepted : (P : EntryValue → Type 0) (before es : List EntryValue) → All P es → All P (accepted_of before es)
-unfolding accepted_of
-all_accepted P before [] all = all
-all_accepted P before (e ∷ es) all =
-    all_kept P (judged before e) e (accepted_of (before ++ taken before e) es) (All-head P e es all) (all_accepted P (before ++ taken before e) es (All-tail P e es all))
 
 accepted_few : (before es : List EntryValue) → length (accepted_of before es) ≤ length es
 unfolding accepted_of
@@ -63,7 +51,7 @@ frameable before es is short some = record {
   is_group = record {
     some = some;
     few = omega (arith, accepted_few before es, is.few);
-    each = all_accepted IsEntry before es is.each;
+    each = accepted_each IsEntry before es is.each;
   };
   size = omega (arith, short, length-group es, length-group (accepted_of before es), accepted_shorter entry before es);
 }

@@ -9,3 +9,4 @@ pub mod Made
 pub mod Committing
 pub mod Judged
 pub mod Running
+pub mod Decided

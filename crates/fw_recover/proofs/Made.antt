@@ -1,5 +1,5 @@
 -- A side that was just made of a warehouse: the files stand for it there, and its log is empty.
-use Rattle.std.proofs.Common.{false, ◌≡◌, inl, ℕ, ◌+◌, ◌-◌, ◌^◌, ◌<◌, List, [], ◌∷◌, ◌++◌, length, take, drop, map, All, refl, sym, ◌∙◌, ap, subst, arith, length-append}
+use Rattle.std.proofs.Common.{false, ◌≡◌, inl, ℕ, ◌+◌, ◌-◌, ◌^◌, ◌<◌, ◌≤◌, Bool, IsTrue, List, [], ◌∷◌, ◌++◌, length, take, drop, map, All, refl, sym, ◌∙◌, ap, subst, arith, append_assoc, length-append}
 use Rattle.std.proofs.lemmas.List.Elements.{All-head}
 use Rattle.fw_bytes.specs.Spelling.{number64}
 use Rattle.fw_charge.specs.Charge.{Charge}
@@ -21,11 +21,12 @@ use Rattle.fw_snapshot.specs.Heads.{segment_rows}
 use Rattle.fw_snapshot.specs.History.{History, rows_posted}
 use Rattle.fw_recover.specs.Sides.{magic, made_of, generation_of, IsOpen}
 use Rattle.fw_recover.specs.Stands.{StandsFor, StandsForNone}
-use Rattle.fw_recover.specs.Making.{AllSettled, Keeps, Making, Made}
-use Rattle.fw_recover.specs.Store.{IsFresh}
+use Rattle.fw_recover.specs.Making.{SpellsSide, AllSettled, Keeps, Making, Made}
+use Rattle.fw_recover.specs.Store.{StoreState, IsFresh}
 use Rattle.fw_recover.specs.Creating.{empty, StandsForNoneOr}
-use Rattle.fw_recover.specs.Checkpoints.{HasBodyAlone}
+use Rattle.fw_recover.specs.Checkpoints.{HasBodyAlone, IsCheckpointed}
 use Rattle.fw_recover.proofs.Files.{length-made}
+use Rattle.fw_recover.proofs.Found.{none_same}
 use Rattle.fw_recover.proofs.Standing.{other_other, split, new_generation, new_log, closed_log, new_tells, stands_new, stands_while, first_side, stands_or_none}
 
 -- a log without a group
@@ -125,6 +126,24 @@ module _ (h : History) (form : Form) (bytes body : List ℕ) (bytes_are : bytes 
       stands_or_none h old.seen none form body body_fits spells c keeps.other_stays
       (subst (λ (b : List ℕ). Making b (old.seen Left) (c Left)) bytes_are keeps.this))
 
+-- the first side of an empty warehouse, from before the files were synced on
+module _ (currency bytes items : List ℕ) (bytes_are : bytes ≡ items) (made : SpellsSide 1 (empty currency) items) (old mid new : View) (calm : Calm old mid) (none : StandsForNone old.seen) where
+  body_is : length made.body ≡ 19
+  body_is = empty_body currency made.body made.spells
+
+  still_none : StandsForNone mid.seen
+  still_none = none_same old.seen mid.seen calm.seen none
+
+  pub first_since : AllSettled old → LeavesOnly mid new (Keeps Left mid (Making bytes)) → LeavesOnly old new (StandsForNoneOr (empty currency))
+  first_since settled run =
+      calm_then (empty currency) old mid new calm settled none
+      (first_moments (empty currency) One bytes made.body (bytes_are ∙ made.is) (omega (arith, body_is)) made.spells mid new still_none run)
+
+  pub first_in_use : Made Left bytes mid new → IsFresh 1 (empty_log Left 44) (empty currency) new
+  first_in_use is_made =
+      subst (λ (n : ℕ). IsFresh 1 (empty_log Left (25 + n)) (empty currency) new) body_is
+      (first_fresh (empty currency) One bytes made.body (bytes_are ∙ made.is) (omega (arith, body_is)) made.spells mid new still_none is_made)
+
 -- ---- the side that isn't in use
 
 module _ (h : History) (form : Form) (g : ℕ) (fits : g < 2 ^ 64) (bytes body : List ℕ) (bytes_are : bytes ≡ made_of form g body ++ 0 ∷ []) (body_fits : length body < 2 ^ 64) (spells : Spells body h)
@@ -188,24 +207,54 @@ length_put g n first second third last new body a b c d counted put =
 
 -- ---- a checkpoint of what is in use
 
-pub length_made : (form : Form) (g : ℕ) (body bytes : List ℕ) → bytes ≡ made_of form g body ++ 0 ∷ [] → length bytes ≡ 25 + length body
-length_made form g body bytes is = omega (arith, ap (λ (l : List ℕ). length l) is, length-append (made_of form g body) (0 ∷ []), length-made form g body)
+length_spelled : (generation : ℕ) (h : History) (bytes : List ℕ) (made : SpellsSide generation h bytes) → length bytes ≡ 25 + length made.body
+length_spelled generation h bytes made =
+    omega (arith, ap (λ (l : List ℕ). length l) made.is, length-append (made_of One generation made.body) (0 ∷ []), length-made One generation made.body)
 
-module _ (h : History) (before : ℕ) (log : LogState) (old new : View) (fresh : IsFresh before log h old) (g : ℕ) (next_is : g ≡ before + 1) (fits : g < 2 ^ 64) (bytes body : List ℕ)
-    (bytes_are : bytes ≡ made_of One g body ++ 0 ∷ []) (bytes_fit : length bytes < 2 ^ 64) (spells : Spells body h) (side : Side) (side_is : side ≡ other log.side) where
-  body_fit : length body < 2 ^ 64
-  body_fit = omega (arith, bytes_fit, length_made One g body bytes bytes_are)
+module _ (h : History) (before : ℕ) (log : LogState) (old new : View) (fresh : IsFresh before log h old) (g : ℕ) (next_is : g ≡ before + 1) (fits : g < 2 ^ 64)
+    (bytes : List ℕ) (bytes_fit : length bytes < 2 ^ 64) (spells : SpellsSide g h bytes) (side : Side) (side_is : side ≡ other log.side) where
+  body_fits : length spells.body < 2 ^ 64
+  body_fits = omega (arith, bytes_fit, length_spelled g h bytes spells)
 
   is_newer : generation_of (old.seen fresh.standing.side) < g
   is_newer = omega (arith, next_is, fresh.generation_is, ap (λ (s : Side). generation_of (old.seen s)) fresh.in_use)
 
   pub checkpoint_moments : LeavesOnly old new (Keeps side old (Making bytes)) → LeavesOnly old new (StandsFor h)
   checkpoint_moments run =
-      next_moments h One g fits bytes body bytes_are body_fit spells old new fresh.standing is_newer log.side fresh.in_use
+      next_moments h One g fits bytes spells.body spells.is body_fits spells.spells old new fresh.standing is_newer log.side fresh.in_use
       (subst (λ (s : Side). LeavesOnly old new (Keeps s old (Making bytes))) side_is run)
 
-  pub checkpoint_fresh : Made side bytes old new → IsFresh g (empty_log side (25 + length body)) h new
+  pub checkpoint_fresh : Made side bytes old new → IsFresh g (empty_log side (length bytes)) h new
   checkpoint_fresh made =
-      subst (λ (s : Side). IsFresh g (empty_log s (25 + length body)) h new) (sym side_is)
-      (next_fresh h One g fits bytes body bytes_are body_fit spells old new fresh.standing is_newer log.side fresh.in_use
-      (subst (λ (s : Side). Made s bytes old new) side_is made))
+      subst (λ (n : ℕ). IsFresh g (empty_log side n) h new) (sym (length_spelled g h bytes spells))
+      (subst (λ (s : Side). IsFresh g (empty_log s (25 + length spells.body)) h new) (sym side_is)
+      (next_fresh h One g fits bytes spells.body spells.is body_fits spells.spells old new fresh.standing is_newer log.side fresh.in_use
+      (subst (λ (s : Side). Made s bytes old new) side_is made)))
+
+-- the store after it
+pub checkpointed : {V : Type 0} (tells : Bool) (view : V → View) (old new : StoreState V) (bytes : List ℕ) (side : Side) → new.generation ≡ old.generation + 1 → new.failed ≡ false
+    → side ≡ other old.log.side → new.log ≡ empty_log side (length bytes) → SpellsSide new.generation new.history bytes → 1 + length bytes ≤ (view new.volume).limit
+    → (IsTrue tells → (tail : List ℕ) × ((view new.volume).seen side ≡ 1 ∷ (bytes ++ tail))) → IsCheckpointed tells view old new
+checkpointed tells view old new bytes side generation failed side_is log spells fits reads =
+    let long = length_spelled new.generation new.history bytes spells in
+    record {
+      generation = generation;
+      side = ap (λ (l : LogState). l.side) log ∙ side_is;
+      body = spells.body;
+      spells = spells.spells;
+      fits = omega (arith, fits, long);
+      start = ap (λ (l : LogState). l.start) log ∙ long;
+      no_group = ap (λ (l : LogState). l.end) log ∙ sym (ap (λ (l : LogState). l.start) log);
+      failed = failed;
+      made = λ told. record {
+        form = One;
+        body = spells.body;
+        spells = spells.spells;
+        tail = (reads told).0;
+        is = ap (λ (l : LogState). (view new.volume).seen l.side) log
+            ∙ (reads told).1
+            ∙ ap (λ (l : List ℕ). 1 ∷ (l ++ (reads told).0)) spells.is
+            ∙ ap (λ (l : List ℕ). 1 ∷ l) (append_assoc (made_of One new.generation spells.body) (0 ∷ []) (reads told).0);
+      };
+      same_body = λ told. refl;
+    }

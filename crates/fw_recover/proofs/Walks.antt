@@ -15,18 +15,11 @@ use Rattle.fw_segment.proofs.Decoded.{one_spelling}
 use Rattle.fw_segment.proofs.Histories.{state_again}
 use Rattle.fw_snapshot.specs.History.{History}
 use Rattle.fw_snapshot.specs.Judging.{IsLegal, IsLegalAfter}
+use Rattle.fw_snapshot.proofs.VerdictFacts.{legal_parts}
 use Rattle.fw_recover.specs.Sides.{body_of, log_start_of, HasMagic}
 use Rattle.fw_recover.specs.Stands.{joined, SideTells}
 use Rattle.fw_recover.specs.Corrupt.{IsBadFrame, BreaksBehind}
 use Rattle.fw_recover.proofs.Files.{form_one, made_magic, made_body, made_log}
-
--- a legal list in two parts
-pub legal_parts : (first xs ys : List EntryValue) → IsLegalAfter first (xs ++ ys) → IsLegalAfter first xs × IsLegalAfter (first ++ xs) ys
-unfolding IsLegalAfter
-legal_parts first [] ys legal = (tt, rw append-nil legal)
-legal_parts first (x ∷ xs) ys legal =
-    let rest = legal_parts (first ++ x ∷ []) xs ys legal.1 in
-    ((legal.0, rest.0), rw append_assoc at rest.1)
 
 -- a closed gate stands first
 pub record IsShut (bytes : List ℕ) : Type 0 where

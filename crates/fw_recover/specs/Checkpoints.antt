@@ -1,5 +1,5 @@
 -- Checkpoints: the side that isn't in use is made anew of the warehouse as it is.
-use Rattle.std.specs.Prelude.{◌≡◌, ℕ, ◌+◌, ◌<◌, Bool, false, IsTrue, List, ◌∷◌, ◌++◌, length}
+use Rattle.std.specs.Prelude.{◌≡◌, ℕ, ◌+◌, ◌<◌, ◌≤◌, Bool, false, IsTrue, List, ◌∷◌, ◌++◌, length}
 use Rattle.fw_disk.specs.Volume.{View, other}
 use Rattle.fw_entry_bytes.specs.declared.form.Form.{Form}
 use Rattle.fw_segment.specs.States.{Spells}
@@ -21,10 +21,16 @@ pub record HasNoRoomFor (limit : ℕ) (h : History) : Type 0 where
   pub spells : Spells body h
   pub too_long : limit < 26 + length body
 
--- the store after a checkpoint: the other side is in use, with the next generation and an empty log
+-- the store after a checkpoint: the other side is in use, with the next generation, a body that spells the warehouse, and an
+-- empty log right behind it
 pub record IsCheckpointed {V : Type 0} (tells : Bool) (view : V → View) (old new : StoreState V) : Type 0 where
   pub generation : new.generation ≡ old.generation + 1
   pub side : new.log.side ≡ other old.log.side
+  pub body : List ℕ
+  pub spells : Spells body new.history
+  pub fits : 26 + length body ≤ (view new.volume).limit
+  pub start : new.log.start ≡ 25 + length body
   pub no_group : new.log.end ≡ new.log.start
   pub failed : new.failed ≡ false
   pub made : IsTrue tells → HasBodyAlone new.generation new.history ((view new.volume).seen new.log.side)
+  pub same_body : (told : IsTrue tells) → (made told).body ≡ body

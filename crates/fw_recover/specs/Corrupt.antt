@@ -80,6 +80,10 @@ pub record Breaks (c : Image) (side : Side) (at : ℕ) : Type 0 where
 abbrev pub CorruptAt : Image → Side → ℕ → Type 0
 CorruptAt c side at = Lacks c side at ⊎ (AreTwins c side at ⊎ Breaks c side at)
 
+-- the two files stand for a warehouse, or for none, or are corrupt somewhere
+abbrev pub HasMeaning : Image → Type 0
+HasMeaning c = ((h : History) × StandsFor h c) ⊎ (StandsForNone c ⊎ ((side : Side) × (at : ℕ) × CorruptAt c side at))
+
 -- the files can be opened as the warehouse, or as it with all of these entries, and as nothing else
 pub record IsRecovered (h : History) (more : List EntryValue) (c : Image) : Type 0 where
   pub one_of_both : (g : History) → StandsFor g c → (g ≡ h) ⊎ (g ≡ with_more h more)

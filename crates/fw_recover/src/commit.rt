@@ -1,5 +1,5 @@
 //! Adding entries to a warehouse: they are judged, the state with the accepted ones is made, and then these are written.
-ghost use Rattle.std.specs.Prelude.{◌≡◌, ◌⊎◌, ◌↔◌, ◌+◌, ◌<◌, ◌≤◌, true, false, [], ◌∷◌, length, IsOk, IfOk, IfErr, OnOk, OnErr, IsErrOf, IsTrue};
+ghost use Rattle.std.specs.Prelude.{◌≡◌, ◌⊎◌, ◌↔◌, ◌+◌, ◌<◌, ◌≤◌, true, false, [], ◌∷◌, length, IsOk, IsErr, IfOk, IfErr, OnOk, OnErr, IsErrOf, IsTrue};
 ghost use Rattle.fw_disk.specs.Volume.{LeavesOnly, Rose};
 ghost use Rattle.fw_journal.specs.Frames.{IsFit};
 ghost use Rattle.fw_segment.specs.Groups.{group, IsGroup};
@@ -58,7 +58,7 @@ impl<V: Volume> Store<V> {
 
     /// Judges entries in turn, each after those of the warehouse and the accepted ones before it, and adds the accepted ones
     /// as one group: all of them at once, or none. It is [`Store::prepare`] and then [`Store::write`]. The entries have to
-    /// be 1 to 64, of at most 8,388,608 bytes as a group. Where none is accepted nothing is written.
+    /// be 1 to 64, of at most 8,388,608 bytes as a group. Where none is accepted nothing is written, and no device can fail.
     ///
     /// # Errors
     /// `Failed` where an earlier call ended with `Device`; then `TooLarge` where the volume has no room for the group, or
@@ -82,6 +82,7 @@ impl<V: Volume> Store<V> {
         ensures failed { IsErrOf result Failed ↔ (self.old.failed ≡ true) }
         ensures too_large { IsErrOf result TooLarge → HasNoRoom (V.view self.old.volume).limit self.old (accepted_of self.old.history.entries entries.now) }
         ensures fits { IsOk result → HasNoRoom (V.view self.old.volume).limit self.old (accepted_of self.old.history.entries entries.now) → ⊥ }
+        ensures accepted { IsErrOf result Device → 0 < length (accepted_of self.old.history.entries entries.now) }
         ensures device { IsErrOf result Device → Rose (V.view self.old.volume).failures (V.view self.new.volume).failures }
         ensures which { IfErr result IsCommitFault }
         ensures later { (V.view self.old.volume).failures ≤ (V.view self.new.volume).failures }
@@ -125,7 +126,7 @@ impl<V: Volume> Store<V> {
 
     /// Adds what was prepared, and answers with the verdict on each entry. The store has to be as it was when the entries
     /// were prepared. At each moment since the call's start a crash leaves the warehouse as it was, or with all accepted
-    /// entries; after `Ok` with them. Where none was accepted nothing is written.
+    /// entries; after `Ok` with them. Where none was accepted nothing is written, and the answer is `Ok`.
     ///
     /// # Errors
     /// `NoMemory`, before the first write: nothing changes. `Device` where a write or a sync failed: the state is as it was,
@@ -140,6 +141,7 @@ impl<V: Volume> Store<V> {
         ensures unchanged { OnErr result (IsErrOf result Device ⊎ (self.new ≡ self.old)) }
         ensures lost { IsErrOf result Device → Lost self.old self.new }
 
+        ensures accepted { IsErr result → 0 < length prepared.accepted }
         ensures device { IsErrOf result Device → Rose (V.view self.old.volume).failures (V.view self.new.volume).failures }
         ensures not_failed { IsErrOf result Failed → ⊥ }
         ensures not_too_large { IsErrOf result TooLarge → ⊥ }

@@ -1,14 +1,12 @@
 //! Creating a warehouse: the first side of all is made.
-ghost use Rattle.std.specs.Prelude.{◌≡◌, ◌⊎◌, ◌↔◌, ◌+◌, ◌<◌, ◌≤◌, ◌++◌, ◌∷◌, [], ℕ, List, length, false, IfOk, IfErr, OnOk, OnErr, IsOk, IsErr, IsErrOf, IsTrue, IsFalse};
+ghost use Rattle.std.specs.Prelude.{◌≡◌, ◌⊎◌, ◌↔◌, ◌<◌, ◌≤◌, length, false, IfOk, IfErr, OnOk, OnErr, IsOk, IsErr, IsErrOf, IsTrue, IsFalse};
 ghost use Rattle.fw_disk.specs.declared.volume.Side.{Side};
 ghost use Rattle.fw_disk.specs.declared.volume.Side.TheVariants.{Left};
 ghost use Rattle.fw_disk.specs.Volume.{Rose, Calm, SameSizes, LeavesOnly};
-ghost use Rattle.fw_entry_bytes.specs.declared.form.Form.TheVariants.{One};
-ghost use Rattle.fw_segment.specs.States.{Spells};
 ghost use Rattle.fw_recover.specs.declared.fault.StoreFault.TheVariants.{Device, TooLarge, Exists, NoMemory};
-ghost use Rattle.fw_recover.specs.Sides.{made_of, IsOpen};
+ghost use Rattle.fw_recover.specs.Sides.{IsOpen};
 ghost use Rattle.fw_recover.specs.Stands.{StandsForNone, EachStandsFor};
-ghost use Rattle.fw_recover.specs.Making.{AllSettled};
+ghost use Rattle.fw_recover.specs.Making.{SpellsSide, AllSettled};
 ghost use Rattle.fw_recover.specs.Creating.{empty, StandsForNoneOr, IsCreateFault};
 ghost use Rattle.fw_recover.specs.Checkpoints.{HasBodyAlone};
 ghost use Rattle.fw_recover.specs.Store.{IsInUse};
@@ -164,7 +162,7 @@ fn first_side(
     limit: u64,
 ) -> Result<(Vec<u8>, Snapshot), StoreFault>
     ensures state { IfOk result (λ r. r.1 ≡ empty currency) }
-    ensures made { IfOk result (λ r. (body : List ℕ) × Spells body (empty currency) × (r.0.items ≡ made_of One 1 body ++ 0 ∷ [])) }
+    ensures made { IfOk result (λ r. SpellsSide 1 (empty currency) r.0.items) }
     ensures long { IfOk result (λ r. length r.0.items ≡ 44) }
     ensures fits { IsOk result → 45 ≤ limit }
     ensures too_large { IsErrOf result TooLarge → limit < 45 }

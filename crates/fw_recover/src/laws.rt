@@ -1,5 +1,5 @@
 //! What holds of all images: laws, each the contract of a function that does nothing.
-ghost use Rattle.std.specs.Prelude.{◌≡◌, ◌⊎◌, ◌^◌, ◌<◌, ◌++◌, ◌∷◌, [], ℕ, List, length, take, drop, map};
+ghost use Rattle.std.specs.Prelude.{◌≡◌, ◌⊎◌, ◌^◌, ◌<◌, ◌++◌, ◌∷◌, [], ℕ, List, length, take, drop, get_or, map};
 ghost use Rattle.fw_disk.specs.declared.volume.Side.{Side};
 ghost use Rattle.fw_disk.specs.declared.volume.Side.TheVariants.{Left, Right};
 ghost use Rattle.fw_disk.specs.Volume.{Image, LeavesOnly, Settled, other};
@@ -12,19 +12,21 @@ ghost use Rattle.fw_snapshot.specs.History.{History};
 ghost use Rattle.fw_snapshot.specs.Judging.{IsLegalAfter};
 ghost use Rattle.fw_recover.specs.Sides.{made_of, generation_of, log_start_of};
 ghost use Rattle.fw_recover.specs.Stands.{StandsFor, StandsForNone, StandsForEither, EachStandsFor};
-ghost use Rattle.fw_recover.specs.Corrupt.{CorruptAt, IsRecovered};
+ghost use Rattle.fw_recover.specs.Corrupt.{CorruptAt, HasMeaning, IsRecovered};
 ghost use Rattle.fw_recover.specs.Making.{Making};
 
 use fw_disk::Volume;
 
-/// What a crash leaves has one meaning at most: two files stand for one warehouse, or for none, or are corrupt at one
-/// place, and never two of these. So whoever opens them can answer one thing alone, however the files are read.
+/// Two files have one meaning: they stand for one warehouse, or for none, or are corrupt at one place, and never two of
+/// these. Two files of bytes always have it. So whoever opens them can answer one thing alone, however the files are read;
+/// and where a side is open and no store could have left the files, that is `Corrupt` with the place of the first fault.
 pub fn images_have_one_meaning()
     ensures one { (c : Image) (a b : History) → StandsFor a c → StandsFor b c → a ≡ b }
     ensures not_none { (c : Image) (h : History) → StandsFor h c → StandsForNone c → ⊥ }
     ensures not_corrupt { (c : Image) (h : History) (side : Side) (at : ℕ) → StandsFor h c → CorruptAt c side at → ⊥ }
     ensures one_place { (c : Image) (s t : Side) (p q : ℕ) → CorruptAt c s p → CorruptAt c t q → (s ≡ t) × (p ≡ q) }
     ensures corrupt_is_some { (c : Image) (side : Side) (at : ℕ) → CorruptAt c side at → StandsForNone c → ⊥ }
+    ensures some { (c : Image) → ((side : Side) (i : ℕ) → get_or (c side) i 0 < 256) → HasMeaning c }
 {}
 
 /// Where nothing is pending, whatever a crash leaves stands for the warehouse that a reader finds.

@@ -1,9 +1,8 @@
 //! Entries that are committed one by one, and what a crash leaves of them.
-ghost use Rattle.std.specs.Prelude.{◌≡◌, ◌≢◌, ◌+◌, ◌≤◌, ℕ, true, false, length, take, drop, IfOk, IfErr, IsTrue};
-ghost use Rattle.fw_disk.specs.declared.volume.Side.{Side};
+ghost use Rattle.std.specs.Prelude.{◌≡◌, ◌⊎◌, ◌↔◌, ◌+◌, ◌<◌, ◌≤◌, ℕ, true, false, length, take, drop, IfOk, IfErr, IsTrue};
 ghost use Rattle.fw_disk.specs.Volume.{Image, LeavesOnly, Rose};
 ghost use Rattle.fw_snapshot.specs.Verdicts.{verdicts_on, accepted_of};
-ghost use Rattle.fw_recover.specs.declared.fault.StoreFault.TheVariants.{NoHouse, Corrupt, Device, Failed, TooLarge};
+ghost use Rattle.fw_recover.specs.declared.fault.StoreFault.TheVariants.{Device, Failed, TooLarge, NoMemory};
 ghost use Rattle.fw_recover.specs.Stands.{EachStandsFor};
 ghost use Rattle.fw_recover.specs.Committing.{HasNoRoom, with_first, StandsForFirst, HasAnswered, IsCommitFault};
 
@@ -18,8 +17,10 @@ impl<V: Volume> Store<V> {
     /// `Device` perhaps with the entry that failed.
     ///
     /// # Errors
-    /// The verdicts so far, and the fault of [`Store::commit`] for the next entry; `NoMemory`, before the first entry, where
-    /// there is no memory for the verdicts.
+    /// The verdicts so far, and the fault of [`Store::commit`] for the next entry. `Failed` comes first, before any entry, and
+    /// where there is none too: nothing changes. Then `NoMemory`, before the first entry, where there is no memory for the
+    /// verdicts. After `TooLarge` and `NoMemory` the store goes on: it takes what later calls add. After `Device` every later
+    /// call that writes is `Failed`.
     pub fn run(
         &mut self,
         alloc: Global,
@@ -28,23 +29,32 @@ impl<V: Volume> Store<V> {
         ensures any_moment { IsTrue V.tells → self.old.failed ≡ false
             → LeavesOnly (V.view self.old.volume) (V.view self.new.volume) (StandsForFirst self.old.history entries.now) }
         ensures all { IfOk result (λ verdicts. (verdicts.items ≡ verdicts_on self.old.history.entries entries.now)
-            × (self.new.history ≡ with_first self.old.history (length entries.now) entries.now) × (self.new.failed ≡ self.old.failed)) }
+            × (self.new.history ≡ with_first self.old.history (length entries.now) entries.now) × (self.old.failed ≡ false) × (self.new.failed ≡ false)) }
         ensures so_far { IfErr result (λ e. (length e.0.items ≤ length entries.now)
             × (e.0.items ≡ verdicts_on self.old.history.entries (take (length e.0.items) entries.now))
             × (self.new.history ≡ with_first self.old.history (length e.0.items) entries.now)) }
-        ensures each { IfOk result (λ verdicts. IsTrue V.tells → self.old.failed ≡ false → EachStandsFor self.new.history (V.view self.new.volume)) }
+        ensures not_all { IfErr result (λ e. 0 < length entries.now → length e.0.items < length entries.now) }
+        ensures each { IfOk result (λ verdicts. IsTrue V.tells → EachStandsFor self.new.history (V.view self.new.volume)) }
         ensures each_so_far { IfErr result (λ e. IsTrue V.tells → self.old.failed ≡ false → (c : Image) → (V.view self.new.volume).may_leave c
             → HasAnswered self.old.history entries.now (length e.0.items) c) }
-        ensures lost { IfErr result (λ e. e.1 ≡ Device → self.new.failed ≡ true) }
-        ensures failed { IfErr result (λ e. e.1 ≡ Failed → self.old.failed ≡ true) }
+
+        ensures failed { IfErr result (λ e. (e.1 ≡ Failed) ↔ (self.old.failed ≡ true)) }
+        ensures unchanged { IfErr result (λ e. e.1 ≡ Failed → self.new ≡ self.old) }
+        ensures goes_on { IfErr result (λ e. (e.1 ≡ TooLarge) ⊎ (e.1 ≡ NoMemory) → (self.new.failed ≡ false)
+            × (IsTrue V.tells → EachStandsFor self.new.history (V.view self.new.volume))) }
         ensures too_large { IfErr result (λ e. e.1 ≡ TooLarge
             → HasNoRoom (V.view self.new.volume).limit self.new (accepted_of self.new.history.entries (take 1 (drop (length e.0.items) entries.now)))) }
+        ensures lost { IfErr result (λ e. e.1 ≡ Device → self.new.failed ≡ true) }
+        ensures accepted { IfErr result (λ e. e.1 ≡ Device → 0 < length (accepted_of self.new.history.entries (take 1 (drop (length e.0.items) entries.now)))) }
         ensures device { IfErr result (λ e. e.1 ≡ Device → Rose (V.view self.old.volume).failures (V.view self.new.volume).failures) }
         ensures which { IfErr result (λ e. IsCommitFault e.1) }
         ensures later { (V.view self.old.volume).failures ≤ (V.view self.new.volume).failures }
         ensures limit { (V.view self.new.volume).limit ≡ (V.view self.old.volume).limit }
     {
         self.keeps();
+        if self.failed {
+            return Err((Vec::new(alloc), StoreFault::Failed));
+        }
         let Ok(mut verdicts) = Vec::with_capacity(alloc, entries.len()) else {
             return Err((Vec::new(alloc), StoreFault::NoMemory));
         };
@@ -66,15 +76,15 @@ impl<V: Volume> Store<V> {
         ensures each { IsTrue V.tells → (c : Image) → (V.view self.new.volume).may_leave c → HasAnswered self.old.history entries.now (length result.items) c }
     {
         match self.run(alloc, entries) {
-            Ok(verdicts) => verdicts,
-            Err((verdicts, _)) => verdicts,
+            Ok(all) => all,
+            Err((some, _)) => some,
         }
     }
 }
 
 /// Commits entries in turn until one fails, is stopped as by a crash, and opened again. Whenever the stop came, the
-/// warehouse has the entries of a prefix in which each answered one is, and one more at most; and it is never missing or
-/// corrupt.
+/// warehouse has the entries of a prefix in which each answered one is, and one more at most. It is never missing or
+/// corrupt: it opens, unless a read or a sync fails or memory runs out.
 pub fn run_and_recover<V: Stoppable>(
     alloc: Global,
     store: Store<V>,
@@ -84,8 +94,7 @@ pub fn run_and_recover<V: Stoppable>(
 
     ensures answered { (length result.0.items ≤ length entries.now) × (result.0.items ≡ verdicts_on store.history.entries (take (length result.0.items) entries.now)) }
     ensures recovered { IfOk result.1 (λ s. IsTrue V.tells → (n : ℕ) × (length result.0.items ≤ n) × (n ≤ length result.0.items + 1) × (s.history ≡ with_first store.history n entries.now)) }
-    ensures not_missing { IfErr result.1 (λ e. IsTrue V.tells → e.1 ≢ NoHouse) }
-    ensures not_corrupt { (side : Side) (at : ℕ) → IfErr result.1 (λ e. IsTrue V.tells → e.1 ≢ Corrupt side at) }
+    ensures else_device_or_memory { IfErr result.1 (λ e. IsTrue V.tells → (e.1 ≡ Device) ⊎ (e.1 ≡ NoMemory)) }
 {
     let mut store = store;
     let verdicts = store.run_until_a_fault(alloc, entries);

@@ -1,11 +1,12 @@
 //! The bytes of a side that is to be made.
-ghost use Rattle.std.specs.Prelude.{◌≡◌, ◌⊎◌, ◌+◌, ◌<◌, ◌≤◌, ◌++◌, ◌∷◌, [], ℕ, List, length, IfOk, OnErr, IsErrOf};
+ghost use Rattle.std.specs.Prelude.{◌≡◌, ◌⊎◌, ◌+◌, ◌<◌, ◌≤◌, ℕ, List, length, IfOk, OnErr, IsErrOf};
 ghost use Rattle.fw_bytes.specs.Spelling.{number64};
 ghost use Rattle.fw_disk.specs.Volume.{Holds};
 ghost use Rattle.fw_entry_bytes.specs.declared.form.Form.TheVariants.{One};
 ghost use Rattle.fw_segment.specs.States.{Spells};
 ghost use Rattle.fw_recover.specs.declared.fault.StoreFault.TheVariants.{TooLarge, NoMemory};
 ghost use Rattle.fw_recover.specs.Sides.{made_of};
+ghost use Rattle.fw_recover.specs.Making.{SpellsSide};
 ghost use Rattle.fw_recover.specs.Checkpoints.{HasNoRoomFor};
 
 use crate::StoreFault;
@@ -24,7 +25,7 @@ pub(crate) fn side_bytes(
     state: &State,
     limit: u64,
 ) -> Result<Vec<u8>, StoreFault>
-    ensures made { IfOk result (λ bytes. (body : List ℕ) × Spells body state.now × (bytes.items ≡ made_of One generation body ++ 0 ∷ [])) }
+    ensures made { IfOk result (λ bytes. SpellsSide generation state.now bytes.items) }
     ensures fits { IfOk result (λ bytes. 1 + length bytes.items ≤ limit) }
     ensures too_large { IsErrOf result TooLarge → HasNoRoomFor limit state.now }
     ensures which { OnErr result (IsErrOf result TooLarge ⊎ IsErrOf result NoMemory) }

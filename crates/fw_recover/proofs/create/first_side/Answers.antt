@@ -18,9 +18,9 @@ returns-in_err-bytes-clause-too_large c is =
 pub returns-in-Ok-clause-long : goal.returns-in-Ok-clause-long
 returns-in-Ok-clause-long c =
     let made = c.in_ok-bytes.ensures.made in
-    length_first c.args.currency made.0 c.in_ok-bytes.bytes.items (subst (λ (h : History). Spells made.0 h) c.empty-state.ensures made.1) made.2
+    length_first c.args.currency made.body c.in_ok-bytes.bytes.items (subst (λ (h : History). Spells made.body h) c.empty-state.ensures made.spells) made.is
 
 pub returns-in-Ok-clause-fits : goal.returns-in-Ok-clause-fits
 returns-in-Ok-clause-fits c ok =
     let made = c.in_ok-bytes.ensures.made in
-    omega (arith, c.in_ok-bytes.ensures.fits, length_first c.args.currency made.0 c.in_ok-bytes.bytes.items (subst (λ (h : History). Spells made.0 h) c.empty-state.ensures made.1) made.2)
+    omega (arith, c.in_ok-bytes.ensures.fits, length_first c.args.currency made.body c.in_ok-bytes.bytes.items (subst (λ (h : History). Spells made.body h) c.empty-state.ensures made.spells) made.is)

@@ -1,6 +1,7 @@
-use Rattle.std.proofs.Common.{subst}
-use Rattle.std.proofs.lemmas.Result.{IfOk-weaker, IfErr-weaker}
-use Rattle.fw_recover.proofs.Places.{stands_one, stands_not_corrupt}
+use Rattle.std.proofs.Common.{IsTrue, subst}
+use Rattle.std.proofs.lemmas.Result.{IfOk-weaker}
+use Rattle.fw_recover.proofs.Places.{stands_one}
+use Rattle.fw_recover.proofs.Running.{stands_else_fault}
 use Rattle.fw_recover.proofs.run.run_and_recover.Goals as goal
 
 pub returns-clause-recovered : goal.returns-clause-recovered
@@ -10,9 +11,8 @@ returns-clause-recovered g c =
     let has = c.run_until_a_fault-verdicts.ensures.each told image (subst (λ v. (g.V.Volume.view v).may_leave image) c.close.ensures (c.stop-volume.ensures.image told)) in
     (has.first, has.all, has.one_more, stands_one image s.history _ (found.1 told) has.stands)) c.open.ensures.found
 
-pub returns-clause-not_corrupt : goal.returns-clause-not_corrupt
-returns-clause-not_corrupt g c side at =
+pub returns-clause-else_device_or_memory : goal.returns-clause-else_device_or_memory
+returns-clause-else_device_or_memory g c =
     let image = (g.V.Volume.view c.stop-volume.result).seen in
-    IfErr-weaker c.open.result _ _ (λ e found told is.
-    let has = c.run_until_a_fault-verdicts.ensures.each told image (subst (λ v. (g.V.Volume.view v).may_leave image) c.close.ensures (c.stop-volume.ensures.image told)) in
-    stands_not_corrupt image _ side at has.stands (found is told)) (c.open.ensures.corrupt side at)
+    let has = λ (told : IsTrue g.V.Volume.tells). c.run_until_a_fault-verdicts.ensures.each told image (subst (λ v. (g.V.Volume.view v).may_leave image) c.close.ensures (c.stop-volume.ensures.image told)) in
+    stands_else_fault g.V.Volume.tells image _ c.open.result (λ told. (has told).stands) c.open.ensures.which c.open.ensures.none c.open.ensures.corrupt

@@ -1,29 +1,31 @@
-use Rattle.std.proofs.Common.{◌≡◌, ◌+◌, Bool, false, length, refl, sym, ◌∙◌, ap, subst}
+use Rattle.std.proofs.Common.{◌≡◌, ◌⊎◌, ◌+◌, Bool, false, IsTrue, length, refl, sym, ◌∙◌, ap, subst}
+use Rattle.fw_disk.specs.Volume.{LeavesOnly}
 use Rattle.fw_journal.specs.Log.{LogState}
+use Rattle.fw_recover.specs.Stands.{StandsFor}
 use Rattle.fw_recover.specs.Store.{StoreState}
 use Rattle.fw_recover.specs.Committing.{Appended}
 use Rattle.fw_recover.proofs.Committing.{each_stands, either_since, either_left, next_in_use}
+use Rattle.fw_recover.proofs.store.Store.append.Given as given
 use Rattle.fw_recover.proofs.store.Store.append.Goals as goal
+use Rattle.fw_recover.proofs.store.Store.append.Goals.{After-append}
+
+moments : (g : given.Over) (c : goal.After-append g) → IsTrue g.V.Volume.tells
+    → LeavesOnly (g.V.Volume.view c.args.self.now.volume) (g.V.Volume.view c.append.new.volume) (λ i. StandsFor c.args.self.now.history i ⊎ StandsFor c.args.next i)
+moments g c told =
+    either_since g.V.Volume.tells g.V.Volume.view _ c.args.self.now c.self.view_is c.self.invariant c.requires.goes_on c.args.payload.now c.args.next c.requires.goes
+    (g.V.Volume.view c.append.new.volume) told (c.append.ensures.any_moment told)
 
 pub returns-in-Ok-clause-any_moment : goal.returns-in-Ok-clause-any_moment
-returns-in-Ok-clause-any_moment g c told =
-    either_since g.V.Volume.tells g.V.Volume.view _ c.args.self.now c.self.view_is c.self.invariant c.requires.goes_on c.args.payload.now c.args.next c.requires.goes
-    (g.V.Volume.view c.append.new.volume) told (c.append.ensures.any_moment told)
+returns-in-Ok-clause-any_moment g c = moments g (goal.at.returns-in-Ok-clause-any_moment g c).After-append
 
 pub returns-in-Err-Device-clause-any_moment : goal.returns-in-Err-Device-clause-any_moment
-returns-in-Err-Device-clause-any_moment g c told =
-    either_since g.V.Volume.tells g.V.Volume.view _ c.args.self.now c.self.view_is c.self.invariant c.requires.goes_on c.args.payload.now c.args.next c.requires.goes
-    (g.V.Volume.view c.append.new.volume) told (c.append.ensures.any_moment told)
+returns-in-Err-Device-clause-any_moment g c = moments g (goal.at.returns-in-Err-Device-clause-any_moment g c).After-append
 
 pub returns-in-Err-TooLarge-clause-any_moment : goal.returns-in-Err-TooLarge-clause-any_moment
-returns-in-Err-TooLarge-clause-any_moment g c told =
-    either_since g.V.Volume.tells g.V.Volume.view _ c.args.self.now c.self.view_is c.self.invariant c.requires.goes_on c.args.payload.now c.args.next c.requires.goes
-    (g.V.Volume.view c.append.new.volume) told (c.append.ensures.any_moment told)
+returns-in-Err-TooLarge-clause-any_moment g c = moments g (goal.at.returns-in-Err-TooLarge-clause-any_moment g c).After-append
 
 pub returns-in-Err-NoMemory-clause-any_moment : goal.returns-in-Err-NoMemory-clause-any_moment
-returns-in-Err-NoMemory-clause-any_moment g c told =
-    either_since g.V.Volume.tells g.V.Volume.view _ c.args.self.now c.self.view_is c.self.invariant c.requires.goes_on c.args.payload.now c.args.next c.requires.goes
-    (g.V.Volume.view c.append.new.volume) told (c.append.ensures.any_moment told)
+returns-in-Err-NoMemory-clause-any_moment g c = moments g (goal.at.returns-in-Err-NoMemory-clause-any_moment g c).After-append
 
 pub returns-in-Ok-clause-done : goal.returns-in-Ok-clause-done
 returns-in-Ok-clause-done g c =

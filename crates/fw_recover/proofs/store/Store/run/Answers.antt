@@ -1,18 +1,20 @@
-use Rattle.std.proofs.Common.{◌≡◌, inl, inr, ◌≤◌, ◌+◌, ◌++◌, [], ◌∷◌, length, take, drop, List, ℕ, Err, refl, sym, ◌∙◌, ap, subst, arith}
-use Rattle.std.proofs.lemmas.List.{length-take}
+use Rattle.std.proofs.Common.{◌≡◌, false, inl, inr, ◌<◌, ◌+◌, ◌++◌, [], ◌∷◌, length, take, drop, List, ℕ, Err, refl, sym, ◌∙◌, ap, subst, arith}
 use Rattle.fw_disk.proofs.Moments.{goes_through}
 use Rattle.fw_entry.specs.Entry.{EntryValue}
+use Rattle.fw_snapshot.specs.History.{History}
 use Rattle.fw_snapshot.specs.Verdicts.{taken, verdicts_on, accepted_of}
 use Rattle.fw_snapshot.specs.declared.verdict.Verdict.{Verdict}
-use Rattle.fw_snapshot.proofs.VerdictFacts.{as_many}
 use Rattle.fw_recover.specs.declared.fault.StoreFault.{StoreFault}
 use Rattle.fw_recover.specs.Store.{StoreState}
-use Rattle.fw_recover.specs.Stands.{StandsForEither}
-use Rattle.fw_recover.specs.Committing.{HasNoRoom, with_first, StandsForFirst, HasAnswered}
+use Rattle.fw_recover.specs.Stands.{StandsForEither, EachStandsFor}
+use Rattle.fw_recover.specs.Committing.{HasNoRoom, StandsForFirst, HasAnswered}
 use Rattle.fw_recover.proofs.Committing.{each_now, still}
 use Rattle.fw_recover.proofs.Judged.{no_verdicts, none_yet, verdicts_more, history_more}
-use Rattle.fw_recover.proofs.Running.{answered_all, answered, first_stand, next_taken, none_stand}
+use Rattle.fw_recover.proofs.Running.{as_long, answered_all, answered, first_stand, next_taken, next_accepted, none_answered, none_stand}
 use Rattle.fw_recover.proofs.store.Store.run.Goals as goal
+
+pub returns-then-self-clause-so_far : goal.returns-then-self-clause-so_far
+returns-then-self-clause-so_far g c = none_answered c.args.self.now.history c.args.entries.now c.new.result.items c.new.ensures.items
 
 pub returns-in_default-clause-any_moment : goal.returns-in_default-clause-any_moment
 returns-in_default-clause-any_moment g c told going =
@@ -21,33 +23,37 @@ returns-in_default-clause-any_moment g c told going =
     still g.V.Volume.tells g.V.Volume.view s c.keeps.ensures told going (λ i. StandsForFirst s.history es i) (g.met.V.Volume.only_now s.volume) (none_stand s.history es)
 
 pub returns-in_default-clause-so_far : goal.returns-in_default-clause-so_far
-returns-in_default-clause-so_far g c =
-    let h = c.args.self.now.history in
-    let es = c.args.entries.now in
-    subst (λ (vs : List Verdict). (length vs ≤ length es) × (vs ≡ verdicts_on h.entries (take (length vs) es)) × (h ≡ with_first h (length vs) es)) (sym c.new.ensures.items)
-    (omega arith, sym (no_verdicts h.entries es), none_yet h es)
+returns-in_default-clause-so_far g c = none_answered c.args.self.now.history c.args.entries.now c.new-in_default.result.items c.new-in_default.ensures.items
 
 pub returns-in_default-clause-each_so_far : goal.returns-in_default-clause-each_so_far
 returns-in_default-clause-each_so_far g c told going image now =
     let s = c.args.self.now in
     let h = s.history in
     let es = c.args.entries.now in
-    subst (λ (vs : List Verdict). HasAnswered h es (length vs) image) (sym c.new.ensures.items)
+    subst (λ (vs : List Verdict). HasAnswered h es (length vs) image) (sym c.new-in_default.ensures.items)
     (answered_all h h es 0 image (none_yet h es) (each_now g.V.Volume.tells g.V.Volume.view s c.keeps.ensures told going image now))
+
+pub returns-in_default-clause-goes_on : goal.returns-in_default-clause-goes_on
+returns-in_default-clause-goes_on g c fault =
+    let s = c.args.self.now in
+    let going : s.failed ≡ false = sym (ap (λ (x : StoreState _). x.failed) c.self.view_is) ∙ c.if-self.false in
+    (going, λ told. each_now g.V.Volume.tells g.V.Volume.view s c.keeps.ensures told going)
 
 pub loop-entry-init : goal.loop-entry-init
 loop-entry-init g c =
     let s = c.args.self.now in
     let h = s.history in
     let es = c.args.entries.now in
+    let going : s.failed ≡ false = sym (ap (λ (x : StoreState _). x.failed) c.self.view_is) ∙ c.if-self.false in
     record {
       len = c.in-Ok.ensures.len;
       room = c.in-Ok.ensures.capacity;
       verdicts = c.in-Ok.ensures.items ∙ sym (no_verdicts h.entries es);
       history = none_yet h es;
-      failed = refl;
-      run = λ told going. still g.V.Volume.tells g.V.Volume.view s c.keeps.ensures told going (λ i. StandsForFirst h es i) (g.met.V.Volume.only_now s.volume) (none_stand h es);
-      each = λ told going. each_now g.V.Volume.tells g.V.Volume.view s c.keeps.ensures told going;
+      went_on = going;
+      failed = going;
+      run = λ told. still g.V.Volume.tells g.V.Volume.view s c.keeps.ensures told going (λ i. StandsForFirst h es i) (g.met.V.Volume.only_now s.volume) (none_stand h es);
+      each = λ told. each_now g.V.Volume.tells g.V.Volume.view s c.keeps.ensures told going;
       later = omega arith;
       limit = refl;
     }
@@ -61,7 +67,15 @@ returns-in-Err-clause-any_moment g c told going =
     let now = c.loop-entry.self.history in
     let was = c.loop-entry.invariant in
     goes_through (g.V.Volume.view c.args.self.now.volume) (g.V.Volume.view c.loop-entry.self.volume) (g.V.Volume.view c.commit.new.self.volume) (λ x. StandsForFirst h es x)
-    (λ x. StandsForEither now (taken now.entries e) x) (was.run told going) (c.commit.ensures.any_moment told (was.failed ∙ going)) (first_stand h now es i e c.loop-entry-test.true c.entry-item.is was.history)
+    (λ x. StandsForEither now (taken now.entries e) x) (was.run told) (c.commit.ensures.any_moment told was.failed) (first_stand h now es i e c.loop-entry-test.true c.entry-item.is was.history)
+
+-- as many verdicts as entries before the one that failed
+pub returns-in-Err-clause-not_all : goal.returns-in-Err-clause-not_all
+returns-in-Err-clause-not_all g c some =
+    let h = c.args.self.now.history in
+    let es = c.args.entries.now in
+    let i = c.loop-entry.entry-index in
+    omega (arith, as_long h es i c.loop-entry.verdicts.items c.loop-entry.invariant.verdicts c.loop-entry-test.true, c.loop-entry-test.true)
 
 pub returns-in-Err-clause-each_so_far : goal.returns-in-Err-clause-each_so_far
 returns-in-Err-clause-each_so_far g c told going image left =
@@ -72,11 +86,53 @@ returns-in-Err-clause-each_so_far g c told going image left =
     let now = c.loop-entry.self.history in
     let was = c.loop-entry.invariant in
     let within = c.loop-entry-test.true in
-    let run = c.commit.ensures.any_moment told (was.failed ∙ going) in
+    let run = c.commit.ensures.any_moment told was.failed in
     let either = run.each image (g.met.V.Volume.counts_now c.commit.new.self.volume (g.V.Volume.view c.loop-entry.self.volume).moment image run.later left) in
-    let long : length c.loop-entry.verdicts.items ≡ i =
-    omega (arith, ap (λ (vs : List Verdict). length vs) was.verdicts, as_many h.entries (take i es), length-take i es, within) in
+    let long = as_long h es i c.loop-entry.verdicts.items was.verdicts within in
     subst (λ (n : ℕ). HasAnswered h es n image) (sym long) (answered h now es i e within c.entry-item.is was.history image either)
+
+pub returns-in-Err-clause-failed : goal.returns-in-Err-clause-failed
+returns-in-Err-clause-failed g c =
+    let was = c.loop-entry.invariant in (
+      λ fault. (let set = c.commit.ensures.failed.0 (c.in-Err.is ∙ ap (λ (f : StoreFault). Err f) fault) in let both = sym set ∙ was.failed in absurd (cc)),
+      λ set. (let both = sym set ∙ was.went_on in absurd (cc)),
+    )
+
+pub returns-in-Err-clause-unchanged : goal.returns-in-Err-clause-unchanged
+returns-in-Err-clause-unchanged g c fault =
+    let set = c.commit.ensures.failed.0 (c.in-Err.is ∙ ap (λ (f : StoreFault). Err f) fault) in
+    let both = sym set ∙ c.loop-entry.invariant.failed in
+    absurd (cc)
+
+pub returns-in-Err-clause-goes_on : goal.returns-in-Err-clause-goes_on
+returns-in-Err-clause-goes_on g c fault =
+    let s = c.loop-entry.self in
+    let was = c.loop-entry.invariant in
+    let same : c.commit.new.self ≡ s = elim c.in-Err.ensures.unchanged [
+      | inl device ↦ elim fault [
+        | inl large ↦ (let both = sym device ∙ ap (λ (f : StoreFault). Err f) large in absurd (cc))
+        | inr memory ↦ (let both = sym device ∙ ap (λ (f : StoreFault). Err f) memory in absurd (cc))
+      ]
+      | inr stays ↦ stays
+    ] in (
+      ap (λ (x : StoreState _). x.failed) same ∙ was.failed,
+      λ told. subst (λ (x : StoreState _). EachStandsFor x.history (g.V.Volume.view x.volume)) (sym same) (was.each told),
+    )
+
+pub returns-in-Err-clause-accepted : goal.returns-in-Err-clause-accepted
+returns-in-Err-clause-accepted g c fault =
+    let h = c.args.self.now.history in
+    let es = c.args.entries.now in
+    let i = c.loop-entry.entry-index in
+    let e = c.entry-item.result in
+    let s = c.loop-entry.self in
+    let was = c.loop-entry.invariant in
+    let within = c.loop-entry-test.true in
+    let device = c.in-Err.is ∙ ap (λ (f : StoreFault). Err f) fault in
+    let long = as_long h es i c.loop-entry.verdicts.items was.verdicts within in
+    let there = next_accepted h s.history es i e within c.entry-item.is was.history (c.commit.ensures.accepted device) in
+    let P : History → ℕ → Type 0 = λ k n. 0 < length (accepted_of k.entries (take 1 (drop n es))) in
+    subst (λ (k : History). P k (length c.loop-entry.verdicts.items)) (sym (c.commit.ensures.lost device).history) (subst (λ (n : ℕ). P s.history n) (sym long) there)
 
 pub loop-entry-preserved : goal.loop-entry-preserved
 loop-entry-preserved g c =
@@ -97,11 +153,12 @@ loop-entry-preserved g c =
           ∙ ap (λ (v : Verdict). verdicts_on h.entries (take i es) ++ v ∷ []) done.0
           ∙ sym (verdicts_more h now es i e within c.entry-item.is was.history);
       history = done.1.history ∙ history_more h now es i e within c.entry-item.is was.history;
-      failed = done.1.failed ∙ sym done.1.went_on ∙ was.failed;
-      run = λ told going.
+      went_on = was.went_on;
+      failed = done.1.failed;
+      run = λ told.
           goes_through (g.V.Volume.view c.args.self.now.volume) (g.V.Volume.view c.loop-entry.self.volume) (g.V.Volume.view c.commit.new.self.volume) (λ x. StandsForFirst h es x)
-          (λ x. StandsForEither now (taken now.entries e) x) (was.run told going) (c.commit.ensures.any_moment told (was.failed ∙ going)) (first_stand h now es i e within c.entry-item.is was.history);
-      each = λ told _. done.1.each told;
+          (λ x. StandsForEither now (taken now.entries e) x) (was.run told) (c.commit.ensures.any_moment told was.failed) (first_stand h now es i e within c.entry-item.is was.history);
+      each = λ told. done.1.each told;
       later = omega (arith, was.later, c.commit.ensures.later);
       limit = c.commit.ensures.limit ∙ was.limit;
     }
@@ -115,8 +172,7 @@ returns-in-Err-clause-too_large g c is =
     let s = c.loop-entry.self in
     let was = c.loop-entry.invariant in
     let within = c.loop-entry-test.true in
-    let long : length c.loop-entry.verdicts.items ≡ i =
-    omega (arith, ap (λ (vs : List Verdict). length vs) was.verdicts, as_many h.entries (take i es), length-take i es, within) in
+    let long = as_long h es i c.loop-entry.verdicts.items was.verdicts within in
     let same : c.commit.new.self ≡ s = elim c.in-Err.ensures.unchanged [
       | inl device ↦ (let both = sym device ∙ ap (λ (f : StoreFault). Err f) is in absurd (cc))
       | inr stays ↦ stays

@@ -16,9 +16,10 @@ invariant-loop-entry g l =
       room : length l.entries ≤ vec_capacity l.verdicts;
       verdicts : l.verdicts.items ≡ verdicts_on first.history.entries (take l.entry-index l.entries);
       history : l.self.history ≡ with_first first.history l.entry-index l.entries;
-      failed : l.self.failed ≡ first.failed;
-      run : IsTrue g.V.Volume.tells → first.failed ≡ false → LeavesOnly old now (StandsForFirst first.history l.entries);
-      each : IsTrue g.V.Volume.tells → first.failed ≡ false → EachStandsFor l.self.history now;
+      went_on : first.failed ≡ false;
+      failed : l.self.failed ≡ false;
+      run : IsTrue g.V.Volume.tells → LeavesOnly old now (StandsForFirst first.history l.entries);
+      each : IsTrue g.V.Volume.tells → EachStandsFor l.self.history now;
       later : old.failures ≤ now.failures;
       limit : now.limit ≡ old.limit;
     }

@@ -12,7 +12,7 @@ pub returns-in-Ok-clause-answered : goal.returns-in-Ok-clause-answered
 returns-in-Ok-clause-answered g c =
     let h = c.args.self.now.history in
     let es = c.args.entries.now in
-    let vs = c.in-Ok.verdicts.items in
+    let vs = c.in-Ok.all.items in
     let long : length vs ≡ length es = ap (λ (l : List Verdict). length l) c.in-Ok.ensures.all.0 ∙ as_many h.entries es in
     (omega (arith, long), c.in-Ok.ensures.all.0 ∙ ap (λ (l : List EntryValue). verdicts_on h.entries l) (sym (take_all (length vs) es (omega (arith, long)))))
 
@@ -20,6 +20,6 @@ pub returns-in-Ok-clause-each : goal.returns-in-Ok-clause-each
 returns-in-Ok-clause-each g c told image left =
     let h = c.args.self.now.history in
     let es = c.args.entries.now in
-    let vs = c.in-Ok.verdicts.items in
+    let vs = c.in-Ok.all.items in
     let long : length vs ≡ length es = ap (λ (l : List Verdict). length l) c.in-Ok.ensures.all.0 ∙ as_many h.entries es in
-    subst (λ (n : ℕ). HasAnswered h es n image) (sym long) (answered_all h c.run.new.self.history es (length es) image c.in-Ok.ensures.all.1 (c.in-Ok.ensures.each told c.requires image left))
+    subst (λ (n : ℕ). HasAnswered h es n image) (sym long) (answered_all h c.run.new.self.history es (length es) image c.in-Ok.ensures.all.1 (c.in-Ok.ensures.each told image left))
