@@ -7,7 +7,7 @@ use Rattle.fw_charge.specs.Charge.{IsShortText}
 use Rattle.fw_charge.specs.Tags.{TagText, IsTagSized, IsTags, most_tags}
 use Rattle.fw_money.specs.Amount.{most_nanos}
 use Rattle.fw_terms.specs.Texts.{IsRising}
-use Rattle.fw_terms.specs.Commitment.{RateValue, PurchaseValue, AreSkus, IsRate, AreRates, most_skus, most_purchases, cost_of}
+use Rattle.fw_terms.specs.Commitment.{RateValue, PurchaseValue, AreSkus, IsRate, AreRates, most_skus, cost_of}
 use Rattle.fw_toml.proofs.Readings.{of_all_map}
 use Rattle.fw_commitment.specs.Finding.{tag_shown}
 use Rattle.fw_commitment.specs.Rules.{rate_stated, rates_stated, purchase_stated, purchases_stated, IsRateStated, AreRatesStated, ArePurchasesStated}
@@ -20,12 +20,6 @@ shown texts = map (λ t. t.now) texts
 
 pub sku-not : (texts : List (Bor (List ℕ))) (i : ℕ) (d : Bor (List ℕ)) → i < length texts → ¬ IsShortText (get_or texts i d).now → ¬ AreSkus (map (λ t. t.now) texts)
 sku-not texts i d lt long are = long (of_all_map IsShortText (λ t. t.now) texts are.named i d lt)
-
-pub skus-are : (texts : List (Bor (List ℕ))) → 0 < length texts → length texts ≤ most_skus → All IsShortText (map (λ t. t.now) texts) → IsRising (map (λ t. t.now) texts) → AreSkus (map (λ t. t.now) texts)
-skus-are texts some few named rising = let size = length-map texts (λ t. t.now) in record { some = omega arith; few = omega arith; named = named; rising = rising }
-
-pub skus-none : (texts : List (List ℕ)) → length texts ≡ 0 → ¬ AreSkus texts
-skus-none texts none are = omega (arith, are.some)
 
 -- ---- rates
 
@@ -45,12 +39,6 @@ rates-are stated rates same some few each rising =
     let names = ap (map (λ (p : List ℕ × ℤ). p.0)) same in
     let skus = sym (map-map (λ (p : List ℕ × ℤ). p.0) rate_shown stated) ∙ (names ∙ map-map (λ (p : List ℕ × ℤ). p.0) rate_stated rates) in
     record { some = omega arith; few = omega arith; each = each; rising = subst IsRising skus rising }
-
-pub rates-some : (stated : List (List ℕ × ℤ)) → AreRatesStated stated → (0 < length stated) × (length stated ≤ most_skus)
-rates-some stated (rates, same, are) =
-    let sizes = ap length same in
-    let right = length-map rates rate_stated in
-    (omega (arith, are.some), omega (arith, are.few))
 
 -- ---- tags
 
@@ -99,9 +87,3 @@ purchases-dear payments purchases is dear (others, same, are) =
     let one = purchases-one others purchases (sym same ∙ is) in
     let cost = ap cost_of one in
     omega (arith, are.cost)
-
-pub purchases-some : (payments : List (ℕ × ℤ)) → ArePurchasesStated payments → (0 < length payments) × (length payments ≤ most_purchases)
-purchases-some payments (purchases, same, are) =
-    let sizes = ap length same in
-    let right = length-map purchases purchase_stated in
-    (omega (arith, are.some), omega (arith, are.few))
