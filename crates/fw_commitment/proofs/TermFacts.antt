@@ -4,10 +4,10 @@ use Rattle.std.specs.List.{All}
 use Rattle.std.proofs.lemmas.List.{length-map}
 use Rattle.std.proofs.lemmas.Int.{ints}
 use Rattle.fw_charge.specs.Charge.{IsShortText}
-use Rattle.fw_charge.specs.Tags.{TagText, IsTagSized, IsTags}
+use Rattle.fw_charge.specs.Tags.{TagText, IsTagSized, IsTags, most_tags}
 use Rattle.fw_money.specs.Amount.{most_nanos}
 use Rattle.fw_terms.specs.Texts.{IsRising}
-use Rattle.fw_terms.specs.Commitment.{RateValue, PurchaseValue, AreSkus, IsRate, AreRates, most_skus, most_purchases, cost_of}
+use Rattle.fw_terms.specs.Commitment.{RateValue, PurchaseValue, AreSkus, IsRate, AreRates, most_skus, cost_of}
 use Rattle.fw_toml.proofs.Readings.{of_all_map}
 use Rattle.fw_commitment.specs.Finding.{tag_shown}
 use Rattle.fw_commitment.specs.Rules.{rate_stated, rates_stated, purchase_stated, purchases_stated, IsRateStated, AreRatesStated, ArePurchasesStated}
@@ -21,12 +21,6 @@ shown texts = map (λ t. t.now) texts
 pub sku-not : (texts : List (Bor (List ℕ))) (i : ℕ) (d : Bor (List ℕ)) → i < length texts → ¬ IsShortText (get_or texts i d).now → ¬ AreSkus (map (λ t. t.now) texts)
 sku-not texts i d lt long are = long (of_all_map IsShortText (λ t. t.now) texts are.named i d lt)
 
-pub skus-are : (texts : List (Bor (List ℕ))) → 0 < length texts → length texts ≤ 256 → All IsShortText (map (λ t. t.now) texts) → IsRising (map (λ t. t.now) texts) → AreSkus (map (λ t. t.now) texts)
-skus-are texts some few named rising = let size = length-map texts (λ t. t.now) in record { some = omega arith; few = omega arith; named = named; rising = rising }
-
-pub skus-none : (texts : List (List ℕ)) → length texts ≡ 0 → ¬ AreSkus texts
-skus-none texts none are = omega (arith, are.some)
-
 -- ---- rates
 
 abbrev pub rate_shown : Bor (List ℕ) × ℤ → List ℕ × ℤ
@@ -36,7 +30,7 @@ pub rate-not : (stated : List (Bor (List ℕ) × ℤ)) (i : ℕ) (d : Bor (List 
 rate-not stated i d lt not (rates, same, are) =
     let (r, is, rate) = map-at rate_shown rate_stated IsRate stated rates i d same are.each lt in not (r, is, rate)
 
-pub rates-are : (stated : List (Bor (List ℕ) × ℤ)) (rates : List RateValue) → map rate_shown stated ≡ rates_stated rates → 0 < length stated → length stated ≤ 256 → All IsRate rates → IsRising (map (λ e. e.0.now) stated)
+pub rates-are : (stated : List (Bor (List ℕ) × ℤ)) (rates : List RateValue) → map rate_shown stated ≡ rates_stated rates → 0 < length stated → length stated ≤ most_skus → All IsRate rates → IsRising (map (λ e. e.0.now) stated)
     → AreRates rates
 rates-are stated rates same some few each rising =
     let sizes = ap length same in
@@ -46,18 +40,12 @@ rates-are stated rates same some few each rising =
     let skus = sym (map-map (λ (p : List ℕ × ℤ). p.0) rate_shown stated) ∙ (names ∙ map-map (λ (p : List ℕ × ℤ). p.0) rate_stated rates) in
     record { some = omega arith; few = omega arith; each = each; rising = subst IsRising skus rising }
 
-pub rates-some : (stated : List (List ℕ × ℤ)) → AreRatesStated stated → (0 < length stated) × (length stated ≤ most_skus)
-rates-some stated (rates, same, are) =
-    let sizes = ap length same in
-    let right = length-map rates rate_stated in
-    (omega (arith, are.some), omega (arith, are.few))
-
 -- ---- tags
 
 pub tag-not : (texts : List (Bor (List ℕ) × Bor (List ℕ))) (i : ℕ) (d : Bor (List ℕ) × Bor (List ℕ)) → i < length texts → ¬ IsTagSized (tag_shown (get_or texts i d)) → ¬ IsTags (map tag_shown texts)
 tag-not texts i d lt not are = not (of_all_map IsTagSized tag_shown texts are.sized i d lt)
 
-pub tags-are : (texts : List (Bor (List ℕ) × Bor (List ℕ))) (tags : List TagText) → tags ≡ map tag_shown texts → length texts ≤ 256 → All IsTagSized tags → IsRising (map (λ e. e.0.now) texts) → IsTags tags
+pub tags-are : (texts : List (Bor (List ℕ) × Bor (List ℕ))) (tags : List TagText) → tags ≡ map tag_shown texts → length texts ≤ most_tags → All IsTagSized tags → IsRising (map (λ e. e.0.now) texts) → IsTags tags
 tags-are texts tags same few sized rising =
     let sizes = ap length same ∙ length-map texts tag_shown in
     let keys = sym (ap (map (λ (t : TagText). t.key)) same ∙ map-map (λ (t : TagText). t.key) tag_shown texts) in
@@ -99,9 +87,3 @@ purchases-dear payments purchases is dear (others, same, are) =
     let one = purchases-one others purchases (sym same ∙ is) in
     let cost = ap cost_of one in
     omega (arith, are.cost)
-
-pub purchases-some : (payments : List (ℕ × ℤ)) → ArePurchasesStated payments → (0 < length payments) × (length payments ≤ most_purchases)
-purchases-some payments (purchases, same, are) =
-    let sizes = ap length same in
-    let right = length-map purchases purchase_stated in
-    (omega (arith, are.some), omega (arith, are.few))
