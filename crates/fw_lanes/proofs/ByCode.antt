@@ -1,10 +1,10 @@
 -- Sums and marks by code, one place further.
-use Rattle.std.proofs.Common.{◌≡◌, ◌≢◌, ◌∙◌, ℕ, zero, suc, ◌+◌, ◌*◌, ◌^◌, ◌<◌, ◌≤◌, ◌==◌, ◌&&◌, ◌||◌, ℤ, pos, ◌+ℤ◌, nat_abs, Bool, true, false, List, [], ◌∷◌, length, take, get_or, set, sym, ap, refl, arith, ⊎_elim}
+use Rattle.std.proofs.Common.{◌≡◌, ◌≢◌, ◌∙◌, ℕ, zero, suc, ◌+◌, ◌*◌, ◌^◌, ◌<◌, ◌≤◌, ◌==◌, ◌&&◌, ◌||◌, ℤ, pos, ◌+ℤ◌, nat_abs, Bool, true, false, List, [], ◌∷◌, length, take, get_or, replicate, set, sym, ap, refl, arith, ⊎_elim}
 use Rattle.std.proofs.lemmas.Bool.{cases_eq}
 use Rattle.std.proofs.lemmas.Bool.Decides.{nat_tests}
 use Rattle.std.proofs.lemmas.Int.{ints}
-use Rattle.std.proofs.lemmas.List.{length-set, get_or-set_same, get_or-set_other}
-use Rattle.fw_lanes.specs.Masked.{AddsByCode, MarksByCode, is_at_code, kept_of, mask_of_code, masked_sum_of}
+use Rattle.std.proofs.lemmas.List.{length-replicate, get_or-replicate, length-set, get_or-set_same, get_or-set_other}
+use Rattle.fw_lanes.specs.Masked.{AddsByCode, AreMarksByCode, AreSumsByCode, MarksByCode, is_at_code, kept_of, mask_of_code, masked_sum_of}
 
 -- the mask of a code at a place
 abbrev at_code : ℕ → List ℕ → List Bool → ℕ → Bool
@@ -90,17 +90,17 @@ added_next values codes mask old sums i sum in_values in_codes in_mask within is
           (cases_eq code place));
     }
 
--- no sum grows by more than one value
-pub small_next : (old sums : List ℤ) (i place : ℕ) (sum : ℤ) → length sums ≡ length old → nat_abs sum ≤ nat_abs (get_or sums place (pos 0)) + 2 ^ 63 → place < length old
-    → ((code : ℕ) → code < length old → nat_abs (get_or sums code (pos 0)) ≤ 2 ^ 126 + i * 2 ^ 63)
-    → (code : ℕ) → code < length old → nat_abs (get_or (set sums place sum) code (pos 0)) ≤ 2 ^ 126 + (i + 1) * 2 ^ 63
-small_next old sums i place sum long grows within small code below =
+-- what bounds each sum bounds it with one more value
+pub near_next : (bound : ℕ → ℕ) (sums : List ℤ) (i place n : ℕ) (sum : ℤ) → length sums ≡ n → nat_abs sum ≤ nat_abs (get_or sums place (pos 0)) + 2 ^ 63 → place < n
+    → ((code : ℕ) → code < n → nat_abs (get_or sums code (pos 0)) ≤ bound code + i * 2 ^ 63)
+    → (code : ℕ) → code < n → nat_abs (get_or (set sums place sum) code (pos 0)) ≤ bound code + (i + 1) * 2 ^ 63
+near_next bound sums i place n sum long grows within near code below =
     ⊎_elim
     (λ (same : code ≡ place).
-    let before : nat_abs (get_or sums place (pos 0)) ≤ 2 ^ 126 + i * 2 ^ 63 = small place within in
+    let before : nat_abs (get_or sums place (pos 0)) ≤ bound place + i * 2 ^ 63 = near place within in
     rw (same, get_or-set_same sums place sum (pos 0) (rw long within)) (omega arith))
     (λ (other : code ≢ place).
-    let before : nat_abs (get_or sums code (pos 0)) ≤ 2 ^ 126 + i * 2 ^ 63 = small code below in
+    let before : nat_abs (get_or sums code (pos 0)) ≤ bound code + i * 2 ^ 63 = near code below in
     rw (get_or-set_other sums place code sum (pos 0) other) (omega arith))
     (cases_eq code place)
 
@@ -127,3 +127,22 @@ marked_next codes mask old marks i in_codes in_mask within so_far =
           ∙ ap (λ b. get_or old code false || b) (sym (more ∙ ap (λ b. is_at_code code (take i codes) (take i mask) || b) (other_code code codes mask i other) ∙ or_nothing _)))
           (cases_eq code place));
     }
+
+zero_plus : (z : ℤ) → pos 0 +ℤ z ≡ z
+zero_plus z = omega (arith, ints)
+
+-- what is added to sums of 0 is the sum
+pub sums_from_none : (values : List ℤ) (codes : List ℕ) (mask : List Bool) (count : ℕ) (sums : List ℤ) → AddsByCode values codes mask (replicate count (pos 0)) sums → AreSumsByCode values codes mask count sums
+sums_from_none values codes mask count sums adds = record {
+  many = adds.same_length ∙ length-replicate count (pos 0);
+  each = λ code below.
+      adds.each code (rw (length-replicate count (pos 0)) below) ∙ ap (λ z. z +ℤ masked_sum_of values (mask_of_code code codes mask)) (get_or-replicate count code (pos 0) (pos 0) below)
+      ∙ zero_plus _;
+}
+
+-- what is marked where nothing was is what the mask marks
+pub marks_from_none : (codes : List ℕ) (mask : List Bool) (count : ℕ) (marks : List Bool) → MarksByCode codes mask (replicate count false) marks → AreMarksByCode codes mask count marks
+marks_from_none codes mask count marks adds = record {
+  many = adds.same_length ∙ length-replicate count false;
+  each = λ code below. adds.each code (rw (length-replicate count false) below) ∙ ap (λ b. b || is_at_code code codes mask) (get_or-replicate count code false false below);
+}

@@ -30,3 +30,13 @@ pub record AddsByCode (values : List ℤ) (codes : List ℕ) (mask : List Bool) 
 pub record MarksByCode (codes : List ℕ) (mask : List Bool) (old new : List Bool) : Type 0 where
   pub same_length : length new ≡ length old
   pub each : (code : ℕ) → code < length old → slice_index_or new code false ≡ (slice_index_or old code false || is_at_code code codes mask)
+
+-- the sums of the codes below a count
+pub record AreSumsByCode (values : List ℤ) (codes : List ℕ) (mask : List Bool) (count : ℕ) (sums : List ℤ) : Type 0 where
+  pub many : length sums ≡ count
+  pub each : (code : ℕ) → code < count → slice_index_or sums code (pos 0) ≡ masked_sum_of values (mask_of_code code codes mask)
+
+-- for each of the codes below a count whether the mask is true at it
+pub record AreMarksByCode (codes : List ℕ) (mask : List Bool) (count : ℕ) (marks : List Bool) : Type 0 where
+  pub many : length marks ≡ count
+  pub each : (code : ℕ) → code < count → slice_index_or marks code false ≡ is_at_code code codes mask
