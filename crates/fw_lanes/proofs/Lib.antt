@@ -1,0 +1,2 @@
+pub mod Halves
+mod ByCode

@@ -1,0 +1,42 @@
+-- Sums under a mask, and by code.
+use Rattle.std.specs.Prelude.{◌≡◌, ℕ, ◌<◌, ◌==◌, ℤ, pos, ◌+ℤ◌, Bool, false, ◌&&◌, ◌||◌, List, [], ◌∷◌, length, slice_index_or, if◌then◌else◌}
+use Rattle.std.specs.List.{list_any}
+use Rattle.std.specs.Simd.Lanes.{zip2}
+
+-- the value where the mask is true, 0 elsewhere
+abbrev pub kept_of : ℤ → Bool → ℤ
+kept_of value is_set = if is_set then value else pos 0
+
+-- the sum of the values at whose places the mask is true
+abbrev pub masked_sum_of : List ℤ → List Bool → ℤ
+masked_sum_of [] mask = pos 0
+masked_sum_of (value ∷ values) [] = pos 0
+masked_sum_of (value ∷ values) (is_set ∷ mask) = kept_of value is_set +ℤ masked_sum_of values mask
+
+-- the mask that is true where a mask is and the code is this one
+abbrev pub mask_of_code : ℕ → List ℕ → List Bool → List Bool
+mask_of_code code codes mask = zip2 (λ c is_set. is_set && (c == code)) codes mask
+
+-- whether a mask is true at some place with the code
+abbrev pub is_at_code : ℕ → List ℕ → List Bool → Bool
+is_at_code code codes mask = list_any (λ is_set. is_set) (mask_of_code code codes mask)
+
+-- to the sum of each code its values were added at which the mask is true
+pub record AddsByCode (values : List ℤ) (codes : List ℕ) (mask : List Bool) (old new : List ℤ) : Type 0 where
+  pub same_length : length new ≡ length old
+  pub each : (code : ℕ) → code < length old → slice_index_or new code (pos 0) ≡ slice_index_or old code (pos 0) +ℤ masked_sum_of values (mask_of_code code codes mask)
+
+-- the codes at which the mask is true are marked, and those that were before
+pub record MarksByCode (codes : List ℕ) (mask : List Bool) (old new : List Bool) : Type 0 where
+  pub same_length : length new ≡ length old
+  pub each : (code : ℕ) → code < length old → slice_index_or new code false ≡ (slice_index_or old code false || is_at_code code codes mask)
+
+-- the sums of the codes below a count
+pub record AreSumsByCode (values : List ℤ) (codes : List ℕ) (mask : List Bool) (count : ℕ) (sums : List ℤ) : Type 0 where
+  pub many : length sums ≡ count
+  pub each : (code : ℕ) → code < count → slice_index_or sums code (pos 0) ≡ masked_sum_of values (mask_of_code code codes mask)
+
+-- for each of the codes below a count whether the mask is true at it
+pub record AreMarksByCode (codes : List ℕ) (mask : List Bool) (count : ℕ) (marks : List Bool) : Type 0 where
+  pub many : length marks ≡ count
+  pub each : (code : ℕ) → code < count → slice_index_or marks code false ≡ is_at_code code codes mask
