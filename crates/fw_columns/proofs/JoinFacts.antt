@@ -1,5 +1,5 @@
 -- The columns of rows and of further rows, by the places that their names have now.
-use Rattle.std.proofs.Common.{◌≡◌, ℕ, ◌+◌, ◌*◌, ◌<◌, ◌≤◌, List, [], ◌∷◌, ◌++◌, length, get_or, map, Option, Some, None, refl, sym, ap, ◌∙◌, arith, length-append}
+use Rattle.std.proofs.Common.{◌≡◌, ℕ, ◌+◌, ◌*◌, ◌<◌, ◌≤◌, List, [], ◌∷◌, ◌++◌, length, map, Option, Some, None, refl, sym, ap, ◌∙◌, arith, length-append}
 use Rattle.std.specs.Prelude.{option_map, option_to_list, All, nat_abs}
 use Rattle.std.proofs.lemmas.List.{get_or-map, map-append}
 use Rattle.std.proofs.lemmas.List.Elements.{All-nil, All-head, All-tail, All-append, All-map, All-weaker}
@@ -13,10 +13,10 @@ use Rattle.fw_columns.specs.Names.{Text, place_of}
 use Rattle.fw_columns.specs.Texts.{texts_of_tags, names_of, with_texts, most_texts}
 use Rattle.fw_columns.specs.Lists.{tag_places, lists_of}
 use Rattle.fw_columns.specs.Codes.{text_code}
-use Rattle.fw_columns.specs.Table.{AreColumns, id_kept}
+use Rattle.fw_columns.specs.Table.{AreColumns}
 use Rattle.fw_columns.specs.Joining.{replaced, replaced_code, AreCodesBelow, AreListsBelow, ArePlainOf, AreCodedOf, AreListsOf}
 use Rattle.fw_columns.proofs.NameFacts.{text_at_place}
-use Rattle.fw_columns.proofs.TextFacts.{IsKnown, AreKnown, IsRowKnown, names_of-append, images_in_turn}
+use Rattle.fw_columns.proofs.TextFacts.{AreKnown, IsRowKnown, names_of-append, images_in_turn}
 use Rattle.fw_columns.proofs.ListFacts.{places-within, with_texts-all, values_there, values_again, lists_of-append}
 use Rattle.fw_columns.proofs.TableFacts.{one_more, rows_known, lists_known}
 use Rattle.fw_columns.proofs.RowFacts.{text-within}

@@ -1,5 +1,5 @@
 -- Columns of rows can be read at the place of each row.
-use Rattle.std.proofs.Common.{◌≡◌, ℕ, ◌+◌, ◌<◌, ◌≤◌, false, List, [], ◌∷◌, length, get_or, map, Option, Some, None, sym, ap, ◌∙◌, subst, arith}
+use Rattle.std.proofs.Common.{◌≡◌, ℕ, ◌<◌, ◌≤◌, List, length, get_or, Option, Some, None, sym, ap, ◌∙◌, subst, arith}
 use Rattle.std.specs.Prelude.{option_to_list, is_some, pos, slice_get}
 use Rattle.std.proofs.lemmas.List.{get_or-map, length-map}
 use Rattle.std.proofs.lemmas.Option.{slice_get-get_or}
@@ -10,7 +10,7 @@ use Rattle.fw_columns.specs.Texts.{texts_of_tags}
 use Rattle.fw_columns.specs.Lists.{tag_places, lists_of}
 use Rattle.fw_charge.specs.Codes.{category_code, class_code}
 use Rattle.fw_columns.specs.Codes.{text_code}
-use Rattle.fw_columns.specs.Table.{AreColumns, id_kept, kind_kept, status_kept, quantity_kept, tags_of, list_at, charge_at}
+use Rattle.fw_columns.specs.Table.{AreColumns, id_kept, kind_kept, status_kept, quantity_kept, charge_at}
 use Rattle.fw_columns.specs.Reading.{HasRow}
 use Rattle.fw_columns.proofs.TextFacts.{AreKnown}
 use Rattle.fw_columns.proofs.ListFacts.{places-within, length-lists_of}

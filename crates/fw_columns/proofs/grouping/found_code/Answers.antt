@@ -1,4 +1,4 @@
-use Rattle.std.proofs.Common.{◌∙◌, ◌<◌, ◌^◌, sym, subst, arith, length, drop, List, ℕ}
+use Rattle.std.proofs.Common.{◌∙◌, ◌<◌, ◌^◌, sym, subst, arith, length, List, ℕ}
 use Rattle.std.proofs.lemmas.List.Elements.{All-drop}
 use Rattle.fw_columns.proofs.ListFacts.{behind_two}
 use Rattle.fw_columns.proofs.GroupFacts.{found_empty, found_value, found_later, found_nowhere}

@@ -1,7 +1,7 @@
-use Rattle.std.proofs.Common.{◌≡◌, ◌∙◌, ◌+◌, map, List, ℕ, ap, refl, arith, subst, get_or, take}
+use Rattle.std.proofs.Common.{◌≡◌, ◌∙◌, map, ap, arith, subst, get_or, take}
 use Rattle.std.proofs.lemmas.List.{take_all}
 use Rattle.fw_charge.specs.Tags.{TagText}
-use Rattle.fw_columns.specs.Names.{Text, with_text, place_of}
+use Rattle.fw_columns.specs.Names.{with_text, place_of}
 use Rattle.fw_columns.specs.Texts.{texts_of_tags, with_texts}
 use Rattle.fw_columns.specs.Lists.{tag_places}
 use Rattle.fw_columns.proofs.TextFacts.{tags_in_turn}
