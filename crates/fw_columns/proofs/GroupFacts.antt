@@ -1,23 +1,27 @@
 -- The codes of groups.
-use Rattle.std.proofs.Common.{◌≡◌, ℕ, ◌+◌, ◌<◌, ◌≤◌, Bool, true, false, List, [], ◌∷◌, length, get_or, map, drop, refl, sym, ap, ◌∙◌, subst, arith, true≢false, if◌then◌else◌, ◌⊎◌, inl, inr, vec_len}
-use Rattle.std.specs.Prelude.{◌==◌, slice_range}
+use Rattle.std.proofs.Common.{◌≡◌, ℕ, ◌+◌, ◌<◌, ◌≤◌, ◌^◌, ◌*◌, Bool, true, false, List, [], ◌∷◌, length, get_or, map, drop, refl, sym, ap, ◌∙◌, subst, arith, true≢false, if◌then◌else◌, ◌⊎◌, inl, inr}
+use Rattle.std.specs.Prelude.{◌==◌, All}
 use Rattle.std.proofs.lemmas.Bool.{eq-eqb, ne_eqb}
 use Rattle.std.proofs.lemmas.Option.{slice_get_within, get_or_from_slice_get}
-use Rattle.std.proofs.lemmas.List.{get_or-map, drop_more, drop_all, length-map}
+use Rattle.std.proofs.lemmas.List.{get_or-map}
+use Rattle.std.proofs.lemmas.List.Elements.{All-head, All-tail, All-map, All-weaker}
 use Rattle.std.specs.Str.{bytes_eq}
 use Rattle.std.specs.Cmp.Lexicographic.{bytes_decides}
 use Rattle.fw_charge.specs.Tags.{TagText, tag_under, value_under, group_of}
 use Rattle.fw_charge.specs.Charge.{Charge}
 use Rattle.fw_columns.specs.declared.table.Table.{Table}
-use Rattle.fw_columns.specs.declared.codes.TagCode.{TagCode}
 use Rattle.fw_columns.specs.Names.{Text, place_of}
-use Rattle.fw_columns.specs.Texts.{texts_of_tags}
+use Rattle.fw_columns.specs.Texts.{texts_of_tags, most_texts}
+use Rattle.fw_columns.specs.Lists.{tag_places, lists_of}
 use Rattle.fw_columns.specs.Codes.{group_code, tag_code, AgreeWithGroups}
-use Rattle.fw_columns.specs.Table.{AreColumns, tag_places, tags_start, tags_end, text_at}
-use Rattle.fw_columns.specs.Grouping.{value_code, value_text, found_code, found_text}
+use Rattle.fw_columns.specs.Table.{AreColumns, text_at, text_of}
+use Rattle.fw_columns.specs.Joining.{replaced}
+use Rattle.fw_columns.specs.Grouping.{found_code, group_at}
 use Rattle.fw_columns.proofs.NameFacts.{text_at_place}
 use Rattle.fw_columns.proofs.TextFacts.{IsKnown, AreKnown, IsRowKnown}
-use Rattle.fw_columns.proofs.TableFacts.{part-shown, texts_known}
+use Rattle.fw_columns.proofs.ListFacts.{values_there}
+use Rattle.fw_columns.proofs.TableFacts.{texts_known, lists_known, rows_known, one_more}
+use Rattle.fw_columns.proofs.JoinFacts.{lists_within}
 
 -- a known text is the only one at its place
 known_place : (names : List Text) (t u : Text) → IsKnown names t → place_of names t ≡ place_of names u → t ≡ u
@@ -38,22 +42,36 @@ unfolding group_code
 value_group names [] h = rw (eq-eqb (place_of names []) (place_of names []) refl) refl
 value_group names (byte ∷ rest) h = rw (same_place names (byte ∷ rest) [] h) refl
 
--- the code that is found among the tags of a row is that of its group
+-- the code that is found among the places of tags is that of their group
 found : (names : List Text) (key : Text) (tags : List TagText) → AreKnown names (texts_of_tags tags)
-    → found_code (place_of names key) (place_of names []) (map (tag_places names) tags) ≡ group_code names (group_of key tags)
-unfolding found_code value_code tag_places texts_of_tags group_of value_under tag_under group_code
+    → found_code (place_of names key) (place_of names []) (tag_places names tags) ≡ group_code names (group_of key tags)
+unfolding found_code tag_places texts_of_tags group_of value_under tag_under group_code
 found names key [] h = refl
 found names key (t ∷ ts) h = by (bytes_eq t.key key) refl (found names key ts h.1.1)
   where
-    by : (b : Bool) → bytes_eq t.key key ≡ b → found_code (place_of names key) (place_of names []) (map (tag_places names) ts) ≡ group_code names (group_of key ts)
-        → found_code (place_of names key) (place_of names []) (map (tag_places names) (t ∷ ts)) ≡ group_code names (group_of key (t ∷ ts))
+    by : (b : Bool) → bytes_eq t.key key ≡ b → found_code (place_of names key) (place_of names []) (tag_places names ts) ≡ group_code names (group_of key ts)
+        → found_code (place_of names key) (place_of names []) (tag_places names (t ∷ ts)) ≡ group_code names (group_of key (t ∷ ts))
     by true e rest = rw (same_place names t.key key h.0, e) (value_group names t.value h.1.0)
     by false e rest = rw (same_place names t.key key h.0, e) rest
 
-pub group_shown : (t : Table) (rows : List Charge) → AreColumns t rows → (key : Text) (i : ℕ) (d : Charge) → i < length rows
-    → found_code (place_of t.names key) (place_of t.names []) (slice_range t.tags.items (tags_start t.tag_ends.items i) (tags_end t.tag_ends.items i)) ≡ tag_code key t.names (get_or rows i d)
-unfolding tag_code
-group_shown t rows columns key i d h = rw (part-shown t rows columns i d h) (found t.names key (get_or rows i d).tags (texts_known t rows columns i d h).tags)
+-- the codes of the lists, at the lists of the rows, are the codes of the rows' groups
+each_found : (names : List Text) (key : Text) (rows : List Charge) → All (IsRowKnown names) rows → map (found_code (place_of names key) (place_of names [])) (lists_of names rows) ≡ map (tag_code key names) rows
+unfolding lists_of tag_code
+each_found names key [] all = refl
+each_found names key (r ∷ rs) all = rw (found names key r.tags (All-head (IsRowKnown names) r rs all).tags, each_found names key rs (All-tail (IsRowKnown names) r rs all)) refl
+
+pub groups_shown : (t : Table) (rows : List Charge) → AreColumns t rows → (key : Text)
+    → replaced (map (found_code (place_of t.names key) (place_of t.names [])) t.lists) t.tags.items ≡ map (tag_code key t.names) rows
+groups_shown t rows columns key =
+    let code = found_code (place_of t.names key) (place_of t.names []) in
+    ap (replaced (map code t.lists)) columns.tags ∙ (values_there t.lists (lists_of t.names rows) code (lists_known t rows columns) ∙ each_found t.names key rows (rows_known t rows columns))
+
+-- places are few
+pub lists_few : (t : Table) (rows : List Charge) → AreColumns t rows → All (λ list. All (λ place. place < 2 ^ 30) list) t.lists
+lists_few t rows columns =
+    let few : length t.names ≤ 2 ^ 30 = (let a : length t.names ≤ most_texts * length rows = columns.names_few in let b : length rows ≤ 65536 = columns.few in omega (arith, a, b)) in
+    let weaker = λ (list : List ℕ) (within : All (λ place. place < length t.names) list). All-weaker (λ place. place < length t.names) (λ place. place < 2 ^ 30) (λ place h. omega (arith, h, few)) list within in
+    All-weaker (λ list. All (λ place. place < length t.names) list) (λ list. All (λ place. place < 2 ^ 30) list) weaker t.lists (lists_within t rows columns)
 
 -- a group is the empty text or known
 group_known : (names : List Text) (key : Text) (tags : List TagText) → AreKnown names (texts_of_tags tags) → (group_of key tags ≡ []) ⊎ IsKnown names (group_of key tags)
@@ -86,58 +104,56 @@ groups_agree t rows columns key i j c d ci dj =
       λ e. ei ∙ (ap (group_code t.names) e ∙ sym ej),
     )
 
--- where the search through tags stands
-module _ (key empty : ℕ) (tags : List TagCode) (i : ℕ) (d : TagCode) (h : i < length tags) where
-  pub found_here : (get_or tags i d).key ≡ key → found_code key empty (drop i tags) ≡ (if (get_or tags i d).value == empty then 0 else 1 + (get_or tags i d).value)
-  unfolding found_code value_code
-  found_here e = rw (drop_more tags i d h, eq-eqb (get_or tags i d).key key e) refl
+-- where the search through the places of tags stands
+found_step : (key empty : ℕ) (places : List ℕ) → 2 ≤ length places
+    → found_code key empty places ≡ (if get_or places 0 0 == key then (if get_or places 1 0 == empty then 0 else 1 + get_or places 1 0) else found_code key empty (drop 2 places))
+unfolding found_code
+found_step key empty [] h = absurd (omega arith)
+found_step key empty (k ∷ []) h = absurd (omega arith)
+found_step key empty (k ∷ value ∷ places) h = refl
 
-  pub found_later : ((get_or tags i d).key ≡ key → ⊥) → found_code key empty (drop i tags) ≡ found_code key empty (drop (i + 1) tags)
-  unfolding found_code value_code
-  found_later e = rw (drop_more tags i d h, ne_eqb (get_or tags i d).key key e) refl
+module _ (key empty : ℕ) (places : List ℕ) (h : 2 ≤ length places) where
+  found_here : get_or places 0 0 ≡ key → found_code key empty places ≡ (if get_or places 1 0 == empty then 0 else 1 + get_or places 1 0)
+  found_here e = rw (found_step key empty places h, eq-eqb (get_or places 0 0) key e) refl
 
-  pub found_empty : (get_or tags i d).key ≡ key → (get_or tags i d).value ≡ empty → 0 ≡ found_code key empty (drop i tags)
-  found_empty e v = sym (found_here e ∙ rw (eq-eqb (get_or tags i d).value empty v) refl)
+  pub found_later : (get_or places 0 0 ≡ key → ⊥) → found_code key empty (drop 2 places) ≡ found_code key empty places
+  found_later e = rw (found_step key empty places h, ne_eqb (get_or places 0 0) key e) refl
 
-  pub found_value : (get_or tags i d).key ≡ key → ((get_or tags i d).value ≡ empty → ⊥) → (get_or tags i d).value + 1 ≡ found_code key empty (drop i tags)
-  found_value e v = sym (found_here e ∙ rw (ne_eqb (get_or tags i d).value empty v) (omega arith))
+  pub found_empty : get_or places 0 0 ≡ key → get_or places 1 0 ≡ empty → 0 ≡ found_code key empty places
+  found_empty e v = sym (found_here e ∙ rw (eq-eqb (get_or places 1 0) empty v) refl)
 
-pub found_nowhere : (key empty : ℕ) (tags : List TagCode) (i : ℕ) → length tags ≤ i → 0 ≡ found_code key empty (drop i tags)
-unfolding found_code value_code
-found_nowhere key empty tags i h = rw (drop_all i tags h) refl
+  pub found_value : get_or places 0 0 ≡ key → (get_or places 1 0 ≡ empty → ⊥) → 1 + get_or places 1 0 ≡ found_code key empty places
+  found_value e v = sym (found_here e ∙ rw (ne_eqb (get_or places 1 0) empty v) refl)
 
--- columns are as long as their rows are many
-pub column_within : (t : Table) (rows : List Charge) → AreColumns t rows → (i : ℕ) → i < vec_len t.billed → i < length rows
-column_within t rows columns i h = let n : length t.billed.items ≡ length rows = rw columns.billed (length-map rows (λ c. c.billed)) in let m : vec_len t.billed ≡ length t.billed.items = t.billed.ok.0 in omega (arith, n, m)
+pub found_nowhere : (key empty : ℕ) (places : List ℕ) → length places < 2 → found_code key empty places ≡ 0
+unfolding found_code
+found_nowhere key empty [] h = refl
+found_nowhere key empty (k ∷ []) h = refl
+found_nowhere key empty (k ∷ value ∷ places) h = absurd (omega arith)
 
 -- ---- the text of a group
 
--- the text that is found among the tags of a row is its group
-found_group : (names : List Text) (key : Text) (tags : List TagText) → AreKnown names (texts_of_tags tags)
-    → found_text names (place_of names key) (map (tag_places names) tags) ≡ group_of key tags
-unfolding found_text value_text text_at tag_places texts_of_tags group_of value_under tag_under
-found_group names key [] h = refl
-found_group names key (t ∷ ts) h = by (bytes_eq t.key key) refl (found_group names key ts h.1.1)
-  where
-    by : (b : Bool) → bytes_eq t.key key ≡ b → found_text names (place_of names key) (map (tag_places names) ts) ≡ group_of key ts
-        → found_text names (place_of names key) (map (tag_places names) (t ∷ ts)) ≡ group_of key (t ∷ ts)
-    by true e rest = rw (same_place names t.key key h.0, e) (text_at_place names t.value [] h.1.0.below)
-    by false e rest = rw (same_place names t.key key h.0, e) rest
+-- the text of the code of a group is the group
+group_back : (names : List Text) (group : Text) → (group ≡ []) ⊎ IsKnown names group → (group_at names (group_code names group) ≡ group) × (group_code names group ≤ length names)
+unfolding group_at group_code text_of text_at
+group_back names [] known = (refl, omega arith)
+group_back names (byte ∷ rest) (inl empty) = absurd (cc)
+group_back names (byte ∷ rest) (inr h) =
+    let below : place_of names (byte ∷ rest) < length names = h.below in
+    (rw (one_more (place_of names (byte ∷ rest))) (text_at_place names (byte ∷ rest) [] below), omega (arith, below))
 
-pub text_shown : (t : Table) (rows : List Charge) → AreColumns t rows → (key : Text) (i : ℕ) (d : Charge) → i < length rows
-    → found_text t.names (place_of t.names key) (slice_range t.tags.items (tags_start t.tag_ends.items i) (tags_end t.tag_ends.items i)) ≡ group_of key (get_or rows i d).tags
-text_shown t rows columns key i d h = rw (part-shown t rows columns i d h) (found_group t.names key (get_or rows i d).tags (texts_known t rows columns i d h).tags)
+each_back : (names : List Text) (key : Text) (rows : List Charge) → All (IsRowKnown names) rows → map (group_at names) (map (tag_code key names) rows) ≡ map (λ c. group_of key c.tags) rows
+unfolding tag_code
+each_back names key [] all = refl
+each_back names key (r ∷ rs) all =
+    rw ((group_back names (group_of key r.tags) (group_known names key r.tags (All-head (IsRowKnown names) r rs all).tags)).0, each_back names key rs (All-tail (IsRowKnown names) r rs all)) refl
 
--- where the search through tags stands
-module _ (names : List Text) (key : ℕ) (tags : List TagCode) (i : ℕ) (d : TagCode) (h : i < length tags) where
-  pub text_here : (get_or tags i d).key ≡ key → text_at names (get_or tags i d).value ≡ found_text names key (drop i tags)
-  unfolding found_text value_text
-  text_here e = rw (drop_more tags i d h, eq-eqb (get_or tags i d).key key e) refl
+pub groups_back : (t : Table) (rows : List Charge) → AreColumns t rows → (key : Text) → map (group_at t.names) (map (tag_code key t.names) rows) ≡ map (λ c. group_of key c.tags) rows
+groups_back t rows columns key = each_back t.names key rows (rows_known t rows columns)
 
-  pub text_later : ((get_or tags i d).key ≡ key → ⊥) → found_text names key (drop i tags) ≡ found_text names key (drop (i + 1) tags)
-  unfolding found_text value_text
-  text_later e = rw (drop_more tags i d h, ne_eqb (get_or tags i d).key key e) refl
-
-pub text_nowhere : (names : List Text) (key : ℕ) (tags : List TagCode) (i : ℕ) → length tags ≤ i → [] ≡ found_text names key (drop i tags)
-unfolding found_text value_text
-text_nowhere names key tags i h = rw (drop_all i tags h) refl
+pub codes_within : (t : Table) (rows : List Charge) → AreColumns t rows → (key : Text) → All (λ code. code ≤ length t.names) (map (tag_code key t.names) rows)
+unfolding tag_code
+codes_within t rows columns key =
+    All-map (λ code. code ≤ length t.names) (λ (c : Charge). group_code t.names (group_of key c.tags)) rows
+    (All-weaker (IsRowKnown t.names) (λ (c : Charge). group_code t.names (group_of key c.tags) ≤ length t.names)
+    (λ c known. (group_back t.names (group_of key c.tags) (group_known t.names key c.tags known.tags)).1) rows (rows_known t rows columns))

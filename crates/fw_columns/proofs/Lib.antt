@@ -1,5 +1,6 @@
 mod NameFacts
 mod TextFacts
+mod ListFacts
 mod TableFacts
 mod RowFacts
 mod JoinFacts

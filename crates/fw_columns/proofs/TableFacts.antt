@@ -1,28 +1,35 @@
 -- The rows of the columns of rows are these rows.
-use Rattle.std.proofs.Common.{◌≡◌, ℕ, zero, suc, ◌+◌, ◌-◌, ◌<◌, Bool, List, [], ◌∷◌, ◌++◌, length, get_or, map, take, Option, Some, None, refl, sym, subst, arith, append_assoc, length-append}
-use Rattle.std.specs.Prelude.{option_map, option_to_list, pos, nat_abs, slice_range}
-use Rattle.std.specs.List.{flat_map}
-use Rattle.std.proofs.lemmas.List.{take_at, drop_at, get_or-map, length-map, map_more}
+use Rattle.std.proofs.Common.{◌≡◌, ℕ, suc, ◌+◌, ◌<◌, ◌≤◌, Bool, List, [], ◌∷◌, length, get_or, drop, Option, Some, None, refl, sym, ap, ◌∙◌, subst, arith}
+use Rattle.std.specs.Prelude.{option_map, option_to_list, is_some, ℤ, pos, nat_abs, false, All}
+use Rattle.std.proofs.lemmas.List.{get_or-map, length-map}
 use Rattle.std.proofs.lemmas.List.FromFn.{fill_by_all}
 use Rattle.fw_charge.specs.Tags.{TagText}
 use Rattle.fw_charge.specs.Charge.{Charge, DiscountText}
 use Rattle.fw_charge.specs.declared.category.Category.{Category}
+use Rattle.fw_charge.specs.declared.discount.DiscountStatus.{DiscountStatus}
 use Rattle.fw_columns.specs.declared.table.Table.{Table}
 use Rattle.fw_columns.specs.Names.{Text, place_of}
 use Rattle.fw_columns.specs.Texts.{texts_of_tags}
-use Rattle.fw_charge.specs.Codes.{category_code, class_code}
-use Rattle.fw_charge.proofs.CodeFacts.{category_there, class_there}
+use Rattle.fw_columns.specs.Lists.{tag_places, lists_of}
+use Rattle.fw_charge.specs.Codes.{category_code, class_code, status_code, status_of}
+use Rattle.fw_charge.proofs.CodeFacts.{category_there, class_there, kind_there, status_there}
 use Rattle.fw_columns.specs.Codes.{text_code}
-use Rattle.fw_columns.specs.Table.{AreColumns, discount_code, tag_places, ends_from, category_at, class_at, text_at, text_of, discount_of, tag_of, tags_start, tags_end, charge_at, rows_of}
+use Rattle.fw_columns.specs.Table.{AreColumns, id_kept, kind_kept, status_kept, quantity_kept, category_at, class_at, text_at, text_of, discount_of, quantity_of, tag_of, tags_of, list_at, charge_at, rows_of}
 use Rattle.fw_columns.proofs.NameFacts.{text_at_place}
-use Rattle.fw_columns.proofs.TextFacts.{IsKnown, AreKnown, IsRowKnown, rows-known}
+use Rattle.fw_columns.proofs.TextFacts.{IsKnown, AreKnown, IsRowKnown, rows-known, AreKnown-seen}
+use Rattle.fw_columns.proofs.ListFacts.{AreKnown-at, length-lists_of}
 
 -- each code stands for what it was made from
-pub category-back : (c : Category) → category_at (category_code c) ≡ c
+category-back : (c : Category) → category_at (category_code c) ≡ c
 category-back c = rw (category_there c) refl
 
-pub class-back : (b : Bool) → class_at (class_code b) ≡ b
+class-back : (b : Bool) → class_at (class_code b) ≡ b
 class-back b = rw (class_there b) refl
+
+status-back : (s : Option DiscountStatus) → status_of (status_code s) ≡ s
+unfolding status_code
+status-back None = refl
+status-back (Some s) = status_there s
 
 known_text : (names : List Text) (t : Text) → IsKnown names t → text_at names (place_of names t) ≡ t
 unfolding text_at
@@ -36,62 +43,63 @@ unfolding text_of text_code
 text-back names None h = refl
 text-back names (Some t) h = rw (one_more (place_of names t), known_text names t h.0) refl
 
-pub discount-back : (names : List Text) (d : Option DiscountText) → AreKnown names (option_to_list (option_map (λ d. d.id) d)) → option_map (discount_of names) (option_map (discount_code names) d) ≡ d
-unfolding discount_of discount_code
-discount-back names None h = refl
-discount-back names (Some d) h = rw (known_text names d.id h.0) refl
+discount-back : (names : List Text) (d : Option DiscountText) → AreKnown names (option_to_list (option_map (λ x. x.id) d)) → discount_of (text_of names (id_kept names d)) (kind_kept d) (status_kept d) ≡ d
+unfolding discount_of kind_kept status_kept
+discount-back names None h = rw (text-back names None h) refl
+discount-back names (Some d) h = rw (text-back names (Some d.id) h, kind_there d.kind, status-back d.status) refl
 
-pub tags-back : (names : List Text) (tags : List TagText) → AreKnown names (texts_of_tags tags) → map (tag_of names) (map (tag_places names) tags) ≡ tags
-unfolding tag_of tag_places texts_of_tags
+quantity-back : (q : Option ℤ) → quantity_of (is_some q) (quantity_kept q) ≡ q
+unfolding quantity_of quantity_kept
+quantity-back None = refl
+quantity-back (Some q) = refl
+
+pub tags-back : (names : List Text) (tags : List TagText) → AreKnown names (texts_of_tags tags) → tags_of names (tag_places names tags) ≡ tags
+unfolding tags_of tag_of tag_places texts_of_tags
 tags-back names [] h = refl
 tags-back names (t ∷ ts) h = rw (known_text names t.key h.0, known_text names t.value h.1.0, tags-back names ts h.1.1) refl
 
--- a row's part of what stands behind one another for all rows
-module _ {X Y : Type 0} (part : X → List Y) (count : X → ℕ) (counts : (x : X) → length (part x) ≡ count x) where
-  pub part-between : (before : List Y) (start : ℕ) (xs : List X) (i : ℕ) (d : X) → length before ≡ start → i < length xs
-      → slice_range (before ++ flat_map part xs) (get_or (start ∷ ends_from start (map count xs)) i 0) (get_or (ends_from start (map count xs)) i 0) ≡ part (get_or xs i d)
-  unfolding ends_from
-  part-between before start [] i d e h = absurd (omega arith)
-  part-between before start (x ∷ xs) zero d e h =
-      let size : (start + count x) - start ≡ count x = omega arith in
-      rw (size, drop_at before (part x ++ flat_map part xs) start e) (take_at (part x) (flat_map part xs) (count x) (counts x))
-  part-between before start (x ∷ xs) (suc i) d e h =
-      rw (← append_assoc before (part x) (flat_map part xs))
-      (part-between (before ++ part x) (start + count x) xs i d (rw (length-append, e, counts x) refl) (omega arith))
+-- where the reading of tags stands
+pub tags_step : (names : List Text) (places : List ℕ) → 2 ≤ length places → tags_of names places ≡ tag_of names (get_or places 0 0) (get_or places 1 0) ∷ tags_of names (drop 2 places)
+unfolding tags_of
+tags_step names [] h = absurd (omega arith)
+tags_step names (key ∷ []) h = absurd (omega arith)
+tags_step names (key ∷ value ∷ places) h = refl
 
--- where lists end that stand behind others
-abbrev pub total : List ℕ → ℕ
-total [] = 0
-total (n ∷ ns) = n + total ns
+pub tags_nowhere : (names : List Text) (places : List ℕ) → length places < 2 → tags_of names places ≡ []
+unfolding tags_of
+tags_nowhere names [] h = refl
+tags_nowhere names (key ∷ []) h = refl
+tags_nowhere names (key ∷ value ∷ places) h = absurd (omega arith)
 
-pub ends_from-append : (start : ℕ) (xs ys : List ℕ) → ends_from start (xs ++ ys) ≡ ends_from start xs ++ ends_from (start + total xs) ys
-unfolding ends_from
-ends_from-append start [] ys = let e : start + 0 ≡ start = omega arith in rw e refl
-ends_from-append start (x ∷ xs) ys = let e : start + (x + total xs) ≡ start + x + total xs = omega arith in rw (ends_from-append (start + x) xs ys, e) refl
+-- the lists of the columns of rows
+module _ (t : Table) (rows : List Charge) (columns : AreColumns t rows) where
+  pub lists_known : AreKnown t.lists (lists_of t.names rows)
+  lists_known = rw columns.lists (AreKnown-seen [] (lists_of t.names rows))
 
-pub total-append : (xs ys : List ℕ) → total (xs ++ ys) ≡ total xs + total ys
-total-append [] ys = omega arith
-total-append (x ∷ xs) ys = let e : total (xs ++ ys) ≡ total xs + total ys = total-append xs ys in omega (arith, e)
-
-pub ends_more : {X : Type 0} (count : X → ℕ) (xs : List X) (i : ℕ) (d : X) → i < length xs
-    → ends_from 0 (map count (take (i + 1) xs)) ≡ ends_from 0 (map count (take i xs)) ++ (total (map count (take i xs)) + count (get_or xs i d)) ∷ []
-unfolding ends_from
-ends_more count xs i d h = let e : 0 + total (map count (take i xs)) ≡ total (map count (take i xs)) = omega arith in rw (map_more count xs i d h, ends_from-append 0 (map count (take i xs)) (count (get_or xs i d) ∷ []), e) refl
-
-pub total_more : {X : Type 0} (count : X → ℕ) (xs : List X) (i : ℕ) (d : X) → i < length xs → total (map count (take (i + 1) xs)) ≡ total (map count (take i xs)) + count (get_or xs i d)
-total_more count xs i d h =
-    let e : total (map count (take i xs) ++ count (get_or xs i d) ∷ []) ≡ total (map count (take i xs)) + (count (get_or xs i d) + 0) = total-append (map count (take i xs)) (count (get_or xs i d) ∷ []) in
-    rw (map_more count xs i d h) (omega (arith, e))
+  pub rows_known : All (IsRowKnown t.names) rows
+  rows_known = rw columns.names (rows-known rows)
 
 -- the row that the columns have at a place
 module _ (t : Table) (rows : List Charge) (columns : AreColumns t rows) (i : ℕ) (d : Charge) (h : i < length rows) where
   pub texts_known : IsRowKnown t.names (get_or rows i d)
-  texts_known = rw columns.names (rows-known rows i d h)
+  texts_known = rows_known t rows columns i d h
 
-  pub part-shown : slice_range t.tags.items (tags_start t.tag_ends.items i) (tags_end t.tag_ends.items i) ≡ map (tag_places t.names) (get_or rows i d).tags
-  unfolding tags_start tags_end
-  part-shown =
-      rw (columns.tags, columns.tag_ends) (part-between (λ c. map (tag_places t.names) c.tags) (λ c. length c.tags) (λ c. length-map c.tags (tag_places t.names)) [] 0 rows i d refl h)
+  row_list : get_or (lists_of t.names rows) i [] ≡ tag_places t.names (get_or rows i d).tags
+  unfolding lists_of
+  row_list = get_or-map (λ (c : Charge). tag_places t.names c.tags) rows i d [] h
+
+  within : i < length (lists_of t.names rows)
+  within = let n : length (lists_of t.names rows) ≡ length rows = length-lists_of t.names rows in omega (arith, n)
+
+  pub list_known : IsKnown t.lists (tag_places t.names (get_or rows i d).tags)
+  list_known = subst (IsKnown t.lists) row_list (AreKnown-at t.lists (lists_of t.names rows) i (lists_known t rows columns) within)
+
+  pub list-place : get_or t.tags.items i 0 ≡ place_of t.lists (tag_places t.names (get_or rows i d).tags)
+  list-place = ap (λ places. get_or places i 0) columns.tags ∙ (get_or-map (place_of t.lists) (lists_of t.names rows) i [] 0 within ∙ ap (place_of t.lists) row_list)
+
+  pub list-shown : list_at t i ≡ tag_places t.names (get_or rows i d).tags
+  unfolding list_at
+  list-shown = ap (λ place. get_or t.lists place []) list-place ∙ text_at_place t.lists (tag_places t.names (get_or rows i d).tags) [] list_known.below
 
   pub row-shown : charge_at t i ≡ get_or rows i d
   unfolding charge_at
@@ -104,17 +112,21 @@ module _ (t : Table) (rows : List Charge) (columns : AreColumns t rows) (i : ℕ
       let e4 : class_at (get_or t.classes.items i 0) ≡ r.is_correction = rw (columns.classes, get_or-map (λ c. class_code c.is_correction) rows i d 0 h) (class-back r.is_correction) in
       let e5 : nat_abs (get_or t.starts.items i (pos 0)) ≡ r.start = rw (columns.starts, get_or-map (λ c. pos c.start) rows i d (pos 0) h) refl in
       let e6 : get_or t.ends.items i 0 ≡ r.end = rw columns.ends (get_or-map (λ c. c.end) rows i d 0 h) in
-      let e7 : option_map (discount_of t.names) (get_or t.discounts.items i None) ≡ r.discount =
-      rw (columns.discounts, get_or-map (λ c. option_map (discount_code t.names) c.discount) rows i d None h) (discount-back t.names r.discount known.discount) in
-      let e8 : get_or t.quantities.items i None ≡ r.quantity = rw columns.quantities (get_or-map (λ c. c.quantity) rows i d None h) in
+      let id : get_or t.discounts.items i 0 ≡ id_kept t.names r.discount = rw columns.discounts (get_or-map (λ c. id_kept t.names c.discount) rows i d 0 h) in
+      let kind : get_or t.kinds.items i 0 ≡ kind_kept r.discount = rw columns.kinds (get_or-map (λ c. kind_kept c.discount) rows i d 0 h) in
+      let status : get_or t.statuses.items i 0 ≡ status_kept r.discount = rw columns.statuses (get_or-map (λ c. status_kept c.discount) rows i d 0 h) in
+      let e7 : discount_of (text_of t.names (get_or t.discounts.items i 0)) (get_or t.kinds.items i 0) (get_or t.statuses.items i 0) ≡ r.discount =
+      (λ j. discount_of (text_of t.names (id j)) (kind j) (status j)) ∙ discount-back t.names r.discount known.discount in
+      let there : get_or t.has_quantity.items i false ≡ is_some r.quantity = rw columns.has_quantity (get_or-map (λ c. is_some c.quantity) rows i d false h) in
+      let count : get_or t.quantities.items i (pos 0) ≡ quantity_kept r.quantity = rw columns.quantities (get_or-map (λ c. quantity_kept c.quantity) rows i d (pos 0) h) in
+      let e8 : quantity_of (get_or t.has_quantity.items i false) (get_or t.quantities.items i (pos 0)) ≡ r.quantity = (λ j. quantity_of (there j) (count j)) ∙ quantity-back r.quantity in
       let e9 : text_of t.names (get_or t.units.items i 0) ≡ r.unit =
       rw (columns.units, get_or-map (λ c. text_code t.names c.unit) rows i d 0 h) (text-back t.names r.unit known.unit) in
       let e10 : text_of t.names (get_or t.skus.items i 0) ≡ r.sku =
       rw (columns.skus, get_or-map (λ c. text_code t.names c.sku) rows i d 0 h) (text-back t.names r.sku known.sku) in
       let e11 : text_of t.names (get_or t.sub_accounts.items i 0) ≡ r.sub_account =
       rw (columns.sub_accounts, get_or-map (λ c. text_code t.names c.sub_account) rows i d 0 h) (text-back t.names r.sub_account known.sub_account) in
-      let e12 : map (tag_of t.names) (slice_range t.tags.items (tags_start t.tag_ends.items i) (tags_end t.tag_ends.items i)) ≡ r.tags =
-      rw part-shown (tags-back t.names r.tags known.tags) in
+      let e12 : tags_of t.names (list_at t i) ≡ r.tags = ap (tags_of t.names) list-shown ∙ tags-back t.names r.tags known.tags in
       λ j. record {
         billed = e1 j;
         effective = e2 j;

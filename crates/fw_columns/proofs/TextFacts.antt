@@ -1,5 +1,5 @@
 -- Facts on the names of texts: each text has its place, and a place stays while more texts come.
-use Rattle.std.proofs.Common.{◌≡◌, ℕ, ◌+◌, ◌<◌, ◌≤◌, Bool, true, false, List, [], ◌∷◌, ◌++◌, length, get_or, take, refl, sym, ap, ◌∙◌, arith, append_assoc, length-append, true≢false, subst}
+use Rattle.std.proofs.Common.{◌≡◌, ℕ, ◌+◌, ◌<◌, ◌≤◌, Bool, true, false, List, [], ◌∷◌, ◌++◌, length, get_or, map, take, refl, sym, ap, ◌∙◌, arith, append_assoc, length-append, true≢false, subst}
 use Rattle.std.proofs.lemmas.Option.{slice_get_within, get_or_from_slice_get}
 use Rattle.std.specs.Prelude.{All, slice_get, Some, option_map, option_to_list}
 use Rattle.std.specs.List.{list_any, position_or_len, flat_map}
@@ -7,7 +7,7 @@ use Rattle.std.specs.Cmp.Lexicographic.{bytes_decides}
 use Rattle.fw_columns.proofs.NameFacts.{place-missing}
 use Rattle.std.proofs.lemmas.List.Elements.{All-nil, All-cons}
 use Rattle.std.specs.Str.{bytes_eq}
-use Rattle.std.proofs.lemmas.List.{append-nil, take_more}
+use Rattle.std.proofs.lemmas.List.{append-nil, take_more, map_push, map-id}
 use Rattle.std.proofs.lemmas.Grind.{fold-append, flat_map-append}
 use Rattle.fw_charge.specs.Tags.{TagText}
 use Rattle.fw_charge.specs.Charge.{Charge}
@@ -132,11 +132,13 @@ with_text_adds_one names t = by (list_any (bytes_eq t) names) refl
     by false e = rw (e, length-append) (omega arith)
 
 -- one more tag, and one more row
-pub texts_of_tags_more : (names : List Text) (tags : List TagText) (i : ℕ) (d : TagText) → i < length tags
-    → with_texts (with_texts (with_texts names (texts_of_tags (take i tags))) ((get_or tags i d).key ∷ [])) ((get_or tags i d).value ∷ []) ≡ with_texts names (texts_of_tags (take (i + 1) tags))
+pub tags_in_turn : (tags : List TagText) (i : ℕ) (d : TagText) → i < length tags
+    → (texts_of_tags (take i tags) ++ (get_or tags i d).key ∷ []) ++ (get_or tags i d).value ∷ [] ≡ texts_of_tags (take (i + 1) tags)
 unfolding texts_of_tags
-texts_of_tags_more names tags i d h =
-    rw (take_more tags i d h, flat_map-append, append-nil, ← with_texts-append, ← with_texts-append) refl
+tags_in_turn tags i d h =
+    let texts = λ (t : TagText). t.key ∷ t.value ∷ [] in
+    append_assoc (flat_map texts (take i tags)) ((get_or tags i d).key ∷ []) ((get_or tags i d).value ∷ [])
+    ∙ sym (ap (flat_map texts) (take_more tags i d h) ∙ flat_map-append texts (take i tags) (get_or tags i d ∷ []))
 
 pub names_of_more : (rows : List Charge) (i : ℕ) (d : Charge) → i < length rows → with_texts (names_of (take i rows)) (texts_of (get_or rows i d)) ≡ names_of (take (i + 1) rows)
 unfolding names_of
@@ -151,35 +153,46 @@ pub seen_more : (names other : List Text) (i : ℕ) (t : Text) → slice_get oth
 seen_more names other i t e =
     rw (take_more other i [] (slice_get_within other i t e), get_or_from_slice_get other i t [] e) (sym (with_texts-append names (take i other) (t ∷ [])))
 
--- what is among known texts is known
-among_known : (names ms : List Text) (t : Text) → AreKnown names ms → list_any (bytes_eq t) ms ≡ true → IsKnown names t
-among_known names [] t known h = absurd (true≢false (sym h))
-among_known names (m ∷ ms) t known h = by (bytes_eq t m) refl (among_known names ms t known.1)
+-- where the images of some texts are known, so is that of a text among them
+among_known : (r : Text → Text) (names ms : List Text) (t : Text) → AreKnown names (map r ms) → list_any (bytes_eq t) ms ≡ true → IsKnown names (r t)
+among_known r names [] t known h = absurd (true≢false (sym h))
+among_known r names (m ∷ ms) t known h = by (bytes_eq t m) refl (among_known r names ms t known.1)
   where
-    by : (b : Bool) → bytes_eq t m ≡ b → (list_any (bytes_eq t) ms ≡ true → IsKnown names t) → IsKnown names t
-    by true e rest = subst (IsKnown names) (sym ((bytes_decides t m).0 e)) known.0
+    by : (b : Bool) → bytes_eq t m ≡ b → (list_any (bytes_eq t) ms ≡ true → IsKnown names (r t)) → IsKnown names (r t)
+    by true e rest = subst (λ (x : Text). IsKnown names (r x)) (sym ((bytes_decides t m).0 e)) known.0
     by false e rest = rest (rw e at h)
 
--- a text that comes to the names of some texts comes to the names of all
-with_text-inner : (names ms : List Text) (t : Text) → with_texts names (with_text ms t) ≡ with_text (with_texts names ms) t
+-- to see the images of the names of some texts, and then of one more text
+with_text-image : (r : Text → Text) (names ms : List Text) (t : Text) → with_texts names (map r (with_text ms t)) ≡ with_text (with_texts names (map r ms)) (r t)
 unfolding with_texts with_text
-with_text-inner names ms t =
-    by (list_any (bytes_eq t) ms) refl (λ e. known_adds_nothing (with_texts names ms) t (among_known (with_texts names ms) ms t (AreKnown-seen names ms) e)) (with_texts-append names ms (t ∷ []))
+with_text-image r names ms t =
+    by (list_any (bytes_eq t) ms) refl (λ e. known_adds_nothing (with_texts names (map r ms)) (r t) (among_known r (with_texts names (map r ms)) ms t (AreKnown-seen names (map r ms)) e))
+    (ap (with_texts names) (map_push r ms t) ∙ with_texts-append names (map r ms) (r t ∷ []))
   where
-    by : (b : Bool) → list_any (bytes_eq t) ms ≡ b → (list_any (bytes_eq t) ms ≡ true → with_text (with_texts names ms) t ≡ with_texts names ms)
-        → with_texts names (ms ++ t ∷ []) ≡ with_texts (with_texts names ms) (t ∷ []) → with_texts names (with_text ms t) ≡ with_text (with_texts names ms) t
+    by : (b : Bool) → list_any (bytes_eq t) ms ≡ b → (list_any (bytes_eq t) ms ≡ true → with_text (with_texts names (map r ms)) (r t) ≡ with_texts names (map r ms))
+        → with_texts names (map r (ms ++ t ∷ [])) ≡ with_texts (with_texts names (map r ms)) (r t ∷ []) → with_texts names (map r (with_text ms t)) ≡ with_text (with_texts names (map r ms)) (r t)
     by true e same new = rw e (sym (same e))
     by false e same new = rw e new
 
--- to see the names of texts is to see the texts
-pub with_texts-inner : (names ms ts : List Text) → with_texts names (with_texts ms ts) ≡ with_texts (with_texts names ms) ts
+-- to see the images of the names of texts is to see those of the texts
+with_texts-image : (r : Text → Text) (names ms ts : List Text) → with_texts names (map r (with_texts ms ts)) ≡ with_texts (with_texts names (map r ms)) (map r ts)
 unfolding with_texts
-with_texts-inner names ms [] = refl
-with_texts-inner names ms (t ∷ ts) = with_texts-inner names (with_text ms t) ts ∙ ap (λ ns. with_texts ns ts) (with_text-inner names ms t)
+with_texts-image r names ms [] = refl
+with_texts-image r names ms (t ∷ ts) = with_texts-image r names (with_text ms t) ts ∙ ap (λ ns. with_texts ns (map r ts)) (with_text-image r names ms t)
+
+pub images_in_turn : (r s : Text → Text) (xs ys : List Text) → with_texts (with_texts [] (map r (with_texts [] xs))) (map s (with_texts [] ys)) ≡ with_texts [] (map r xs ++ map s ys)
+unfolding with_texts
+images_in_turn r s xs ys =
+    with_texts-image s (with_texts [] (map r (with_texts [] xs))) [] ys
+    ∙ (ap (λ ns. with_texts ns (map s ys)) (with_texts-image r [] [] xs) ∙ sym (with_texts-append [] (map r xs) (map s ys)))
 
 -- the names of rows and of further rows are those of all
 pub names_of-append : (xs ys : List Charge) → with_texts (with_texts [] (names_of xs)) (names_of ys) ≡ names_of (xs ++ ys)
-unfolding names_of with_texts
+unfolding names_of
 names_of-append xs ys =
-    rw (with_texts-inner [] [] (flat_map texts_of xs), with_texts-inner (with_texts [] (flat_map texts_of xs)) [] (flat_map texts_of ys), flat_map-append)
-    (sym (with_texts-append [] (flat_map texts_of xs) (flat_map texts_of ys)))
+    let same = λ (t : Text). t in
+    let texts = flat_map texts_of xs in
+    let more = flat_map texts_of ys in
+    (λ j. with_texts (with_texts [] (sym (map-id (with_texts [] texts)) j)) (sym (map-id (with_texts [] more)) j))
+    ∙ (images_in_turn same same texts more
+    ∙ ((λ j. with_texts [] (map-id texts j ++ map-id more j)) ∙ ap (with_texts []) (sym (flat_map-append texts_of xs ys))))

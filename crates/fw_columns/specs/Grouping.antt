@@ -1,23 +1,15 @@
--- How a group and its code are found among the tags of a row. The private functions of the crate cite it.
-use Rattle.std.specs.Prelude.{ℕ, ◌+◌, ◌==◌, if◌then◌else◌, List, [], Option, Some, None, find}
+-- How the code of a group is found among the places of tags. The private functions of the crate cite it.
+use Rattle.std.specs.Prelude.{ℕ, ◌+◌, ◌==◌, if◌then◌else◌, List, [], ◌∷◌, unwrap_or}
 use Rattle.fw_columns.specs.Names.{Text}
-use Rattle.fw_columns.specs.Table.{text_at}
-use Rattle.fw_columns.specs.declared.codes.TagCode.{TagCode}
+use Rattle.fw_columns.specs.Table.{text_of}
 
--- 0 where there is no tag or its value is at the place of the empty text, else 1 more than the place of its value
-unfoldable pub value_code : ℕ → Option TagCode → ℕ
-value_code empty None = 0
-value_code empty (Some t) = if t.value == empty then 0 else 1 + t.value
+-- the code of the group under the key of a place: 0 where no tag has the key, or its value is at the place of the empty text; else 1 more than
+-- the place of its value
+unfoldable pub found_code : ℕ → ℕ → List ℕ → ℕ
+found_code key empty [] = 0
+found_code key empty (k ∷ []) = 0
+found_code key empty (k ∷ value ∷ places) = if k == key then (if value == empty then 0 else 1 + value) else found_code key empty places
 
--- the code of the group under the key of a place
-unfoldable pub found_code : ℕ → ℕ → List TagCode → ℕ
-found_code key empty tags = value_code empty (find (λ t. t.key == key) tags)
-
--- the empty text where there is no tag, else its value
-unfoldable pub value_text : List Text → Option TagCode → Text
-value_text names None = []
-value_text names (Some t) = text_at names t.value
-
--- the group under the key of a place
-unfoldable pub found_text : List Text → ℕ → List TagCode → Text
-found_text names key tags = value_text names (find (λ t. t.key == key) tags)
+-- the text of the group with a code
+unfoldable pub group_at : List Text → ℕ → Text
+group_at names code = unwrap_or (text_of names code) []

@@ -1,5 +1,6 @@
 pub mod Names
 pub mod Texts
+pub mod Lists
 pub mod Codes
 pub mod Table
 pub mod Joining

@@ -1,26 +1,14 @@
 //! What columns hold in place of texts, discounts and tags, and what it stands for.
-ghost use Rattle.std.specs.Prelude.{◌≡◌, ◌<◌, ◌≤◌, length, option_copied, option_map, string_bytes, IfOk};
+ghost use Rattle.std.specs.Prelude.{◌≡◌, ◌<◌, ◌≤◌, length, nat_abs, option_copied, option_map, string_bytes, IfOk};
+ghost use Rattle.fw_money.specs.Amount.{most_nanos};
+ghost use Rattle.fw_charge.specs.Codes.{status_code};
 ghost use Rattle.fw_columns.specs.Codes.{text_code};
-ghost use Rattle.fw_columns.specs.Table.{text_of, text_at, discount_code, discount_of, tag_places, tag_of};
+ghost use Rattle.fw_columns.specs.Table.{text_of, text_at, id_kept, kind_kept, status_kept, quantity_kept, discount_of, quantity_of, tag_of};
 
 use crate::names::Names;
 use fw_charge::{Discount, DiscountKind, DiscountStatus, Tag};
+use fw_money::Nanos;
 use std::alloc::{AllocError, Global};
-
-/// A commitment discount, its id by its place in the names.
-#[derive(Clone, Copy, Debug, Drop)]
-pub struct DiscountCode {
-    pub id: u32,
-    pub kind: DiscountKind,
-    pub status: Option<DiscountStatus>,
-}
-
-/// A tag, its key and its value by their places in the names.
-#[derive(Clone, Copy, Debug, Drop)]
-pub struct TagCode {
-    pub key: u32,
-    pub value: u32,
-}
 
 /// The code of a text: 0 where it is null, else 1 more than its place.
 #[tactic(auto, unfolding(crate::specs::Codes::text_code))]
@@ -45,50 +33,93 @@ pub fn text_of(alloc: Global, names: &Names, code: u32) -> Result<Option<String>
     }
 }
 
-/// What a discount is kept as.
-#[tactic(auto, unfolding(crate::specs::Table::discount_code))]
-pub fn discount_code(names: &Names, discount: Option<&Discount>) -> Option<DiscountCode>
-    ensures { result ≡ option_map (discount_code names.now) (option_copied discount.entry) }
+/// The code of a discount's id.
+#[tactic(auto, unfolding(crate::specs::Codes::text_code))]
+pub fn id_kept(names: &Names, discount: Option<&Discount>) -> u32
+    ensures { result ≡ id_kept names.now (option_copied discount.entry) }
 {
     match discount {
-        Some(discount) => Some(DiscountCode {
-            id: names.place(discount.id()),
-            kind: discount.kind(),
-            status: discount.status(),
-        }),
+        Some(discount) => names.place(discount.id()) + 1,
+        None => 0,
+    }
+}
+
+/// The code of a discount's kind, 0 where there is no discount.
+#[tactic(auto, unfolding(crate::specs::Table::kind_kept))]
+pub fn kind_kept(discount: Option<&Discount>) -> u8
+    ensures { result ≡ kind_kept (option_copied discount.entry) }
+{
+    match discount {
+        Some(discount) => discount.kind().code(),
+        None => 0,
+    }
+}
+
+/// The code of a discount's status, 0 where it is null or there is no discount.
+#[tactic(auto, unfolding(crate::specs::Table::status_kept))]
+pub fn status_kept(discount: Option<&Discount>) -> u8
+    ensures { result ≡ status_kept (option_copied discount.entry) }
+{
+    match discount {
+        Some(discount) => status_code(discount.status()),
+        None => 0,
+    }
+}
+
+/// The code of a status, 0 where it is null.
+#[tactic(auto, unfolding(fw_charge::specs::Codes::status_code))]
+fn status_code(status: Option<DiscountStatus>) -> u8
+    ensures { result ≡ status_code status }
+{
+    match status {
+        Some(status) => status.code(),
+        None => 0,
+    }
+}
+
+/// The discount with an id that may be null, and with the codes of its kind and of its status. A code that is no kind's counts as a kind of use.
+#[tactic(auto, unfolding(crate::specs::Table::discount_of))]
+pub fn discount_of(id: Option<String>, kind: u8, status: u8) -> Option<Discount>
+    ensures { result ≡ discount_of (option_map string_bytes id) kind status }
+{
+    match id {
+        Some(id) => Some(Discount::of_fields(
+            id,
+            DiscountKind::from_code(kind).unwrap_or(DiscountKind::Usage),
+            DiscountStatus::from_code(status),
+        )),
         None => None,
     }
 }
 
-/// The discount that is kept so.
-#[tactic(auto, unfolding(crate::specs::Table::discount_of, crate::specs::Table::text_at))]
-pub fn discount_of(alloc: Global, names: &Names, code: DiscountCode) -> Result<Discount, AllocError>
-    requires { code.id < length names.now }
-    ensures { IfOk result (λ discount. discount ≡ discount_of names.now code) }
+/// The count of a quantity, 0 where it is null.
+#[tactic(auto, unfolding(crate::specs::Table::quantity_kept))]
+pub fn quantity_kept(quantity: Option<Nanos>) -> i64
+    ensures value { result ≡ quantity_kept quantity }
+    ensures in_range { nat_abs result ≤ most_nanos }
 {
-    let id = String::from_str(alloc, names.text(code.id))?;
-    Ok(Discount::of_fields(id, code.kind, code.status))
-}
-
-/// What a tag is kept as.
-#[tactic(auto, unfolding(crate::specs::Table::tag_places))]
-pub fn tag_places(names: &Names, tag: &Tag) -> TagCode
-    ensures { result ≡ tag_places names.now tag.now }
-{
-    TagCode {
-        key: names.place(tag.key()),
-        value: names.place(tag.value()),
+    match quantity {
+        Some(quantity) => quantity.count(),
+        None => 0,
     }
 }
 
-/// The tag that is kept so.
-#[tactic(auto, unfolding(crate::specs::Table::tag_of, crate::specs::Table::text_at))]
-pub fn tag_of(alloc: Global, names: &Names, code: TagCode) -> Result<Tag, AllocError>
-    requires key { code.key < length names.now }
-    requires value { code.value < length names.now }
-    ensures { IfOk result (λ tag. tag ≡ tag_of names.now code) }
+/// A quantity that may be null, from its amount and whether it is there.
+#[tactic(auto, unfolding(crate::specs::Table::quantity_of))]
+pub fn quantity_of(is_there: bool, quantity: Nanos) -> Option<Nanos>
+    ensures { result ≡ quantity_of is_there quantity }
 {
-    let key = String::from_str(alloc, names.text(code.key))?;
-    let value = String::from_str(alloc, names.text(code.value))?;
+    if is_there { Some(quantity) } else { None }
+}
+
+/// The tag with the places of its key and of its value.
+#[tactic(auto, unfolding(crate::specs::Table::tag_of, crate::specs::Table::text_at))]
+pub fn tag_of(alloc: Global, names: &Names, key: u32, value: u32) -> Result<Tag, AllocError>
+    requires key { key < length names.now }
+    requires value { value < length names.now }
+    ensures { IfOk result (λ tag. tag ≡ tag_of names.now key value) }
+{
+    let key = String::from_str(alloc, names.text(key))?;
+    let value = String::from_str(alloc, names.text(value))?;
     Ok(Tag::of_fields(key, value))
 }

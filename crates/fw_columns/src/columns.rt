@@ -17,7 +17,7 @@ use fw_charge::Row;
 use std::alloc::{AllocError, Global};
 use std::marker::Model;
 
-/// 1 to 65,536 charge rows kept by column, each of their texts once. A contract sees the list of the rows.
+/// 1 to 65,536 charge rows kept by column, each of their texts and each of their lists of tags once. A contract sees the list of the rows.
 #[derive(Drop)]
 pub struct Columns {
     table: Table,
@@ -121,7 +121,7 @@ impl Columns {
     }
 
     /// The code of each row's group under a tag key: 0 where the group is the empty text, else 1 more than the group's place in the
-    /// names. Two rows have one code exactly where they have one group.
+    /// names. Two rows have one code exactly where they have one group. Each list of tags is searched once, however many rows have it.
     pub fn tag_codes(&self, key: &str) -> Result<Vec<u32>, AllocError>
         ensures codes { IfOk result (λ codes. codes.items ≡ map (tag_code key.now (names_of self.now)) self.now) }
         ensures agree { IfOk result (λ codes. AgreeWithGroups key.now self.now codes.items) }

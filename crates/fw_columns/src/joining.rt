@@ -1,15 +1,16 @@
 //! The columns of rows and of further rows.
-ghost use Rattle.std.specs.Prelude.{◌≡◌, ◌≤◌, ◌<◌, ◌+◌, ◌++◌, ◌^◌, length, map, option_map, All, IfOk, IfSome, OnOk};
+ghost use Rattle.std.specs.Prelude.{◌≡◌, ◌≤◌, ◌<◌, ◌+◌, ◌++◌, ◌^◌, length, map, All, IfOk, OnOk};
+ghost use Rattle.fw_columns.specs.Names.{place_of};
+ghost use Rattle.fw_columns.specs.Texts.{with_texts};
 ghost use Rattle.fw_columns.specs.Table.{AreColumns, rows_of};
-ghost use Rattle.fw_columns.specs.Joining.{replaced_code, replaced_discount, replaced_tag, IsTagBelow, AreCodesBelow, AreTagsBelow, ArePlainOf, AreCodedOf, AreTagsOf};
+ghost use Rattle.fw_columns.specs.Joining.{replaced, replaced_code, AreCodesBelow, AreListsBelow, ArePlainOf, AreCodedOf, AreListsOf};
 
-use crate::codes::{DiscountCode, TagCode};
+use crate::lists::Lists;
 use crate::naming::{joined_names, places_in};
 use crate::table::Table;
-use fw_money::Nanos;
 use std::alloc::{AllocError, Global};
 
-/// Columns without codes of texts.
+/// Columns without places of texts.
 #[derive(Drop)]
 pub struct Plain {
     pub billed: Vec<i64>,
@@ -18,23 +19,26 @@ pub struct Plain {
     pub classes: Vec<u8>,
     pub starts: Vec<i64>,
     pub ends: Vec<u64>,
-    pub quantities: Vec<Option<Nanos>>,
+    pub kinds: Vec<u8>,
+    pub statuses: Vec<u8>,
+    pub quantities: Vec<i64>,
+    pub has_quantity: Vec<bool>,
 }
 
 /// Columns of codes of texts.
 #[derive(Drop)]
 pub struct Coded {
-    pub discounts: Vec<Option<DiscountCode>>,
+    pub discounts: Vec<u32>,
     pub units: Vec<u32>,
     pub skus: Vec<u32>,
     pub sub_accounts: Vec<u32>,
 }
 
-/// The tags of rows, and where those of each row end.
+/// The lists of tags of rows, each once, and for each row the place of its list.
 #[derive(Drop)]
-pub struct Tagged {
-    pub tags: Vec<TagCode>,
-    pub ends: Vec<u32>,
+pub struct Listed {
+    pub lists: Lists,
+    pub tags: Vec<u32>,
 }
 
 /// The columns of the rows of one table and then those of another.
@@ -49,9 +53,10 @@ pub fn joined(alloc: Global, first: &Table, second: &Table) -> Result<Table, All
     let two = places_in(alloc, &names, &second.names)?;
     let plain = joined_plain(alloc, first, second)?;
     let coded = joined_coded(alloc, first, one.as_slice(), second, two.as_slice())?;
-    let tagged = joined_tagged(alloc, first, one.as_slice(), second, two.as_slice())?;
+    let listed = joined_lists(alloc, first, one.as_slice(), second, two.as_slice())?;
     Ok(Table {
         names,
+        lists: listed.lists,
         billed: plain.billed,
         effective: plain.effective,
         categories: plain.categories,
@@ -59,16 +64,18 @@ pub fn joined(alloc: Global, first: &Table, second: &Table) -> Result<Table, All
         starts: plain.starts,
         ends: plain.ends,
         discounts: coded.discounts,
+        kinds: plain.kinds,
+        statuses: plain.statuses,
         quantities: plain.quantities,
+        has_quantity: plain.has_quantity,
         units: coded.units,
         skus: coded.skus,
         sub_accounts: coded.sub_accounts,
-        tags: tagged.tags,
-        tag_ends: tagged.ends,
+        tags: listed.tags,
     })
 }
 
-/// The columns without codes of two tables in turn.
+/// The columns without places of two tables in turn.
 fn joined_plain(alloc: Global, first: &Table, second: &Table) -> Result<Plain, AllocError>
     ensures { IfOk result (λ plain. ArePlainOf plain first.now second.now) }
 {
@@ -79,7 +86,10 @@ fn joined_plain(alloc: Global, first: &Table, second: &Table) -> Result<Plain, A
         classes: joined_values(alloc, &first.classes, &second.classes)?,
         starts: joined_values(alloc, &first.starts, &second.starts)?,
         ends: joined_values(alloc, &first.ends, &second.ends)?,
+        kinds: joined_values(alloc, &first.kinds, &second.kinds)?,
+        statuses: joined_values(alloc, &first.statuses, &second.statuses)?,
         quantities: joined_values(alloc, &first.quantities, &second.quantities)?,
+        has_quantity: joined_values(alloc, &first.has_quantity, &second.has_quantity)?,
     })
 }
 
@@ -98,29 +108,68 @@ fn joined_coded(
     ensures { IfOk result (λ coded. AreCodedOf coded first.now second.now one.now two.now) }
 {
     Ok(Coded {
-        discounts: joined_discounts(alloc, &first.discounts, one, &second.discounts, two)?,
+        discounts: joined_codes(alloc, &first.discounts, one, &second.discounts, two)?,
         units: joined_codes(alloc, &first.units, one, &second.units, two)?,
         skus: joined_codes(alloc, &first.skus, one, &second.skus, two)?,
         sub_accounts: joined_codes(alloc, &first.sub_accounts, one, &second.sub_accounts, two)?,
     })
 }
 
-/// The tags of two tables in turn, by the places that their texts have now.
-fn joined_tagged(
+/// The lists of tags of two tables in turn, by the places that their texts have now.
+fn joined_lists(
     alloc: Global,
     first: &Table,
     one: &[u32],
     second: &Table,
     two: &[u32],
-) -> Result<Tagged, AllocError>
-    requires first { AreTagsBelow first.now (length one.now) }
-    requires second { AreTagsBelow second.now (length two.now) }
-    ensures { IfOk result (λ tagged. AreTagsOf tagged first.now second.now one.now two.now) }
+) -> Result<Listed, AllocError>
+    requires first { AreListsBelow first.now (length one.now) }
+    requires second { AreListsBelow second.now (length two.now) }
+    requires few { length first.now.lists + length second.now.lists ≤ 2 ^ 30 }
+    ensures { IfOk result (λ listed. AreListsOf listed first.now second.now one.now two.now) }
 {
-    Ok(Tagged {
-        tags: joined_tags(alloc, &first.tags, one, &second.tags, two)?,
-        ends: joined_ends(alloc, &first.tag_ends, first.tags.len(), &second.tag_ends)?,
-    })
+    let mut lists = Lists::new(alloc);
+    let mut tags = Vec::with_capacity(alloc, first.tags.len().saturating_add(second.tags.len()))?;
+    let ones = see_lists(alloc, &mut lists, &first.lists, one)?;
+    push_replaced(&mut tags, first.tags.as_slice(), ones.as_slice())?;
+    let twos = see_lists(alloc, &mut lists, &second.lists, two)?;
+    push_replaced(&mut tags, second.tags.as_slice(), twos.as_slice())?;
+    Ok(Listed { lists, tags })
+}
+
+/// Adds those of other lists that are new, by the places that their texts have now. Returns the place of each.
+fn see_lists(
+    alloc: Global,
+    lists: &mut Lists,
+    other: &Lists,
+    places: &[u32],
+) -> Result<Vec<u32>, AllocError>
+    requires few { length lists.old + length other.now ≤ 2 ^ 30 }
+    requires within { All (λ list. All (λ place. place < length places.now) list) other.now }
+    ensures seen { OnOk result (lists.new ≡ with_texts lists.old (map (replaced places.now) other.now)) }
+    ensures few { OnOk result (length lists.new ≤ length lists.old + length other.now) }
+    ensures codes { IfOk result (λ codes. codes.items ≡ map (place_of lists.new) (map (replaced places.now) other.now)) }
+{
+    let mut codes = Vec::with_capacity(alloc, other.len())?;
+    let mut moved = Vec::new(alloc);
+    for place in 0..other.len() as u32 {
+        moved.clear();
+        push_replaced(&mut moved, other.list(place), places)?;
+        let code = lists.code(moved.as_slice())?;
+        codes.push(code)?;
+    }
+    Ok(codes)
+}
+
+/// Adds places, as they are now: for each place the value there.
+pub fn push_replaced(column: &mut Vec<u32>, list: &[u32], places: &[u32]) -> Result<(), AllocError>
+    requires { All (λ place. place < length places.now) list.now }
+    ensures { OnOk result (column.new.items ≡ column.old.items ++ replaced places.now list.now) }
+{
+    for place in list {
+        column.push(places[*place as usize])?;
+    }
+    Ok(())
 }
 
 /// The values of two columns in turn.
@@ -176,123 +225,4 @@ fn replaced_code(places: &[u32], code: u32) -> u32
         Some(place) => places[place as usize] + 1,
         None => 0,
     }
-}
-
-/// The discounts of two columns in turn, by the places that their ids have now.
-fn joined_discounts(
-    alloc: Global,
-    first: &[Option<DiscountCode>],
-    one: &[u32],
-    second: &[Option<DiscountCode>],
-    two: &[u32],
-) -> Result<Vec<Option<DiscountCode>>, AllocError>
-    requires first { All (λ d. IfSome d (λ d. d.id < length one.now)) first.now }
-    requires second { All (λ d. IfSome d (λ d. d.id < length two.now)) second.now }
-    ensures { IfOk result (λ column. column.items ≡ map (option_map (replaced_discount one.now)) first.now ++ map (option_map (replaced_discount two.now)) second.now) }
-{
-    let mut column = Vec::with_capacity(alloc, first.len().saturating_add(second.len()))?;
-    push_discounts(&mut column, first, one)?;
-    push_discounts(&mut column, second, two)?;
-    Ok(column)
-}
-
-/// Adds discounts, by the places that their ids have now.
-fn push_discounts(
-    column: &mut Vec<Option<DiscountCode>>,
-    discounts: &[Option<DiscountCode>],
-    places: &[u32],
-) -> Result<(), AllocError>
-    requires { All (λ d. IfSome d (λ d. d.id < length places.now)) discounts.now }
-    ensures { OnOk result (column.new.items ≡ column.old.items ++ map (option_map (replaced_discount places.now)) discounts.now) }
-{
-    for discount in discounts {
-        column.push(replaced_discount(places, *discount))?;
-    }
-    Ok(())
-}
-
-/// A discount, by the place that its id has now.
-#[tactic(auto, unfolding(crate::specs::Joining::replaced_discount))]
-fn replaced_discount(places: &[u32], discount: Option<DiscountCode>) -> Option<DiscountCode>
-    requires { IfSome discount (λ d. d.id < length places.now) }
-    ensures { result ≡ option_map (replaced_discount places.now) discount }
-{
-    match discount {
-        Some(discount) => Some(DiscountCode {
-            id: places[discount.id as usize],
-            kind: discount.kind,
-            status: discount.status,
-        }),
-        None => None,
-    }
-}
-
-/// The tags of two columns in turn, by the places that their texts have now.
-fn joined_tags(
-    alloc: Global,
-    first: &[TagCode],
-    one: &[u32],
-    second: &[TagCode],
-    two: &[u32],
-) -> Result<Vec<TagCode>, AllocError>
-    requires first { All (IsTagBelow (length one.now)) first.now }
-    requires second { All (IsTagBelow (length two.now)) second.now }
-    ensures { IfOk result (λ column. column.items ≡ map (replaced_tag one.now) first.now ++ map (replaced_tag two.now) second.now) }
-{
-    let mut column = Vec::with_capacity(alloc, first.len().saturating_add(second.len()))?;
-    push_tags(&mut column, first, one)?;
-    push_tags(&mut column, second, two)?;
-    Ok(column)
-}
-
-/// Adds tags, by the places that their texts have now.
-fn push_tags(column: &mut Vec<TagCode>, tags: &[TagCode], places: &[u32]) -> Result<(), AllocError>
-    requires { All (IsTagBelow (length places.now)) tags.now }
-    ensures { OnOk result (column.new.items ≡ column.old.items ++ map (replaced_tag places.now) tags.now) }
-{
-    for tag in tags {
-        column.push(replaced_tag(places, *tag))?;
-    }
-    Ok(())
-}
-
-/// A tag, by the places that its texts have now.
-#[tactic(auto, unfolding(crate::specs::Joining::replaced_tag))]
-fn replaced_tag(places: &[u32], tag: TagCode) -> TagCode
-    requires { IsTagBelow (length places.now) tag }
-    ensures { result ≡ replaced_tag places.now tag }
-{
-    TagCode {
-        key: places[tag.key as usize],
-        value: places[tag.value as usize],
-    }
-}
-
-/// Where the tags of rows end, and those of further rows behind them.
-fn joined_ends(
-    alloc: Global,
-    first: &[u32],
-    behind: usize,
-    second: &[u32],
-) -> Result<Vec<u32>, AllocError>
-    requires behind { behind ≤ 2 ^ 30 }
-    requires second { All (λ end. end ≤ 2 ^ 30) second.now }
-    ensures { IfOk result (λ column. column.items ≡ first.now ++ map (λ end. behind + end) second.now) }
-{
-    let mut column = Vec::with_capacity(alloc, first.len().saturating_add(second.len()))?;
-    column.extend_from_slice(first)?;
-    push_ends(&mut column, behind as u32, second)?;
-    Ok(column)
-}
-
-/// Adds ends that stand behind others.
-fn push_ends(column: &mut Vec<u32>, behind: u32, ends: &[u32]) -> Result<(), AllocError>
-    requires behind { behind ≤ 2 ^ 30 }
-    requires ends { All (λ end. end ≤ 2 ^ 30) ends.now }
-    ensures { OnOk result (column.new.items ≡ column.old.items ++ map (λ end. behind + end) ends.now) }
-{
-    for end in ends {
-        column.push(behind + *end)?;
-    }
-    Ok(())
 }

@@ -1,10 +1,11 @@
-//! Charge rows kept by column, each of their texts once.
+//! Charge rows kept by column, each of their texts and each of their lists of tags once.
 #![tactic(auto)]
 
 mod codes;
 mod columns;
 mod grouping;
 mod joining;
+mod lists;
 mod making;
 mod names;
 mod naming;

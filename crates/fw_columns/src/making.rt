@@ -1,18 +1,15 @@
 //! The columns of rows.
-ghost use Rattle.std.specs.Prelude.{◌≡◌, ◌≤◌, ◌<◌, ◌+◌, ◌++◌, ◌*◌, ◌^◌, length, map, pos, nat_abs, option_map, All, IfOk, OnOk};
-ghost use Rattle.std.specs.List.{flat_map};
+ghost use Rattle.std.specs.Prelude.{◌≡◌, ◌≤◌, ◌<◌, length, map, pos, nat_abs, is_some, All, IfOk};
 ghost use Rattle.fw_money.specs.Amount.{most_nanos};
-ghost use Rattle.fw_charge.specs.Charge.{IsCharge};
 ghost use Rattle.fw_charge.specs.Codes.{category_code, class_code};
 ghost use Rattle.fw_columns.specs.Codes.{text_code};
-ghost use Rattle.fw_columns.specs.Table.{AreColumns, discount_code, tag_places, ends_from};
+ghost use Rattle.fw_columns.specs.Table.{AreColumns, id_kept, kind_kept, status_kept, quantity_kept};
 
-use crate::codes::{DiscountCode, TagCode, discount_code, tag_places, text_code};
+use crate::codes::{id_kept, kind_kept, quantity_kept, status_kept, text_code};
 use crate::names::Names;
-use crate::naming::names_of;
+use crate::naming::texts_of;
 use crate::table::Table;
-use fw_charge::{Row, Tag, class_code};
-use fw_money::Nanos;
+use fw_charge::{Row, class_code};
 use std::alloc::{AllocError, Global};
 
 /// The columns of rows.
@@ -21,7 +18,7 @@ pub fn table_of(alloc: Global, rows: &[Row]) -> Result<Table, AllocError>
     requires few { length rows.now ≤ 65536 }
     ensures { IfOk result (λ table. AreColumns table rows.now) }
 {
-    let names = names_of(alloc, rows)?;
+    let texts = texts_of(alloc, rows)?;
     Ok(Table {
         billed: billed_of(alloc, rows)?,
         effective: effective_of(alloc, rows)?,
@@ -29,14 +26,17 @@ pub fn table_of(alloc: Global, rows: &[Row]) -> Result<Table, AllocError>
         classes: classes_of(alloc, rows)?,
         starts: starts_of(alloc, rows)?,
         ends: ends_of(alloc, rows)?,
-        discounts: discounts_of(alloc, &names, rows)?,
+        discounts: discounts_of(alloc, &texts.names, rows)?,
+        kinds: kinds_of(alloc, rows)?,
+        statuses: statuses_of(alloc, rows)?,
         quantities: quantities_of(alloc, rows)?,
-        units: units_of(alloc, &names, rows)?,
-        skus: skus_of(alloc, &names, rows)?,
-        sub_accounts: sub_accounts_of(alloc, &names, rows)?,
-        tags: tags_of(alloc, &names, rows)?,
-        tag_ends: tag_ends_of(alloc, rows)?,
-        names,
+        has_quantity: has_quantity_of(alloc, rows)?,
+        units: units_of(alloc, &texts.names, rows)?,
+        skus: skus_of(alloc, &texts.names, rows)?,
+        sub_accounts: sub_accounts_of(alloc, &texts.names, rows)?,
+        names: texts.names,
+        lists: texts.lists,
+        tags: texts.tags,
     })
 }
 
@@ -108,26 +108,56 @@ fn ends_of(alloc: Global, rows: &[Row]) -> Result<Vec<u64>, AllocError>
     Ok(column)
 }
 
-/// The commitment discounts.
-fn discounts_of(
-    alloc: Global,
-    names: &Names,
-    rows: &[Row],
-) -> Result<Vec<Option<DiscountCode>>, AllocError>
-    ensures { IfOk result (λ column. column.items ≡ map (λ c. option_map (discount_code names.now) c.discount) rows.now) }
+/// The codes of the ids of the commitment discounts.
+fn discounts_of(alloc: Global, names: &Names, rows: &[Row]) -> Result<Vec<u32>, AllocError>
+    ensures { IfOk result (λ column. column.items ≡ map (λ c. id_kept names.now c.discount) rows.now) }
 {
     rows.iter()
-        .map(|row| discount_code(names, row.discount()))
+        .map(|row| id_kept(names, row.discount()))
         .collect(alloc)
 }
 
-/// The consumed quantities.
-fn quantities_of(alloc: Global, rows: &[Row]) -> Result<Vec<Option<Nanos>>, AllocError>
-    ensures { IfOk result (λ column. column.items ≡ map (λ c. c.quantity) rows.now) }
+/// The codes of the kinds of the commitment discounts.
+fn kinds_of(alloc: Global, rows: &[Row]) -> Result<Vec<u8>, AllocError>
+    ensures { IfOk result (λ column. column.items ≡ map (λ c. kind_kept c.discount) rows.now) }
 {
     let mut column = Vec::with_capacity(alloc, rows.len())?;
     for row in rows {
-        column.push(row.quantity())?;
+        column.push(kind_kept(row.discount()))?;
+    }
+    Ok(column)
+}
+
+/// The codes of the statuses of the commitment discounts.
+fn statuses_of(alloc: Global, rows: &[Row]) -> Result<Vec<u8>, AllocError>
+    ensures { IfOk result (λ column. column.items ≡ map (λ c. status_kept c.discount) rows.now) }
+{
+    let mut column = Vec::with_capacity(alloc, rows.len())?;
+    for row in rows {
+        column.push(status_kept(row.discount()))?;
+    }
+    Ok(column)
+}
+
+/// The counts of the consumed quantities.
+fn quantities_of(alloc: Global, rows: &[Row]) -> Result<Vec<i64>, AllocError>
+    ensures column { IfOk result (λ column. column.items ≡ map (λ c. quantity_kept c.quantity) rows.now) }
+    ensures in_range { IfOk result (λ column. All (λ n. nat_abs n ≤ most_nanos) column.items) }
+{
+    let mut column = Vec::with_capacity(alloc, rows.len())?;
+    for row in rows {
+        column.push(quantity_kept(row.quantity()))?;
+    }
+    Ok(column)
+}
+
+/// Whether the consumed quantities are there.
+fn has_quantity_of(alloc: Global, rows: &[Row]) -> Result<Vec<bool>, AllocError>
+    ensures { IfOk result (λ column. column.items ≡ map (λ c. is_some c.quantity) rows.now) }
+{
+    let mut column = Vec::with_capacity(alloc, rows.len())?;
+    for row in rows {
+        column.push(row.quantity().is_some())?;
     }
     Ok(column)
 }
@@ -157,39 +187,4 @@ fn sub_accounts_of(alloc: Global, names: &Names, rows: &[Row]) -> Result<Vec<u32
     rows.iter()
         .map(|row| text_code(names, row.sub_account()))
         .collect(alloc)
-}
-
-/// The tags of all rows in turn.
-fn tags_of(alloc: Global, names: &Names, rows: &[Row]) -> Result<Vec<TagCode>, AllocError>
-    ensures { IfOk result (λ column. column.items ≡ flat_map (λ c. map (tag_places names.now) c.tags) rows.now) }
-{
-    let mut column = Vec::new(alloc);
-    for row in rows {
-        push_tags(&mut column, names, row.tags().as_slice())?;
-    }
-    Ok(column)
-}
-
-/// Adds tags.
-fn push_tags(column: &mut Vec<TagCode>, names: &Names, tags: &[Tag]) -> Result<(), AllocError>
-    ensures { OnOk result (column.new.items ≡ column.old.items ++ map (tag_places names.now) tags.now) }
-{
-    for tag in tags {
-        column.push(tag_places(names, tag))?;
-    }
-    Ok(())
-}
-
-/// For each row, how many tags it and the rows before it have.
-fn tag_ends_of(alloc: Global, rows: &[Row]) -> Result<Vec<u32>, AllocError>
-    requires { length rows.now ≤ 65536 }
-    ensures { IfOk result (λ column. column.items ≡ ends_from 0 (map (λ c. length c.tags) rows.now)) }
-{
-    let mut column = Vec::with_capacity(alloc, rows.len())?;
-    let mut end = 0u32;
-    for row in rows {
-        end += row.tags().as_slice().len() as u32;
-        column.push(end)?;
-    }
-    Ok(column)
 }

@@ -1,25 +1,43 @@
-//! The names of the texts of rows.
+//! The names of the texts of rows, and their lists of tags.
 ghost use Rattle.std.specs.Prelude.{◌≡◌, ◌+◌, ◌*◌, ◌^◌, ◌<◌, ◌≤◌, [], length, map, option_copied, option_map, option_to_list, All, IfOk, OnOk};
 ghost use Rattle.fw_charge.specs.Charge.{IsCharge};
 ghost use Rattle.fw_columns.specs.Names.{place_of};
 ghost use Rattle.fw_columns.specs.Texts.{with_texts, texts_of_tags, texts_of, names_of, most_texts};
+ghost use Rattle.fw_columns.specs.Lists.{tag_places, lists_of};
 
+use crate::lists::Lists;
 use crate::names::Names;
 use fw_charge::{Discount, Row, Tag};
 use std::alloc::{AllocError, Global};
 
-/// The names of rows.
-pub fn names_of(alloc: Global, rows: &[Row]) -> Result<Names, AllocError>
+/// The texts of rows and their lists of tags, each once, and for each row the place of its list.
+#[derive(Drop)]
+pub struct Texts {
+    pub names: Names,
+    pub lists: Lists,
+    pub tags: Vec<u32>,
+}
+
+/// The texts of rows and their lists of tags. It takes memory for what is new, and none for a row whose texts and tags are known.
+pub fn texts_of(alloc: Global, rows: &[Row]) -> Result<Texts, AllocError>
     requires { length rows.now ≤ 65536 }
-    ensures names { IfOk result (λ names. names ≡ names_of rows.now) }
-    ensures few { IfOk result (λ names. length names ≤ most_texts * length rows.now) }
+    ensures names { IfOk result (λ texts. texts.names ≡ names_of rows.now) }
+    ensures few { IfOk result (λ texts. length texts.names ≤ most_texts * length rows.now) }
+    ensures lists { IfOk result (λ texts. texts.lists ≡ with_texts [] (lists_of texts.names rows.now)) }
+    ensures lists_few { IfOk result (λ texts. length texts.lists ≤ length rows.now) }
+    ensures tags { IfOk result (λ texts. texts.tags.items ≡ map (place_of texts.lists) (lists_of texts.names rows.now)) }
     ensures valid { OnOk result (All IsCharge rows.now) }
 {
     let mut names = Names::new(alloc);
+    let mut lists = Lists::new(alloc);
+    let mut tags = Vec::with_capacity(alloc, rows.len())?;
+    let mut list = Vec::new(alloc);
     for row in rows {
-        see_row(&mut names, row)?;
+        see_row(&mut names, row, &mut list)?;
+        let code = lists.code(list.as_slice())?;
+        tags.push(code)?;
     }
-    Ok(names)
+    Ok(Texts { names, lists, tags })
 }
 
 /// The names of two lists of names, the second behind the first.
@@ -58,11 +76,12 @@ pub fn places_in(alloc: Global, names: &Names, other: &Names) -> Result<Vec<u32>
     Ok(places)
 }
 
-/// Adds the texts of a row that are new.
-fn see_row(names: &mut Names, row: &Row) -> Result<(), AllocError>
+/// Adds the texts of a row that are new, and puts the places of its tags' texts into a list.
+fn see_row(names: &mut Names, row: &Row, list: &mut Vec<u32>) -> Result<(), AllocError>
     requires { length names.old + most_texts ≤ 2 ^ 30 }
     ensures seen { OnOk result (names.new ≡ with_texts names.old (texts_of row.now)) }
     ensures few { OnOk result (length names.new ≤ length names.old + most_texts) }
+    ensures list { OnOk result (list.new.items ≡ tag_places names.new row.now.tags) }
     ensures valid { IsCharge row.now }
 {
     let tags = row.tags().as_slice();
@@ -70,7 +89,7 @@ fn see_row(names: &mut Names, row: &Row) -> Result<(), AllocError>
     see(names, row.unit())?;
     see(names, row.sku())?;
     see(names, row.sub_account())?;
-    see_tags(names, tags)?;
+    see_tags(names, tags, list)?;
     Ok(())
 }
 
@@ -87,15 +106,19 @@ fn see_discount(names: &mut Names, discount: Option<&Discount>) -> Result<(), Al
     Ok(())
 }
 
-/// Adds the texts of tags that are new.
-fn see_tags(names: &mut Names, tags: &[Tag]) -> Result<(), AllocError>
+/// Adds the texts of tags that are new, and puts their places into a list.
+fn see_tags(names: &mut Names, tags: &[Tag], list: &mut Vec<u32>) -> Result<(), AllocError>
     requires { length names.old + 2 * length tags.now ≤ 2 ^ 30 }
     ensures seen { OnOk result (names.new ≡ with_texts names.old (texts_of_tags tags.now)) }
     ensures few { OnOk result (length names.new ≤ length names.old + 2 * length tags.now) }
+    ensures list { OnOk result (list.new.items ≡ tag_places names.new tags.now) }
 {
+    list.clear();
     for tag in tags {
-        see(names, Some(tag.key()))?;
-        see(names, Some(tag.value()))?;
+        let key = names.code(tag.key())?;
+        list.push(key)?;
+        let value = names.code(tag.value())?;
+        list.push(value)?;
     }
     Ok(())
 }

@@ -1,0 +1,138 @@
+-- Facts on the places of texts, and on the lists of places that stand for tags.
+use Rattle.std.proofs.Common.{◌≡◌, ℕ, zero, suc, ◌+◌, ◌-◌, ◌<◌, Bool, true, false, List, [], ◌∷◌, ◌++◌, length, get_or, map, take, drop, refl, sym, ap, ◌∙◌, subst, arith}
+use Rattle.std.specs.Prelude.{All}
+use Rattle.std.specs.List.{list_any}
+use Rattle.std.specs.Str.{bytes_eq}
+use Rattle.std.proofs.lemmas.List.{get_or-map, length-map, map_push, map_more, map-append}
+use Rattle.std.proofs.Math.Seq.{take-length}
+use Rattle.std.proofs.lemmas.Simd.{map-map}
+use Rattle.std.proofs.lemmas.List.Elements.{All-nil, All-cons, All-head, All-tail, All-append}
+use Rattle.fw_charge.specs.Charge.{Charge}
+use Rattle.fw_columns.specs.Names.{Text, place_of, with_text}
+use Rattle.fw_columns.specs.Texts.{with_texts, texts_of, texts_of_tags, names_of}
+use Rattle.fw_columns.specs.Lists.{tag_places, lists_of}
+use Rattle.fw_columns.specs.Joining.{replaced}
+use Rattle.fw_columns.proofs.NameFacts.{text_at_place}
+use Rattle.fw_columns.proofs.TextFacts.{IsKnown, AreKnown, IsKnown-more, IsRowKnown, with_texts-grows, with_texts-append, AreKnown-seen, rows-known, names_of_more}
+
+pub AreKnown-at : (names ts : List Text) (i : ℕ) → AreKnown names ts → i < length ts → IsKnown names (get_or ts i [])
+AreKnown-at names [] i h lt = absurd (omega arith)
+AreKnown-at names (t ∷ ts) zero h lt = h.0
+AreKnown-at names (t ∷ ts) (suc i) h lt = AreKnown-at names ts i h.1 (omega arith)
+
+-- places are within the names
+pub places-within : (names ts : List Text) → AreKnown names ts → All (λ place. place < length names) (map (place_of names) ts)
+places-within names [] h = All-nil (λ place. place < length names)
+places-within names (t ∷ ts) h = All-cons (λ place. place < length names) (place_of names t) (map (place_of names) ts) h.0.below (places-within names ts h.1)
+
+-- and stay while more texts come
+places_stay : (names more ts : List Text) → AreKnown names ts → map (place_of (names ++ more)) ts ≡ map (place_of names) ts
+places_stay names more [] h = refl
+places_stay names more (t ∷ ts) h = rw ((IsKnown-more names more t h.0).0, places_stay names more ts h.1) refl
+
+pub places_kept : (names ms ts : List Text) → AreKnown names ts → map (place_of (with_texts names ms)) ts ≡ map (place_of names) ts
+places_kept names ms ts h = let more = with_texts-grows names ms in rw more.1 (places_stay names more.0 ts h)
+
+-- the names once some texts came behind others, and the places of these texts
+pub record AreListed (before names : List Text) (found : List ℕ) (ts : List Text) : Type 0 where
+  pub seen : names ≡ with_texts before ts
+  pub places : found ≡ map (place_of names) ts
+
+pub listed_none : (names : List Text) → AreListed names names [] []
+unfolding with_texts
+listed_none names = record { seen = refl; places = refl }
+
+-- one more text
+pub listed_more : (before names : List Text) (places : List ℕ) (ts : List Text) → AreListed before names places ts → (now : List Text) (t : Text) (place : ℕ) (more : List ℕ)
+    → now ≡ with_text names t → place ≡ place_of now t → more ≡ places ++ place ∷ [] → AreListed before now more (ts ++ t ∷ [])
+unfolding with_texts
+listed_more before names places ts h now t place more named placed pushed =
+    let grown : now ≡ with_texts before (ts ++ t ∷ []) = named ∙ (ap (λ ns. with_text ns t) h.seen ∙ sym (with_texts-append before ts (t ∷ []))) in
+    let kept : map (place_of names) ts ≡ map (place_of now) ts =
+    (λ j. map (place_of (h.seen j)) ts) ∙ (sym (places_kept (with_texts before ts) (t ∷ []) ts (AreKnown-seen before ts))
+    ∙ (λ j. map (place_of (sym (with_texts-append before ts (t ∷ [])) j)) ts) ∙ (λ j. map (place_of (sym grown j)) ts)) in
+    record { seen = grown; places = pushed ∙ ((λ j. (h.places ∙ kept) j ++ placed j ∷ []) ∙ sym (map_push (place_of now) ts t)) }
+
+-- values at the places of known texts
+pub values_there : (names ts : List Text) (f : Text → ℕ) → AreKnown names ts → replaced (map f names) (map (place_of names) ts) ≡ map f ts
+values_there names [] f h = refl
+values_there names (t ∷ ts) f h = rw (get_or-map f names (place_of names t) [] 0 h.0.below, text_at_place names t [] h.0.below, values_there names ts f h.1) refl
+
+-- and those of their images
+pub values_again : (names ts : List Text) (r : Text → Text) (f : Text → ℕ) → AreKnown names ts → replaced (map f (map r names)) (map (place_of names) ts) ≡ map f (map r ts)
+values_again names ts r f h = (λ j. replaced (map-map f r names j) (map (place_of names) ts)) ∙ (values_there names ts (λ t. f (r t)) h ∙ sym (map-map f r ts))
+
+-- what holds of texts holds of the names that they make
+module _ (P : Text → Type 0) where
+  with_text-all : (names : List Text) (t : Text) → All P names → P t → All P (with_text names t)
+  unfolding with_text
+  with_text-all names t all p = by (list_any (bytes_eq t) names) refl
+    where
+      by : (b : Bool) → list_any (bytes_eq t) names ≡ b → All P (with_text names t)
+      by true e = rw e all
+      by false e = rw e (All-append P names (t ∷ []) all (All-cons P t [] p (All-nil P)))
+
+  pub with_texts-all : (names ts : List Text) → All P names → All P ts → All P (with_texts names ts)
+  unfolding with_texts
+  with_texts-all names [] all more = all
+  with_texts-all names (t ∷ ts) all more = with_texts-all (with_text names t) ts (with_text-all names t all (All-head P t ts more)) (All-tail P t ts more)
+
+-- ---- the lists of rows
+
+pub lists_of-append : (names : List Text) (xs ys : List Charge) → lists_of names (xs ++ ys) ≡ lists_of names xs ++ lists_of names ys
+unfolding lists_of
+lists_of-append names xs ys = map-append (λ (c : Charge). tag_places names c.tags) xs ys
+
+pub length-lists_of : (names : List Text) (rows : List Charge) → length (lists_of names rows) ≡ length rows
+unfolding lists_of
+length-lists_of names rows = length-map rows (λ (c : Charge). tag_places names c.tags)
+
+lists_kept : (names ms : List Text) (rows : List Charge) → All (IsRowKnown names) rows → lists_of (with_texts names ms) rows ≡ lists_of names rows
+unfolding lists_of tag_places
+lists_kept names ms [] all = refl
+lists_kept names ms (r ∷ rs) all =
+    rw (places_kept names ms (texts_of_tags r.tags) (All-head (IsRowKnown names) r rs all).tags, lists_kept names ms rs (All-tail (IsRowKnown names) r rs all)) refl
+
+-- one more row: its list comes last, and the others stay
+last_list : (names : List Text) (rows : List Charge) (i : ℕ) (d : Charge) → i < length rows → lists_of names (take (i + 1) rows) ≡ lists_of names (take i rows) ++ tag_places names (get_or rows i d).tags ∷ []
+unfolding lists_of
+last_list names rows i d h = map_more (λ (c : Charge). tag_places names c.tags) rows i d h
+
+pub lists_of_more : (rows : List Charge) (i : ℕ) (d : Charge) → i < length rows
+    → lists_of (names_of (take i rows)) (take i rows) ++ tag_places (names_of (take (i + 1) rows)) (get_or rows i d).tags ∷ [] ≡ lists_of (names_of (take (i + 1) rows)) (take (i + 1) rows)
+lists_of_more rows i d h =
+    let now = names_of (take (i + 1) rows) in
+    let grown : with_texts (names_of (take i rows)) (texts_of (get_or rows i d)) ≡ now = names_of_more rows i d h in
+    let kept : lists_of (names_of (take i rows)) (take i rows) ≡ lists_of now (take i rows) =
+    sym (lists_kept (names_of (take i rows)) (texts_of (get_or rows i d)) (take i rows) (rows-known (take i rows))) ∙ (λ j. lists_of (grown j) (take i rows)) in
+    (λ j. kept j ++ tag_places now (get_or rows i d).tags ∷ []) ∙ sym (last_list now rows i d h)
+
+-- ---- what stands of the rows so far
+
+pub record AreTexts (names : List Text) (lists : List (List ℕ)) (tags : List ℕ) (rows : List Charge) : Type 0 where
+  pub seen : names ≡ names_of rows
+  pub listed : AreListed [] lists tags (lists_of names rows)
+
+pub texts_none : AreTexts [] [] [] []
+unfolding with_texts names_of lists_of
+texts_none = record { seen = refl; listed = listed_none [] }
+
+pub texts_more : (names : List Text) (lists : List (List ℕ)) (tags : List ℕ) (rows : List Charge) (i : ℕ) (d : Charge) → i < length rows → AreTexts names lists tags (take i rows)
+    → (named : List Text) (list : List ℕ) (now : List (List ℕ)) (code : ℕ) (more : List ℕ)
+    → named ≡ with_texts names (texts_of (get_or rows i d)) → list ≡ tag_places named (get_or rows i d).tags → now ≡ with_text lists list → code ≡ place_of now list → more ≡ tags ++ code ∷ []
+    → AreTexts named now more (take (i + 1) rows)
+texts_more names lists tags rows i d h before named list now code more seen is listed placed pushed =
+    let all : named ≡ names_of (take (i + 1) rows) = seen ∙ ((λ j. with_texts (before.seen j) (texts_of (get_or rows i d))) ∙ names_of_more rows i d h) in
+    let last : list ≡ tag_places (names_of (take (i + 1) rows)) (get_or rows i d).tags = is ∙ (λ j. tag_places (all j) (get_or rows i d).tags) in
+    let lists_are : lists_of names (take i rows) ++ list ∷ [] ≡ lists_of named (take (i + 1) rows) =
+    (λ j. lists_of (before.seen j) (take i rows) ++ last j ∷ []) ∙ (lists_of_more rows i d h ∙ (λ j. lists_of (sym all j) (take (i + 1) rows))) in
+    record {
+      seen = all;
+      listed = subst (AreListed [] now more) lists_are (listed_more [] lists tags (lists_of names (take i rows)) before.listed now list code more listed placed pushed);
+    }
+
+-- what a slice's pattern leaves behind two items
+pub behind_two : (xs : List ℕ) → take (length xs - 2) (drop 2 xs) ≡ drop 2 xs
+behind_two [] = refl
+behind_two (x ∷ []) = refl
+behind_two (x ∷ y ∷ rest) = let e : length (x ∷ y ∷ rest) - 2 ≡ length rest = omega arith in rw e (take-length rest)
