@@ -1,17 +1,17 @@
--- The commitments in their order stand beside their places.
+-- The commitments of a roster stand beside their places.
 use Rattle.std.proofs.Common.{◌≡◌, ℕ, ◌<◌, List, [], ◌∷◌, length, map, get_or, arith, ap, ◌∙◌, All, slice_get, Some}
-use Rattle.fw_cover.proofs.Within.{commitments_in_order_places}
+use Rattle.fw_cover.proofs.RosterFacts.{roster_placed}
 use Rattle.std.proofs.lemmas.List.{get_or-map, length-map, get_or_default}
 use Rattle.std.proofs.lemmas.List.Elements.{All-weaker}
 use Rattle.fw_terms.specs.Commitment.{CommitmentValue}
-use Rattle.fw_cover.specs.Order.{commitments_in_order}
+use Rattle.fw_cover.specs.RosterView.{RosterValue, roster_order}
 
 -- a commitment beside its place in a list
 pub record IsAt (cs : List CommitmentValue) (c : ℕ × CommitmentValue) : Type 0 where
   pub is : slice_get cs c.0 ≡ Some c.1
 
-pub order_placed : (cs : List CommitmentValue) → All (IsAt cs) (commitments_in_order cs)
-order_placed cs = All-weaker (λ c. slice_get cs c.0 ≡ Some c.1) (IsAt cs) (λ c e. record { is = e }) (commitments_in_order cs) (commitments_in_order_places cs)
+pub roster_are_placed : (r : RosterValue) → All (IsAt r.commitments) (roster_order r)
+roster_are_placed r = All-weaker (λ c. slice_get r.commitments c.0 ≡ Some c.1) (IsAt r.commitments) (λ c e. record { is = e }) (roster_order r) (roster_placed r)
 
 -- the element of an order at an index, of which the place is known
 pub record PlacedAt (cs : List CommitmentValue) (order : List (ℕ × CommitmentValue)) (i place : ℕ) : Type 0 where

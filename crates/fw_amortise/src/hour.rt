@@ -6,8 +6,8 @@ ghost use Rattle.fw_cover.specs.Eligible.{is_of_hour};
 ghost use Rattle.fw_terms.specs.Commitment.{CommitmentValue};
 ghost use Rattle.fw_cover.specs.Applies.{is_in_term};
 ghost use Rattle.fw_cover.specs.Cover.{IsTakeWithin, taken_of_row, used_of};
-ghost use Rattle.fw_cover.specs.Order.{commitments_in_order};
 ghost use Rattle.fw_cover.specs.Hour.{quantity_of, quantities_of, capacities_of, takes_of, unused_of};
+ghost use Rattle.fw_cover.specs.RosterView.{HasHour, roster_order};
 ghost use Rattle.fw_amortise.specs.Lines.{AreHourLines, AreLines, rows_in, purchase_lines, purchase_lines_of, given_lines, rest_of, rest_lines, running};
 ghost use Rattle.fw_amortise.specs.Adding.{AddsShared};
 
@@ -142,8 +142,8 @@ fn push_shared_at<'a>(
     )
 }
 
-/// Adds the lines of each commitment whose term has the hour, in their order. What they took stands commitment by commitment in the same
-/// order, so the takes are gone through once.
+/// Adds the lines of each commitment whose term has the hour, one of the roster's, in their order. What they took stands commitment by
+/// commitment in the same order, so the takes are gone through once.
 fn push_shared<'a>(
     alloc: Global,
     lines: &mut Vec<Line<'a>>,
@@ -152,11 +152,12 @@ fn push_shared<'a>(
     cover: &HourCover,
     hour: u32,
 ) -> Result<(), AllocError>
-    requires commitments { length cover.now.unused.items ≡ length roster.now }
-    requires takes { All (IsTakeWithin (length roster.now) (length rows.now)) cover.now.taken.items }
-    requires runs { cover.now.taken.items ≡ flat_map (λ c. takes_of c.0 cover.now.taken.items) (commitments_in_order roster.now) }
-    requires unused { (c : ℕ) → used_of c cover.now.taken.items + slice_index cover.now.unused.items c ≡ slice_index (capacities_of roster.now) c }
-    ensures { OnOk result (AddsShared roster.now (map (λ r. r.now) rows.now) cover.now.taken.items hour (running roster.now hour) lines.old.items lines.new.items) }
+    requires hour { HasHour roster.now hour }
+    requires commitments { length cover.now.unused.items ≡ length roster.now.commitments }
+    requires takes { All (IsTakeWithin (length roster.now.commitments) (length rows.now)) cover.now.taken.items }
+    requires runs { cover.now.taken.items ≡ flat_map (λ c. takes_of c.0 cover.now.taken.items) (roster_order roster.now) }
+    requires unused { (c : ℕ) → used_of c cover.now.taken.items + slice_index cover.now.unused.items c ≡ slice_index (capacities_of roster.now.commitments) c }
+    ensures { OnOk result (AddsShared roster.now.commitments (map (λ r. r.now) rows.now) cover.now.taken.items hour (running roster.now.commitments hour) lines.old.items lines.new.items) }
 {
     let commitments = roster.commitments();
     let mut left: &[Taken] = &cover.taken;
@@ -182,7 +183,7 @@ fn rows_in<'a>(alloc: Global, rows: &'a [Row], hour: u32) -> Result<Vec<&'a Row>
     Ok(found)
 }
 
-/// The lines of an hour, counted from 1970, of rows that are all of that hour, under the commitments of a roster.
+/// The lines of one of a roster's hours, counted from 1970, of rows that are all of that hour, under the commitments of the roster.
 ///
 /// First come the purchases of the hour, then the rows that no commitment may cover, then for each commitment that runs what it covered of
 /// the rows and what it left unused, and last what is left of the rows that commitments may cover. The lines lend the texts and tags of the
@@ -196,8 +197,9 @@ pub fn lines_by_roster<'a>(
     rows: &[&'a Row],
     hour: u32,
 ) -> Result<Vec<Line<'a>>, AllocError>
-    requires { All (λ r. hour_of r.start ≡ hour) (map (λ r. r.now) rows.now) }
-    ensures { IfOk result (λ v. AreHourLines roster.now (map (λ r. r.now) rows.now) hour v.items) }
+    requires hour { HasHour roster.now hour }
+    requires rows { All (λ r. hour_of r.start ≡ hour) (map (λ r. r.now) rows.now) }
+    ensures { IfOk result (λ v. AreHourLines roster.now.commitments (map (λ r. r.now) rows.now) hour v.items) }
 {
     let cover = roster.cover(alloc, rows, hour)?;
     let mut lines = Vec::with_capacity(alloc, rows.len())?;
@@ -208,8 +210,8 @@ pub fn lines_by_roster<'a>(
     Ok(lines)
 }
 
-/// The lines of an hour, counted from 1970, of rows that are all of that hour: those of [`lines_by_roster`] for a roster of the commitments.
-/// For many hours make the [`Roster`] once.
+/// The lines of an hour, counted from 1970, of rows that are all of that hour: those of [`lines_by_roster`] for a roster of the commitments
+/// for this hour. For many hours make the [`Roster`] once.
 ///
 /// # Errors
 /// The one error is that memory ran out.
@@ -222,7 +224,8 @@ pub fn lines_of_hour<'a>(
     requires { All (λ r. hour_of r.start ≡ hour) (map (λ r. r.now) rows.now) }
     ensures { IfOk result (λ v. AreHourLines commitments.now (map (λ r. r.now) rows.now) hour v.items) }
 {
-    let roster = Roster::new(alloc, commitments)?;
+    let first = u64::from(hour);
+    let roster = Roster::new(alloc, commitments, first, first + 1)?;
     lines_by_roster(alloc, &roster, rows, hour)
 }
 

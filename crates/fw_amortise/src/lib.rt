@@ -3,7 +3,7 @@
 //! The purchases of a commitment are spread over the hours of its term ([`hour_amount`]). In each hour the amount is shared among what the
 //! commitment covered of the hour's rows and what it left unused. [`lines`] gives the hour's lines: the purchases, the rows that no
 //! commitment may cover, the shares, and what is left of the rows that commitments may cover. `specs/Lines.antt` says which these are.
-//! For many hours make an [`fw_cover::Roster`] of the commitments once and call [`lines_by_roster`] for each hour.
+//! For many hours make an [`fw_cover::Roster`] of the commitments and those hours once and call [`lines_by_roster`] for each hour.
 #![tactic(auto)]
 
 mod amount;

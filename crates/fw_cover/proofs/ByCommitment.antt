@@ -6,7 +6,7 @@ use Rattle.std.proofs.lemmas.List.{map-append}
 use Rattle.std.proofs.lemmas.List.Elements.{All-nil, All-cons, All-head, filter-append, filter_passes}
 use Rattle.fw_charge.specs.Charge.{Charge}
 use Rattle.fw_terms.specs.Commitment.{CommitmentValue}
-use Rattle.fw_cover.specs.Order.{insert_by, in_order, commitments_in_order, pair_for, has_lower_rate, pairs_of_commitment, pairs_of}
+use Rattle.fw_cover.specs.Order.{insert_by, in_order, pair_for, has_lower_rate, pairs_of_commitment}
 use Rattle.fw_cover.specs.Ranked.{compare_ranked, ranked_before}
 use Rattle.fw_cover.specs.declared.pair.Pair.{Pair}
 use Rattle.fw_cover.specs.declared.pair.RankedPair.{RankedPair}
@@ -141,7 +141,7 @@ in_turn hour n (c ∷ cs) rows =
     ∙ (map-append (λ q. q.pair) (in_order ranked_before (filter (is_upto n) all)) (in_order ranked_before (filter (λ q. not (is_upto n q)) all))
     ∙ (rw (firsts hour n c cs rows, others hour n c cs rows, one_rank n (filter_map (pair_for hour c) rows), in_turn hour (n + 1) cs rows) refl))
 
-pub pairs_in_turn : (cs : List CommitmentValue) (rows : List Charge) (hour : ℕ)
-    → map (λ q. q.pair) (in_order ranked_before (flat_map (ranked_at hour 0 (commitments_in_order cs)) (enumerate_from 0 rows))) ≡ pairs_of cs rows hour
-unfolding pairs_of pairs_of_commitment
-pairs_in_turn cs rows hour = in_turn hour 0 (commitments_in_order cs) (enumerate_from 0 rows)
+pub pairs_in_turn : (order : List (ℕ × CommitmentValue)) (rows : List Charge) (hour : ℕ)
+    → map (λ q. q.pair) (in_order ranked_before (flat_map (ranked_at hour 0 order) (enumerate_from 0 rows))) ≡ flat_map (pairs_of_commitment hour rows) order
+unfolding pairs_of_commitment
+pairs_in_turn order rows hour = in_turn hour 0 order (enumerate_from 0 rows)

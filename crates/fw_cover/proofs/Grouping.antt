@@ -96,9 +96,15 @@ grouped bs qs ks pairs is done (c ∷ cs) apart =
     parts ∙ sym (ap (λ l. takes_of c.0 l ++ flat_map (λ d. takes_of d.0 l) cs) parts
     ∙ (ap (λ l. l ++ flat_map (λ d. takes_of d.0 (front ++ back)) cs) here ∙ ap (λ l. front ++ l) there))
 
-pub cover_grouped : (cs : List CommitmentValue) (rows : List Charge) (hour : ℕ) → hour_cover cs rows hour ≡ flat_map (λ c. takes_of c.0 (hour_cover cs rows hour)) (commitments_in_order cs)
-unfolding hour_cover cover_of pairs_of
-cover_grouped cs rows hour = let bs : List ℕ = billed_of rows in
+-- an order that leaves out only commitments without pairs
+pub grouped_by : (cs : List CommitmentValue) (rows : List Charge) (hour : ℕ) (order : List (ℕ × CommitmentValue)) → PlacesApart order → flat_map (pairs_of_commitment hour rows) order ≡ pairs_of cs rows hour
+    → hour_cover cs rows hour ≡ flat_map (λ c. takes_of c.0 (hour_cover cs rows hour)) order
+unfolding hour_cover cover_of
+grouped_by cs rows hour order apart are = let bs : List ℕ = billed_of rows in
     let qs : List ℕ = quantities_of rows in
     let ks : List ℕ = capacities_of cs in
-    rw (all_taken bs qs ks (flat_map (pairs_of_commitment hour rows) (commitments_in_order cs))) (grouped bs qs ks (pairs_of_commitment hour rows) (pairs_own hour rows) [] (commitments_in_order cs) (order_places_apart cs))
+    rw (← are, all_taken bs qs ks (flat_map (pairs_of_commitment hour rows) order)) (grouped bs qs ks (pairs_of_commitment hour rows) (pairs_own hour rows) [] order apart)
+
+pub cover_grouped : (cs : List CommitmentValue) (rows : List Charge) (hour : ℕ) → hour_cover cs rows hour ≡ flat_map (λ c. takes_of c.0 (hour_cover cs rows hour)) (commitments_in_order cs)
+unfolding pairs_of
+cover_grouped cs rows hour = grouped_by cs rows hour (commitments_in_order cs) (order_places_apart cs) refl

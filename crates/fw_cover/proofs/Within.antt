@@ -168,7 +168,6 @@ commitments_in_order_places cs =
     all_in_order commitment_before (λ c. slice_get cs c.0 ≡ Some c.1) (enumerate_from 0 cs) (all_enumerate (λ c. slice_get cs c.0 ≡ Some c.1) cs (get_at cs))
 
 -- each commitment of the order keeps its limits
-pub ordered_valid : (cs : List CommitmentValue) → All IsCommitment cs → All (λ c. IsCommitment c.1.1) (enumerate_from 0 (commitments_in_order cs))
+pub ordered_valid : (cs : List CommitmentValue) → All IsCommitment cs → All (λ c. IsCommitment c.1) (commitments_in_order cs)
 unfolding commitments_in_order
-ordered_valid cs valid = all_enumerate (λ c. IsCommitment c.1.1) (commitments_in_order cs)
-    (all_in_order commitment_before (λ c. IsCommitment c.1) (enumerate_from 0 cs) (all_enumerate (λ c. IsCommitment c.1) cs (λ k d lt. valid k d lt)))
+ordered_valid cs valid = all_in_order commitment_before (λ c. IsCommitment c.1) (enumerate_from 0 cs) (all_enumerate (λ c. IsCommitment c.1) cs (λ k d lt. valid k d lt))

@@ -1,5 +1,5 @@
--- What a roster's fields keep.
-use Rattle.std.specs.Prelude.{◌≡◌, ℕ, List, All, map}
+-- A roster as a value: commitments, and the hours in which they are asked.
+use Rattle.std.specs.Prelude.{◌≡◌, ◌<◌, ◌≤◌, ◌+◌, ◌&&◌, ℕ, Bool, List, All, filter, map, nat_lt}
 use Rattle.std.specs.List.Sorted.{IsSortedBy}
 use Rattle.fw_terms.specs.Commitment.{CommitmentValue, IsCommitment}
 use Rattle.fw_cover.specs.Hour.{capacities_of}
@@ -7,10 +7,30 @@ use Rattle.fw_cover.specs.Order.{commitments_in_order}
 use Rattle.fw_cover.specs.Offers.{offer_of, offer_before, index_of}
 use Rattle.fw_cover.specs.declared.offers.Offer.{Offer}
 
--- the commitments keep their limits, the places are those of their order, ks are their capacities, and the index has what they list
-pub record IsRoster (cs : List CommitmentValue) (places ks : List ℕ) (index : List Offer) : Type 0 where
-  pub valid : All IsCommitment cs
-  pub order : places ≡ map (λ c. c.0) (commitments_in_order cs)
-  pub capacities : ks ≡ capacities_of cs
+-- commitments, and the hours from `from` up to, and not including, `to`
+pub record RosterValue : Type 0 where
+  pub commitments : List CommitmentValue
+  pub from : ℕ
+  pub to : ℕ
+
+-- the hour is one of the roster's
+pub record HasHour (r : RosterValue) (hour : ℕ) : Type 0 where
+  pub since : r.from ≤ hour
+  pub until : hour < r.to
+
+-- whether a commitment runs in one of the hours from `from` up to, and not including, `to`
+unfoldable pub runs_between : ℕ → ℕ → CommitmentValue → Bool
+runs_between from to c = nat_lt c.start to && nat_lt from (c.start + c.hours)
+
+-- the commitments that run in one of the roster's hours, in their order, each beside its place in the list of all
+unfoldable pub roster_order : RosterValue → List (ℕ × CommitmentValue)
+roster_order r = filter (λ c. runs_between r.from r.to c.1) (commitments_in_order r.commitments)
+
+-- what a roster's fields keep: the commitments keep their limits, the places are those of the ones that run in the hours, ks are the
+-- capacities of all, and the index has what those that run list
+pub record IsRoster (r : RosterValue) (places ks : List ℕ) (index : List Offer) : Type 0 where
+  pub valid : All IsCommitment r.commitments
+  pub order : places ≡ map (λ c. c.0) (roster_order r)
+  pub capacities : ks ≡ capacities_of r.commitments
   pub sorted : IsSortedBy (λ a b. offer_before (offer_of a) (offer_of b)) index
-  pub index_is : map offer_of index ≡ index_of (commitments_in_order cs)
+  pub index_is : map offer_of index ≡ index_of (roster_order r)

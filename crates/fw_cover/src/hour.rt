@@ -36,7 +36,8 @@ pub fn cover_hour(
     ensures row_left { IfOk result (λ h. (r : ℕ) → taken_of_row r h.taken.items + slice_index h.row_left.items r ≡ slice_index (quantities_of (map (λ r. r.now) rows.now)) r) }
     ensures unused { IfOk result (λ h. (c : ℕ) → used_of c h.taken.items + slice_index h.unused.items c ≡ slice_index (capacities_of commitments.now) c) }
 {
-    Roster::new(alloc, commitments)?.cover(alloc, rows, hour)
+    let first = u64::from(hour);
+    Roster::new(alloc, commitments, first, first + 1)?.cover(alloc, rows, hour)
 }
 
 /// What the commitments take of the rows of an hour, commitment by commitment in their order; rows of other hours are passed over. The

@@ -2,53 +2,85 @@
 ghost use Rattle.std.specs.Prelude.{◌≡◌, ◌+◌, ℕ, length, map, slice_index, All, IfOk};
 ghost use Rattle.fw_cover.specs.Cover.{IsTakeWithin, taken_of_row, used_of};
 ghost use Rattle.fw_cover.specs.Hour.{hour_cover, quantities_of, capacities_of};
-ghost use Rattle.fw_cover.specs.Order.{commitments_in_order};
+ghost use Rattle.fw_cover.specs.PlacedView.{placed_of};
+ghost use Rattle.fw_cover.specs.RosterView.{HasHour, roster_order, runs_between};
 
 use crate::covering::cover_pairs;
 use crate::hour::HourCover;
 use crate::matching::pairs_in_order;
 use crate::numbers::{billed_costs, capacities, quantities};
 use crate::offers::{Offer, index};
-use crate::order::{ordered, places};
+use crate::order::{Placed, ordered, places};
 use fw_charge::Row;
 use fw_terms::Commitment;
 use std::alloc::{AllocError, Global};
 use std::marker::Model;
 
-/// Commitments, put in order and indexed by what they list. It is made once, for a report, and then covers the rows of one hour after
-/// another. Contracts see the list of the commitments.
+/// Commitments made ready to cover a range of hours. Those that run in the range are put in order and indexed by what they list; the others
+/// take nothing in it. A roster is made once, for a report, and then covers the rows of one hour after another. Contracts see the list of
+/// all the commitments, and the range.
 #[derive(Debug, Drop)]
 pub struct Roster<'a> {
     commitments: &'a [Commitment],
+    from: u64,
+    to: u64,
     order: Vec<usize>,
     capacities: Vec<u64>,
     index: Vec<Offer<'a>>,
 }
 
 impl<'a> Model for Roster<'a> {
-    ghost use Rattle.std.specs.Prelude.{List};
-    ghost use Rattle.fw_terms.specs.Commitment.{CommitmentValue};
+    ghost use Rattle.fw_cover.specs.RosterView.{IsRoster, RosterValue};
 
-    ghost Value = { List CommitmentValue };
+    ghost Value = { RosterValue };
 
-    ghost use Rattle.fw_cover.specs.RosterView.{IsRoster};
+    ghost view = { λ r. record { commitments = r.commitments.now; from = r.from; to = r.to } };
 
-    ghost view = { λ r. r.commitments.now };
+    ghost invariant = { λ r. IsRoster (record { commitments = r.commitments.now; from = r.from; to = r.to }) r.order.items r.capacities.items r.index.items };
+}
 
-    ghost invariant = { λ r. IsRoster r.commitments.now r.order.items r.capacities.items r.index.items };
+/// Whether a commitment runs in one of the hours from `from` up to, and not including, `to`.
+#[tactic(auto, unfolding(crate::specs::RosterView::runs_between))]
+fn runs_between(commitment: &Commitment, from: u64, to: u64) -> bool
+    ensures { result ≡ runs_between from to commitment.now }
+{
+    let start = u64::from(commitment.start());
+    start < to && from < start + u64::from(commitment.hours())
+}
+
+/// The commitments that run in one of these hours, in their order, each beside its place in the list of all.
+fn running<'a>(
+    alloc: Global,
+    commitments: &'a [Commitment],
+    from: u64,
+    to: u64,
+) -> Result<Vec<Placed<'a>>, AllocError>
+    ensures { IfOk result (λ v. map placed_of v.items ≡ roster_order (record { commitments = commitments.now; from = from; to = to })) }
+{
+    let mut placed = ordered(alloc, commitments)?;
+    placed.retain(|placed| runs_between(placed.commitment, from, to));
+    Ok(placed)
 }
 
 impl<'a> Roster<'a> {
-    /// The roster of these commitments.
-    pub fn new(alloc: Global, commitments: &'a [Commitment]) -> Result<Roster<'a>, AllocError>
-        ensures { IfOk result (λ roster. roster ≡ commitments.now) }
+    /// The roster of these commitments for the hours from `from` up to, and not including, `to`, counted from 1970. The one error is that
+    /// memory ran out.
+    pub fn new(
+        alloc: Global,
+        commitments: &'a [Commitment],
+        from: u64,
+        to: u64,
+    ) -> Result<Roster<'a>, AllocError>
+        ensures { IfOk result (λ roster. roster ≡ record { commitments = commitments.now; from = from; to = to }) }
     {
-        let ordered = ordered(alloc, commitments)?;
-        let order = places(alloc, &ordered)?;
-        let index = index(alloc, &ordered)?;
+        let running = running(alloc, commitments, from, to)?;
+        let order = places(alloc, &running)?;
+        let index = index(alloc, &running)?;
         let capacities = capacities(alloc, commitments)?;
         Ok(Roster {
             commitments,
+            from,
+            to,
             order,
             capacities,
             index,
@@ -57,27 +89,29 @@ impl<'a> Roster<'a> {
 
     /// The commitments, as they were given.
     pub fn commitments(&self) -> &'a [Commitment]
-        ensures { result.now ≡ self.now }
+        ensures { result.now ≡ self.now.commitments }
     {
         self.commitments
     }
 
-    /// The places of the commitments in the order in which they meet an hour's rows: what [`in_order`](crate::in_order) returns.
+    /// The places of the commitments that run in one of the roster's hours, in the order in which they meet an hour's rows: what
+    /// [`in_order`](crate::in_order) returns, without the places of the others.
     pub fn order(&self) -> &[usize]
-        ensures { result.now ≡ map (λ c. c.0) (commitments_in_order self.now) }
+        ensures { result.now ≡ map (λ c. c.0) (roster_order self.now) }
     {
         &self.order
     }
 
-    /// What the commitments cover of the rows of an hour; rows of other hours are passed over. The places are those in the list of the
-    /// commitments and in the slice of the rows.
+    /// What the commitments cover of the rows of one of the roster's hours; rows of other hours are passed over. The places are those in the
+    /// list of the commitments and in the slice of the rows.
     pub fn cover(&self, alloc: Global, rows: &[&Row], hour: u32) -> Result<HourCover, AllocError>
-        ensures taken { IfOk result (λ h. h.taken.items ≡ hour_cover self.now (map (λ r. r.now) rows.now) hour) }
+        requires { HasHour self.now hour }
+        ensures taken { IfOk result (λ h. h.taken.items ≡ hour_cover self.now.commitments (map (λ r. r.now) rows.now) hour) }
         ensures rows { IfOk result (λ h. length h.row_left.items ≡ length rows.now) }
-        ensures commitments { IfOk result (λ h. length h.unused.items ≡ length self.now) }
-        ensures takes { IfOk result (λ h. All (IsTakeWithin (length self.now) (length rows.now)) h.taken.items) }
+        ensures commitments { IfOk result (λ h. length h.unused.items ≡ length self.now.commitments) }
+        ensures takes { IfOk result (λ h. All (IsTakeWithin (length self.now.commitments) (length rows.now)) h.taken.items) }
         ensures row_left { IfOk result (λ h. (r : ℕ) → taken_of_row r h.taken.items + slice_index h.row_left.items r ≡ slice_index (quantities_of (map (λ r. r.now) rows.now)) r) }
-        ensures unused { IfOk result (λ h. (c : ℕ) → used_of c h.taken.items + slice_index h.unused.items c ≡ slice_index (capacities_of self.now) c) }
+        ensures unused { IfOk result (λ h. (c : ℕ) → used_of c h.taken.items + slice_index h.unused.items c ≡ slice_index (capacities_of self.now.commitments) c) }
     {
         let pairs = pairs_in_order(alloc, &self.index, rows, hour)?;
         let billed = billed_costs(alloc, rows)?;

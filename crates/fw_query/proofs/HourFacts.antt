@@ -13,9 +13,14 @@ use Rattle.std.proofs.lemmas.Simd.{map-map}
 use Rattle.std.specs.List.{range_with_len}
 use Rattle.fw_charge.specs.Charge.{Charge, hour_of}
 use Rattle.fw_cover.specs.Eligible.{is_of_hour}
+use Rattle.fw_cover.specs.RosterView.{HasHour, RosterValue}
 use Rattle.fw_amortise.specs.Lines.{rows_in}
-use Rattle.fw_query.specs.Hours.{AreByHour, AreThere, IsThere, all_rows, lent, row_at, rows_at, rows_of_list}
+use Rattle.fw_query.specs.Hours.{AreByHour, AreThere, HasHours, IsThere, all_rows, lent, row_at, rows_at, rows_of_list}
 use Rattle.fw_query.specs.declared.hours.RowPlace.{RowPlace}
+
+-- one of a roster's hours
+pub has_hour : (r : RosterValue) (from hours k hour : ℕ) → HasHours r from hours → k < hours → hour ≡ from + k → HasHour r hour
+has_hour r from hours k hour has lt e = record { since = omega (arith, e, has.since); until = omega (arith, e, lt, has.until) }
 
 -- the place that a list has nothing at
 abbrev pub nothing : {X : Type 0} → ℕ → List X

@@ -1,5 +1,5 @@
 -- Rows by hour, and the hours in which commitments have lines. The private functions of the reports cite it.
-use Rattle.std.specs.Prelude.{◌≡◌, ◌≢◌, ◌<◌, ◌+◌, ℕ, ◌==◌, ◌||◌, Bool, List, [], length, map, slice_get, slice_index_or, Option, Some, None, All, Vec}
+use Rattle.std.specs.Prelude.{◌≡◌, ◌≢◌, ◌<◌, ◌≤◌, ◌+◌, ℕ, ◌==◌, ◌||◌, Bool, List, [], length, map, slice_get, slice_index_or, Option, Some, None, All, Vec}
 use Rattle.std.specs.Borrow.{Bor}
 use Rattle.std.specs.declared.alloc.Global.{Global}
 use Rattle.std.specs.List.{filter_map, flat_map, list_any, range_with_len}
@@ -7,6 +7,7 @@ use Rattle.fw_charge.specs.Charge.{Charge, hour_of}
 use Rattle.fw_charge.specs.Tags.{group_of}
 use Rattle.fw_terms.specs.Commitment.{CommitmentValue}
 use Rattle.fw_cover.specs.Applies.{is_in_term}
+use Rattle.fw_cover.specs.RosterView.{RosterValue}
 use Rattle.fw_amortise.specs.Lines.{rows_in}
 use Rattle.fw_query.specs.Costs.{Cost}
 use Rattle.fw_query.specs.declared.hours.RowPlace.{RowPlace}
@@ -45,6 +46,11 @@ AreThere segments list = All (IsThere segments) list.items
 pub record AreByHour (segments : List (List Charge)) (rows : List Charge) (from hours : ℕ) (by_hour : List (Vec RowPlace Global)) : Type 0 where
   pub there : All (AreThere segments) by_hour
   pub each : map (rows_of_list segments) by_hour ≡ map (λ h. rows_in h rows) (range_with_len from hours)
+
+-- a roster has each of so many hours from this one on
+pub record HasHours (r : RosterValue) (from hours : ℕ) : Type 0 where
+  pub since : r.from ≤ from
+  pub until : from + hours ≤ r.to
 
 -- beside each row of the segments stands its group
 abbrev pub groups_in : List ℕ → List (List Charge) → List (List (List ℕ))

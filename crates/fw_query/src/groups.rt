@@ -1,8 +1,9 @@
 //! Sums by group, as they grow line by line.
 ghost use Rattle.std.specs.Prelude.{◌≡◌, ◌+ℤ◌, ◌+◌, ◌<◌, ◌^◌, length, ◌++◌, ◌∷◌, List, [], map, All, IfOk, IfSome, OnOk};
 ghost use Rattle.fw_charge.specs.Charge.{Charge, hour_of};
+ghost use Rattle.fw_cover.specs.RosterView.{HasHour};
 ghost use Rattle.fw_query.specs.Costs.{Cost};
-ghost use Rattle.fw_query.specs.Hours.{AreByHour, IsGrouped, IsThere, lent, row_cost, rows_at, rows_of_list};
+ghost use Rattle.fw_query.specs.Hours.{AreByHour, HasHours, IsGrouped, IsThere, lent, row_cost, rows_at, rows_of_list};
 ghost use Rattle.fw_query.specs.Reports.{costs_of};
 ghost use Rattle.fw_query.specs.Sums.{AddsLine, AreAmounts, AreEntries, AreSums, Counts, CountsHour, CountsHours, HasRoom, IsInOrder, kept_entry, sums_at};
 
@@ -77,9 +78,10 @@ impl Groups {
         from: u64,
     ) -> Result<Groups, AllocError>
         requires fits { from + length by_hour.now < 2 ^ 64 }
+        requires roster { HasHours roster.now from (length by_hour.now) }
         requires grouped { IsGrouped grouped.now }
         requires by_hour { (rows : List Charge) × AreByHour (lent grouped.now.segments.now) rows from (length by_hour.now) by_hour.now }
-        ensures { IfOk result (λ groups. CountsHours groups grouped.now.key.now roster.now (map (rows_of_list (lent grouped.now.segments.now)) by_hour.now) from) }
+        ensures { IfOk result (λ groups. CountsHours groups grouped.now.key.now roster.now.commitments (map (rows_of_list (lent grouped.now.segments.now)) by_hour.now) from) }
     {
         let mut groups = Groups::new(alloc);
         let mut hour = from;
@@ -100,10 +102,11 @@ impl Groups {
         hour: u64,
     ) -> Result<(), AllocError>
         requires counts { (costs : List Cost) × Counts self.old costs }
+        requires hour { HasHour roster.now hour }
         requires grouped { IsGrouped grouped.now }
         requires there { All (IsThere (lent grouped.now.segments.now)) places.now }
         requires of_hour { All (λ r. hour_of r.start ≡ hour) (rows_at (lent grouped.now.segments.now) places.now) }
-        ensures { OnOk result ((costs : List Cost) → Counts self.old costs → CountsHour self.new costs grouped.now.key.now roster.now (rows_at (lent grouped.now.segments.now) places.now) hour) }
+        ensures { OnOk result ((costs : List Cost) → Counts self.old costs → CountsHour self.new costs grouped.now.key.now roster.now.commitments (rows_at (lent grouped.now.segments.now) places.now) hour) }
     {
         if !is_touched(roster.commitments(), hour) {
             return self.add_rows(grouped, places);
@@ -121,8 +124,9 @@ impl Groups {
         hour: u32,
     ) -> Result<(), AllocError>
         requires counts { (costs : List Cost) × Counts self.old costs }
+        requires hour { HasHour roster.now hour }
         requires of_hour { All (λ r. hour_of r.start ≡ hour) rows.now }
-        ensures { OnOk result ((costs : List Cost) → Counts self.old costs → CountsHour self.new costs key.now roster.now rows.now hour) }
+        ensures { OnOk result ((costs : List Cost) → Counts self.old costs → CountsHour self.new costs key.now roster.now.commitments rows.now hour) }
     {
         let rows = lend(self.alloc, rows)?;
         let lines = lines_by_roster(self.alloc, roster, rows.as_slice(), hour)?;
@@ -199,12 +203,12 @@ impl Groups {
         ensures { IfOk result (λ entries. (costs : List Cost) → AreSums self costs → AreEntries costs entries.items) }
     {
         let sorted = self.in_order()?;
-        listed(sorted.alloc, sorted.by_group)
+        kept_entries(sorted.alloc, sorted.by_group)
     }
 }
 
 // The entries of the groups, in the order in which they are kept.
-fn listed(alloc: Global, by_group: IndexMap<String, Sums>) -> Result<Vec<Entry>, AllocError>
+fn kept_entries(alloc: Global, by_group: IndexMap<String, Sums>) -> Result<Vec<Entry>, AllocError>
     ensures { IfOk result (λ entries. entries.items ≡ map kept_entry by_group.entries) }
 {
     by_group

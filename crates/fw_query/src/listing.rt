@@ -2,7 +2,8 @@
 ghost use Rattle.std.specs.Prelude.{◌≡◌, ◌+◌, ◌<◌, ◌^◌, false, All, IfErr, IfOk, List, MatchOption, OnOk, ℕ, [], length, map};
 ghost use Rattle.fw_amortise.specs.LineValue.{LineValue};
 ghost use Rattle.fw_charge.specs.Charge.{Charge, hour_of};
-ghost use Rattle.fw_query.specs.Hours.{AreByHour, IsThere, all_rows, is_touched, lent, rows_at, rows_of_list};
+ghost use Rattle.fw_cover.specs.RosterView.{HasHour};
+ghost use Rattle.fw_query.specs.Hours.{AreByHour, HasHours, IsThere, all_rows, is_touched, lent, rows_at, rows_of_list};
 ghost use Rattle.fw_query.specs.Limits.{IsRange};
 ghost use Rattle.fw_query.specs.Listing.{IsListing, WritesHour, WritesHours};
 ghost use Rattle.fw_query.specs.RangeLines.{AreRangeLines};
@@ -41,19 +42,24 @@ pub fn lines_csv(
     if from >= to || to - from > MOST_HOURS {
         return Err(QueryFault::Range);
     }
-    match listed_on(alloc, snapshot.state(), from, (to - from) as usize) {
+    match lines_csv_on(alloc, snapshot.state(), from, (to - from) as usize) {
         Ok(text) => Ok(text),
         Err(AllocError) => Err(QueryFault::NoMemory),
     }
 }
 
 // The text of the lines of a state in so many hours from this one on.
-fn listed_on(alloc: Global, state: &State, from: u64, hours: usize) -> Result<Vec<u8>, AllocError>
+fn lines_csv_on(
+    alloc: Global,
+    state: &State,
+    from: u64,
+    hours: usize,
+) -> Result<Vec<u8>, AllocError>
     requires { from + hours < 2 ^ 64 }
     ensures { IfOk result (λ text. IsListing (commitments_of state.now.entries) (rows_of state.now.entries) from hours text.items) }
 {
     let segments = segments_of(alloc, state.segments())?;
-    listed(
+    lines_csv_of(
         alloc,
         segments.as_slice(),
         state.commitment_list(),
@@ -63,7 +69,7 @@ fn listed_on(alloc: Global, state: &State, from: u64, hours: usize) -> Result<Ve
 }
 
 // The text of the lines of so many hours from this one on.
-fn listed(
+fn lines_csv_of(
     alloc: Global,
     segments: &[&Columns],
     commitments: &[Commitment],
@@ -74,7 +80,7 @@ fn listed(
     ensures { IfOk result (λ text. IsListing commitments.now (all_rows (lent segments.now)) from hours text.items) }
 {
     let by_hour = rows_by_hour(alloc, segments, from, hours)?;
-    let roster = Roster::new(alloc, commitments)?;
+    let roster = Roster::new(alloc, commitments, from, from + hours as u64)?;
     let mut writer = WriterBuilder::new().from_writer(Vec::new(alloc));
     write_names(&mut writer)?;
     write_hours(
@@ -101,8 +107,9 @@ fn write_hours(
     from: u64,
 ) -> Result<(), AllocError>
     requires fits { from + length by_hour.now < 2 ^ 64 }
+    requires roster { HasHours roster.now from (length by_hour.now) }
     requires by_hour { (rows : List Charge) × AreByHour (lent segments.now) rows from (length by_hour.now) by_hour.now }
-    ensures { OnOk result ((text : List ℕ) → HasWritten writer.old text → WritesHours writer.new text roster.now (map (rows_of_list (lent segments.now)) by_hour.now) from) }
+    ensures { OnOk result ((text : List ℕ) → HasWritten writer.old text → WritesHours writer.new text roster.now.commitments (map (rows_of_list (lent segments.now)) by_hour.now) from) }
 {
     let mut hour = from;
     for places in by_hour {
@@ -121,8 +128,9 @@ fn write_hour(
     rows: &[Row],
     hour: u64,
 ) -> Result<(), AllocError>
-    requires { All (λ r. hour_of r.start ≡ hour) rows.now }
-    ensures { OnOk result ((text : List ℕ) → HasWritten writer.old text → WritesHour writer.new text roster.now rows.now hour) }
+    requires hour { HasHour roster.now hour }
+    requires rows { All (λ r. hour_of r.start ≡ hour) rows.now }
+    ensures { OnOk result ((text : List ℕ) → HasWritten writer.old text → WritesHour writer.new text roster.now.commitments rows.now hour) }
 {
     let Some(hour) = line_hour(roster.commitments(), rows, hour) else {
         return Ok(());

@@ -102,6 +102,6 @@ fn direct_entries(
     let hours = (query.to_hour - from) as usize;
     let by_hour = rows_by_hour(alloc, segments, from, hours)?;
     let grouped = Grouped::new(alloc, query.key, segments)?;
-    let roster = Roster::new(alloc, commitments)?;
+    let roster = Roster::new(alloc, commitments, from, query.to_hour)?;
     Groups::of_hours(alloc, &grouped, &roster, by_hour.as_slice(), from)?.into_entries()
 }

@@ -4,6 +4,7 @@ use Rattle.fw_charge.specs.Charge.{Charge, hour_of}
 use Rattle.fw_query.specs.Hours.{AreThere, lent, rows_at, rows_of_list}
 use Rattle.fw_query.specs.Listing.{WritesHour, records}
 use Rattle.fw_query.specs.RangeLines.{joined}
+use Rattle.fw_query.proofs.HourFacts.{has_hour}
 use Rattle.fw_query.proofs.ListingFacts.{WritesHours-more, of_hour}
 use Rattle.fw_query.proofs.listing.write_hours.Goals as goal
 
@@ -13,8 +14,11 @@ rows_at-requires c =
     rw c.places-item.is (c.requires.by_hour.1.there c.loop-places.places-index c.places-item.result c.loop-places-test.true) in
     rw c.as_slice.ensures.value there
 
-pub write_hour-requires : goal.write_hour-requires
-write_hour-requires c =
+pub write_hour-requires-clause-hour : goal.write_hour-requires-clause-hour
+write_hour-requires-clause-hour c = has_hour c.args.roster.now c.args.from _ c.loop-places.places-index c.loop-places.hour c.requires.roster c.loop-places-test.true c.loop-places.invariant.at
+
+pub write_hour-requires-clause-rows : goal.write_hour-requires-clause-rows
+write_hour-requires-clause-rows c =
     let (rows, by) = c.requires.by_hour in
     let kept = c.loop-places.invariant in
     let of : All (λ (r : Charge). hour_of r.start ≡ c.args.from + c.loop-places.places-index) (rows_of_list (lent c.args.segments.now) c.places-item.result) =
@@ -35,9 +39,9 @@ loop-places-preserved c =
     record {
       wrote = λ text has.
           let before = kept.wrote text has in
-          let added : WritesHour c.write_hour.new.writer (text ++ records (joined before.hourly)) c.args.roster.now (found c.places-item.result) c.loop-places.hour =
+          let added : WritesHour c.write_hour.new.writer (text ++ records (joined before.hourly)) c.args.roster.now.commitments (found c.places-item.result) c.loop-places.hour =
           rw rows at (c.in_ok-write_hour.ensures _ before.wrote) in
-          rw more (WritesHours-more _ c.write_hour.new.writer text c.args.roster.now _ (found c.places-item.result) c.args.from c.loop-places.hour before (kept.at ∙ ap (λ n. c.args.from + n) (sym long)) added);
+          rw more (WritesHours-more _ c.write_hour.new.writer text c.args.roster.now.commitments _ (found c.places-item.result) c.args.from c.loop-places.hour before (kept.at ∙ ap (λ n. c.args.from + n) (sym long)) added);
       at = let h = kept.at in omega arith;
     }
 

@@ -13,6 +13,12 @@ of_hours-requires-clause-fits c =
     let long : length c.in_ok-by_hour.by_hour.items ≡ c.args.query.now.to_hour - c.args.query.now.from_hour = by_hour_long _ _ _ _ _ c.in_ok-by_hour.ensures in
     rw (c.as_slice.ensures.value, long) (omega arith)
 
+pub of_hours-requires-clause-roster : goal.of_hours-requires-clause-roster
+of_hours-requires-clause-roster c =
+    let long : length c.in_ok-by_hour.by_hour.items ≡ c.args.query.now.to_hour - c.args.query.now.from_hour = by_hour_long _ _ _ _ _ c.in_ok-by_hour.ensures in
+    let some = c.requires.some in
+    rw (c.in_ok-roster.ensures, c.as_slice.ensures.value, long) (record { since = omega arith; until = omega (arith, some) })
+
 pub of_hours-requires-clause-by_hour : goal.of_hours-requires-clause-by_hour
 of_hours-requires-clause-by_hour c =
     let long : length c.in_ok-by_hour.by_hour.items ≡ c.args.query.now.to_hour - c.args.query.now.from_hour = by_hour_long _ _ _ _ _ c.in_ok-by_hour.ensures in

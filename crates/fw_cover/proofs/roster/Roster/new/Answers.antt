@@ -4,9 +4,9 @@ use Rattle.fw_cover.proofs.roster.Roster.new.Goals as goal
 
 pub invariant_of-result : goal.invariant_of-result
 invariant_of-result c = record {
-  order = c.in_ok-order.ensures ∙ (rw (c.deref.ensures.value, map_places c.in_ok-ordered.ordered.items, c.in_ok-ordered.ensures) refl);
+  order = c.in_ok-order.ensures ∙ (rw (c.deref.ensures.value, map_places c.in_ok-running.running.items, c.in_ok-running.ensures) refl);
   valid = c.in_ok-capacities.ensures.in_limits;
   capacities = c.in_ok-capacities.ensures.values;
   sorted = c.in_ok-index.ensures.sorted;
-  index_is = c.in_ok-index.ensures.value ∙ (rw (c.deref-2.ensures.value, c.in_ok-ordered.ensures) refl);
+  index_is = c.in_ok-index.ensures.value ∙ (rw (c.deref-2.ensures.value, c.in_ok-running.ensures) refl);
 }

@@ -11,13 +11,13 @@ pub returns-then-not-is_touched : goal.returns-then-not-is_touched
 returns-then-not-is_touched c =
     let key = c.args.grouped.now.key.now in
     let rows = rows_at (lent c.args.grouped.now.segments.now) c.args.places.now in
-    let untouched : is_touched c.args.roster.now c.args.hour ≡ false = ap (λ cs. is_touched cs c.args.hour) (sym c.commitments.ensures) ∙ sym c.is_touched.ensures.touched ∙ c.if-not-is_touched.true in
+    let untouched : is_touched c.args.roster.now.commitments c.args.hour ≡ false = ap (λ cs. is_touched cs c.args.hour) (sym c.commitments.ensures) ∙ sym c.is_touched.ensures.touched ∙ c.if-not-is_touched.true in
     IfOk-weaker c.add_rows.result
     (λ _. (costs : List Cost) → Counts c.args.self.now costs → Counts c.add_rows.new.self (costs ++ map (row_cost key) rows))
-    (λ _. (costs : List Cost) → Counts c.args.self.now costs → CountsHour c.add_rows.new.self costs key c.args.roster.now rows c.args.hour)
+    (λ _. (costs : List Cost) → Counts c.args.self.now costs → CountsHour c.add_rows.new.self costs key c.args.roster.now.commitments rows c.args.hour)
     (λ _ counted costs counts. record {
       lines = plain_lines rows c.args.hour;
-      are_lines = are_plain c.args.roster.now rows c.args.hour untouched;
+      are_lines = are_plain c.args.roster.now.commitments rows c.args.hour untouched;
       counts = Counts-moved c.add_rows.new.self costs _ _ (plain_costs key rows c.args.hour) (counted costs counts);
     })
     c.add_rows.ensures

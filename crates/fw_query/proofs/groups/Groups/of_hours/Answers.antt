@@ -5,9 +5,13 @@ use Rattle.fw_query.specs.Hours.{AreThere, lent, rows_of_list}
 use Rattle.fw_query.specs.RangeLines.{joined}
 use Rattle.fw_query.specs.Reports.{costs_of}
 use Rattle.fw_query.specs.Sums.{CountsHour}
+use Rattle.fw_query.proofs.HourFacts.{has_hour}
 use Rattle.fw_query.proofs.ListingFacts.{of_hour}
 use Rattle.fw_query.proofs.RangeFacts.{CountsHours-more}
 use Rattle.fw_query.proofs.groups.Groups.of_hours.Goals as goal
+
+pub add_hour-requires-clause-hour : goal.add_hour-requires-clause-hour
+add_hour-requires-clause-hour c = has_hour c.args.roster.now c.args.from _ c.loop-places.places-index c.loop-places.hour c.requires.roster c.loop-places-test.true c.loop-places.invariant.at
 
 pub add_hour-requires-clause-there : goal.add_hour-requires-clause-there
 add_hour-requires-clause-there c =
@@ -33,9 +37,9 @@ loop-places-preserved c =
     let more : map found (take (c.loop-places.places-index + 1) c.args.by_hour.now) ≡ map found (take c.loop-places.places-index c.args.by_hour.now) ++ found c.places-item.result ∷ [] =
     map_more found c.args.by_hour.now c.loop-places.places-index c.places-item.result c.loop-places-test.true
     ∙ ap (λ v. map found (take c.loop-places.places-index c.args.by_hour.now) ++ found v ∷ []) (sym c.places-item.is) in
-    let added : CountsHour c.add_hour.new.self (costs_of key (joined kept.counted.hourly)) key c.args.roster.now (found c.places-item.result) c.loop-places.hour =
+    let added : CountsHour c.add_hour.new.self (costs_of key (joined kept.counted.hourly)) key c.args.roster.now.commitments (found c.places-item.result) c.loop-places.hour =
     rw c.as_slice.ensures.value at (c.in_ok-add_hour.ensures _ kept.counted.counts) in
     record {
-      counted = rw more (CountsHours-more _ c.add_hour.new.self key c.args.roster.now _ (found c.places-item.result) c.args.from c.loop-places.hour kept.counted (kept.at ∙ ap (λ n. c.args.from + n) (sym long)) added);
+      counted = rw more (CountsHours-more _ c.add_hour.new.self key c.args.roster.now.commitments _ (found c.places-item.result) c.args.from c.loop-places.hour kept.counted (kept.at ∙ ap (λ n. c.args.from + n) (sym long)) added);
       at = let h = kept.at in omega arith;
     }

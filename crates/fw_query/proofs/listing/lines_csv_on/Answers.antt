@@ -1,10 +1,10 @@
 use Rattle.std.proofs.Common.{◌≡◌, ◌∙◌, ap}
 use Rattle.fw_snapshot.specs.History.{rows_of}
 use Rattle.fw_query.specs.Hours.{all_rows, lent}
-use Rattle.fw_query.proofs.listing.listed_on.Goals as goal
+use Rattle.fw_query.proofs.listing.lines_csv_on.Goals as goal
 
 pub returns : goal.returns
 returns c =
     let rows : all_rows (lent c.as_slice.result.now) ≡ rows_of c.args.state.now.entries =
     ap all_rows (ap lent c.as_slice.ensures.value ∙ c.in_ok-segments.ensures) ∙ c.segments.ensures.rows in
-    rw (rows, c.commitment_list.ensures) at c.listed.ensures
+    rw (rows, c.commitment_list.ensures) at c.lines_csv_of.ensures

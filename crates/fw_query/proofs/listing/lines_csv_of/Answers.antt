@@ -1,16 +1,21 @@
-use Rattle.std.proofs.Common.{◌≡◌, ◌∙◌, [], ◌++◌, Some, ap, length, map}
+use Rattle.std.proofs.Common.{◌≡◌, ◌∙◌, [], ◌++◌, Some, ap, arith, length, map}
 use Rattle.fw_query.specs.Hours.{all_rows, lent, rows_of_list}
 use Rattle.fw_query.specs.Listing.{WritesHours}
 use Rattle.fw_query.specs.Texts.{line_header, record_line}
 use Rattle.fw_query.specs.Writers.{HasWritten}
 use Rattle.fw_query.proofs.HourFacts.{by_hour_long}
 use Rattle.fw_query.proofs.ListingFacts.{listing_of}
-use Rattle.fw_query.proofs.listing.listed.Goals as goal
+use Rattle.fw_query.proofs.listing.lines_csv_of.Goals as goal
 
 pub write_hours-requires-clause-fits : goal.write_hours-requires-clause-fits
 write_hours-requires-clause-fits c =
     let long : length c.in_ok-by_hour.by_hour.items ≡ c.args.hours = by_hour_long _ _ _ _ _ c.in_ok-by_hour.ensures in
     rw (c.as_slice.ensures.value, long) c.requires
+
+pub write_hours-requires-clause-roster : goal.write_hours-requires-clause-roster
+write_hours-requires-clause-roster c =
+    let long : length c.in_ok-by_hour.by_hour.items ≡ c.args.hours = by_hour_long _ _ _ _ _ c.in_ok-by_hour.ensures in
+    rw (c.in_ok-roster.ensures, c.as_slice.ensures.value, long) (record { since = omega arith; until = omega arith })
 
 pub write_hours-requires-clause-by_hour : goal.write_hours-requires-clause-by_hour
 write_hours-requires-clause-by_hour c =
