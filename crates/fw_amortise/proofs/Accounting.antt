@@ -1,15 +1,14 @@
 -- Each line of an hour comes from one purchase, row or commitment; each row is accounted for, and so is each commitment's amount.
 use Rattle.std.proofs.Common.{◌≡◌, ◌∙◌, ℕ, ◌+◌, ◌≤◌, ◌==◌, ◌&&◌, Bool, true, false, cond, nat_lt, ℤ, pos, ◌+ℤ◌, List, [], ◌∷◌, ◌++◌, length, get_or, map, filter, drop, sum_by, All, Option, Some, None, refl, sym, ap, subst, arith, append-nil}
-use Rattle.std.specs.Prelude.{int_lt, is_some, negsuc, not, slice_get, slice_index, unsigned_abs, unwrap_or}
+use Rattle.std.specs.Prelude.{int_lt, is_some, negsuc, not, slice_get, unsigned_abs, unwrap_or}
 use Rattle.std.specs.Option.{IsSome}
 use Rattle.std.specs.List.{AllZip, Contains, flat_map, zip}
 use Rattle.std.proofs.lemmas.Bool.{and_parts, eqb-true, eqb-false, eq-eqb, ne_eqb, not-true}
 use Rattle.std.proofs.lemmas.Bool.Decides.{nat_tests}
 use Rattle.std.proofs.lemmas.Int.{ints}
-use Rattle.std.proofs.lemmas.List.{map-append, get_or-map}
+use Rattle.std.proofs.lemmas.List.{map-append}
 use Rattle.std.proofs.lemmas.List.Elements.{All-append, All-cons, All-contains_itself, All-filter, All-head, All-map, All-nil, All-tail, filter_passes}
 use Rattle.std.proofs.lemmas.List.Sums.{sum_by-append, sum_by-cons}
-use Rattle.std.proofs.lemmas.Option.{get_or_from_slice_get, slice_get_within}
 use Rattle.std.specs.List.{enumerate_from}
 use Rattle.fw_charge.specs.Charge.{Charge}
 use Rattle.fw_terms.specs.Commitment.{CommitmentValue}
@@ -17,12 +16,13 @@ use Rattle.fw_cover.specs.declared.taken.Taken.{Taken}
 use Rattle.fw_cover.specs.Applies.{allows, applied, fits, has_unit, is_in_term, is_open}
 use Rattle.fw_cover.specs.Cover.{taken_of_row}
 use Rattle.fw_cover.specs.Eligible.{is_eligible, is_measured, is_open_use, is_positive}
-use Rattle.fw_cover.specs.Hour.{hour_cover, left_of, quantities_of, quantity_of, takes_of, unused_of}
+use Rattle.fw_cover.specs.Hour.{hour_cover, left_of, quantity_of, takes_of, unused_of}
 use Rattle.fw_cover.specs.Meeting.{Meets}
 use Rattle.fw_cover.specs.Order.{commitment_before, commitments_in_order, in_order}
 use Rattle.fw_cover.proofs.ByCommitment.{filter_none}
-use Rattle.fw_cover.proofs.Filling.{element_at, of_in_order}
+use Rattle.fw_cover.proofs.Filling.{element_at, number_at, of_in_order}
 use Rattle.fw_cover.proofs.Grouping.{PlacesApart, cover_grouped, order_places_apart}
+use Rattle.fw_cover.proofs.Left.{sum_kept}
 use Rattle.fw_cover.proofs.Sorting.{two_ways}
 use Rattle.fw_cover.proofs.Whole.{row_whole, takes_meet}
 use Rattle.fw_cover.proofs.Within.{commitments_in_order_places, eligible_from, open_from}
@@ -31,7 +31,7 @@ use Rattle.fw_amortise.specs.Lines.{AreHourLines, AreLinesAt, given_line, given_
 use Rattle.fw_amortise.specs.Sources.{AreAccounted, SourceValue, is_bought_by, is_of_row, is_rest_of, is_share_by, lines_from, lines_of_row, quantity_of_all}
 use Rattle.fw_amortise.specs.Sources.SourceValue.{used_by, unused_by}
 use Rattle.fw_amortise.proofs.Carrying.{fold_from}
-use Rattle.fw_amortise.proofs.Sourced.{FromIts, Sourced, bought, bought_at, bought_from, bought_lines, bought_none, given, given_are, given_at, given_from, given_none, given_own, lines_of, own_append, own_every, own_nil, own_none, own_one, rest_at, rests, rests_are, rests_from, rests_none, second_of}
+use Rattle.fw_amortise.proofs.Sourced.{FromIts, Sourced, bought, bought_at, bought_from, bought_lines, bought_none, given, given_are, given_at, given_from, given_none, given_own, lines_of, own_append, own_every, own_nil, own_none, own_one, rest_at, rests, rests_are, rests_from, rests_none, seconds_of}
 use Rattle.fw_amortise.proofs.Weights.{length-weights_of, spare_weight}
 
 -- ---- what the commitments took, and what they left unused
@@ -44,15 +44,11 @@ spares hour c shares = map (λ share. (unused_by c.0, unused_line hour c.1 share
 shared_by : ℕ → ℕ × CommitmentValue → List Charge → List Taken → List ℕ → List Sourced
 shared_by hour c rows takes shares = uses hour c rows takes shares ++ spares hour c (drop (length takes) shares)
 
-seconds_of : {X : Type 0} (s : X → SourceValue) (f : X → LineValue) (xs : List X) → lines_of (map (λ x. (s x, f x)) xs) ≡ map f xs
-seconds_of s f [] = refl
-seconds_of s f (x ∷ xs) = ap (λ l. f x ∷ l) (seconds_of s f xs)
-
 shared_by_are : (hour : ℕ) (c : ℕ × CommitmentValue) (rows : List Charge) (takes : List Taken) (shares : List ℕ) → lines_of (shared_by hour c rows takes shares) ≡ shared_lines hour c.1 rows takes shares
 unfolding shared_by shared_lines
 shared_by_are hour c rows takes shares =
     map-append (λ (s : Sourced). s.1) (uses hour c rows takes shares) (spares hour c (drop (length takes) shares))
-    ∙ (rw (seconds_of (λ p. used_by c.0 p.0.row) (λ p. used_line hour c.1 rows p.0 p.1) (zip takes shares), second_of (unused_by c.0) (unused_line hour c.1) (drop (length takes) shares)) refl)
+    ∙ (rw (seconds_of (λ p. used_by c.0 p.0.row) (λ p. used_line hour c.1 rows p.0 p.1) (zip takes shares), seconds_of (λ share. unused_by c.0) (unused_line hour c.1) (drop (length takes) shares)) refl)
 
 -- the lines of the commitments that run, beside their sources
 record SharedBy (cs : List CommitmentValue) (rows : List Charge) (hour : ℕ) (some : List (ℕ × CommitmentValue)) (lines : List LineValue) : Type 0 where
@@ -296,20 +292,11 @@ taken_flat r f [] = refl
 taken_flat r f (x ∷ xs) =
     sum_by-append (λ (t : Taken). cond (t.row == r) t.quantity 0) (f x) (flat_map f xs) ∙ (rw (taken_flat r f xs) (sym (sum_by-cons (λ x. sum_by (λ (t : Taken). cond (t.row == r) t.quantity 0) (f x)) x xs)))
 
-sum_chosen : {X : Type 0} (p : X → Bool) (f : X → ℕ) (xs : List X) → All (λ x. p x ≡ false → f x ≡ 0) xs → sum_by f (filter p xs) ≡ sum_by f xs
-sum_chosen p f [] none = refl
-sum_chosen {X} p f (x ∷ xs) none =
-    let Q : X → Type 0 = λ x. p x ≡ false → f x ≡ 0 in
-    let rest : sum_by f (filter p xs) ≡ sum_by f xs = sum_chosen p f xs (All-tail Q x xs none) in
-    let whole = sum_by-cons f x xs in
-    let kept = sum_by-cons f x (filter p xs) in
-    two_ways (p x) (λ holds. rw holds (omega arith)) (λ fails. let zero_here : f x ≡ 0 = All-head Q x xs none fails in rw fails (omega arith))
-
 running_took : (cs : List CommitmentValue) (rows : List Charge) (hour r : ℕ) → sum_by (λ c. taken_of_row r (takes_of c.0 (hour_cover cs rows hour))) (running cs hour) ≡ taken_of_row r (hour_cover cs rows hour)
 unfolding running
 running_took cs rows hour r =
     let f : ℕ × CommitmentValue → ℕ = λ c. taken_of_row r (takes_of c.0 (hour_cover cs rows hour)) in
-    sum_chosen (λ c. is_in_term c.1 hour) f (commitments_in_order cs)
+    sum_kept (λ c. is_in_term c.1 hour) f (commitments_in_order cs)
     (λ k d l idle. idle_takes cs rows hour r (get_or (commitments_in_order cs) k d) (commitments_in_order_places cs k d l) idle)
     ∙ sym (taken_flat r (λ c. takes_of c.0 (hour_cover cs rows hour)) (commitments_in_order cs))
     ∙ ap (taken_of_row r) (sym (cover_grouped cs rows hour))
@@ -353,9 +340,6 @@ rest_quantity hour row u eligible = two_ways (nat_lt 0 u)
     (λ some. let one = quantity_cons (rest_line hour row u) [] in let none = quantity_none in rw (eligible, some) (omega (arith, ints)))
     (λ nothing. let zero_left : u ≡ 0 = grind (arith, nat_tests) in rw (eligible, nothing) (quantity_none ∙ ap pos (sym zero_left)))
 
-quantity_at : (rows : List Charge) (r : ℕ) (row : Charge) → slice_get rows r ≡ Some row → slice_index (quantities_of rows) r ≡ quantity_of row
-quantity_at rows r row there = get_or-map quantity_of rows r row 0 (slice_get_within rows r row there) ∙ ap quantity_of (get_or_from_slice_get rows r row row there)
-
 accounted_eligible : (cs : List CommitmentValue) (rows : List Charge) (hour r : ℕ) (row : Charge) → slice_get rows r ≡ Some row → is_eligible row ≡ true → (own used : List LineValue)
     → own ≡ given_own hour (r, row) ++ used ++ rest_of hour row (left_of rows (hour_cover cs rows hour) r)
     → quantity_of_all used ≡ pos (sum_by (λ c. taken_of_row r (takes_of c.0 (hour_cover cs rows hour))) (running cs hour))
@@ -366,7 +350,7 @@ accounted_eligible cs rows hour r row there eligible own used is took =
     let none : given_own hour (r, row) ≡ [] = rw eligible refl in
     let sum : quantity_of_all own ≡ quantity_of_all used +ℤ quantity_of_all (rest_of hour row (left_of rows taken r)) =
     ap quantity_of_all (is ∙ (rw none refl)) ∙ quantity_append used (rest_of hour row (left_of rows taken r)) in
-    let all : taken_of_row r taken + left_of rows taken r ≡ quantity_of row = row_whole cs rows hour r ∙ quantity_at rows r row there in
+    let all : taken_of_row r taken + left_of rows taken r ≡ quantity_of row = row_whole cs rows hour r ∙ number_at quantity_of rows r row there in
     let part : quantity_of_all used ≡ pos (taken_of_row r taken) = took ∙ ap pos (running_took cs rows hour r) in
     let left : quantity_of_all (rest_of hour row (left_of rows taken r)) ≡ pos (left_of rows taken r) = rest_quantity hour row (left_of rows taken r) eligible in
     eligible_whole row eligible ∙ ap Some (ap pos (sym all) ∙ sym (sum ∙ (rw (part, left) refl)))

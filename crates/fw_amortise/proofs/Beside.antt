@@ -31,7 +31,7 @@ no_rest cs rows hour row none (row_given r) line from = refl
 no_rest cs rows hour row none (used_by k r) line from = refl
 no_rest cs rows hour row none (unused_by k) line from = refl
 no_rest cs rows hour row none (row_left r) line from = two_ways (r == row)
-    (λ same. let some : 0 < left_of rows (hour_cover cs rows hour) row = subst (λ (x : ℕ). 0 < left_of rows (hour_cover cs rows hour) x) (eqb-true r row same) from.some in absurd (omega (arith, none, some)))
+    (λ same. let left : from.left ≡ left_of rows (hour_cover cs rows hour) row = subst (λ (x : ℕ). from.left ≡ left_of rows (hour_cover cs rows hour) x) (eqb-true r row same) from.left_is in absurd (omega (arith, none, left, from.some)))
     (λ other. other)
 
 none_unused : (cs : List CommitmentValue) (rows : List Charge) (hour : ℕ) (lines : List LineValue) (account : AreAccounted cs rows hour lines) (place : ℕ) → unused_of cs (hour_cover cs rows hour) place ≡ 0 → lines_from (is_unused_by place) account.sourced ≡ []

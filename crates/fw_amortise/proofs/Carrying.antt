@@ -1,5 +1,5 @@
 -- The used and unused lines of a commitment carry its amounts.
-use Rattle.std.proofs.Common.{◌≡◌, ℕ, zero, suc, ◌+◌, ◌-◌, ◌<◌, ◌≤◌, ℤ, pos, ◌+ℤ◌, Bool, true, false, ◌&&◌, cond, nat_lt, List, [], ◌∷◌, ◌++◌, length, map, filter, fold, sum, sum_by, drop, nat_le, add-zero, arith, refl, sym, ap, ◌∙◌}
+use Rattle.std.proofs.Common.{◌≡◌, ℕ, zero, suc, ◌+◌, ◌-◌, ◌<◌, ◌≤◌, ℤ, pos, ◌+ℤ◌, Bool, true, false, ◌&&◌, cond, nat_lt, List, [], ◌∷◌, ◌++◌, length, get_or, map, filter, fold, sum, sum_by, drop, nat_le, add-zero, arith, refl, sym, ap, ◌∙◌}
 use Rattle.std.specs.List.{AllZip, flat_map, enumerate_from, zip, range_with_len}
 use Rattle.std.specs.Str.{bytes_eq}
 use Rattle.std.proofs.lemmas.Bool.Decides.{nat_tests}
@@ -14,6 +14,7 @@ use Rattle.fw_cover.specs.Eligible.{is_eligible}
 use Rattle.fw_cover.specs.Applies.{is_in_term}
 use Rattle.fw_cover.specs.Order.{insert_by, in_order, commitment_before, commitments_in_order}
 use Rattle.fw_cover.specs.Hour.{hour_cover, takes_of, unused_of, left_of}
+use Rattle.fw_cover.proofs.Left.{sum_kept}
 use Rattle.fw_amortise.specs.LineValue.{LineValue}
 use Rattle.fw_amortise.specs.Lines.{purchase_line, purchase_lines_of, purchase_lines, given_line, given_lines, used_line, unused_line, shared_lines, rest_line, rest_of, rest_lines, amount_in, AreLinesAt, AreHourLines, AreLines, rows_in, running}
 use Rattle.fw_amortise.specs.Carrying.{is_share_of, cost_of_all, carried, IsOnly}
@@ -141,14 +142,6 @@ running_carry id cs rows taken hour (c ∷ some) (ls ∷ shared) a =
     (pos_add _ _))
 
 -- ---- sums over the commitments
-sum_kept : {X : Type 0} (p : X → Bool) (f : X → ℕ) → ((x : X) → p x ≡ false → f x ≡ 0) → (xs : List X) → sum_by f (filter p xs) ≡ sum_by f xs
-sum_kept p f none [] = refl
-sum_kept p f none (x ∷ xs) = by_test (p x) refl (sum_kept p f none xs)
-  where
-    by_test : (test : Bool) → p x ≡ test → sum_by f (filter p xs) ≡ sum_by f xs → sum_by f (cond test (x ∷ filter p xs) (filter p xs)) ≡ sum_by f (x ∷ xs)
-    by_test true e ih = sum_by-cons f x (filter p xs) ∙ (ap (λ n. f x + n) ih ∙ sym (sum_by-cons f x xs))
-    by_test false e ih = ih ∙ (omega (arith, none x e, sum_by-cons f x xs))
-
 sum_insert : {X : Type 0} (before : X → X → Bool) (f : X → ℕ) (x : X) (ys : List X) → sum_by f (insert_by before x ys) ≡ f x + sum_by f ys
 sum_insert before f x [] = sum_by-cons f x []
 sum_insert before f x (y ∷ ys) = by_test (before y x) (sum_insert before f x ys)
@@ -186,7 +179,7 @@ amounts_of_id : (id : List ℕ) (cs : List CommitmentValue) (hour : ℕ) → sum
 unfolding running commitments_in_order
 amounts_of_id id cs hour =
     let f : CommitmentValue → ℕ = λ c. cond (bytes_eq c.id id) (amount_in c hour) 0 in
-    sum_kept (λ c. is_in_term c.1 hour) (λ c. f c.1) (λ c e. idle id hour c.1 e) (in_order commitment_before (enumerate_from 0 cs))
+    sum_kept (λ c. is_in_term c.1 hour) (λ c. f c.1) (in_order commitment_before (enumerate_from 0 cs)) (λ k d l e. idle id hour (get_or (in_order commitment_before (enumerate_from 0 cs)) k d).1 e)
     ∙ (sum_in_order commitment_before (λ c. f c.1) (enumerate_from 0 cs) ∙ (sum_placed f 0 cs ∙ sum_chosen (λ c. bytes_eq c.id id) (λ c. amount_in c hour) cs))
 
 hour_carries : (id : List ℕ) (cs : List CommitmentValue) (rows : List Charge) (hour : ℕ) (lines : List LineValue) → AreHourLines cs rows hour lines → carried id lines ≡ pos (sum_by (λ c. amount_in c hour) (filter (λ c. bytes_eq c.id id) cs))

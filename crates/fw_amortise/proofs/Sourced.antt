@@ -88,13 +88,13 @@ bought_of hour c = map (λ p. (bought_by c.0, purchase_line hour c.1 p)) (filter
 pub bought : List CommitmentValue → ℕ → List Sourced
 bought cs hour = flat_map (bought_of hour) (enumerate_from 0 cs)
 
-pub second_of : {X : Type 0} (s : SourceValue) (f : X → LineValue) (xs : List X) → lines_of (map (λ x. (s, f x)) xs) ≡ map f xs
-second_of s f [] = refl
-second_of s f (x ∷ xs) = ap (λ l. f x ∷ l) (second_of s f xs)
+pub seconds_of : {X : Type 0} (s : X → SourceValue) (f : X → LineValue) (xs : List X) → lines_of (map (λ x. (s x, f x)) xs) ≡ map f xs
+seconds_of s f [] = refl
+seconds_of s f (x ∷ xs) = ap (λ l. f x ∷ l) (seconds_of s f xs)
 
 pub bought_lines : (cs : List CommitmentValue) (hour : ℕ) → lines_of (bought cs hour) ≡ purchase_lines cs hour
 unfolding bought bought_of purchase_lines purchase_lines_of
-bought_lines cs hour = mapped_lines (bought_of hour) (purchase_lines_of hour) (λ c. second_of (bought_by c.0) (purchase_line hour c.1) (filter (λ p. hour_of p.at == hour) c.1.purchases)) 0 cs
+bought_lines cs hour = mapped_lines (bought_of hour) (purchase_lines_of hour) (λ c. seconds_of (λ p. bought_by c.0) (purchase_line hour c.1) (filter (λ p. hour_of p.at == hour) c.1.purchases)) 0 cs
 
 pub bought_from : (cs : List CommitmentValue) (rows : List Charge) (hour : ℕ) → All (FromIts cs rows hour) (bought cs hour)
 unfolding bought bought_of
@@ -218,7 +218,7 @@ rests_from cs rows hour =
     (λ k d lt. two_ways (is_eligible (get_or rows k d) && nat_lt 0 (left k))
     (λ holds. let known = and_parts (is_eligible (get_or rows k d)) (nat_lt 0 (left k)) holds in
     rw holds (All-cons (FromIts cs rows hour) (row_left k, rest_line hour (get_or rows k d) (left k)) []
-    (record { charge = get_or rows k d; at_row = get_at rows k d lt; eligible = known.0; some = ltb-true 0 (left k) known.1; line_is = refl })
+    (record { charge = get_or rows k d; left = left k; at_row = get_at rows k d lt; eligible = known.0; left_is = refl; some = ltb-true 0 (left k) known.1; line_is = refl })
     (All-nil (FromIts cs rows hour))))
     (λ fails. rw fails (All-nil (FromIts cs rows hour)))))
 

@@ -56,10 +56,12 @@ pub record IsUnusedOf (cs : List CommitmentValue) (rows : List Charge) (hour pla
 -- what is left of the row at a place, which commitments may cover, where it is anything
 pub record IsRestOf (cs : List CommitmentValue) (rows : List Charge) (hour row : ℕ) (line : LineValue) : Type 0 where
   pub charge : Charge
+  pub left : ℕ
   pub at_row : slice_get rows row ≡ Some charge
   pub eligible : is_eligible charge ≡ true
-  pub some : 0 < left_of rows (hour_cover cs rows hour) row
-  pub line_is : line ≡ rest_line hour charge (left_of rows (hour_cover cs rows hour) row)
+  pub left_is : left ≡ left_of rows (hour_cover cs rows hour) row
+  pub some : 0 < left
+  pub line_is : line ≡ rest_line hour charge left
 
 -- a line comes from its source
 abbrev pub ComesFrom : List CommitmentValue → List Charge → ℕ → SourceValue → LineValue → Type 0

@@ -229,7 +229,7 @@ element_at P xs k x all there =
     subst P here (all k (k, x) (omega (arith, lt, length-enumerate_from 0 xs)))
 
 -- ---- what a commitment and a row that it applies to have left
-number_at : (f : Charge → ℕ) (rows : List Charge) (r : ℕ) (row : Charge) → slice_get rows r ≡ Some row → slice_index (map f rows) r ≡ f row
+pub number_at : (f : Charge → ℕ) (rows : List Charge) (r : ℕ) (row : Charge) → slice_get rows r ≡ Some row → slice_index (map f rows) r ≡ f row
 number_at f rows r row there = get_or-map f rows r row 0 (slice_get_within rows r row there) ∙ ap f (get_or_from_slice_get rows r row row there)
 
 met_done : (cs : List CommitmentValue) (rows : List Charge) (hour place r : ℕ) (c : CommitmentValue) (row : Charge) (rate : Option ℕ) → slice_get cs place ≡ Some c → slice_get rows r ≡ Some row → applied c hour row ≡ Some rate

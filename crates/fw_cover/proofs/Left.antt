@@ -6,10 +6,10 @@ use Rattle.std.proofs.Common.{◌≢◌, get_or-set_other}
 use Rattle.std.proofs.lemmas.Grind.{get_or-set_at}
 use Rattle.std.proofs.lemmas.Bool.{cases_eq, eq-eqb, ne_eqb}
 use Rattle.fw_cover.specs.Part.{part_of}
-use Rattle.std.proofs.Common.{subst, All, suc, sum_by, ◌≤◌}
+use Rattle.std.proofs.Common.{subst, All, Bool, false, sum_by, ◌≤◌}
 use Rattle.std.proofs.lemmas.Bool.{ltb-false}
 use Rattle.std.proofs.lemmas.List.Sums.{sum_by-cons}
-use Rattle.std.proofs.lemmas.List.Elements.{All-append, All-cons, All-nil, All-head}
+use Rattle.std.proofs.lemmas.List.Elements.{All-append, All-cons, All-nil, All-head, All-tail}
 use Rattle.fw_cover.proofs.Sorting.{two_ways}
 use Rattle.fw_cover.specs.Cover.{IsPairWithin, IsTakeWithin, taken_of_row, used_of, taken_by, taken_by_all, takes_something}
 use Rattle.fw_cover.specs.declared.part.Part.{Part}
@@ -83,21 +83,25 @@ covered_more bs qs ks ps ps' row_left capacity_left kept kept' p part b q u left
       kept_is = ek ∙ (rw (d.kept_is, more, filter-append takes_something done (t ∷ [])) (ap (λ x. filter takes_something done ++ filter takes_something (x ∷ [])) taken_is));
     }
 
--- ---- what is kept sums up as all does
-sum_kept : (f : Taken → ℕ) (ts : List Taken) → All (λ t. t.quantity ≡ 0 → f t ≡ 0) ts → sum_by f (filter takes_something ts) ≡ sum_by f ts
-sum_kept f [] all = refl
-sum_kept f (t ∷ ts) all = let Q : Taken → Type 0 = λ t. t.quantity ≡ 0 → f t ≡ 0 in
-    let rest : sum_by f (filter takes_something ts) ≡ sum_by f ts = sum_kept f ts (λ k d lt. all (suc k) d (omega (arith, lt))) in
-    two_ways (takes_something t)
-    (λ holds. rw (holds, sum_by-cons f t ts, sum_by-cons f t (filter takes_something ts)) (omega (arith, rest)))
-    (λ fails. let none : t.quantity ≡ 0 = omega (arith, ltb-false 0 t.quantity fails) in
-    let zero_here : f t ≡ 0 = All-head Q t ts all none in
-    rw (fails, sum_by-cons f t ts) (omega (arith, rest, zero_here)))
+-- ---- what is kept sums up as all does, where what is left out counts nothing
+pub sum_kept : {X : Type 0} (p : X → Bool) (f : X → ℕ) (xs : List X) → All (λ x. p x ≡ false → f x ≡ 0) xs → sum_by f (filter p xs) ≡ sum_by f xs
+sum_kept p f [] none = refl
+sum_kept {X} p f (x ∷ xs) none =
+    let Q : X → Type 0 = λ x. p x ≡ false → f x ≡ 0 in
+    let rest : sum_by f (filter p xs) ≡ sum_by f xs = sum_kept p f xs (All-tail Q x xs none) in
+    let whole = sum_by-cons f x xs in
+    let kept = sum_by-cons f x (filter p xs) in
+    two_ways (p x) (λ holds. rw holds (omega arith)) (λ fails. let zero_here : f x ≡ 0 = All-head Q x xs none fails in rw fails (omega arith))
+
+nothing_taken : (t : Taken) → takes_something t ≡ false → t.quantity ≡ 0
+nothing_taken t fails = omega (arith, ltb-false 0 t.quantity fails)
 
 pub taken_kept : (r : ℕ) (ts : List Taken) → taken_of_row r (filter takes_something ts) ≡ taken_of_row r ts
 unfolding taken_of_row
-taken_kept r ts = sum_kept (λ t. cond (t.row == r) t.quantity 0) ts (λ k d lt e. two_ways ((get_or ts k d).row == r) (λ holds. rw holds e) (λ fails. rw fails refl))
+taken_kept r ts = sum_kept takes_something (λ t. cond (t.row == r) t.quantity 0) ts
+    (λ k d lt none. let t : Taken = get_or ts k d in two_ways (t.row == r) (λ holds. rw holds (nothing_taken t none)) (λ fails. rw fails refl))
 
 pub used_kept : (c : ℕ) (ts : List Taken) → All IsNothing ts → used_of c (filter takes_something ts) ≡ used_of c ts
 unfolding used_of
-used_kept c ts all = sum_kept (λ t. cond (t.commitment == c) t.weight 0) ts (λ k d lt e. two_ways ((get_or ts k d).commitment == c) (λ holds. rw holds (all k d lt e)) (λ fails. rw fails refl))
+used_kept c ts all = sum_kept takes_something (λ t. cond (t.commitment == c) t.weight 0) ts
+    (λ k d lt none. let t : Taken = get_or ts k d in two_ways (t.commitment == c) (λ holds. rw holds (all k d lt (nothing_taken t none))) (λ fails. rw fails refl))
