@@ -58,7 +58,7 @@ impl<V: Volume> Store<V> {
 
     /// Judges entries in turn, each after those of the warehouse and the accepted ones before it, and adds the accepted ones
     /// as one group: all of them at once, or none. It is [`Store::prepare`] and then [`Store::write`]. The entries have to
-    /// be 1 to 64, of at most 8,388,608 bytes as a group. Where none is accepted nothing is written, and no device can fail.
+    /// be 1 to 64, of at most 8,388,608 bytes as a group. Where none is accepted nothing is written, so `Device` never comes.
     ///
     /// # Errors
     /// `Failed` where an earlier call ended with `Device`; then `TooLarge` where the volume has no room for the group, or

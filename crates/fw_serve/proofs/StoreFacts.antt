@@ -11,6 +11,7 @@ use Rattle.fw_recover.specs.Stands.{StandsFor, StandsForEither}
 use Rattle.fw_recover.specs.Store.{StoreState}
 use Rattle.fw_recover.specs.declared.fault.StoreFault.{StoreFault}
 use Rattle.fw_recover.specs.declared.fault.StoreFault.TheVariants as store_fault
+use Rattle.fw_segment.specs.States.{Spells}
 use Rattle.fw_snapshot.specs.History.{History}
 use Rattle.fw_snapshot.specs.Judging.{judged}
 use Rattle.fw_snapshot.specs.Verdicts.{kept_by}
@@ -77,11 +78,11 @@ pub record CommitFails {V : Type 0} (view : V → View) (old new : StoreState V)
   pub limit : (view new.volume).limit ≡ (view old.volume).limit
 
 -- a fault that isn't of the device changes nothing
-same_store : {V : Type 0} (old new : StoreState V) (result : Result Verdict StoreFault) → (IsErrOf result store_fault.Device → ⊥) → IsErrOf result store_fault.Device ⊎ (new ≡ old) → new ≡ old
+same_store : {T V : Type 0} (old new : StoreState V) (result : Result T StoreFault) → (IsErrOf result store_fault.Device → ⊥) → IsErrOf result store_fault.Device ⊎ (new ≡ old) → new ≡ old
 same_store old new result other (inl device) = absurd (other device)
 same_store old new result other (inr same) = same
 
-works_by : (result : Result Verdict StoreFault) (flag : Bool) → (IsErrOf result store_fault.Failed → ⊥) → (IsErrOf result store_fault.Failed ↔ (flag ≡ true)) → flag ≡ false
+works_by : {T : Type 0} (result : Result T StoreFault) (flag : Bool) → (IsErrOf result store_fault.Failed → ⊥) → (IsErrOf result store_fault.Failed ↔ (flag ≡ true)) → flag ≡ false
 works_by result flag other failed = by_flag _ flag (λ set. absurd (other (failed.1 set))) (λ unset. unset)
 
 -- a call that was done is of a store that hadn't failed
@@ -142,37 +143,29 @@ pub record CheckpointFails {V : Type 0} (view : V → View) (old new : StoreStat
   pub not_corrupt : (side : Side) (at : ℕ) → IsErrOf result (store_fault.Corrupt side at) → ⊥
   pub not_exists : IsErrOf result store_fault.Exists → ⊥
 
-same_checkpoint : {V : Type 0} (old new : StoreState V) (result : Result (Unit {0}) StoreFault) → (IsErrOf result store_fault.Device → ⊥)
-    → IsErrOf result store_fault.Device ⊎ (new ≡ old) → new ≡ old
-same_checkpoint old new result other (inl device) = absurd (other device)
-same_checkpoint old new result other (inr same) = same
-
-goes_on_by : (result : Result (Unit {0}) StoreFault) (flag : Bool) → (IsErrOf result store_fault.Failed → ⊥) → (IsErrOf result store_fault.Failed ↔ (flag ≡ true)) → flag ≡ false
-goes_on_by result flag other failed = by_flag _ flag (λ set. absurd (other (failed.1 set))) (λ unset. unset)
-
 pub Checkpoints-failed : {V : Type 0} (view : V → View) (old new : StoreState V) (fault : StoreFault) (text : List ℕ) → CheckpointFails view old new (Err fault)
     → text ≡ store_fault_line fault → Checkpoints (standing_of view old) text (standing_of view new)
 unfolding Checkpoints store_fault_line
 Checkpoints-failed view old new store_fault.Failed text why says =
-    inl (why.failed.0 refl, (says, ap (standing_of view) (same_checkpoint old new _ (λ is. absurd (cc)) why.unchanged)))
+    inl (why.failed.0 refl, (says, ap (standing_of view) (same_store old new _ (λ is. absurd (cc)) why.unchanged)))
 Checkpoints-failed view old new store_fault.Generations text why says =
     let last = why.generations.0 refl in
-    inr (inl (last.0, last.1, (says, ap (standing_of view) (same_checkpoint old new _ (λ is. absurd (cc)) why.unchanged))))
+    inr (inl (last.0, last.1, (says, ap (standing_of view) (same_store old new _ (λ is. absurd (cc)) why.unchanged))))
 Checkpoints-failed view old new store_fault.TooLarge text why says =
     inr (inr (
-      goes_on_by _ _ (λ is. absurd (cc)) why.failed,
-      inr (inl ((says, ap (standing_of view) (same_checkpoint old new _ (λ is. absurd (cc)) why.unchanged)), why.no_room refl)),
+      works_by _ _ (λ is. absurd (cc)) why.failed,
+      inr (inl ((says, ap (standing_of view) (same_store old new _ (λ is. absurd (cc)) why.unchanged)), why.no_room refl)),
     ))
 Checkpoints-failed view old new store_fault.Device text why says =
     let gone = why.device refl in
     inr (inr (
-      goes_on_by _ _ (λ is. absurd (cc)) why.failed,
+      works_by _ _ (λ is. absurd (cc)) why.failed,
       inr (inr (inl (says, lost_standing view old new gone why.limit))),
     ))
 Checkpoints-failed view old new store_fault.NoMemory text why says =
     inr (inr (
-      goes_on_by _ _ (λ is. absurd (cc)) why.failed,
-      inr (inr (inr (says, ap (standing_of view) (same_checkpoint old new _ (λ is. absurd (cc)) why.unchanged)))),
+      works_by _ _ (λ is. absurd (cc)) why.failed,
+      inr (inr (inr (says, ap (standing_of view) (same_store old new _ (λ is. absurd (cc)) why.unchanged)))),
     ))
 Checkpoints-failed view old new store_fault.NoHouse text why says = absurd (why.not_no_house refl)
 Checkpoints-failed view old new (store_fault.Corrupt side at) text why says = absurd (why.not_corrupt side at refl)
@@ -182,7 +175,16 @@ pub Checkpoints-done : {V : Type 0} (tells : Bool) (view : V → View) (old new 
     → new.history ≡ old.history → (view new.volume).limit ≡ (view old.volume).limit → text ≡ checkpointed_line → Checkpoints (standing_of view old) text (standing_of view new)
 unfolding Checkpoints
 Checkpoints-done tells view old new text works done same limit says =
-    inr (inr (works, inl (new.log.end, says, rw (same, done.generation, limit, done.failed, works) refl)))
+    inr (inr (
+      works,
+      inl (
+        done.body,
+        subst (λ (h : History). Spells done.body h) same done.spells,
+        omega (arith, done.fits, limit),
+        says,
+        rw (same, done.generation, done.no_group ∙ done.start, limit, done.failed, works) refl,
+      ),
+    ))
 
 pub Moves-unmade : {V : Type 0} (tells : Bool) (view : V → View) (old new : StoreState V) (fault : StoreFault) → CheckpointFails view old new (Err fault)
     → (IsTrue tells → old.failed ≡ false → LeavesOnly (view old.volume) (view new.volume) (StandsFor old.history))
@@ -190,5 +192,5 @@ pub Moves-unmade : {V : Type 0} (tells : Bool) (view : V → View) (old new : St
     → (view old.volume).failures ≤ (view new.volume).failures → Moves tells view old new
 Moves-unmade tells view old new fault why run same later =
     ⊎_elim
-    (λ device. Moves-checkpoint tells view old new (goes_on_by (Err fault) _ (λ is. absurd (cc)) why.failed) same run (λ _. why.rose device) later)
+    (λ device. Moves-checkpoint tells view old new (works_by (Err fault) _ (λ is. absurd (cc)) why.failed) same run (λ _. why.rose device) later)
     (λ stays. inl stays) why.unchanged

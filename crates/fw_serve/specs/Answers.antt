@@ -1,5 +1,5 @@
 -- How single commands and lists of commands are answered, and what they change.
-use Rattle.std.specs.Prelude.{◌≡◌, ◌⊎◌, ◌+◌, ◌-◌, ◌^◌, ◌<◌, ◌==◌, ℕ, zero, suc, true, false, List, [], ◌∷◌, ◌++◌, length, nat_lt, Result, Ok, Err, if◌then◌else◌}
+use Rattle.std.specs.Prelude.{◌≡◌, ◌⊎◌, ◌+◌, ◌-◌, ◌^◌, ◌<◌, ◌≤◌, ◌==◌, ℕ, zero, suc, true, false, List, [], ◌∷◌, ◌++◌, length, nat_lt, Result, Ok, Err, if◌then◌else◌}
 use Rattle.fw_entry.specs.Entry.{CommandValue, EntryValue, is_origin}
 use Rattle.fw_entry.specs.Spelling.{most_entry_bytes}
 use Rattle.fw_entry.specs.Spelling as spelling
@@ -11,6 +11,7 @@ use Rattle.fw_script.specs.Plain.{PlainCommand, entry, report, lines, state, che
 use Rattle.fw_script.specs.Words.{IsSequence}
 use Rattle.fw_script.specs.declared.commands.EntryKind.{EntryKind}
 use Rattle.fw_segment.specs.Groups.{group}
+use Rattle.fw_segment.specs.States.{Spells}
 use Rattle.fw_snapshot.specs.Judging.{judged}
 use Rattle.fw_snapshot.specs.Verdicts.{with_more}
 use Rattle.fw_snapshot.specs.declared.verdict.Verdict.{Verdict}
@@ -99,10 +100,12 @@ pub record Entered (before : Standing) (kind : EntryKind) (origin sequence conte
 abbrev pub last_generation : ℕ
 last_generation = 2 ^ 64 - 1
 
--- a side is made of the warehouse, whose log is empty; or the volume has no room for it, or the device fails, or memory runs out
+-- a side is made of the warehouse, whose log is empty and begins behind 25 bytes of header and the body; or the volume has no
+-- room for it, or the device fails, or memory runs out
 abbrev pub Renews : Standing → List ℕ → Standing → Type 0
 Renews before text after =
-    ((end : ℕ) × (text ≡ checkpointed_line) × (after ≡ record before { generation = before.generation + 1; end = end }))
+    ((body : List ℕ) × Spells body before.history × (26 + length body ≤ before.limit) × (text ≡ checkpointed_line)
+    × (after ≡ record before { generation = before.generation + 1; end = 25 + length body }))
     ⊎ ((Stays before (store_fault_line store_fault.TooLarge) text after × HasNoRoomFor before.limit before.history)
     ⊎ (((text ≡ store_fault_line store_fault.Device) × (after ≡ lost before))
     ⊎ RanOut before text after))

@@ -1,8 +1,10 @@
-use Rattle.std.proofs.Common.{◌≡◌, ◌∙◌, ap, inl, refl}
+use Rattle.std.proofs.Common.{◌≡◌, ◌∙◌, Err, ap, inl, refl}
 use Rattle.fw_serve.specs.Replies.{verdict_line}
 use Rattle.fw_serve.proofs.MoveFacts.{Moves-committed}
-use Rattle.fw_serve.proofs.StoreFacts.{works_ok, Submits-committed, Submits-failed, Moves-failed}
+use Rattle.fw_serve.proofs.StoreFacts.{CommitFails, works_ok, Submits-committed, Submits-failed, Moves-failed}
+use Rattle.fw_serve.proofs.answering.submit.Given as given
 use Rattle.fw_serve.proofs.answering.submit.Goals as goal
+use Rattle.fw_serve.proofs.answering.submit.Goals.{In-Err}
 
 pub returns-in-Ok-clause-submits : goal.returns-in-Ok-clause-submits
 returns-in-Ok-clause-submits g c =
@@ -19,28 +21,23 @@ returns-in-Ok-clause-moves g c =
     let done = rw c.in-Ok.is at clauses.done in
     Moves-committed g.V.Volume.tells g.V.Volume.view c.args.store.now c.commit.new.self _ works done.1 clauses.any_moment clauses.later
 
+fails : (g : given.Over) (c : goal.In-Err g) → CommitFails g.V.Volume.view c.args.store.now c.commit.new.self c.args.entry.now (Err c.in-Err.fault)
+fails g c = record {
+  which = c.in-Err.ensures.which;
+  failed = c.in-Err.ensures.failed;
+  unchanged = c.in-Err.ensures.unchanged;
+  gone = c.in-Err.ensures.lost;
+  accepted = c.in-Err.ensures.accepted;
+  no_room = c.in-Err.ensures.too_large;
+  rose = c.in-Err.ensures.device;
+  limit = c.in-Err.ensures.limit;
+}
+
 pub returns-in-Err-clause-submits : goal.returns-in-Err-clause-submits
 returns-in-Err-clause-submits g c =
-    Submits-failed g.V.Volume.view c.args.store.now c.commit.new.self c.args.entry.now c.in-Err.fault _ (record {
-      which = c.in-Err.ensures.which;
-      failed = c.in-Err.ensures.failed;
-      unchanged = c.in-Err.ensures.unchanged;
-      gone = c.in-Err.ensures.lost;
-      accepted = c.in-Err.ensures.accepted;
-      no_room = c.in-Err.ensures.too_large;
-      rose = c.in-Err.ensures.device;
-      limit = c.in-Err.ensures.limit;
-    }) c.store_reply.ensures
+    Submits-failed g.V.Volume.view c.args.store.now c.commit.new.self c.args.entry.now c.in-Err.fault _ (fails g (goal.at.returns-in-Err-clause-submits g c).In-Err) c.store_reply.ensures
 
 pub returns-in-Err-clause-moves : goal.returns-in-Err-clause-moves
 returns-in-Err-clause-moves g c =
-    Moves-failed g.V.Volume.tells g.V.Volume.view c.args.store.now c.commit.new.self c.args.entry.now c.in-Err.fault (record {
-      which = c.in-Err.ensures.which;
-      failed = c.in-Err.ensures.failed;
-      unchanged = c.in-Err.ensures.unchanged;
-      gone = c.in-Err.ensures.lost;
-      accepted = c.in-Err.ensures.accepted;
-      no_room = c.in-Err.ensures.too_large;
-      rose = c.in-Err.ensures.device;
-      limit = c.in-Err.ensures.limit;
-    }) c.in-Err.ensures.any_moment c.in-Err.ensures.later
+    Moves-failed g.V.Volume.tells g.V.Volume.view c.args.store.now c.commit.new.self c.args.entry.now c.in-Err.fault (fails g (goal.at.returns-in-Err-clause-moves g c).In-Err)
+    c.in-Err.ensures.any_moment c.in-Err.ensures.later
