@@ -1,5 +1,5 @@
 -- A command has one answer.
-use Rattle.std.proofs.Common.{◌≡◌, ◌≢◌, ◌⊎◌, ◌∙◌, ◌+◌, ◌∷◌, [], All, ℕ, zero, suc, List, length, Ok, Err, refl, sym, ap, subst, inl, inr}
+use Rattle.std.proofs.Common.{◌≡◌, ◌≢◌, ◌⊎◌, ◌∙◌, ◌+◌, ◌∷◌, [], ℕ, zero, suc, List, length, Ok, Err, refl, sym, ap, subst, inl, inr}
 use Rattle.std.specs.Prelude.{Result}
 use Rattle.std.specs.Str.Parse.{digits_value}
 use Rattle.std.proofs.lemmas.List.Elements.{All-head, All-tail}
@@ -40,8 +40,8 @@ use Rattle.fw_terms.specs.Policy.{PolicyValue}
 use Rattle.fw_serve.specs.Answers.{Answer, Entered, Judges, Makes, SequenceReads, Stays, Submits, Takes, entry_made, parts_entry}
 use Rattle.fw_serve.specs.Contents.{ContentReads}
 use Rattle.fw_serve.specs.Questions.{AreOutcome, IsOutcome, LinesAnswer, ReportAnswer, lines_answer, report_answer}
-use Rattle.fw_serve.specs.Replies.{accepted_line, already_line, bad_command_line, bad_end_line, checkpointed_line, commitment_fault_line, conflict_line, counted, entry_fault_line, gap_line, no_memory_line, policy_fault_line, query_fault_line, row_fault_line, state_line}
-use Rattle.fw_serve.specs.Runs.{AnswersEach, AreUnhindered, IsHindered, Sends}
+use Rattle.fw_serve.specs.Replies.{accepted_line, checkpointed_line, commitment_fault_line, counted, no_memory_line, policy_fault_line, query_fault_line, row_fault_line, state_line}
+use Rattle.fw_serve.specs.Runs.{AnswersEach, AreOne, AreUnhindered, IsHindered, NoneHindered, Sends}
 use Rattle.fw_serve.specs.Standings.{Standing}
 use Rattle.fw_serve.proofs.RunFacts.{checkpoint_leaves, hindered_leaves, same_history}
 
@@ -153,10 +153,6 @@ number_one word (suc m) zero a b = absurd (b (suc m) a)
 number_one word (suc m) (suc n) a b = sym a.decimal.value ∙ b.decimal.value
 
 -- ---- entries
--- two answers are one, and leave the same entries, unless one of them was hindered
-abbrev AreOne : List ℕ → List ℕ → Standing → Standing → Type 0
-AreOne s t c d = IsHindered s ⊎ (IsHindered t ⊎ ((s ≡ t) × (c.history ≡ d.history)))
-
 both_stay : (a b c d : Standing) (s t line : List ℕ) → a.history ≡ b.history → Stays a line s c → Stays b line t d → AreOne s t c d
 both_stay a b c d s t line same p q = inr (inr (p.0 ∙ sym q.0, same_history c a p.1 ∙ same ∙ sym (same_history d b q.1)))
 
@@ -171,9 +167,9 @@ judges_one a b c d e verdict.Accept s t same (inr (inl p)) q = inl (inr (store_f
 judges_one a b c d e verdict.Accept s t same (inr (inr p)) q = inl (inr (store_fault.Device, p.0))
 judges_one a b c d e verdict.Accept s t same (inl p) (inr (inl q)) = inr (inl (inr (store_fault.TooLarge, q.0.0)))
 judges_one a b c d e verdict.Accept s t same (inl p) (inr (inr q)) = inr (inl (inr (store_fault.Device, q.0)))
-judges_one a b c d e (verdict.Already last) s t same p q = both_stay a b c d s t (already_line last) same p q
-judges_one a b c d e (verdict.Gap expected) s t same p q = both_stay a b c d s t (gap_line expected) same p q
-judges_one a b c d e (verdict.Refused why) s t same p q = both_stay a b c d s t (conflict_line why) same p q
+judges_one a b c d e (verdict.Already last) s t same p q = both_stay a b c d s t _ same p q
+judges_one a b c d e (verdict.Gap expected) s t same p q = both_stay a b c d s t _ same p q
+judges_one a b c d e (verdict.Refused why) s t same p q = both_stay a b c d s t _ same p q
 
 submits_one : (a b c d : Standing) (e : EntryValue) (s t : List ℕ) → a.history ≡ b.history → Submits a e s c → Submits b e t d → AreOne s t c d
 unfolding Submits
@@ -186,13 +182,13 @@ submits_one a b c d e s t same (inr p) (inr q) =
 makes_one : (a b c d : Standing) (made : Result EntryValue EntryFault) (s t : List ℕ) → a.history ≡ b.history → Makes a made s c → Makes b made t d → AreOne s t c d
 unfolding Makes
 makes_one a b c d (Ok e) s t same p q = submits_one a b c d e s t same p q
-makes_one a b c d (Err why) s t same p q = both_stay a b c d s t (entry_fault_line why) same p q
+makes_one a b c d (Err why) s t same p q = both_stay a b c d s t _ same p q
 
 takes_one : (a b c d : Standing) (origin : List ℕ) (number : ℕ) (reading : Result CommandValue (List ℕ)) (s t : List ℕ) → a.history ≡ b.history
     → Takes a origin number reading s c → Takes b origin number reading t d → AreOne s t c d
 unfolding Takes
 takes_one a b c d origin number (Ok command) s t same p q = makes_one a b c d (entry_made origin number command) s t same p q
-takes_one a b c d origin number (Err line) s t same p q = both_stay a b c d s t line same p q
+takes_one a b c d origin number (Err line) s t same p q = both_stay a b c d s t _ same p q
 
 takes_none : (a c : Standing) (origin : List ℕ) (number : ℕ) (reading : Result CommandValue (List ℕ)) (s : List ℕ) → reading ≡ Err no_memory_line → Takes a origin number reading s c → IsHindered s
 unfolding Takes
@@ -280,7 +276,7 @@ checkpoints_one s t c d same (inr p) (inr q) = inr (inr (p ∙ sym q, same))
 
 -- ---- commands
 pub command_one : (a b c d : Standing) (command : PlainCommand) (s t : List ℕ) → a.history ≡ b.history → Answer a command s c → Answer b command t d
-    → IsHindered s ⊎ (IsHindered t ⊎ ((s ≡ t) × (c.history ≡ d.history)))
+    → AreOne s t c d
 unfolding Answer
 command_one a b c d (entry k origin sequence content) s t same p q = entered_one a b c d k origin sequence content s t same p q
 command_one a b c d (report key from to) s t same p q =
@@ -295,8 +291,8 @@ command_one a b c d checkpoint s t same p q =
     let x = checkpoint_leaves a s c p in
     let y = checkpoint_leaves b t d q in
     checkpoints_one s t c d (x.1 ∙ same ∙ sym y.1) x.0 y.0
-command_one a b c d bad_command s t same p q = both_stay a b c d s t bad_command_line same p q
-command_one a b c d bad_end s t same p q = both_stay a b c d s t bad_end_line same p q
+command_one a b c d bad_command s t same p q = both_stay a b c d s t _ same p q
+command_one a b c d bad_end s t same p q = both_stay a b c d s t _ same p q
 
 -- a command sends one entry at most
 content_value : (d e : EntryValue) (r s : Result CommandValue (List ℕ)) → r ≡ Ok d.command → s ≡ Ok e.command → (r ≡ s) ⊎ ((r ≡ Err no_memory_line) ⊎ (s ≡ Err no_memory_line)) → d.command ≡ e.command
@@ -321,10 +317,10 @@ entry_one currency command d e p q =
 -- the commands that weren't hindered are answered as if they were alone
 abbrev LeavesOut : List PlainCommand → Type 0
 LeavesOut commands = (a b c d : Standing) (rest : List PlainCommand) (ss rs ts : List (List ℕ)) → a.history ≡ b.history → AnswersEach a commands ss c → AreUnhindered commands ss rest rs
-    → AnswersEach b rest ts d → All (λ t. ¬ IsHindered t) ts → (rs ≡ ts) × (c.history ≡ d.history)
+    → AnswersEach b rest ts d → NoneHindered ts → (rs ≡ ts) × (c.history ≡ d.history)
 
 well_answered : (commands others : List PlainCommand) → LeavesOut commands → (c d next later : Standing) (answer text : List ℕ) (more replies tail rs ts : List (List ℕ)) → rs ≡ answer ∷ replies → ts ≡ text ∷ tail
-    → AnswersEach next commands more c → AreUnhindered commands more others replies → AnswersEach later others tail d → All (λ t. ¬ IsHindered t) (text ∷ tail) → (¬ IsHindered answer)
+    → AnswersEach next commands more c → AreUnhindered commands more others replies → AnswersEach later others tail d → NoneHindered (text ∷ tail) → (¬ IsHindered answer)
     → AreOne answer text next later → (rs ≡ ts) × (c.history ≡ d.history)
 well_answered commands others rest c d next later answer text more replies tail rs ts is_rs is_ts each on there fine well (inl out) = absurd (well out)
 well_answered commands others rest c d next later answer text more replies tail rs ts is_rs is_ts each on there fine well (inr (inl out)) =
@@ -334,7 +330,7 @@ well_answered commands others rest c d next later answer text more replies tail 
     (is_rs ∙ ap (λ (l : List ℕ). l ∷ replies) one ∙ ap (λ (l : List (List ℕ)). text ∷ l) after.0 ∙ sym is_ts, after.1)
 
 turn : (command : PlainCommand) (commands : List PlainCommand) → LeavesOut commands → (a b c d next : Standing) (answer : List ℕ) (more : List (List ℕ)) (rest : List PlainCommand) (rs ts : List (List ℕ))
-    → a.history ≡ b.history → Answer a command answer next → AnswersEach next commands more c → AnswersEach b rest ts d → All (λ t. ¬ IsHindered t) ts
+    → a.history ≡ b.history → Answer a command answer next → AnswersEach next commands more c → AnswersEach b rest ts d → NoneHindered ts
     → (IsHindered answer × AreUnhindered commands more rest rs)
     ⊎ ((¬ IsHindered answer) × ((others : List PlainCommand) × (replies : List (List ℕ)) × (rest ≡ command ∷ others) × (rs ≡ answer ∷ replies) × AreUnhindered commands more others replies))
     → (rs ≡ ts) × (c.history ≡ d.history)
@@ -343,7 +339,7 @@ turn command commands behind a b c d next answer more rest rs ts same answered e
     behind next b c d rest more rs ts (hindered_leaves a command answer next answered out ∙ same) each on there fine
 turn command commands behind a b c d next answer more rest rs ts same answered each there fine (inr (well, (others, replies, is_rest, is_rs, on))) =
     let first : AnswersEach b (command ∷ others) ts d = subst (λ (l : List PlainCommand). AnswersEach b l ts d) is_rest there in
-    let all : All (λ t. ¬ IsHindered t) (first.0 ∷ first.2) = subst (λ (l : List (List ℕ)). All (λ t. ¬ IsHindered t) l) first.5 fine in
+    let all : NoneHindered (first.0 ∷ first.2) = subst (λ (l : List (List ℕ)). NoneHindered l) first.5 fine in
     well_answered commands others behind c d next first.1 answer first.0 more replies first.2 rs ts is_rs first.5 each on first.4 all well
     (command_one a b next first.1 command answer first.0 same answered first.3)
 
@@ -368,15 +364,15 @@ left_out_of [] = none_left_out
 left_out_of (command ∷ commands) = more_left_out command commands (left_out_of commands)
 
 pub left_out : (a b c d : Standing) (commands rest : List PlainCommand) (ss rs ts : List (List ℕ)) → a.history ≡ b.history → AnswersEach a commands ss c → AreUnhindered commands ss rest rs
-    → AnswersEach b rest ts d → All (λ t. ¬ IsHindered t) ts → (rs ≡ ts) × (c.history ≡ d.history)
+    → AnswersEach b rest ts d → NoneHindered ts → (rs ≡ ts) × (c.history ≡ d.history)
 left_out a b c d commands rest ss rs ts same p u q fine = left_out_of commands a b c d rest ss rs ts same p u q fine
 
 -- where none was hindered, none is left out
-all_unhindered : (a c : Standing) (commands : List PlainCommand) (ss : List (List ℕ)) → AnswersEach a commands ss c → All (λ t. ¬ IsHindered t) ss → AreUnhindered commands ss commands ss
+all_unhindered : (a c : Standing) (commands : List PlainCommand) (ss : List (List ℕ)) → AnswersEach a commands ss c → NoneHindered ss → AreUnhindered commands ss commands ss
 unfolding AnswersEach AreUnhindered
 all_unhindered a c [] ss p fine = (refl, p.0)
 all_unhindered a c (command ∷ commands) ss p fine =
-    let all : All (λ t. ¬ IsHindered t) (p.0 ∷ p.2) = subst (λ (l : List (List ℕ)). All (λ t. ¬ IsHindered t) l) p.5 fine in (
+    let all : NoneHindered (p.0 ∷ p.2) = subst (λ (l : List (List ℕ)). NoneHindered l) p.5 fine in (
       p.0,
       p.2,
       p.5,
@@ -384,5 +380,5 @@ all_unhindered a c (command ∷ commands) ss p fine =
     )
 
 pub script_one : (a b c d : Standing) (commands : List PlainCommand) (ss ts : List (List ℕ)) → a.history ≡ b.history → AnswersEach a commands ss c → AnswersEach b commands ts d
-    → All (λ s. ¬ IsHindered s) ss → All (λ t. ¬ IsHindered t) ts → (ss ≡ ts) × (c.history ≡ d.history)
+    → NoneHindered ss → NoneHindered ts → (ss ≡ ts) × (c.history ≡ d.history)
 script_one a b c d commands ss ts same p q well fine = left_out a b c d commands commands ss ss ts same p (all_unhindered a c commands ss p well) q fine

@@ -1,5 +1,5 @@
 -- What commands were answered, one by one, and which entries the answers speak of.
-use Rattle.std.specs.Prelude.{◌≡◌, ◌⊎◌, ◌+◌, ⊤, ℕ, List, [], ◌∷◌, Some, Ok, Err, length, slice_get, if◌then◌else◌}
+use Rattle.std.specs.Prelude.{◌≡◌, ◌⊎◌, ◌+◌, ⊤, ℕ, All, List, [], ◌∷◌, Some, Ok, Err, length, slice_get, if◌then◌else◌}
 use Rattle.fw_entry.specs.Entry.{CommandValue, EntryValue}
 use Rattle.fw_entry.specs.declared.fault.EntryFault.{EntryFault}
 use Rattle.fw_recover.specs.declared.fault.StoreFault.{StoreFault}
@@ -47,6 +47,14 @@ SendsNone currency bad_end answer = ⊤
 -- the answer is `no memory`, or a line that says why the store didn't do what was asked for
 abbrev pub IsHindered : List ℕ → Type 0
 IsHindered answer = (answer ≡ no_memory_line) ⊎ ((why : StoreFault) × (answer ≡ store_fault_line why))
+
+-- none of the answers is so
+abbrev pub NoneHindered : List (List ℕ) → Type 0
+NoneHindered answers = All (λ answer. ¬ IsHindered answer) answers
+
+-- the two answers are one, and leave the same entries; or one of them is so
+abbrev pub AreOne : List ℕ → List ℕ → Standing → Standing → Type 0
+AreOne answer other after after_other = IsHindered answer ⊎ (IsHindered other ⊎ ((answer ≡ other) × (after.history ≡ after_other.history)))
 
 -- these entries, in their order, are those that the commands sent and that were judged, and `replies` are the answers to them. Each other command sent
 -- none, or was hindered

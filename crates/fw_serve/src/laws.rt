@@ -1,12 +1,12 @@
 //! What holds of every run of commands: laws over the relation that [`serve`](crate::serve) promises between a script and what was written, each the
 //! contract of a function that does nothing.
-ghost use Rattle.std.specs.Prelude.{◌≡◌, ◌⊎◌, ◌+◌, ◌<◌, ◌^◌, All, List, Some, length, slice_get, ℕ};
+ghost use Rattle.std.specs.Prelude.{◌≡◌, ◌+◌, ◌<◌, ◌^◌, List, Some, length, slice_get, ℕ};
 ghost use Rattle.std.specs.List.{concat};
 ghost use Rattle.fw_entry.specs.Entry.{EntryValue};
 ghost use Rattle.fw_script.specs.Plain.{PlainCommand};
 ghost use Rattle.fw_serve.specs.Answers.{Answer, Answers};
 ghost use Rattle.fw_serve.specs.Replies.{accepted_line, already_line, conflict_line, gap_line};
-ghost use Rattle.fw_serve.specs.Runs.{AnswersEach, AreTold, AreUnhindered, IsHindered, Sends, StandsAt};
+ghost use Rattle.fw_serve.specs.Runs.{AnswersEach, AreOne, AreTold, AreUnhindered, IsHindered, NoneHindered, Sends, StandsAt};
 ghost use Rattle.fw_serve.specs.Standings.{Standing};
 ghost use Rattle.fw_snapshot.specs.History.{entries_from};
 ghost use Rattle.fw_snapshot.specs.Judging.{IsLegal, judged};
@@ -24,24 +24,26 @@ pub fn answers_say_what_is_held()
         → AreTold before.history commands answers after.history }
 {}
 
-/// One command has one answer: after the same accepted entries a report, lines, the state, and each other command is answered by the same bytes in two runs, and
-/// leaves the same entries, unless in one of them memory ran out or the store didn't do it (`command`). So is a script (`script`). A
-/// command that is answered so leaves the entries as they were (`hindered`), and all others are answered as if it were not in the
-/// script (`left_out`). A command sends one entry at most (`entry`).
+/// One command has one answer: asked of two warehouses of the same currency that have accepted the same entries (`before.history ≡ other.history`), a report,
+/// lines, the state, an entry, and each other command is answered by the same bytes, and leaves the same entries, unless one of the two answers is that memory
+/// ran out or that the store didn't do it (`command`). So is a script in which no answer is so (`script`). A command that is answered so leaves
+/// the entries as they were (`hindered`), and the others are answered as they are by a run of these alone (`left_out`). A command sends
+/// one entry at most (`entry`).
 pub fn one_command_has_one_answer()
-    ensures command { (a b c d : Standing) (command : PlainCommand) (s t : List ℕ) → a.history ≡ b.history → Answer a command s c → Answer b command t d
-        → IsHindered s ⊎ (IsHindered t ⊎ ((s ≡ t) × (c.history ≡ d.history))) }
-    ensures script { (a b c d : Standing) (commands : List PlainCommand) (ss ts : List (List ℕ)) → a.history ≡ b.history → AnswersEach a commands ss c → AnswersEach b commands ts d
-        → All (λ s. ¬ IsHindered s) ss → All (λ t. ¬ IsHindered t) ts → (ss ≡ ts) × (c.history ≡ d.history) }
-    ensures hindered { (before after : Standing) (command : PlainCommand) (text : List ℕ) → Answer before command text after → IsHindered text → after.history ≡ before.history }
-    ensures left_out { (a b c d : Standing) (commands rest : List PlainCommand) (ss rs ts : List (List ℕ)) → a.history ≡ b.history → AnswersEach a commands ss c → AreUnhindered commands ss rest rs
-        → AnswersEach b rest ts d → All (λ t. ¬ IsHindered t) ts → (rs ≡ ts) × (c.history ≡ d.history) }
-    ensures entry { (currency : List ℕ) (command : PlainCommand) (d e : EntryValue) → Sends currency command d → Sends currency command e → d ≡ e }
+    ensures command { (before other after after_other : Standing) (command : PlainCommand) (answer second : List ℕ) → before.history ≡ other.history
+        → Answer before command answer after → Answer other command second after_other → AreOne answer second after after_other }
+    ensures script { (before other after after_other : Standing) (commands : List PlainCommand) (answers second : List (List ℕ)) → before.history ≡ other.history
+        → AnswersEach before commands answers after → AnswersEach other commands second after_other → NoneHindered answers → NoneHindered second
+        → (answers ≡ second) × (after.history ≡ after_other.history) }
+    ensures hindered { (before after : Standing) (command : PlainCommand) (answer : List ℕ) → Answer before command answer after → IsHindered answer → after.history ≡ before.history }
+    ensures left_out { (before other after after_other : Standing) (commands rest : List PlainCommand) (answers answered second : List (List ℕ)) → before.history ≡ other.history
+        → AnswersEach before commands answers after → AreUnhindered commands answers rest answered → AnswersEach other rest second after_other → NoneHindered second
+        → (answered ≡ second) × (after.history ≡ after_other.history) }
+    ensures entry { (currency : List ℕ) (command : PlainCommand) (first second : EntryValue) → Sends currency command first → Sends currency command second → first ≡ second }
 {}
 
 /// What is written is true. `accepted N` is answered to the command of an entry, and after the script this is the Nth of the warehouse, counted from 1
-/// (`accepted`). No script moves an entry (`stays`).
-/// `already N`: an entry of its origin and number was there, and the last of its origin has the number N. `gap N`: its number is above N, which
+/// (`accepted`). No script moves an entry (`stays`). `already N`: an entry of its origin and number was there, and the last of its origin has the number N. `gap N`: its number is above N, which
 /// is the next of its origin. `refused J..`: it is refused for this reason. After the last three the warehouse holds what it held. Numbers are
 /// below 2^64, as all numbers that the program counts with.
 pub fn what_is_written_is_true()
