@@ -8,8 +8,9 @@
 //!
 //! The cost of an hour grows as the rows and the pairs of a row and a commitment that lists its SKU do, times a logarithm: what the
 //! commitments list is sorted by SKU once, each row finds its own SKU there, and the pairs are sorted once. A [`Roster`] keeps what is
-//! sorted for the hours that follow. What was taken stands commitment by commitment ([`takes_stand_by_commitment`]), and a row that no
-//! commitment applies to changes nothing ([`untouched_rows_change_nothing`]).
+//! sorted for the hours that follow. What was taken stands commitment by commitment ([`takes_stand_by_commitment`]), a commitment takes
+//! what it can ([`commitments_take_what_they_can`]), and a row that no commitment applies to changes nothing
+//! ([`untouched_rows_change_nothing`]).
 #![tactic(auto)]
 
 mod covering;
