@@ -30,22 +30,6 @@ use Rattle.fw_serve.proofs.SilentFacts.{speaks, verdict_speaks}
 letter : ℕ → List ℕ → ℕ
 letter place text = get_or text place 0
 
--- a number that is written is one number
-accepted_number : (m n : ℕ) → m < 2 ^ 64 → n < 2 ^ 64 → accepted_line m ≡ accepted_line n → m ≡ n
-unfolding accepted_line
-accepted_number m n low below same =
-    decimal_injective m n low below (append_cancel_left (codes "accepted ") (decimal m) (decimal n) (append_cancel_right (codes "accepted " ++ decimal m) (codes "accepted " ++ decimal n) (line_feed ∷ []) same))
-
-already_number : (m n : ℕ) → m < 2 ^ 64 → n < 2 ^ 64 → already_line m ≡ already_line n → m ≡ n
-unfolding already_line
-already_number m n low below same =
-    decimal_injective m n low below (append_cancel_left (codes "already ") (decimal m) (decimal n) (append_cancel_right (codes "already " ++ decimal m) (codes "already " ++ decimal n) (line_feed ∷ []) same))
-
-gap_number : (m n : ℕ) → m < 2 ^ 64 → n < 2 ^ 64 → gap_line m ≡ gap_line n → m ≡ n
-unfolding gap_line
-gap_number m n low below same =
-    decimal_injective m n low below (append_cancel_left (codes "gap ") (decimal m) (decimal n) (append_cancel_right (codes "gap " ++ decimal m) (codes "gap " ++ decimal n) (line_feed ∷ []) same))
-
 -- each conflict has a digit of its own
 conflict_of : ℕ → Conflict
 conflict_of digit = if digit == 49 then conflict.Full else (if digit == 50 then conflict.DoubleId else (if digit == 51 then conflict.IdInUse else (if digit == 52 then conflict.OwnCommitment else conflict.TooManyCommitments)))
@@ -81,13 +65,6 @@ gap_begins n = refl
 apart : (place m n : ℕ) (s t : List ℕ) → letter place s ≡ m → letter place t ≡ n → m < n → s ≡ t → ⊥
 apart place m n s t is_m is_n less same = let one = ap (letter place) same in omega arith
 
-accepted_says : (n count : ℕ) (v : Verdict) → accepted_line n ≡ verdict_line count v → (v ≡ verdict.Accept) × (accepted_line n ≡ accepted_line count)
-unfolding verdict_line
-accepted_says n count verdict.Accept same = (refl, same)
-accepted_says n count (verdict.Already last) same = absurd (apart 1 99 108 _ _ (accepted_begins n).1 (already_begins last).1 (omega arith) same)
-accepted_says n count (verdict.Gap expected) same = absurd (apart 0 97 103 _ _ (accepted_begins n).0 (gap_begins expected) (omega arith) same)
-accepted_says n count (verdict.Refused why) same = absurd (apart 0 97 114 _ _ (accepted_begins n).0 (conflict_begins why) (omega arith) same)
-
 already_says : (n count : ℕ) (v : Verdict) → already_line n ≡ verdict_line count v → (last : ℕ) × (v ≡ verdict.Already last) × (already_line n ≡ already_line last)
 unfolding verdict_line
 already_says n count verdict.Accept same = absurd (apart 1 99 108 _ _ (accepted_begins count).1 (already_begins n).1 (omega arith) (sym same))
@@ -102,6 +79,13 @@ gap_says n count (verdict.Already last) same = absurd (apart 0 97 103 _ _ (alrea
 gap_says n count (verdict.Gap expected) same = (expected, refl, same)
 gap_says n count (verdict.Refused why) same = absurd (apart 0 103 114 _ _ (gap_begins n) (conflict_begins why) (omega arith) same)
 
+accepted_says : (n count : ℕ) (v : Verdict) → accepted_line n ≡ verdict_line count v → (v ≡ verdict.Accept) × (accepted_line n ≡ accepted_line count)
+unfolding verdict_line
+accepted_says n count verdict.Accept same = (refl, same)
+accepted_says n count (verdict.Already last) same = absurd (apart 1 99 108 _ _ (accepted_begins n).1 (already_begins last).1 (omega arith) same)
+accepted_says n count (verdict.Gap expected) same = absurd (apart 0 97 103 _ _ (accepted_begins n).0 (gap_begins expected) (omega arith) same)
+accepted_says n count (verdict.Refused why) same = absurd (apart 0 97 114 _ _ (accepted_begins n).0 (conflict_begins why) (omega arith) same)
+
 refused_says : (why : Conflict) (count : ℕ) (v : Verdict) → conflict_line why ≡ verdict_line count v → v ≡ verdict.Refused why
 unfolding verdict_line
 refused_says why count verdict.Accept same = absurd (apart 0 97 114 _ _ (accepted_begins count).0 (conflict_begins why) (omega arith) (sym same))
@@ -109,6 +93,22 @@ refused_says why count (verdict.Already last) same = absurd (apart 0 97 114 _ _ 
 refused_says why count (verdict.Gap expected) same = absurd (apart 0 103 114 _ _ (gap_begins expected) (conflict_begins why) (omega arith) (sym same))
 refused_says why count (verdict.Refused other) same =
     ap verdict.Refused (sym (conflict_back other) ∙ ap (λ t. conflict_of (letter 9 t)) (sym same) ∙ conflict_back why)
+
+-- a number that is written is one number
+accepted_number : (m n : ℕ) → m < 2 ^ 64 → n < 2 ^ 64 → accepted_line m ≡ accepted_line n → m ≡ n
+unfolding accepted_line
+accepted_number m n low below same =
+    decimal_injective m n low below (append_cancel_left (codes "accepted ") (decimal m) (decimal n) (append_cancel_right (codes "accepted " ++ decimal m) (codes "accepted " ++ decimal n) (line_feed ∷ []) same))
+
+already_number : (m n : ℕ) → m < 2 ^ 64 → n < 2 ^ 64 → already_line m ≡ already_line n → m ≡ n
+unfolding already_line
+already_number m n low below same =
+    decimal_injective m n low below (append_cancel_left (codes "already ") (decimal m) (decimal n) (append_cancel_right (codes "already " ++ decimal m) (codes "already " ++ decimal n) (line_feed ∷ []) same))
+
+gap_number : (m n : ℕ) → m < 2 ^ 64 → n < 2 ^ 64 → gap_line m ≡ gap_line n → m ≡ n
+unfolding gap_line
+gap_number m n low below same =
+    decimal_injective m n low below (append_cancel_left (codes "gap ") (decimal m) (decimal n) (append_cancel_right (codes "gap " ++ decimal m) (codes "gap " ++ decimal n) (line_feed ∷ []) same))
 
 -- ---- what was answered by the line of a verdict
 -- the command sent an entry that was judged, and this is the line of its verdict

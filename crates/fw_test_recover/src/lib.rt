@@ -8,6 +8,8 @@ mod checkpoints;
 #[cfg(test)]
 mod committing;
 #[cfg(test)]
+mod limits;
+#[cfg(test)]
 mod open;
 #[cfg(test)]
 mod serving;
