@@ -69,19 +69,6 @@ put_in rows row from hours k old new was within of put =
     written ∙ get_or-set_other old k j (get_or old k [] ++ row ∷ []) [] other ∙ before ∙ sym (rows_in-same (from + j) rows row apart) ∙ sym now)
     (cases_eq j k))
 
--- the lists as they are, where the row is of none of the hours
-put_nowhere : (rows : List Charge) (row : Charge) (from hours : ℕ) → ((k : ℕ) → k < hours → hour_of row.start ≢ from + k)
-    → map (λ h. rows_in h rows) (range_with_len from hours) ≡ map (λ h. rows_in h (rows ++ row ∷ [])) (range_with_len from hours)
-put_nowhere rows row from hours apart =
-    ext_get_or [] (map (λ h. rows_in h rows) (range_with_len from hours)) (map (λ h. rows_in h (rows ++ row ∷ [])) (range_with_len from hours))
-    (length-map-range_with_len (λ h. rows_in h rows) from hours ∙ sym (length-map-range_with_len (λ h. rows_in h (rows ++ row ∷ [])) from hours))
-    (λ j l.
-    let long : length (map (λ h. rows_in h rows) (range_with_len from hours)) ≡ hours = length-map-range_with_len (λ h. rows_in h rows) from hours in
-    let inside : j < hours = omega arith in
-    get_or-map-range_with_len (λ h. rows_in h rows) from hours j (from + j) [] inside refl
-    ∙ sym (rows_in-same (from + j) rows row (apart j inside))
-    ∙ sym (get_or-map-range_with_len (λ h. rows_in h (rows ++ row ∷ [])) from hours j (from + j) [] inside refl))
-
 -- ---- rows at places
 
 -- a row of a list
@@ -148,10 +135,12 @@ AreByHour-put segments rows row p from hours k old new at within of by put there
       (put ∙ ap (λ l. set (map (rows_of_list segments) old) k (get_or (map (rows_of_list segments) old) k [] ++ l)) one);
 }
 
--- one more row, which is of none of the hours
-pub AreByHour-past : (segments : List (List Charge)) (rows : List Charge) (row : Charge) (from hours : ℕ) (lists : List (Vec RowPlace Global)) → ((k : ℕ) → k < hours → hour_of row.start ≢ from + k)
-    → AreByHour segments rows from hours lists → AreByHour segments (rows ++ row ∷ []) from hours lists
-AreByHour-past segments rows row from hours lists apart by = record { there = by.there; each = by.each ∙ put_nowhere rows row from hours apart }
+-- the rows of an hour are those at the places of its list
+pub rows_of_hour : (segments : List (List Charge)) (rows : List Charge) (by_hour : List (Vec RowPlace Global)) (from i : ℕ) (v : Vec RowPlace Global) → AreByHour segments rows from (length by_hour) by_hour → i < length by_hour
+    → v ≡ get_or by_hour i v → rows_of_list segments v ≡ rows_in (from + i) rows
+rows_of_hour segments rows by_hour from i v by below is =
+    ap (rows_of_list segments) is ∙ sym (get_or-map (rows_of_list segments) by_hour i v (rows_of_list segments v) below) ∙ ap (λ l. get_or l i (rows_of_list segments v)) by.each
+    ∙ get_or-map-range_with_len (λ h. rows_in h rows) from (length by_hour) i (from + i) (rows_of_list segments v) below refl
 
 -- there are as many lists as hours
 pub by_hour_long : (segments : List (List Charge)) (rows : List Charge) (by_hour : List (Vec RowPlace Global)) (from hours : ℕ) → AreByHour segments rows from hours by_hour → length by_hour ≡ hours
@@ -159,12 +148,6 @@ by_hour_long segments rows by_hour from hours by =
     sym (length-map by_hour (rows_of_list segments)) ∙ ap length by.each ∙ length-map-range_with_len (λ h. rows_in h rows) from hours
 
 -- ---- rows in turn
-
--- one more row of a segment, after the rows before it
-pub rows-more : (rows segment : List Charge) (i : ℕ) (row : Charge) → slice_get segment i ≡ Some row → rows ++ take (i + 1) segment ≡ (rows ++ take i segment) ++ row ∷ []
-rows-more rows segment i row there =
-    ap (λ l. rows ++ l) (take_more segment i row (slice_get_within segment i row there) ∙ ap (λ r. take i segment ++ r ∷ []) (get_or_from_slice_get segment i row row there))
-    ∙ sym (append_assoc rows (take i segment) (row ∷ []))
 
 -- one more segment
 pub all_rows-more : (segments : List (List Charge)) (i : ℕ) (segment : List Charge) → slice_get segments i ≡ Some segment → all_rows (take (i + 1) segments) ≡ all_rows (take i segments) ++ segment

@@ -4,7 +4,10 @@ pub mod SumFacts
 pub mod EntryFacts
 pub mod ReportFacts
 pub mod HourFacts
-mod SegmentFacts
+pub mod MarkFacts
+pub mod CodeFacts
+pub mod CodeSumFacts
+pub mod CountedFacts
 mod FindFacts
 pub mod MovedFacts
 pub mod RangeFacts

@@ -5,8 +5,7 @@ use Rattle.std.specs.List.{concat, range_with_len}
 use Rattle.std.specs.Io.KnownBytes.{Keeps}
 use Rattle.csv.specs.Writing.{text_written}
 use Rattle.std.proofs.lemmas.Grind.{flat_map-append}
-use Rattle.std.proofs.lemmas.List.{get_or-map, map-append}
-use Rattle.std.proofs.lemmas.List.FromFn.{get_or-map-range_with_len}
+use Rattle.std.proofs.lemmas.List.{map-append}
 use Rattle.std.proofs.lemmas.List.Folds.{concat-append}
 use Rattle.csv.specs.declared.writer.Writer.{Writer}
 use Rattle.fw_charge.specs.Charge.{Charge, hour_of}
@@ -20,6 +19,7 @@ use Rattle.fw_query.specs.Listing.{IsListing, WritesHour, WritesHours, records}
 use Rattle.fw_query.specs.RangeLines.{joined}
 use Rattle.fw_query.specs.Texts.{line_fields, line_header, lines_text, record_line}
 use Rattle.fw_query.specs.Writers.{HasWritten}
+use Rattle.fw_query.proofs.HourFacts.{rows_of_hour}
 use Rattle.fw_query.proofs.RangeFacts.{hourly-more, hourly_zip}
 use Rattle.fw_query.proofs.WriterFacts.{given_back}
 use Rattle.fw_query.proofs.UntouchedFacts.{are_plain, plain_lines}
@@ -39,11 +39,7 @@ no_lines writer text cs rows hour none untouched has =
 -- the rows at the places of a list are of its hour
 pub of_hour : (segments : List (List Charge)) (rows : List Charge) (by_hour : List (Vec RowPlace Global)) (from i : ℕ) (v : Vec RowPlace Global) → AreByHour segments rows from (length by_hour) by_hour → i < length by_hour
     → v ≡ get_or by_hour i v → All (λ (r : Charge). hour_of r.start ≡ from + i) (rows_of_list segments v)
-of_hour segments rows by_hour from i v by below is =
-    let here : rows_of_list segments v ≡ rows_in (from + i) rows =
-    ap (rows_of_list segments) is ∙ sym (get_or-map (rows_of_list segments) by_hour i v (rows_of_list segments v) below) ∙ ap (λ l. get_or l i (rows_of_list segments v)) by.each
-    ∙ get_or-map-range_with_len (λ h. rows_in h rows) from (length by_hour) i (from + i) (rows_of_list segments v) below refl in
-    rw here (rows_are_of_hour (from + i) rows)
+of_hour segments rows by_hour from i v by below is = rw (rows_of_hour segments rows by_hour from i v by below is) (rows_are_of_hour (from + i) rows)
 
 -- the records of lines after those of others
 pub records-append : (xs ys : List LineValue) → records (xs ++ ys) ≡ records xs ++ records ys

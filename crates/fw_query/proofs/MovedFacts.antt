@@ -67,7 +67,7 @@ sum_in-IsPermutation amount xs ys g moved =
     ∙ (λ j. pos 0 +ℤ (pos (sum_by-IsPermutation (gain amount g) xs ys moved j) -ℤ pos (sum_by-IsPermutation (loss amount g) xs ys moved j)))
     ∙ sym (sum_from amount g (pos 0) xs)
 
-sums_of-IsPermutation : (xs ys : List Cost) (g : List ℕ) → IsPermutation xs ys → sums_of ys g ≡ sums_of xs g
+pub sums_of-IsPermutation : (xs ys : List Cost) (g : List ℕ) → IsPermutation xs ys → sums_of ys g ≡ sums_of xs g
 unfolding sums_of
 sums_of-IsPermutation xs ys g moved = λ j. sums_when
     (sym (list_any-IsPermutation (bytes_eq g) (groups_of xs) (groups_of ys) (IsPermutation-map (λ (c : Cost). c.group) xs ys moved)) j)

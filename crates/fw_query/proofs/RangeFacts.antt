@@ -1,5 +1,5 @@
 -- Lemmas on the lines of hours in turn.
-use Rattle.std.proofs.Common.{◌≡◌, ◌∙◌, ℕ, zero, suc, ◌+◌, ◌-◌, List, [], ◌∷◌, ◌++◌, length, map, ap, refl, arith, append-nil}
+use Rattle.std.proofs.Common.{◌≡◌, ◌∙◌, ℕ, zero, suc, ◌+◌, ◌-◌, List, [], ◌∷◌, ◌++◌, length, map, sym, ap, refl, arith, append-nil, append_assoc}
 use Rattle.std.proofs.lemmas.Grind.{flat_map-append}
 use Rattle.std.proofs.lemmas.List.{map-append}
 use Rattle.fw_charge.specs.Charge.{Charge}
@@ -7,6 +7,7 @@ use Rattle.fw_terms.specs.Commitment.{CommitmentValue}
 use Rattle.fw_amortise.specs.LineValue.{LineValue}
 use Rattle.std.specs.List.{range_with_len}
 use Rattle.fw_amortise.specs.Lines.{AreHourLines, AreLines, rows_in}
+use Rattle.fw_query.specs.Costs.{Cost}
 use Rattle.fw_query.specs.RangeLines.{AreHourly, AreRangeLines, joined}
 use Rattle.fw_query.specs.Reports.{costs_of, line_cost}
 use Rattle.fw_query.specs.Sums.{AreHourlyOf, CountsHour, CountsHours}
@@ -21,17 +22,17 @@ hourly-more cs from (x ∷ by_hour) (y ∷ hourly) rows lines are here =
     let same : from + suc (length by_hour) ≡ (from + 1) + length by_hour = omega arith in
     (are.0, hourly-more cs (from + 1) by_hour hourly rows lines are.1 (rw same at here))
 
--- one more hour is counted
-pub CountsHours-more : (old new : Groups) (key : List ℕ) (cs : List CommitmentValue) (by_hour : List (List Charge)) (rows : List Charge) (from hour : ℕ) (counted : CountsHours old key cs by_hour from)
-    → hour ≡ from + length by_hour → CountsHour new (costs_of key (joined counted.hourly)) key cs rows hour → CountsHours new key cs (by_hour ++ rows ∷ []) from
-CountsHours-more old new key cs by_hour rows from hour counted at more =
-    let all : joined (counted.hourly ++ more.lines ∷ []) ≡ joined counted.hourly ++ more.lines =
-    flat_map-append (λ lines. lines) counted.hourly (more.lines ∷ []) ∙ ap (λ l. joined counted.hourly ++ l) (append-nil more.lines) in
-    let brought : costs_of key (joined (counted.hourly ++ more.lines ∷ [])) ≡ costs_of key (joined counted.hourly) ++ costs_of key more.lines =
-    ap (costs_of key) all ∙ map-append (line_cost key) (joined counted.hourly) more.lines in
+-- one more hour is counted, after what came before the hours
+pub CountsHours-more : (new : Groups) (before : List Cost) (key : List ℕ) (cs : List CommitmentValue) (by_hour : List (List Charge)) (hourly : List (List LineValue)) (rows : List Charge) (from hour : ℕ) → AreHourlyOf cs from by_hour hourly
+    → hour ≡ from + length by_hour → CountsHour new (before ++ costs_of key (joined hourly)) key cs rows hour → CountsHours new before key cs (by_hour ++ rows ∷ []) from
+CountsHours-more new before key cs by_hour hourly rows from hour are at more =
+    let all : joined (hourly ++ more.lines ∷ []) ≡ joined hourly ++ more.lines =
+    flat_map-append (λ lines. lines) hourly (more.lines ∷ []) ∙ ap (λ l. joined hourly ++ l) (append-nil more.lines) in
+    let brought : before ++ costs_of key (joined (hourly ++ more.lines ∷ [])) ≡ (before ++ costs_of key (joined hourly)) ++ costs_of key more.lines =
+    ap (λ l. before ++ l) (ap (costs_of key) all ∙ map-append (line_cost key) (joined hourly) more.lines) ∙ sym (append_assoc before (costs_of key (joined hourly)) (costs_of key more.lines)) in
     record {
-      hourly = counted.hourly ++ more.lines ∷ [];
-      are_hourly = hourly-more cs from by_hour counted.hourly rows more.lines counted.are_hourly (rw at at more.are_lines);
+      hourly = hourly ++ more.lines ∷ [];
+      are_hourly = hourly-more cs from by_hour hourly rows more.lines are (rw at at more.are_lines);
       counts = rw brought more.counts;
     }
 
@@ -43,7 +44,7 @@ hourly_zip cs rows zero from (x ∷ hourly) are = absurd are
 hourly_zip cs rows (suc n) from [] are = absurd are
 hourly_zip cs rows (suc n) from (x ∷ hourly) are = (are.0, hourly_zip cs rows n (from + 1) hourly are.1)
 
-pub range_lines : (groups : Groups) (key : List ℕ) (cs : List CommitmentValue) (rows : List Charge) (by_hour : List (List Charge)) (from to n : ℕ) (counted : CountsHours groups key cs by_hour from)
+pub range_lines : (groups : Groups) (key : List ℕ) (cs : List CommitmentValue) (rows : List Charge) (by_hour : List (List Charge)) (from to n : ℕ) (counted : CountsHours groups [] key cs by_hour from)
     → by_hour ≡ map (λ h. rows_in h rows) (range_with_len from n) → n ≡ to - from → AreRangeLines cs rows from to (joined counted.hourly)
 range_lines groups key cs rows by_hour from to n counted each hours = record {
   hourly = counted.hourly;

@@ -1,5 +1,5 @@
 -- Rows by hour, and the hours in which commitments have lines. The private functions of the reports cite it.
-use Rattle.std.specs.Prelude.{◌≡◌, ◌≢◌, ◌<◌, ◌≤◌, ◌+◌, ℕ, ◌==◌, ◌||◌, Bool, List, [], length, map, slice_get, slice_index_or, Option, Some, None, All, Vec}
+use Rattle.std.specs.Prelude.{◌≡◌, ◌<◌, ◌≤◌, ◌+◌, ◌-◌, ◌^◌, ℕ, nat_le, ◌==◌, ◌||◌, ◌&&◌, Bool, true, false, List, [], length, map, filter, slice_get, slice_index_or, Option, Some, None, All, Vec}
 use Rattle.std.specs.Borrow.{Bor}
 use Rattle.std.specs.declared.alloc.Global.{Global}
 use Rattle.std.specs.List.{filter_map, flat_map, list_any, range_with_len}
@@ -11,7 +11,6 @@ use Rattle.fw_cover.specs.RosterView.{RosterValue}
 use Rattle.fw_amortise.specs.Lines.{rows_in}
 use Rattle.fw_query.specs.Costs.{Cost}
 use Rattle.fw_query.specs.declared.hours.RowPlace.{RowPlace}
-use Rattle.fw_query.specs.declared.segments.Grouped.{Grouped}
 
 -- the segments that references lend
 abbrev pub lent : List (Bor (List Charge)) → List (List Charge)
@@ -52,16 +51,6 @@ pub record HasHours (r : RosterValue) (from hours : ℕ) : Type 0 where
   pub since : r.from ≤ from
   pub until : from + hours ≤ r.to
 
--- beside each row of the segments stands its group
-abbrev pub groups_in : List ℕ → List (List Charge) → List (List (List ℕ))
-groups_in key segments = map (map (λ c. group_of key c.tags)) segments
-
-abbrev pub lent_groups : List (Vec (Bor (List ℕ)) Global) → List (List (List ℕ))
-lent_groups groups = map (λ g. map (λ t. t.now) g.items) groups
-
-pub record IsGrouped (g : Grouped) : Type 0 where
-  pub groups : lent_groups g.groups.items ≡ groups_in g.key.now (lent g.segments.now)
-
 -- whether a commitment has a line in an hour: it runs then, or was paid for then
 abbrev pub has_line : ℕ → CommitmentValue → Bool
 has_line hour c = is_in_term c hour || list_any (λ p. hour_of p.at == hour) c.purchases
@@ -74,7 +63,20 @@ is_touched cs hour = list_any (has_line hour) cs
 abbrev pub row_cost : List ℕ → Charge → Cost
 row_cost key row = record { group = group_of key row.tags; billed = row.billed; effective = row.effective }
 
--- the place of a second's hour among so many hours from this one on, or none where it is none of them
-abbrev pub IsPlaceOf : ℕ → ℕ → ℕ → Option ℕ → Type 0
-IsPlaceOf second from hours None = (k : ℕ) → k < hours → hour_of second ≢ from + k
-IsPlaceOf second from hours (Some k) = (k < hours) × (hour_of second ≡ from + k)
+-- whether an hour is marked, where the first mark is of the hour `from` and the others are of those after it
+unfoldable pub is_marked : List Bool → ℕ → ℕ → Bool
+is_marked marks from hour = nat_le from hour && slice_index_or marks (hour - from) false
+
+-- the rows of marked hours
+abbrev pub rows_marked : List Bool → ℕ → List Charge → List Charge
+rows_marked marks from rows = filter (λ row. is_marked marks from (hour_of row.start)) rows
+
+-- the place of a second's hour among the marks, or none where it isn't marked
+abbrev pub IsMarkedPlace : ℕ → ℕ → List Bool → Option ℕ → Type 0
+IsMarkedPlace second from marks None = is_marked marks from (hour_of second) ≡ false
+IsMarkedPlace second from marks (Some k) = (k < length marks) × (hour_of second ≡ from + k) × (is_marked marks from (hour_of second) ≡ true)
+
+-- of so many hours from this one on those are marked in which some commitment has a line, and these can be the hours of lines
+pub record AreTouched (cs : List CommitmentValue) (from hours : ℕ) (marks : List Bool) : Type 0 where
+  pub each : marks ≡ map (is_touched cs) (range_with_len from hours)
+  pub early : (k : ℕ) → slice_index_or marks k false ≡ true → from + k < 2 ^ 32

@@ -61,11 +61,11 @@ AreHourlyOf cs from [] (lines ∷ hourly) = ⊥
 AreHourlyOf cs from (rows ∷ by_hour) [] = ⊥
 AreHourlyOf cs from (rows ∷ by_hour) (lines ∷ hourly) = AreHourLines cs rows from lines × AreHourlyOf cs (from + 1) by_hour hourly
 
--- the sums of those lines
-pub record CountsHours (groups : Groups) (key : List ℕ) (cs : List CommitmentValue) (by_hour : List (List Charge)) (from : ℕ) : Type 0 where
+-- the sums of those lines, after what came before them
+pub record CountsHours (groups : Groups) (before : List Cost) (key : List ℕ) (cs : List CommitmentValue) (by_hour : List (List Charge)) (from : ℕ) : Type 0 where
   pub hourly : List (List LineValue)
   pub are_hourly : AreHourlyOf cs from by_hour hourly
-  pub counts : Counts groups (costs_of key (joined hourly))
+  pub counts : Counts groups (before ++ costs_of key (joined hourly))
 
 -- both sums may grow by one amount
 pub record HasRoom (sums : Sums) : Type 0 where
@@ -82,10 +82,9 @@ pub record AreAmounts (billed effective : ℤ) : Type 0 where
   pub billed_small : nat_abs billed ≤ most_nanos
   pub effective_small : nat_abs effective ≤ most_nanos
 
--- the line, whose costs are amounts, is counted in its group, and the other groups stay
+-- the line is counted in its group, and the other groups stay
 pub record AddsLine (old new : Groups) (cost : Cost) : Type 0 where
   pub sums : (g : List ℕ) → sums_at new g ≡ update bytes_eq (sums_at old) cost.group (Some (added cost (sums_at old cost.group))) g
-  pub amounts : AreAmounts cost.billed cost.effective
   pub lines : new.lines ≡ old.lines
 
 -- the same sums, in rising order of their groups

@@ -1,17 +1,22 @@
 //! Sums by group, as they grow line by line.
-ghost use Rattle.std.specs.Prelude.{◌≡◌, ◌+ℤ◌, ◌+◌, ◌<◌, ◌^◌, length, ◌++◌, ◌∷◌, List, [], map, All, IfOk, IfSome, OnOk};
-ghost use Rattle.fw_charge.specs.Charge.{Charge, hour_of};
+ghost use Rattle.std.specs.Prelude.{◌≡◌, ◌+ℤ◌, ◌+◌, ◌<◌, ◌^◌, length, ◌++◌, ◌∷◌, List, [], map, not, All, IfOk, IfSome, MatchBool, OnOk};
+ghost use Rattle.std.specs.Bool.{OnTrue};
+ghost use Rattle.std.specs.List.{range_with_len};
+ghost use Rattle.fw_amortise.specs.Lines.{rows_in};
+ghost use Rattle.fw_charge.specs.Charge.{hour_of};
 ghost use Rattle.fw_cover.specs.RosterView.{HasHour};
 ghost use Rattle.fw_query.specs.Costs.{Cost};
-ghost use Rattle.fw_query.specs.Hours.{AreByHour, HasHours, IsGrouped, IsThere, lent, row_cost, rows_at, rows_of_list};
+ghost use Rattle.fw_query.specs.Hours.{AreByHour, AreTouched, HasHours, IsThere, all_rows, lent, row_cost, rows_at, rows_marked};
 ghost use Rattle.fw_query.specs.Reports.{costs_of};
 ghost use Rattle.fw_query.specs.Sums.{AddsLine, AreAmounts, AreEntries, AreSums, Counts, CountsHour, CountsHours, HasRoom, IsInOrder, kept_entry, sums_at};
 
 use crate::entries::Entry;
-use crate::hours::{RowPlace, is_touched};
-use crate::segments::{Grouped, lend, rows_at};
+use crate::hours::{RowPlace, rows_by_hour};
+use crate::marks::{other_hours, touched_hours};
+use crate::segments::{lend, rows_at};
 use fw_amortise::{Line, lines_by_roster};
 use fw_charge::Row;
+use fw_columns::Columns;
 use fw_cover::Roster;
 use fw_money::Nanos;
 use indexmap::IndexMap;
@@ -29,6 +34,7 @@ impl Sums {
     fn of_line(billed: Nanos, effective: Nanos) -> Sums
         ensures value { result ≡ record { billed = billed; effective = effective } }
         ensures amounts { AreAmounts billed effective }
+        ensures room { HasRoom result }
     {
         Sums {
             billed: i128::from(billed.count()),
@@ -36,24 +42,31 @@ impl Sums {
         }
     }
 
-    // Adds a line.
-    fn add(&mut self, billed: Nanos, effective: Nanos)
-        requires { HasRoom self.old }
-        ensures billed { self.new.billed ≡ self.old.billed +ℤ billed }
-        ensures effective { self.new.effective ≡ self.old.effective +ℤ effective }
-        ensures amounts { AreAmounts billed effective }
+    // These sums.
+    pub(crate) fn of_sums(billed: i128, effective: i128) -> Sums
+        ensures { result ≡ record { billed = billed; effective = effective } }
     {
-        self.billed += i128::from(billed.count());
-        self.effective += i128::from(effective.count());
+        Sums { billed, effective }
+    }
+
+    // Adds other sums.
+    fn add(&mut self, other: &Sums)
+        requires room { HasRoom self.old }
+        requires small { HasRoom other.now }
+        ensures billed { self.new.billed ≡ self.old.billed +ℤ other.now.billed }
+        ensures effective { self.new.effective ≡ self.old.effective +ℤ other.now.effective }
+    {
+        self.billed += other.billed;
+        self.effective += other.effective;
     }
 }
 
 // The sums of each group that a line was in, under the group's text.
 #[derive(Drop)]
 pub(crate) struct Groups {
-    alloc: Global,
+    pub(crate) alloc: Global,
     by_group: IndexMap<String, Sums>,
-    lines: u64,
+    pub(crate) lines: u64,
 }
 
 impl Groups {
@@ -69,50 +82,86 @@ impl Groups {
         }
     }
 
-    // The sums of the lines of some hours from this one on, whose rows are at these places.
+    // The sums of the lines of so many hours from this one on. Where no commitment has a line in an hour, the lines bring what the rows do: such
+    // rows are summed by column, and only those of other hours are sorted by hour.
     pub(crate) fn of_hours(
         alloc: Global,
-        grouped: &Grouped<'_, '_>,
+        key: &str,
+        segments: &[&Columns],
         roster: &Roster<'_>,
-        by_hour: &[Vec<RowPlace>],
         from: u64,
+        hours: usize,
     ) -> Result<Groups, AllocError>
-        requires fits { from + length by_hour.now < 2 ^ 64 }
-        requires roster { HasHours roster.now from (length by_hour.now) }
-        requires grouped { IsGrouped grouped.now }
-        requires by_hour { (rows : List Charge) × AreByHour (lent grouped.now.segments.now) rows from (length by_hour.now) by_hour.now }
-        ensures { IfOk result (λ groups. CountsHours groups grouped.now.key.now roster.now.commitments (map (rows_of_list (lent grouped.now.segments.now)) by_hour.now) from) }
+        requires fits { from + hours < 2 ^ 64 }
+        requires roster { HasHours roster.now from hours }
+        ensures { IfOk result (λ groups. CountsHours groups [] key.now roster.now.commitments (map (λ h. rows_in h (all_rows (lent segments.now))) (range_with_len from hours)) from) }
     {
+        let touched = touched_hours(alloc, roster.commitments(), from, hours)?;
+        let untouched = other_hours(alloc, touched.as_slice())?;
+        let by_hour = rows_by_hour(alloc, segments, from, touched.as_slice())?;
         let mut groups = Groups::new(alloc);
-        let mut hour = from;
-        for places in by_hour {
-            groups.add_hour(grouped, roster, places.as_slice(), hour)?;
-            hour += 1;
-        }
+        groups.add_segments(key, segments, from, untouched.as_slice())?;
+        groups.add_hours(
+            key,
+            segments,
+            roster,
+            by_hour.as_slice(),
+            touched.as_slice(),
+            from,
+        )?;
         Ok(groups)
     }
 
-    // Counts the lines of an hour whose rows are at these places. Where no commitment has a line in it, the lines bring what the rows do, and
-    // no row is made.
+    // Counts the lines of the touched hours, whose rows are at these places, where the rows of the untouched hours are counted. The first place
+    // of either list is of this hour.
+    fn add_hours(
+        &mut self,
+        key: &str,
+        segments: &[&Columns],
+        roster: &Roster<'_>,
+        by_hour: &[Vec<RowPlace>],
+        touched: &[bool],
+        from: u64,
+    ) -> Result<(), AllocError>
+        requires fits { from + length by_hour.now < 2 ^ 64 }
+        requires roster { HasHours roster.now from (length by_hour.now) }
+        requires many { length touched.now ≡ length by_hour.now }
+        requires touched { AreTouched roster.now.commitments from (length by_hour.now) touched.now }
+        requires by_hour { AreByHour (lent segments.now) (rows_marked touched.now from (all_rows (lent segments.now))) from (length by_hour.now) by_hour.now }
+        requires counts { Counts self.old (map (row_cost key.now) (rows_marked (map not touched.now) from (all_rows (lent segments.now)))) }
+        ensures { OnOk result (CountsHours self.new [] key.now roster.now.commitments (map (λ h. rows_in h (all_rows (lent segments.now))) (range_with_len from (length by_hour.now))) from) }
+    {
+        let mut hour = from;
+        for places in by_hour {
+            let is_touched = touched[(hour - from) as usize];
+            self.add_hour(key, segments, roster, places.as_slice(), is_touched, hour)?;
+            hour += 1;
+        }
+        Ok(())
+    }
+
+    // Counts the lines of an hour whose rows are at these places, where the hour is touched.
     fn add_hour(
         &mut self,
-        grouped: &Grouped<'_, '_>,
+        key: &str,
+        segments: &[&Columns],
         roster: &Roster<'_>,
         places: &[RowPlace],
+        is_touched: bool,
         hour: u64,
     ) -> Result<(), AllocError>
         requires counts { (costs : List Cost) × Counts self.old costs }
         requires hour { HasHour roster.now hour }
-        requires grouped { IsGrouped grouped.now }
-        requires there { All (IsThere (lent grouped.now.segments.now)) places.now }
-        requires of_hour { All (λ r. hour_of r.start ≡ hour) (rows_at (lent grouped.now.segments.now) places.now) }
-        ensures { OnOk result ((costs : List Cost) → Counts self.old costs → CountsHour self.new costs grouped.now.key.now roster.now.commitments (rows_at (lent grouped.now.segments.now) places.now) hour) }
+        requires there { All (IsThere (lent segments.now)) places.now }
+        requires of_hour { All (λ r. hour_of r.start ≡ hour) (rows_at (lent segments.now) places.now) }
+        requires early { OnTrue is_touched (hour < 2 ^ 32) }
+        ensures { OnOk result (MatchBool is_touched ((costs : List Cost) → Counts self.old costs → CountsHour self.new costs key.now roster.now.commitments (rows_at (lent segments.now) places.now) hour) (self.new ≡ self.old)) }
     {
-        if !is_touched(roster.commitments(), hour) {
-            return self.add_rows(grouped, places);
+        if !is_touched {
+            return Ok(());
         }
-        let rows = rows_at(self.alloc, grouped.segments, places)?;
-        self.add_touched(grouped.key, roster, rows.as_slice(), hour as u32)
+        let rows = rows_at(self.alloc, segments, places)?;
+        self.add_touched(key, roster, rows.as_slice(), hour as u32)
     }
 
     // Counts the lines of an hour whose rows are these.
@@ -131,23 +180,6 @@ impl Groups {
         let rows = lend(self.alloc, rows)?;
         let lines = lines_by_roster(self.alloc, roster, rows.as_slice(), hour)?;
         self.add_lines(key, lines.as_slice())
-    }
-
-    // Counts the rows at places of an hour in which no commitment has a line.
-    fn add_rows(&mut self, grouped: &Grouped<'_, '_>, places: &[RowPlace]) -> Result<(), AllocError>
-        requires counts { (costs : List Cost) × Counts self.old costs }
-        requires grouped { IsGrouped grouped.now }
-        requires there { All (IsThere (lent grouped.now.segments.now)) places.now }
-        ensures { OnOk result ((costs : List Cost) → Counts self.old costs → Counts self.new (costs ++ map (row_cost grouped.now.key.now) (rows_at (lent grouped.now.segments.now) places.now))) }
-    {
-        for row in places {
-            self.add(
-                grouped.group(*row),
-                grouped.billed(*row),
-                grouped.effective(*row),
-            )?;
-        }
-        Ok(())
     }
 
     // Counts lines.
@@ -169,22 +201,22 @@ impl Groups {
         let Some(lines) = self.lines.checked_add(1) else {
             return Err(AllocError);
         };
-        self.put(group, billed, effective)?;
+        self.put(group, Sums::of_line(billed, effective))?;
         self.lines = lines;
         Ok(())
     }
 
-    // Adds a line to the sums of its group. Memory is taken for a new group alone.
-    fn put(&mut self, group: &str, billed: Nanos, effective: Nanos) -> Result<(), AllocError>
-        requires { IfSome (sums_at self.old group.now) HasRoom }
-        ensures { OnOk result (AddsLine self.old self.new (record { group = group.now; billed = billed; effective = effective })) }
+    // Adds sums to those of a group. Memory is taken for a new group alone.
+    pub(crate) fn put(&mut self, group: &str, added: Sums) -> Result<(), AllocError>
+        requires room { IfSome (sums_at self.old group.now) HasRoom }
+        requires small { HasRoom added }
+        ensures { OnOk result (AddsLine self.old self.new (record { group = group.now; billed = added.billed; effective = added.effective })) }
     {
         match self.by_group.get_mut(group) {
-            Some(sums) => sums.add(billed, effective),
+            Some(sums) => sums.add(&added),
             None => {
-                let sums = Sums::of_line(billed, effective);
                 self.by_group
-                    .insert(String::from_str(self.alloc, group)?, sums)?;
+                    .insert(String::from_str(self.alloc, group)?, added)?;
             }
         }
         Ok(())

@@ -15,9 +15,11 @@ mod hours;
 mod laws;
 mod line_text;
 mod listing;
+mod marks;
 mod query;
 mod reporting;
 mod segments;
+mod summing;
 mod text;
 mod total;
 

@@ -15,6 +15,7 @@ ghost use Rattle.fw_snapshot.specs.History.{commitments_of, rows_of};
 use crate::fault::QueryFault;
 use crate::hours::{RowPlace, is_touched, rows_by_hour};
 use crate::line_text::{write_lines, write_names};
+use crate::marks::every_hour;
 use crate::query::MOST_HOURS;
 use crate::segments::{lend, rows_at, segments_of};
 use csv::{Writer, WriterBuilder};
@@ -79,7 +80,8 @@ fn lines_csv_of(
     requires { from + hours < 2 ^ 64 }
     ensures { IfOk result (λ text. IsListing commitments.now (all_rows (lent segments.now)) from hours text.items) }
 {
-    let by_hour = rows_by_hour(alloc, segments, from, hours)?;
+    let every = every_hour(alloc, hours)?;
+    let by_hour = rows_by_hour(alloc, segments, from, every.as_slice())?;
     let roster = Roster::new(alloc, commitments, from, from + hours as u64)?;
     let mut writer = WriterBuilder::new().from_writer(Vec::new(alloc));
     write_names(&mut writer)?;

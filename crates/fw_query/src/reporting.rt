@@ -12,9 +12,8 @@ use crate::charges::under_policy;
 use crate::entries::{Entry, Report};
 use crate::fault::QueryFault;
 use crate::groups::Groups;
-use crate::hours::rows_by_hour;
 use crate::query::Query;
-use crate::segments::{Grouped, segments_of};
+use crate::segments::segments_of;
 use crate::total::first_past;
 use fw_columns::Columns;
 use fw_cover::Roster;
@@ -100,8 +99,6 @@ fn direct_entries(
 {
     let from = query.from_hour;
     let hours = (query.to_hour - from) as usize;
-    let by_hour = rows_by_hour(alloc, segments, from, hours)?;
-    let grouped = Grouped::new(alloc, query.key, segments)?;
     let roster = Roster::new(alloc, commitments, from, query.to_hour)?;
-    Groups::of_hours(alloc, &grouped, &roster, by_hour.as_slice(), from)?.into_entries()
+    Groups::of_hours(alloc, query.key, segments, &roster, from, hours)?.into_entries()
 }

@@ -1,45 +1,45 @@
-use Rattle.std.proofs.Common.{All, ◌≡◌, ◌∙◌, ◌+◌, ◌++◌, ◌∷◌, [], ap, length, map, sym, take, arith}
-use Rattle.std.proofs.lemmas.List.{length-map, length-take-le, map_more}
-use Rattle.fw_charge.specs.Charge.{Charge, hour_of}
-use Rattle.fw_query.specs.Hours.{AreThere, lent, rows_of_list}
-use Rattle.fw_query.specs.RangeLines.{joined}
-use Rattle.fw_query.specs.Reports.{costs_of}
-use Rattle.fw_query.specs.Sums.{CountsHour}
-use Rattle.fw_query.proofs.HourFacts.{has_hour}
-use Rattle.fw_query.proofs.ListingFacts.{of_hour}
-use Rattle.fw_query.proofs.RangeFacts.{CountsHours-more}
+use Rattle.std.proofs.Common.{◌≡◌, ◌∙◌, [], ap, length, map, not, sym}
+use Rattle.fw_query.specs.Hours.{all_rows, lent}
+use Rattle.fw_query.specs.Sums.{Counts}
+use Rattle.fw_query.proofs.CountedFacts.{marked_costs}
+use Rattle.fw_query.proofs.HourFacts.{by_hour_long}
+use Rattle.fw_query.proofs.MarkFacts.{touched_long}
 use Rattle.fw_query.proofs.groups.Groups.of_hours.Goals as goal
 
-pub add_hour-requires-clause-hour : goal.add_hour-requires-clause-hour
-add_hour-requires-clause-hour c = has_hour c.args.roster.now c.args.from _ c.loop-places.places-index c.loop-places.hour c.requires.roster c.loop-places-test.true c.loop-places.invariant.at
+pub add_segments-requires : goal.add_segments-requires
+add_segments-requires c = ([], c.new-groups.ensures.counts)
 
-pub add_hour-requires-clause-there : goal.add_hour-requires-clause-there
-add_hour-requires-clause-there c =
-    let there : AreThere (lent c.args.grouped.now.segments.now) c.places-item.result =
-    rw c.places-item.is (c.requires.by_hour.1.there c.loop-places.places-index c.places-item.result c.loop-places-test.true) in
-    rw c.as_slice.ensures.value there
+pub add_hours-requires-clause-fits : goal.add_hours-requires-clause-fits
+add_hours-requires-clause-fits c =
+    let many : length c.in_ok-by_hour.by_hour.items ≡ c.args.hours = by_hour_long _ _ _ _ _ c.in_ok-by_hour.ensures ∙ ap length c.as_slice-2.ensures.value ∙ touched_long _ _ _ _ c.in_ok-touched.ensures in
+    rw (c.as_slice-4.ensures.value, many) c.requires.fits
 
-pub add_hour-requires-clause-of_hour : goal.add_hour-requires-clause-of_hour
-add_hour-requires-clause-of_hour c =
-    let (rows, by) = c.requires.by_hour in
-    let kept = c.loop-places.invariant in
-    let of : All (λ (r : Charge). hour_of r.start ≡ c.args.from + c.loop-places.places-index) (rows_of_list (lent c.args.grouped.now.segments.now) c.places-item.result) =
-    of_hour (lent c.args.grouped.now.segments.now) rows c.args.by_hour.now c.args.from c.loop-places.places-index c.places-item.result by c.loop-places-test.true c.places-item.is in
-    rw (c.as_slice.ensures.value, kept.at) of
+pub add_hours-requires-clause-roster : goal.add_hours-requires-clause-roster
+add_hours-requires-clause-roster c =
+    let many : length c.in_ok-by_hour.by_hour.items ≡ c.args.hours = by_hour_long _ _ _ _ _ c.in_ok-by_hour.ensures ∙ ap length c.as_slice-2.ensures.value ∙ touched_long _ _ _ _ c.in_ok-touched.ensures in
+    rw (c.as_slice-4.ensures.value, many) c.requires.roster
 
-pub loop-places-preserved : goal.loop-places-preserved
-loop-places-preserved c =
-    let kept = c.loop-places.invariant in
-    let key = c.args.grouped.now.key.now in
-    let found = rows_of_list (lent c.args.grouped.now.segments.now) in
-    let long : length (map found (take c.loop-places.places-index c.args.by_hour.now)) ≡ c.loop-places.places-index =
-    length-map (take c.loop-places.places-index c.args.by_hour.now) found ∙ length-take-le c.loop-places.places-index c.args.by_hour.now (omega arith) in
-    let more : map found (take (c.loop-places.places-index + 1) c.args.by_hour.now) ≡ map found (take c.loop-places.places-index c.args.by_hour.now) ++ found c.places-item.result ∷ [] =
-    map_more found c.args.by_hour.now c.loop-places.places-index c.places-item.result c.loop-places-test.true
-    ∙ ap (λ v. map found (take c.loop-places.places-index c.args.by_hour.now) ++ found v ∷ []) (sym c.places-item.is) in
-    let added : CountsHour c.add_hour.new.self (costs_of key (joined kept.counted.hourly)) key c.args.roster.now.commitments (found c.places-item.result) c.loop-places.hour =
-    rw c.as_slice.ensures.value at (c.in_ok-add_hour.ensures _ kept.counted.counts) in
-    record {
-      counted = rw more (CountsHours-more _ c.add_hour.new.self key c.args.roster.now.commitments _ (found c.places-item.result) c.args.from c.loop-places.hour kept.counted (kept.at ∙ ap (λ n. c.args.from + n) (sym long)) added);
-      at = let h = kept.at in omega arith;
-    }
+pub add_hours-requires-clause-many : goal.add_hours-requires-clause-many
+add_hours-requires-clause-many c =
+    let many : length c.in_ok-by_hour.by_hour.items ≡ c.args.hours = by_hour_long _ _ _ _ _ c.in_ok-by_hour.ensures ∙ ap length c.as_slice-2.ensures.value ∙ touched_long _ _ _ _ c.in_ok-touched.ensures in
+    rw (c.as_slice-4.ensures.value, c.as_slice-5.ensures.value) (touched_long _ _ _ _ c.in_ok-touched.ensures ∙ sym many)
+
+pub add_hours-requires-clause-touched : goal.add_hours-requires-clause-touched
+add_hours-requires-clause-touched c =
+    let many : length c.in_ok-by_hour.by_hour.items ≡ c.args.hours = by_hour_long _ _ _ _ _ c.in_ok-by_hour.ensures ∙ ap length c.as_slice-2.ensures.value ∙ touched_long _ _ _ _ c.in_ok-touched.ensures in
+    rw (c.as_slice-4.ensures.value, c.as_slice-5.ensures.value, many) (rw c.commitments.ensures at c.in_ok-touched.ensures)
+
+pub add_hours-requires-clause-by_hour : goal.add_hours-requires-clause-by_hour
+add_hours-requires-clause-by_hour c =
+    let many : length c.in_ok-by_hour.by_hour.items ≡ length c.in_ok-touched.touched.items = by_hour_long _ _ _ _ _ c.in_ok-by_hour.ensures ∙ ap length c.as_slice-2.ensures.value in
+    rw (c.as_slice-4.ensures.value, c.as_slice-5.ensures.value, many) (rw c.as_slice-2.ensures.value at c.in_ok-by_hour.ensures)
+
+pub add_hours-requires-clause-counts : goal.add_hours-requires-clause-counts
+add_hours-requires-clause-counts c =
+    let others : c.as_slice-3.result.now ≡ map not c.in_ok-touched.touched.items = c.as_slice-3.ensures.value ∙ c.in_ok-untouched.ensures ∙ ap (map not) c.as_slice.ensures.value in
+    rw c.as_slice-5.ensures.value (rw others at (c.in_ok-add_segments.ensures [] c.new-groups.ensures.counts))
+
+pub returns : goal.returns
+returns c =
+    let many : length c.in_ok-by_hour.by_hour.items ≡ c.args.hours = by_hour_long _ _ _ _ _ c.in_ok-by_hour.ensures ∙ ap length c.as_slice-2.ensures.value ∙ touched_long _ _ _ _ c.in_ok-touched.ensures in
+    rw (c.as_slice-4.ensures.value, many) at c.in_ok-add_hours.ensures

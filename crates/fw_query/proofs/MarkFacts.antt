@@ -1,0 +1,167 @@
+-- Lemmas on marked hours.
+use Rattle.std.proofs.Common.{◌≡◌, ◌≢◌, ◌∙◌, ℕ, zero, suc, ◌+◌, ◌-◌, ◌<◌, ◌≤◌, ◌^◌, ◌==◌, ◌&&◌, not, nat_le, cond, Bool, true, false, List, [], ◌∷◌, ◌++◌, length, map, filter, drop, take, get_or, replicate, sym, ap, refl, subst, arith, ⊎_elim, inl, inr, true≢false, append-nil}
+use Rattle.std.proofs.lemmas.Bool.{cases_order}
+use Rattle.std.proofs.lemmas.Bool.Decides.{nat_tests}
+use Rattle.std.proofs.lemmas.List.{drop_more, get_or-map, get_or-replicate, get_or_default, get_or_past, length-map}
+use Rattle.std.proofs.lemmas.List.Elements.{filter-append, filter_agree, filter_more}
+use Rattle.std.proofs.lemmas.List.FromFn.{get_or-map-range_with_len, length-map-range_with_len, map-range_with_len_more}
+use Rattle.std.specs.List.{range_with_len}
+use Rattle.std.specs.List.Sorted.{IsPermutation}
+use Rattle.fw_charge.specs.Charge.{Charge, hour_of}
+use Rattle.fw_cover.proofs.Sorting.{two_ways}
+use Rattle.fw_cover.specs.Eligible.{is_of_hour}
+use Rattle.fw_terms.specs.Commitment.{CommitmentValue}
+use Rattle.fw_amortise.specs.Lines.{rows_in}
+use Rattle.fw_query.specs.Hours.{AreTouched, is_marked, is_touched, rows_marked}
+use Rattle.fw_query.proofs.AccountedFacts.{either_passes}
+
+-- ---- the mark of an hour
+
+-- at its place
+pub marked_at : (marks : List Bool) (from hour k : ℕ) → hour ≡ from + k → is_marked marks from hour ≡ get_or marks k false
+unfolding is_marked
+marked_at marks from hour k at =
+    let first : nat_le from hour ≡ true = grind (arith, nat_tests) in
+    let place : hour - from ≡ k = omega arith in
+    rw (first, place) refl
+
+-- before the first
+pub marked_before : (marks : List Bool) (from hour : ℕ) → hour < from → is_marked marks from hour ≡ false
+unfolding is_marked
+marked_before marks from hour early = let out : nat_le from hour ≡ false = grind (arith, nat_tests) in rw out refl
+
+-- past the last
+pub marked_past : (marks : List Bool) (from hour k : ℕ) → hour ≡ from + k → length marks ≤ k → is_marked marks from hour ≡ false
+marked_past marks from hour k at past = marked_at marks from hour k at ∙ get_or_past marks k false past
+
+-- the marks behind the first are of the later hours
+pub marked_later : (mark : Bool) (marks : List Bool) (from hour : ℕ) → hour ≢ from → is_marked (mark ∷ marks) from hour ≡ is_marked marks (from + 1) hour
+marked_later mark marks from hour apart =
+    ⊎_elim
+    (λ (same : hour ≡ from). absurd (apart same))
+    (λ rest.
+    ⊎_elim
+    (λ (early : hour < from). marked_before (mark ∷ marks) from hour early ∙ sym (marked_before marks (from + 1) hour (omega arith)))
+    (λ (late : from < hour).
+    let at : hour ≡ from + suc (hour - (from + 1)) = omega arith in
+    let after : hour ≡ (from + 1) + (hour - (from + 1)) = omega arith in
+    marked_at (mark ∷ marks) from hour (suc (hour - (from + 1))) at ∙ sym (marked_at marks (from + 1) hour (hour - (from + 1)) after))
+    rest)
+    (cases_order hour from)
+
+-- the first mark
+pub marked_first : (mark : Bool) (marks : List Bool) (from hour : ℕ) → hour ≡ from → is_marked (mark ∷ marks) from hour ≡ mark
+marked_first mark marks from hour same = marked_at (mark ∷ marks) from hour 0 (omega arith)
+
+-- ---- rows of marked hours
+
+no_mark : (from hour : ℕ) → is_marked [] from hour ≡ false
+unfolding is_marked
+no_mark from hour = by (nat_le from hour)
+  where
+    by : (b : Bool) → (b && false) ≡ false
+    by true = refl
+    by false = refl
+
+pub no_marks : (rows : List Charge) (from : ℕ) → rows_marked [] from rows ≡ []
+no_marks [] from = refl
+no_marks (row ∷ rows) from = rw (no_mark from (hour_of row.start)) (no_marks rows from)
+
+-- where the first hour isn't marked
+pub rows_later : (marks : List Bool) (from : ℕ) (rows : List Charge) → rows_marked (false ∷ marks) from rows ≡ rows_marked marks (from + 1) rows
+rows_later marks from rows = filter_agree (λ row. is_marked (false ∷ marks) from (hour_of row.start)) (λ row. is_marked marks (from + 1) (hour_of row.start)) (λ row. same (hour_of row.start)) rows
+  where
+    same : (hour : ℕ) → is_marked (false ∷ marks) from hour ≡ is_marked marks (from + 1) hour
+    same hour = two_ways (hour == from)
+        (λ here. let at : hour ≡ from = grind (arith, nat_tests) in marked_first false marks from hour at ∙ sym (marked_before marks (from + 1) hour (omega arith)))
+        (λ other. let apart : hour ≢ from = grind (arith, nat_tests) in marked_later false marks from hour apart)
+
+-- where it is
+pub rows_first : (marks : List Bool) (from : ℕ) (rows : List Charge) → IsPermutation (rows_in from rows ++ rows_marked marks (from + 1) rows) (rows_marked (true ∷ marks) from rows)
+unfolding rows_in is_of_hour
+rows_first marks from rows = either_passes (is_of_hour from) (λ row. is_marked marks (from + 1) (hour_of row.start)) (λ row. is_marked (true ∷ marks) from (hour_of row.start))
+    (λ row here. first (hour_of row.start) here)
+    (λ row other. later (hour_of row.start) other)
+    rows
+  where
+    first : (hour : ℕ) → (hour == from) ≡ true → (is_marked marks (from + 1) hour ≡ false) × (is_marked (true ∷ marks) from hour ≡ true)
+    first hour here = let at : hour ≡ from = grind (arith, nat_tests) in (marked_before marks (from + 1) hour (omega arith), marked_first true marks from hour at)
+
+    later : (hour : ℕ) → (hour == from) ≡ false → is_marked (true ∷ marks) from hour ≡ is_marked marks (from + 1) hour
+    later hour other = let apart : hour ≢ from = grind (arith, nat_tests) in marked_later true marks from hour apart
+
+-- the rows of a marked hour are all rows of the hour
+pub rows_in_marked : (hour : ℕ) (marks : List Bool) (from : ℕ) (rows : List Charge) → is_marked marks from hour ≡ true → rows_in hour (rows_marked marks from rows) ≡ rows_in hour rows
+unfolding rows_in is_of_hour
+rows_in_marked hour marks from [] marked = refl
+rows_in_marked hour marks from (row ∷ rows) marked =
+    let rest = rows_in_marked hour marks from rows marked in
+    two_ways (is_marked marks from (hour_of row.start))
+    (λ yes. rw yes (λ j. cond (hour_of row.start == hour) (row ∷ rest j) (rest j)))
+    (λ no. two_ways (hour_of row.start == hour)
+    (λ here. let at : hour_of row.start ≡ hour = grind (arith, nat_tests) in absurd (true≢false (sym marked ∙ ap (is_marked marks from) (sym at) ∙ no)))
+    (λ other. rw (no, other) rest))
+
+-- one more row
+pub marked_more : (marks : List Bool) (from : ℕ) (rows : List Charge) (i : ℕ) (row : Charge) → i < length rows → get_or rows i row ≡ row → is_marked marks from (hour_of row.start) ≡ true
+    → rows_marked marks from (take (i + 1) rows) ≡ rows_marked marks from (take i rows) ++ row ∷ []
+marked_more marks from rows i row below is marked =
+    filter_more (λ row. is_marked marks from (hour_of row.start)) rows i row below ∙ ap (λ l. rows_marked marks from (take i rows) ++ l) (rw (is, marked) refl)
+
+pub marked_same : (marks : List Bool) (from : ℕ) (rows : List Charge) (i : ℕ) (row : Charge) → i < length rows → get_or rows i row ≡ row → is_marked marks from (hour_of row.start) ≡ false
+    → rows_marked marks from (take (i + 1) rows) ≡ rows_marked marks from (take i rows)
+marked_same marks from rows i row below is not_marked =
+    filter_more (λ row. is_marked marks from (hour_of row.start)) rows i row below ∙ ap (λ l. rows_marked marks from (take i rows) ++ l) (rw (is, not_marked) refl) ∙ append-nil _
+
+-- where every hour of a range is marked, the rows of its hours are all there
+pub every_hour : (rows : List Charge) (from n : ℕ) (marks : List Bool) → ((k : ℕ) → k < n → get_or marks k false ≡ true)
+    → map (λ h. rows_in h (rows_marked marks from rows)) (range_with_len from n) ≡ map (λ h. rows_in h rows) (range_with_len from n)
+every_hour rows from n marks every =
+    let first : from + 0 ≡ from = omega arith in
+    subst (λ a. map (λ h. rows_in h (rows_marked marks from rows)) (range_with_len a n) ≡ map (λ h. rows_in h rows) (range_with_len a n)) first (by n 0 (λ k below. every k (omega (arith, below))))
+  where
+    by : (m j : ℕ) → ((k : ℕ) → k < j + m → get_or marks k false ≡ true)
+        → map (λ h. rows_in h (rows_marked marks from rows)) (range_with_len (from + j) m) ≡ map (λ h. rows_in h rows) (range_with_len (from + j) m)
+    by zero j each = refl
+    by (suc m) j each =
+        let here : rows_in (from + j) (rows_marked marks from rows) ≡ rows_in (from + j) rows = rows_in_marked (from + j) marks from rows (marked_at marks from (from + j) j refl ∙ each j (omega arith)) in
+        let next : from + (j + 1) ≡ (from + j) + 1 = omega arith in
+        let rest = by m (j + 1) (λ k below. each k (omega arith)) in
+        λ i. here i ∷ (rw next at rest) i
+
+-- ---- the hours in which commitments have lines
+
+pub touched_long : (cs : List CommitmentValue) (from hours : ℕ) (marks : List Bool) → AreTouched cs from hours marks → length marks ≡ hours
+touched_long cs from hours marks are = ap length are.each ∙ length-map-range_with_len (is_touched cs) from hours
+
+pub touched_at : (cs : List CommitmentValue) (from hours : ℕ) (marks : List Bool) (k : ℕ) → AreTouched cs from hours marks → k < hours → get_or marks k false ≡ is_touched cs (from + k)
+touched_at cs from hours marks k are below = ap (λ l. get_or l k false) are.each ∙ get_or-map-range_with_len (is_touched cs) from hours k (from + k) false below refl
+
+-- no hour yet
+pub touched_none : (cs : List CommitmentValue) (from : ℕ) → AreTouched cs from 0 []
+touched_none cs from = record { each = refl; early = λ k h. absurd (true≢false (sym h)) }
+
+-- one more hour
+pub touched_more : (cs : List CommitmentValue) (from n : ℕ) (marks : List Bool) (mark : Bool) → AreTouched cs from n marks → mark ≡ is_touched cs (from + n) → (mark ≡ true → from + n < 2 ^ 32)
+    → AreTouched cs from (n + 1) (marks ++ mark ∷ [])
+touched_more cs from n marks mark are is early = record {
+  each = (λ j. are.each j ++ is j ∷ []) ∙ sym (map-range_with_len_more (is_touched cs) from n (from + n) refl);
+  early = λ k h.
+      let long = touched_long cs from n marks are in
+      let within : from + (0 + k) < 2 ^ 32 = by marks 0 (omega (arith, long)) (λ j g. let e : from + j < 2 ^ 32 = are.early j g in omega (arith, e)) k h in
+      omega (arith, within);
+}
+  where
+    by : (ms : List Bool) (at : ℕ) → n ≡ at + length ms → ((k : ℕ) → get_or ms k false ≡ true → from + (at + k) < 2 ^ 32)
+        → (k : ℕ) → get_or (ms ++ mark ∷ []) k false ≡ true → from + (at + k) < 2 ^ 32
+    by [] at end before zero h = let last : from + n < 2 ^ 32 = early h in omega (arith, last, end)
+    by [] at end before (suc k) h = absurd (true≢false (sym h))
+    by (m ∷ ms) at end before zero h = before 0 h
+    by (m ∷ ms) at end before (suc k) h =
+        let rest : from + ((at + 1) + k) < 2 ^ 32 = by ms (at + 1) (omega arith) (λ j g. let b : from + (at + suc j) < 2 ^ 32 = before (suc j) g in omega (arith, b)) k h in
+        omega (arith, rest)
+
+-- the hours that aren't marked, from a place on
+pub others_at : (marks : List Bool) (i : ℕ) → i < length marks → drop i (map not marks) ≡ not (get_or marks i false) ∷ drop (i + 1) (map not marks)
+others_at marks i below =
+    drop_more (map not marks) i true (rw (length-map marks not) below) ∙ ap (λ b. b ∷ drop (i + 1) (map not marks)) (get_or-map not marks i false true below)

@@ -1,0 +1,66 @@
+use Rattle.std.proofs.Common.{◌≡◌, ◌∙◌, ◌+◌, ◌-◌, ◌<◌, ◌^◌, All, List, MatchBool, ap, arith, false, get_or, length, refl, sym, true}
+use Rattle.std.proofs.lemmas.Bool.{OnTrue_from}
+use Rattle.fw_charge.specs.Charge.{Charge, hour_of}
+use Rattle.fw_amortise.specs.Lines.{rows_in}
+use Rattle.fw_query.specs.Costs.{Cost}
+use Rattle.fw_query.specs.Hours.{AreThere, all_rows, lent, rows_at, rows_marked, rows_of_list}
+use Rattle.fw_query.specs.Sums.{Counts, CountsHour}
+use Rattle.fw_query.proofs.CountedFacts.{all_hours, next_hour, no_hour_yet}
+use Rattle.fw_query.proofs.HourFacts.{has_hour, rows_of_hour}
+use Rattle.fw_query.proofs.ListingFacts.{of_hour}
+use Rattle.fw_query.proofs.groups.Groups.add_hours.Goals as goal
+
+pub loop-places-init : goal.loop-places-init
+loop-places-init c = record {
+  counted = no_hour_yet c.args.self.now c.args.key.now c.args.roster.now.commitments (all_rows (lent c.args.segments.now)) _ c.args.from (c.args.from + 0) (omega arith) c.requires.counts;
+  at = omega arith;
+}
+
+pub add_hour-requires-clause-counts : goal.add_hour-requires-clause-counts
+add_hour-requires-clause-counts c = (_, c.loop-places.invariant.counted.counts)
+
+pub add_hour-requires-clause-hour : goal.add_hour-requires-clause-hour
+add_hour-requires-clause-hour c = has_hour c.args.roster.now c.args.from _ c.loop-places.places-index c.loop-places.hour c.requires.roster c.loop-places-test.true c.loop-places.invariant.at
+
+pub add_hour-requires-clause-there : goal.add_hour-requires-clause-there
+add_hour-requires-clause-there c =
+    let there : AreThere (lent c.args.segments.now) c.places-item.result =
+    rw c.places-item.is (c.requires.by_hour.there c.loop-places.places-index c.places-item.result c.loop-places-test.true) in
+    rw c.as_slice.ensures.value there
+
+pub add_hour-requires-clause-of_hour : goal.add_hour-requires-clause-of_hour
+add_hour-requires-clause-of_hour c =
+    let kept = c.loop-places.invariant in
+    let of : All (λ (r : Charge). hour_of r.start ≡ c.args.from + c.loop-places.places-index) (rows_of_list (lent c.args.segments.now) c.places-item.result) =
+    of_hour (lent c.args.segments.now) (rows_marked c.args.touched.now c.args.from (all_rows (lent c.args.segments.now))) c.args.by_hour.now c.args.from c.loop-places.places-index c.places-item.result c.requires.by_hour c.loop-places-test.true c.places-item.is in
+    rw (c.as_slice.ensures.value, kept.at) of
+
+pub add_hour-requires-clause-early : goal.add_hour-requires-clause-early
+add_hour-requires-clause-early c =
+    let kept = c.loop-places.invariant in
+    let place : c.loop-places.hour - c.args.from ≡ c.loop-places.places-index = (let at = kept.at in omega (arith, at)) in
+    OnTrue_from (get_or c.args.touched.now (c.loop-places.hour - c.args.from) false) (c.loop-places.hour < 2 ^ 32) (λ yes. rw kept.at (c.requires.touched.early c.loop-places.places-index (rw place at yes)))
+
+pub loop-places-preserved : goal.loop-places-preserved
+loop-places-preserved c =
+    let kept = c.loop-places.invariant in
+    let i = c.loop-places.places-index in
+    let segments = lent c.args.segments.now in
+    let rows = all_rows segments in
+    let key = c.args.key.now in
+    let cs = c.args.roster.now.commitments in
+    let place : c.loop-places.hour - c.args.from ≡ i = (let at = kept.at in omega (arith, at)) in
+    let here : rows_at segments c.as_slice.result.now ≡ rows_in (c.args.from + i) (rows_marked c.args.touched.now c.args.from rows) =
+    ap (rows_at segments) c.as_slice.ensures.value
+    ∙ rows_of_hour segments (rows_marked c.args.touched.now c.args.from rows) c.args.by_hour.now c.args.from i c.places-item.result c.requires.by_hour c.loop-places-test.true c.places-item.is in
+    let step : MatchBool (get_or c.args.touched.now i false) ((costs : List Cost) → Counts c.loop-places.self costs → CountsHour c.add_hour.new.self costs key cs (rows_in (c.args.from + i) (rows_marked c.args.touched.now c.args.from rows)) (c.args.from + i)) (c.add_hour.new.self ≡ c.loop-places.self) =
+    rw (here, place, kept.at) at c.in_ok-add_hour.ensures in
+    record {
+      counted = next_hour c.loop-places.self c.add_hour.new.self key cs rows c.args.touched.now c.args.from (length c.args.by_hour.now) i c.loop-places-test.true c.requires.many c.requires.touched kept.counted step;
+      at = let h = kept.at in omega arith;
+    }
+
+pub returns : goal.returns
+returns c =
+    let end : c.loop-places.places-index ≡ length c.args.by_hour.now = omega arith in
+    all_hours c.loop-places.self c.args.key.now c.args.roster.now.commitments (all_rows (lent c.args.segments.now)) c.args.touched.now c.args.from (length c.args.by_hour.now) c.loop-places.places-index end c.requires.many c.loop-places.invariant.counted
