@@ -26,6 +26,7 @@ use Rattle.fw_cover.proofs.Left.{sum_kept}
 use Rattle.fw_cover.proofs.Sorting.{two_ways}
 use Rattle.fw_cover.proofs.Whole.{row_whole, takes_meet}
 use Rattle.fw_cover.proofs.Within.{commitments_in_order_places, eligible_from, open_from}
+use Rattle.fw_cover.proofs.RosterFacts.{filter_apart}
 use Rattle.fw_amortise.specs.LineValue.{LineValue}
 use Rattle.fw_amortise.specs.Lines.{AreHourLines, AreLinesAt, given_line, given_lines, purchase_lines, purchase_lines_of, rest_line, rest_lines, rest_of, running, shared_lines, unused_line, used_line, weights_of}
 use Rattle.fw_amortise.specs.Sources.{AreAccounted, SourceValue, is_bought_by, is_of_row, is_rest_of, is_share_by, lines_from, lines_of_row, quantity_of_all}
@@ -361,12 +362,6 @@ unfolding given_own rest_of
 accounted_given cs rows hour r row never own used is none = is ∙ (rw (never, none) refl)
 
 -- ---- the shares of the commitment at a place
-filter_apart : (p : ℕ × CommitmentValue → Bool) (cs : List (ℕ × CommitmentValue)) → PlacesApart cs → PlacesApart (filter p cs)
-filter_apart p [] apart = tt
-filter_apart p (c ∷ cs) apart = two_ways (p c)
-    (λ holds. rw holds (All-filter p (λ d. (d.0 == c.0) ≡ false) cs apart.0, filter_apart p cs apart.1))
-    (λ fails. rw fails (filter_apart p cs apart.1))
-
 running_apart : (cs : List CommitmentValue) (hour : ℕ) → PlacesApart (running cs hour)
 unfolding running
 running_apart cs hour = filter_apart (λ c. is_in_term c.1 hour) (commitments_in_order cs) (order_places_apart cs)

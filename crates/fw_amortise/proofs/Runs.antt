@@ -3,12 +3,12 @@ use Rattle.std.proofs.Common.{◌≡◌, ℕ, zero, suc, ◌+◌, ◌<◌, ◌==
 use Rattle.std.specs.List.{flat_map, prefix_len}
 use Rattle.std.proofs.lemmas.Bool.{eqb-true}
 use Rattle.std.proofs.lemmas.List.{take_at, drop_at}
-use Rattle.std.proofs.lemmas.List.Elements.{All-head, filter_passes}
+use Rattle.std.proofs.lemmas.List.Elements.{All-head, filter_passes, All-tail}
 use Rattle.fw_terms.specs.Commitment.{CommitmentValue}
 use Rattle.fw_cover.specs.declared.taken.Taken.{Taken}
 use Rattle.fw_cover.specs.Hour.{takes_of}
 use Rattle.fw_cover.proofs.Grouping.{PlacesApart}
-use Rattle.fw_cover.proofs.Within.{all_flat_map, tail_all}
+use Rattle.fw_cover.proofs.Within.{all_flat_map}
 
 -- the takes of these commitments, one commitment after another
 abbrev pub takes_of_all : List Taken → List (ℕ × CommitmentValue) → List Taken
@@ -21,7 +21,7 @@ none_len {X} p (x ∷ xs) all = let P : X → Type 0 = λ x. p x ≡ false in rw
 run_len : {X : Type 0} (p : X → Bool) (xs ys : List X) → All (λ x. p x ≡ true) xs → prefix_len p ys ≡ 0 → prefix_len p (xs ++ ys) ≡ length xs
 run_len p [] ys all none = none
 run_len {X} p (x ∷ xs) ys all none = let P : X → Type 0 = λ x. p x ≡ true in
-    let rest : prefix_len p (xs ++ ys) ≡ length xs = run_len p xs ys (tail_all P x xs all) none in
+    let rest : prefix_len p (xs ++ ys) ≡ length xs = run_len p xs ys (All-tail P x xs all) none in
     rw (All-head P x xs all) (omega (arith, rest))
 
 -- what other commitments took isn't of this one

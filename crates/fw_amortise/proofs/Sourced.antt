@@ -1,5 +1,6 @@
 -- The lines of an hour beside their sources: purchases, rows as they were given, and what is left of rows.
 use Rattle.std.proofs.Common.{◌≡◌, ◌∙◌, ℕ, zero, suc, ◌+◌, ◌<◌, ◌==◌, ◌&&◌, Bool, true, false, cond, not, nat_lt, List, [], ◌∷◌, ◌++◌, get_or, map, filter, All, Some, refl, ap, arith, append-nil}
+use Rattle.std.proofs.lemmas.Option.{slice_get-get_or}
 use Rattle.std.specs.Prelude.{slice_get}
 use Rattle.std.specs.List.{Contains, enumerate_from, flat_map}
 use Rattle.std.proofs.lemmas.Bool.{and_parts, eqb-true, eq-eqb, ne_eqb, ltb-true}
@@ -12,7 +13,7 @@ use Rattle.fw_cover.specs.Eligible.{is_eligible}
 use Rattle.fw_cover.specs.Hour.{hour_cover, left_of}
 use Rattle.fw_cover.proofs.ByCommitment.{filter_every, filter_none}
 use Rattle.fw_cover.proofs.Sorting.{two_ways}
-use Rattle.fw_cover.proofs.Within.{all_enumerate, all_flat_map, get_at}
+use Rattle.fw_cover.proofs.Within.{all_enumerate, all_flat_map}
 use Rattle.fw_amortise.specs.LineValue.{LineValue}
 use Rattle.fw_amortise.specs.Lines.{given_line, given_lines, purchase_line, purchase_lines, purchase_lines_of, rest_line, rest_lines, rest_of}
 use Rattle.fw_amortise.specs.Sources.{ComesFrom, SourceValue, is_bought_by, is_of_row, lines_bought_by, lines_from, lines_of_row}
@@ -108,7 +109,7 @@ bought_from cs rows hour =
     (λ j e l. record {
       commitment = c;
       purchase = get_or kept j e;
-      at_place = get_at cs k d lt;
+      at_place = slice_get-get_or cs k d lt;
       bought = All-filter (λ p. hour_of p.at == hour) (Contains c.purchases) c.purchases (All-contains_itself c.purchases) j e l;
       in_hour = eqb-true (hour_of (get_or kept j e).at) hour (filter_passes (λ (p : PurchaseValue). hour_of p.at == hour) c.purchases j e l);
       line_is = refl;
@@ -168,7 +169,7 @@ given_from cs rows hour =
     (all_enumerate (λ row. All (FromIts cs rows hour) (given_of hour row)) rows
     (λ k d lt. two_ways (is_eligible (get_or rows k d))
     (λ holds. rw holds (All-nil (FromIts cs rows hour)))
-    (λ fails. rw fails (All-cons (FromIts cs rows hour) (row_given k, given_line hour (get_or rows k d)) [] (record { charge = get_or rows k d; at_row = get_at rows k d lt; not_eligible = fails; line_is = refl }) (All-nil (FromIts cs rows hour))))))
+    (λ fails. rw fails (All-cons (FromIts cs rows hour) (row_given k, given_line hour (get_or rows k d)) [] (record { charge = get_or rows k d; at_row = slice_get-get_or rows k d lt; not_eligible = fails; line_is = refl }) (All-nil (FromIts cs rows hour))))))
 
 given_own_is : (hour r : ℕ) (row : ℕ × Charge) → lines_of_row r (given_of hour row) ≡ cond (row.0 == r) (given_own hour row) []
 unfolding given_of given_own
@@ -218,7 +219,7 @@ rests_from cs rows hour =
     (λ k d lt. two_ways (is_eligible (get_or rows k d) && nat_lt 0 (left k))
     (λ holds. let known = and_parts (is_eligible (get_or rows k d)) (nat_lt 0 (left k)) holds in
     rw holds (All-cons (FromIts cs rows hour) (row_left k, rest_line hour (get_or rows k d) (left k)) []
-    (record { charge = get_or rows k d; left = left k; at_row = get_at rows k d lt; eligible = known.0; left_is = refl; some = ltb-true 0 (left k) known.1; line_is = refl })
+    (record { charge = get_or rows k d; left = left k; at_row = slice_get-get_or rows k d lt; eligible = known.0; left_is = refl; some = ltb-true 0 (left k) known.1; line_is = refl })
     (All-nil (FromIts cs rows hour))))
     (λ fails. rw fails (All-nil (FromIts cs rows hour)))))
 

@@ -3,7 +3,7 @@ use Rattle.std.proofs.Common.{◌≡◌, ℕ, ◌+◌, ◌<◌, ◌==◌, Bool, 
 use Rattle.std.specs.List.{enumerate_from, filter_map, flat_map, cons_option}
 use Rattle.std.proofs.lemmas.Bool.{lt-ltb, le-ltb, ltb-true, ltb-false, eq-eqb, ne_eqb}
 use Rattle.std.proofs.lemmas.List.{map-append}
-use Rattle.std.proofs.lemmas.List.Elements.{All-nil, All-cons, All-head, filter-append, filter_passes}
+use Rattle.std.proofs.lemmas.List.Elements.{All-nil, All-cons, All-head, filter-append, filter_passes, All-tail}
 use Rattle.fw_charge.specs.Charge.{Charge}
 use Rattle.fw_terms.specs.Commitment.{CommitmentValue}
 use Rattle.fw_cover.specs.Order.{insert_by, in_order, pair_for, has_lower_rate, pairs_of_commitment}
@@ -11,7 +11,7 @@ use Rattle.fw_cover.specs.Ranked.{compare_ranked, ranked_before}
 use Rattle.fw_cover.specs.declared.pair.Pair.{Pair}
 use Rattle.fw_cover.specs.declared.pair.RankedPair.{RankedPair}
 use Rattle.fw_cover.proofs.Sorting.{two_ways, map_in_order}
-use Rattle.fw_cover.proofs.Within.{tail_all, all_in_order}
+use Rattle.fw_cover.proofs.Within.{all_in_order}
 
 -- ---- a list of which some stand before all others
 -- an element goes before what it is before, and past what is before it
@@ -23,7 +23,7 @@ insert_before before x (y ∷ front) back all = two_ways (before y x) (λ holds.
 insert_past : {X : Type 0} (before : X → X → Bool) (x : X) (front back : List X) → All (λ y. before y x ≡ true) front → insert_by before x (front ++ back) ≡ front ++ insert_by before x back
 insert_past before x [] back all = refl
 insert_past {X} before x (y ∷ front) back all = let P : X → Type 0 = λ y. before y x ≡ true in
-    rw (All-head P y front all) (ap (λ l. y ∷ l) (insert_past before x front back (tail_all P y front all)))
+    rw (All-head P y front all) (ap (λ l. y ∷ l) (insert_past before x front back (All-tail P y front all)))
 
 not_true : (b : Bool) → not b ≡ true → b ≡ false
 not_true true h = sym h
@@ -44,11 +44,11 @@ parted {X} before p goes stays (x ∷ xs) =
 
 pub filter_none : {X : Type 0} (p : X → Bool) (xs : List X) → All (λ x. p x ≡ false) xs → filter p xs ≡ []
 filter_none p [] all = refl
-filter_none {X} p (x ∷ xs) all = let P : X → Type 0 = λ x. p x ≡ false in rw (All-head P x xs all) (filter_none p xs (tail_all P x xs all))
+filter_none {X} p (x ∷ xs) all = let P : X → Type 0 = λ x. p x ≡ false in rw (All-head P x xs all) (filter_none p xs (All-tail P x xs all))
 
 pub filter_every : {X : Type 0} (p : X → Bool) (xs : List X) → All (λ x. p x ≡ true) xs → filter p xs ≡ xs
 filter_every p [] all = refl
-filter_every {X} p (x ∷ xs) all = let P : X → Type 0 = λ x. p x ≡ true in rw (All-head P x xs all) (ap (λ l. x ∷ l) (filter_every p xs (tail_all P x xs all)))
+filter_every {X} p (x ∷ xs) all = let P : X → Type 0 = λ x. p x ≡ true in rw (All-head P x xs all) (ap (λ l. x ∷ l) (filter_every p xs (All-tail P x xs all)))
 
 -- ---- pairs beside the places of their commitments
 abbrev pub ranked : ℕ → Pair → RankedPair

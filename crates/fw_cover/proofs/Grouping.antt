@@ -3,7 +3,7 @@ use Rattle.std.proofs.Common.{◌≡◌, ℕ, ◌+◌, ◌<◌, ◌==◌, Bool, 
 use Rattle.std.specs.List.{enumerate_from, filter_map, flat_map}
 use Rattle.std.proofs.lemmas.Bool.{eqb-false, ne_eqb, eq-eqb}
 use Rattle.std.proofs.lemmas.List.FromFn.{length-enumerate_from, get_or-enumerate_from}
-use Rattle.std.proofs.lemmas.List.Elements.{All-filter, All-nil, All-head, filter-append}
+use Rattle.std.proofs.lemmas.List.Elements.{All-filter, All-nil, All-head, filter-append, All-tail}
 use Rattle.fw_charge.specs.Charge.{Charge}
 use Rattle.fw_terms.specs.Commitment.{CommitmentValue}
 use Rattle.fw_cover.specs.Applies.{applied}
@@ -13,7 +13,7 @@ use Rattle.fw_cover.specs.Hour.{hour_cover, takes_of, billed_of, quantities_of, 
 use Rattle.fw_cover.specs.declared.pair.Pair.{Pair}
 use Rattle.fw_cover.specs.declared.taken.Taken.{Taken}
 use Rattle.fw_cover.proofs.Sorting.{two_ways, insert_all}
-use Rattle.fw_cover.proofs.Within.{tail_all, all_in_order, all_filter_map, all_flat_map}
+use Rattle.fw_cover.proofs.Within.{all_in_order, all_filter_map, all_flat_map}
 use Rattle.fw_cover.proofs.ByCommitment.{filter_none, filter_every}
 use Rattle.fw_cover.proofs.Taking.{taken_after, all_taken, taken_more, taken_from}
 
@@ -28,7 +28,7 @@ flipped a b h = ne_eqb b a (λ e. eqb-false a b h (sym e))
 insert_apart : (before : ℕ × CommitmentValue → ℕ × CommitmentValue → Bool) (x : ℕ × CommitmentValue) (ys : List (ℕ × CommitmentValue)) → All (λ y. (y.0 == x.0) ≡ false) ys → PlacesApart ys → PlacesApart (insert_by before x ys)
 insert_apart before x [] all h = (All-nil (λ y. (y.0 == x.0) ≡ false), tt)
 insert_apart before x (z ∷ zs) all h = let P : ℕ × CommitmentValue → Type 0 = λ y. (y.0 == x.0) ≡ false in two_ways (before z x)
-    (λ holds. rw holds (insert_all before (λ w. (w.0 == z.0) ≡ false) x zs (flipped z.0 x.0 (All-head P z zs all)) h.0, insert_apart before x zs (tail_all P z zs all) h.1))
+    (λ holds. rw holds (insert_all before (λ w. (w.0 == z.0) ≡ false) x zs (flipped z.0 x.0 (All-head P z zs all)) h.0, insert_apart before x zs (All-tail P z zs all) h.1))
     (λ fails. rw fails (all, h))
 
 order_apart : (before : ℕ × CommitmentValue → ℕ × CommitmentValue → Bool) (xs : List (ℕ × CommitmentValue)) → PlacesApart xs → PlacesApart (in_order before xs)
@@ -72,7 +72,7 @@ of_later k front back other = let at : Taken → Bool = λ t. t.commitment == k 
 
 flat_agree : {X Y : Type 0} (f g : X → List Y) (xs : List X) → All (λ x. f x ≡ g x) xs → flat_map f xs ≡ flat_map g xs
 flat_agree f g [] all = refl
-flat_agree {X} f g (x ∷ xs) all = let P : X → Type 0 = λ x. f x ≡ g x in rw (All-head P x xs all, flat_agree f g xs (tail_all P x xs all)) refl
+flat_agree {X} f g (x ∷ xs) all = let P : X → Type 0 = λ x. f x ≡ g x in rw (All-head P x xs all, flat_agree f g xs (All-tail P x xs all)) refl
 
 -- what was taken by the pairs of commitments in turn, of which each has a place of its own
 grouped : (bs qs ks : List ℕ) (pairs : ℕ × CommitmentValue → List Pair) → ((c : ℕ × CommitmentValue) → All (λ p. p.commitment ≡ c.0) (pairs c)) → (done : List Taken) (cs : List (ℕ × CommitmentValue)) → PlacesApart cs

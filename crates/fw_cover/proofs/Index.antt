@@ -15,7 +15,7 @@ use Rattle.std.specs.Str.{bytes_eq}
 use Rattle.std.proofs.lemmas.Cmp.{nat_list_cmp_total, nat_list_eq_equiv}
 use Rattle.std.proofs.lemmas.Map.Text.{is_eq-slice_cmp}
 use Rattle.std.proofs.lemmas.List.Sorted.{ranks_by, searchable_from_sorted, IsPartitionedBy-ltb}
-use Rattle.std.proofs.lemmas.List.Elements.{filter-append, filter_map-append, filter_agree, All-head}
+use Rattle.std.proofs.lemmas.List.Elements.{filter-append, filter_map-append, filter_agree, All-head, All-tail}
 use Rattle.fw_charge.specs.Charge.{Charge}
 use Rattle.fw_terms.specs.Commitment.{CommitmentValue, TermsValue, RateValue, IsCommitment, IsTerms}
 use Rattle.fw_terms.specs.Commitment.TermsValue.{usage, spend}
@@ -28,7 +28,6 @@ use Rattle.fw_cover.proofs.Sorting.{two_ways, in_order_stable}
 use Rattle.fw_cover.specs.declared.pair.RankedPair.{RankedPair}
 use Rattle.fw_cover.proofs.ByCommitment.{ranked, ranked_for, ranked_at, filter_none}
 use Rattle.fw_cover.proofs.Listing.{no_pairs}
-use Rattle.fw_cover.proofs.Within.{tail_all}
 
 -- ---- a SKU stands once among rising ones
 later_other : (x y sku : List ℕ) → bytes_eq x sku ≡ true → slice_cmp nat_cmp x y ≡ Less → bytes_eq y sku ≡ false
@@ -91,7 +90,7 @@ offers_pairs hour row sku [] open_row has all = refl
 offers_pairs hour row sku (c ∷ cs) open_row has all = let P : ℕ × (ℕ × CommitmentValue) → Type 0 = λ c. IsCommitment c.1.1 in
     ap (filter_map (pair_by hour row)) (filter-append (λ o. bytes_eq o.sku sku) (offers_by c) (flat_map offers_by cs))
     ∙ (filter_map-append (pair_by hour row) (offered sku (offers_by c)) (offered sku (flat_map offers_by cs))
-    ∙ (rw (offers_pair hour row sku c open_row has (All-head P c cs all), offers_pairs hour row sku cs open_row has (tail_all P c cs all)) (cons_append (ranked_for hour row c) (filter_map (ranked_for hour row) cs))))
+    ∙ (rw (offers_pair hour row sku c open_row has (All-head P c cs all), offers_pairs hour row sku cs open_row has (All-tail P c cs all)) (cons_append (ranked_for hour row c) (filter_map (ranked_for hour row) cs))))
 
 -- ---- the index has the offers of a SKU in the order of their commitments
 tie_of : (o : Ordering) → (not (is_lt (ordering_reverse o)) && not (is_lt o)) ≡ is_eq o

@@ -1,10 +1,9 @@
 -- What pairs take, as a list that grows at its front: what the first takes, and then what the others take after it.
 use Rattle.std.proofs.Common.{◌≡◌, ℕ, List, [], ◌∷◌, ◌++◌, fold, All, append-nil, append_assoc, sym, ap, ◌∙◌}
-use Rattle.std.proofs.lemmas.List.Elements.{All-nil, All-cons, All-head}
+use Rattle.std.proofs.lemmas.List.Elements.{All-nil, All-cons, All-head, All-tail}
 use Rattle.fw_cover.specs.Cover.{taken_by, taken_by_all}
 use Rattle.fw_cover.specs.declared.pair.Pair.{Pair}
 use Rattle.fw_cover.specs.declared.taken.Taken.{Taken}
-use Rattle.fw_cover.proofs.Within.{tail_all}
 
 -- what pairs take after what was taken before
 abbrev pub taken_after : List ℕ → List ℕ → List ℕ → List Taken → List Pair → List Taken
@@ -33,4 +32,4 @@ pub taken_from : (P : ℕ → Type 0) (bs qs ks : List ℕ) (done : List Taken) 
 unfolding taken_by
 taken_from P bs qs ks done [] all = All-nil (λ t. P t.commitment)
 taken_from P bs qs ks done (p ∷ ps) all = let t : Taken = taken_by bs qs ks done p in
-    All-cons (λ t. P t.commitment) t (taken_after bs qs ks (done ++ t ∷ []) ps) (All-head (λ p. P p.commitment) p ps all) (taken_from P bs qs ks (done ++ t ∷ []) ps (tail_all (λ p. P p.commitment) p ps all))
+    All-cons (λ t. P t.commitment) t (taken_after bs qs ks (done ++ t ∷ []) ps) (All-head (λ p. P p.commitment) p ps all) (taken_from P bs qs ks (done ++ t ∷ []) ps (All-tail (λ p. P p.commitment) p ps all))

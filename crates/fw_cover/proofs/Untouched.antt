@@ -7,7 +7,7 @@ use Rattle.std.proofs.Math.Seq.{get_or-append_right}
 use Rattle.std.proofs.lemmas.Bool.{lt-ltb, le-ltb, ltb-true, ltb-false, eqb-true, eqb-false, eq-eqb, ne_eqb}
 use Rattle.std.proofs.lemmas.List.{map-append, length-map, get_or_at}
 use Rattle.std.proofs.lemmas.List.Sums.{sum_by-cons}
-use Rattle.std.proofs.lemmas.List.Elements.{All-head, All-map}
+use Rattle.std.proofs.lemmas.List.Elements.{All-head, All-map, All-tail}
 use Rattle.fw_charge.specs.Charge.{Charge}
 use Rattle.fw_terms.specs.Commitment.{CommitmentValue}
 use Rattle.fw_cover.specs.Applies.{applied}
@@ -20,7 +20,7 @@ use Rattle.fw_cover.specs.declared.taken.Taken.{Taken}
 use Rattle.fw_cover.proofs.Index.{filter_map_of}
 use Rattle.fw_cover.proofs.Sorting.{two_ways, map_in_order}
 use Rattle.fw_cover.proofs.Taking.{taken_after, all_taken}
-use Rattle.fw_cover.proofs.Within.{tail_all, all_in_order, all_enumerate}
+use Rattle.fw_cover.proofs.Within.{all_in_order, all_enumerate}
 
 -- ---- places, once there is one row more
 -- two places stay apart, and no row has the new one's place
@@ -146,7 +146,7 @@ commitment_past hour before after row c none =
 flat_past : {X Y : Type 0} (f g : X → List Y) (h : Y → Y) (xs : List X) → All (λ x. f x ≡ map h (g x)) xs → flat_map f xs ≡ map h (flat_map g xs)
 flat_past f g h [] all = refl
 flat_past {X} f g h (x ∷ xs) all = let P : X → Type 0 = λ x. f x ≡ map h (g x) in
-    rw (All-head P x xs all, flat_past f g h xs (tail_all P x xs all)) (sym (map-append h (g x) (flat_map g xs)))
+    rw (All-head P x xs all, flat_past f g h xs (All-tail P x xs all)) (sym (map-append h (g x) (flat_map g xs)))
 
 -- no commitment of the order applies either
 none_in_order : (cs : List CommitmentValue) (hour : ℕ) (row : Charge) → IsUntouched cs hour row → All (λ c. applied c.1 hour row ≡ None) (commitments_in_order cs)

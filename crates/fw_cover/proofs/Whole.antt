@@ -1,12 +1,13 @@
 -- No more is taken than there is, and only where a commitment applies.
 use Rattle.std.proofs.Common.{◌≡◌, ℕ, ◌+◌, ◌-◌, ◌*◌, ◌/◌, ◌≤◌, ◌==◌, Bool, true, false, cond, nat_le, List, [], ◌∷◌, ◌++◌, get_or, filter, fold, sum_by, All, Option, Some, None, option_map, refl, subst, arith}
+use Rattle.std.proofs.lemmas.Option.{slice_get-get_or}
 use Rattle.std.specs.Prelude.{slice_get, slice_index}
 use Rattle.std.specs.List.{enumerate_from, filter_map}
 use Rattle.std.proofs.Math.Nat.{div-le_of_le-mul}
 use Rattle.std.proofs.lemmas.Bool.{eqb-true}
 use Rattle.std.proofs.lemmas.Bool.Decides.{nat_tests}
 use Rattle.std.proofs.lemmas.List.Sums.{sum_by_push, sum_by-cons}
-use Rattle.std.proofs.lemmas.List.Elements.{All-append, All-cons, All-filter, All-head, All-nil}
+use Rattle.std.proofs.lemmas.List.Elements.{All-append, All-cons, All-filter, All-head, All-nil, All-tail}
 use Rattle.fw_charge.specs.Charge.{Charge}
 use Rattle.fw_terms.specs.Commitment.{CommitmentValue}
 use Rattle.fw_cover.specs.Applies.{applied}
@@ -18,7 +19,7 @@ use Rattle.fw_cover.specs.Part.{need_of, part_of, spend_part_for}
 use Rattle.fw_cover.specs.declared.pair.Pair.{Pair}
 use Rattle.fw_cover.specs.declared.taken.Taken.{Taken}
 use Rattle.fw_cover.proofs.Sorting.{two_ways}
-use Rattle.fw_cover.proofs.Within.{all_enumerate, all_filter_map, all_flat_map, all_in_order, commitments_in_order_places, get_at, tail_all}
+use Rattle.fw_cover.proofs.Within.{all_enumerate, all_filter_map, all_flat_map, all_in_order, commitments_in_order_places}
 
 -- ---- a part is within what is left of the row and of the commitment
 abbrev IsFitting : ℕ → ℕ → ℕ → ℕ → Type 0
@@ -63,29 +64,35 @@ fewer p f [] = omega arith
 fewer p f (x ∷ xs) = let rest = fewer p f xs in let whole = sum_by-cons f x xs in let kept = sum_by-cons f x (filter p xs) in
     two_ways (p x) (λ holds. rw holds (omega arith)) (λ fails. rw fails (omega arith))
 
+-- so do the takes that are kept, of which each takes something
+kept_within : (key amount : Taken → ℕ) (limit : ℕ → ℕ) (bs qs ks : List ℕ) (ps : List Pair)
+    → ((done : List Taken) (p : Pair) → amount (taken_by bs qs ks done p) ≤ limit (key (taken_by bs qs ks done p)) - sum_by (λ t. cond (key t == key (taken_by bs qs ks done p)) (amount t) 0) done)
+    → (x : ℕ) → sum_by (λ t. cond (key t == x) (amount t) 0) (cover_of bs qs ks ps) ≤ limit x
+unfolding cover_of taken_by_all
+kept_within key amount limit bs qs ks ps fits x =
+    let all = all_within key amount limit (taken_by bs qs ks) fits [] ps (λ x. omega arith) x in
+    let few = fewer takes_something (λ (t : Taken). cond (key t == x) (amount t) 0) (taken_by_all bs qs ks ps) in
+    omega arith
+
 pub row_within : (cs : List CommitmentValue) (rows : List Charge) (hour r : ℕ) → taken_of_row r (hour_cover cs rows hour) ≤ slice_index (quantities_of rows) r
-unfolding hour_cover cover_of taken_by_all taken_by taken_of_row
+unfolding hour_cover taken_by taken_of_row
 row_within cs rows hour r =
     let bs : List ℕ = billed_of rows in
     let qs : List ℕ = quantities_of rows in
     let ks : List ℕ = capacities_of cs in
-    let all = all_within (λ t. t.row) (λ t. t.quantity) (slice_index qs) (taken_by bs qs ks)
+    kept_within (λ t. t.row) (λ t. t.quantity) (slice_index qs) bs qs ks (pairs_of cs rows hour)
     (λ done p. (part_fits p.rate (slice_index bs p.row) (slice_index qs p.row) (slice_index qs p.row - taken_of_row p.row done) (slice_index ks p.commitment - used_of p.commitment done)).0)
-    [] (pairs_of cs rows hour) (λ x. omega arith) r in
-    let few = fewer takes_something (λ (t : Taken). cond (t.row == r) t.quantity 0) (taken_by_all bs qs ks (pairs_of cs rows hour)) in
-    omega arith
+    r
 
 pub commitment_within : (cs : List CommitmentValue) (rows : List Charge) (hour place : ℕ) → used_of place (hour_cover cs rows hour) ≤ slice_index (capacities_of cs) place
-unfolding hour_cover cover_of taken_by_all taken_by used_of
+unfolding hour_cover taken_by used_of
 commitment_within cs rows hour place =
     let bs : List ℕ = billed_of rows in
     let qs : List ℕ = quantities_of rows in
     let ks : List ℕ = capacities_of cs in
-    let all = all_within (λ t. t.commitment) (λ t. t.weight) (slice_index ks) (taken_by bs qs ks)
+    kept_within (λ t. t.commitment) (λ t. t.weight) (slice_index ks) bs qs ks (pairs_of cs rows hour)
     (λ done p. (part_fits p.rate (slice_index bs p.row) (slice_index qs p.row) (slice_index qs p.row - taken_of_row p.row done) (slice_index ks p.commitment - used_of p.commitment done)).1)
-    [] (pairs_of cs rows hour) (λ x. omega arith) place in
-    let few = fewer takes_something (λ (t : Taken). cond (t.commitment == place) t.weight 0) (taken_by_all bs qs ks (pairs_of cs rows hour)) in
-    omega arith
+    place
 
 pub row_whole : (cs : List CommitmentValue) (rows : List Charge) (hour r : ℕ) → taken_of_row r (hour_cover cs rows hour) + left_of rows (hour_cover cs rows hour) r ≡ slice_index (quantities_of rows) r
 unfolding left_of
@@ -112,7 +119,7 @@ commitment_meets cs rows hour c at =
     all_in_order has_lower_rate (MeetsBy cs rows hour) (filter_map (pair_for hour c) (enumerate_from 0 rows))
     (all_filter_map (MeetsBy cs rows hour) (pair_for hour c) (enumerate_from 0 rows)
     (all_enumerate (λ row. (p : Pair) → pair_for hour c row ≡ Some p → MeetsBy cs rows hour p) rows
-    (λ k d lt p h. meets_of cs rows hour c (k, get_or rows k d) at (get_at rows k d lt) (applied c.1 hour (get_or rows k d)) refl p h)))
+    (λ k d lt p h. meets_of cs rows hour c (k, get_or rows k d) at (slice_get-get_or rows k d lt) (applied c.1 hour (get_or rows k d)) refl p h)))
 
 pairs_meet : (cs : List CommitmentValue) (rows : List Charge) (hour : ℕ) → All (MeetsBy cs rows hour) (pairs_of cs rows hour)
 unfolding pairs_of
@@ -130,7 +137,7 @@ takes_by Q bs qs ks done (p ∷ ps) was all =
     let T : Taken → Type 0 = λ t. Q t.commitment t.row in
     takes_by Q bs qs ks (done ++ taken_by bs qs ks done p ∷ []) ps
     (All-append T done (taken_by bs qs ks done p ∷ []) was (All-cons T (taken_by bs qs ks done p) [] (All-head P p ps all) (All-nil T)))
-    (tail_all P p ps all)
+    (All-tail P p ps all)
 
 pub takes_meet : (cs : List CommitmentValue) (rows : List Charge) (hour : ℕ) → All (λ t. Meets cs rows hour t.commitment t.row) (hour_cover cs rows hour)
 unfolding hour_cover cover_of taken_by_all

@@ -1,12 +1,13 @@
 -- The pairs of an hour name commitments and rows that are there, with numbers in range.
-use Rattle.std.proofs.Common.{◌≡◌, ℕ, zero, suc, ◌<◌, ◌≤◌, ◌^◌, Bool, true, false, ◌&&◌, List, [], ◌∷◌, length, get_or, map, All, Option, Some, None, IfSome, ℤ, pos, negsuc, refl, subst, arith, unwrap_or, option_map, option_and_then, find, zero-add}
+use Rattle.std.proofs.Common.{◌≡◌, ℕ, ◌<◌, ◌≤◌, ◌^◌, Bool, true, false, ◌&&◌, List, [], ◌∷◌, length, get_or, map, All, Option, Some, None, IfSome, ℤ, pos, negsuc, refl, subst, arith, unwrap_or, option_map, option_and_then, find, zero-add}
+use Rattle.std.proofs.lemmas.Option.{slice_get-get_or}
 use Rattle.std.specs.Prelude.{unsigned_abs, slice_index, slice_get}
 use Rattle.std.specs.List.{enumerate_from, filter_map, flat_map, cons_option}
 use Rattle.std.specs.Option.{IsSome}
 use Rattle.std.specs.Str.{bytes_eq}
 use Rattle.std.proofs.lemmas.List.{length-map, get_or-map}
 use Rattle.std.proofs.lemmas.List.FromFn.{length-enumerate_from, get_or-enumerate_from}
-use Rattle.std.proofs.lemmas.List.Elements.{All-cons, All-nil, All-head, All-append, All-map}
+use Rattle.std.proofs.lemmas.List.Elements.{All-cons, All-nil, All-head, All-append, All-map, All-tail}
 use Rattle.fw_charge.specs.Charge.{Charge}
 use Rattle.fw_terms.specs.Commitment.{CommitmentValue, TermsValue, IsCommitment, IsTerms}
 use Rattle.fw_terms.specs.Commitment.TermsValue.{usage, spend}
@@ -16,16 +17,14 @@ use Rattle.fw_cover.specs.Order.{in_order, commitments_in_order, commitment_befo
 use Rattle.fw_cover.specs.Cover.{IsPairWithin}
 use Rattle.fw_cover.specs.Hour.{quantity_of, billed_of, quantities_of, capacities_of}
 use Rattle.fw_cover.specs.declared.pair.Pair.{Pair}
-use Rattle.std.proofs.lemmas.Bool.{ltb-true}
+use Rattle.std.proofs.lemmas.Bool.{ltb-true, and_parts}
 use Rattle.fw_cover.proofs.Sorting.{insert_all, two_ways}
 
 -- ---- what holds of each element of a list holds of those that are made of it
-pub tail_all : {X : Type 0} (P : X → Type 0) (x : X) (xs : List X) → All P (x ∷ xs) → All P xs
-tail_all P x xs all k d lt = all (suc k) d (omega (arith, lt))
 
 pub all_in_order : {X : Type 0} (before : X → X → Bool) (P : X → Type 0) (xs : List X) → All P xs → All P (in_order before xs)
 all_in_order before P [] all = all
-all_in_order before P (x ∷ xs) all = insert_all before P x (in_order before xs) (All-head P x xs all) (all_in_order before P xs (tail_all P x xs all))
+all_in_order before P (x ∷ xs) all = insert_all before P x (in_order before xs) (All-head P x xs all) (all_in_order before P xs (All-tail P x xs all))
 
 kept_all : {Y : Type 0} (P : Y → Type 0) (o : Option Y) (ys : List Y) → ((y : Y) → o ≡ Some y → P y) → All P ys → All P (cons_option o ys)
 kept_all P None ys h all = all
@@ -34,30 +33,22 @@ kept_all P (Some y) ys h all = All-cons P y ys (h y refl) all
 pub all_filter_map : {X Y : Type 0} (P : Y → Type 0) (h : X → Option Y) (xs : List X) → All (λ x. (y : Y) → h x ≡ Some y → P y) xs → All P (filter_map h xs)
 all_filter_map P h [] all = All-nil P
 all_filter_map {X} {Y} P h (x ∷ xs) all = let Q : X → Type 0 = λ x. (y : Y) → h x ≡ Some y → P y in
-    kept_all P (h x) (filter_map h xs) (All-head Q x xs all) (all_filter_map P h xs (tail_all Q x xs all))
+    kept_all P (h x) (filter_map h xs) (All-head Q x xs all) (all_filter_map P h xs (All-tail Q x xs all))
 
 pub all_flat_map : {X Y : Type 0} (P : Y → Type 0) (f : X → List Y) (xs : List X) → All (λ x. All P (f x)) xs → All P (flat_map f xs)
 all_flat_map P f [] all = All-nil P
 all_flat_map {X} P f (x ∷ xs) all = let Q : X → Type 0 = λ x. All P (f x) in
-    All-append P (f x) (flat_map f xs) (All-head Q x xs all) (all_flat_map P f xs (tail_all Q x xs all))
+    All-append P (f x) (flat_map f xs) (All-head Q x xs all) (all_flat_map P f xs (All-tail Q x xs all))
 
 pub all_under : {X Y : Type 0} (f : X → Y) (P : Y → Type 0) (xs : List X) → All P (map f xs) → All (λ x. P (f x)) xs
 all_under f P [] all = All-nil (λ x. P (f x))
-all_under f P (x ∷ xs) all = All-cons (λ x. P (f x)) x xs (All-head P (f x) (map f xs) all) (all_under f P xs (tail_all P (f x) (map f xs) all))
+all_under f P (x ∷ xs) all = All-cons (λ x. P (f x)) x xs (All-head P (f x) (map f xs) all) (all_under f P xs (All-tail P (f x) (map f xs) all))
 
 pub all_enumerate : {X : Type 0} (P : ℕ × X → Type 0) (xs : List X) → ((k : ℕ) (d : X) → k < length xs → P (k, get_or xs k d)) → All P (enumerate_from 0 xs)
 all_enumerate P xs h k d lt = let lt' : k < length xs = omega (arith, lt, length-enumerate_from 0 xs) in
     rw (get_or-enumerate_from 0 xs k d lt', zero-add) (h k d.1 lt')
 
 -- ---- a row that commitments may cover
-and_left : (a b : Bool) → (a && b) ≡ true → a ≡ true
-and_left true b h = refl
-and_left false b h = h
-
-and_right : (a b : Bool) → (a && b) ≡ true → b ≡ true
-and_right true b h = h
-and_right false b h = absurd (let e : false ≡ true = h in cc)
-
 positive : (q : Option ℤ) → is_positive q ≡ true → 0 < unsigned_abs (unwrap_or q (pos 0))
 positive None h = absurd (let e : false ≡ true = h in cc)
 positive (Some (pos n)) h = ltb-true 0 n h
@@ -66,7 +57,7 @@ positive (Some (negsuc n)) h = omega arith
 pub eligible_quantity : (row : Charge) → is_eligible row ≡ true → 0 < quantity_of row
 unfolding is_eligible
 eligible_quantity row h =
-    positive row.quantity (and_left (is_positive row.quantity) _ (and_left _ _ (and_left _ _ (and_right (is_open_use row) (is_measured row) h))))
+    positive row.quantity (and_parts (is_positive row.quantity) _ (and_parts _ _ (and_parts _ _ (and_parts (is_open_use row) (is_measured row) h).1).0).0).0
 
 -- ---- the rate of a commitment
 abbrev IsRate : Option ℕ → Type 0
@@ -78,7 +69,7 @@ small_rates (spend rates) is = All-map (λ l. IsRate l.rate) (λ r. record { sku
 
 find_known : {X : Type 0} (P : X → Type 0) (p : X → Bool) (xs : List X) → All P xs → IfSome (find p xs) P
 find_known P p [] all = tt
-find_known P p (x ∷ xs) all = two_ways (p x) (λ holds. rw holds (All-head P x xs all)) (λ fails. rw fails (find_known P p xs (tail_all P x xs all)))
+find_known P p (x ∷ xs) all = two_ways (p x) (λ holds. rw holds (All-head P x xs all)) (λ fails. rw fails (find_known P p xs (All-tail P x xs all)))
 
 rate_from : (P : Option ℕ → Type 0) (o : Option Listing) → IfSome o (λ l. P l.rate) → IfSome (option_map (λ l. l.rate) o) P
 rate_from P None h = tt
@@ -100,7 +91,7 @@ unfolding applied
 open_from c hour row some = two_ways (is_open hour row && fits c hour row) (λ holds. holds) (λ fails. let none : false ≡ true = rw fails at some in absurd (cc))
 
 pub eligible_from : (c : CommitmentValue) (hour : ℕ) (row : Charge) → IsSome (applied c hour row) → is_eligible row ≡ true
-eligible_from c hour row some = and_left (is_eligible row) _ (and_left (is_open hour row) (fits c hour row) (open_from c hour row some))
+eligible_from c hour row some = (and_parts (is_eligible row) _ (and_parts (is_open hour row) (fits c hour row) (open_from c hour row some)).0).0
 
 -- what is known of a commitment that applies to a row
 record Applied (row : Charge) (rate : Option ℕ) : Type 0 where
@@ -157,15 +148,11 @@ pairs_within cs rows hour valid small few =
     all_flat_map (IsWithin cs rows) (pairs_of_commitment hour rows) (commitments_in_order cs) (λ k d lt. commitment_within cs rows hour (get_or (commitments_in_order cs) k d) small few (placed k d lt) numbered)
 
 -- ---- the places in the order are those in the list
-pub get_at : {X : Type 0} (xs : List X) (k : ℕ) (d : X) → k < length xs → slice_get xs k ≡ Some (get_or xs k d)
-get_at [] k d lt = absurd (omega (arith, lt))
-get_at (x ∷ xs) zero d lt = refl
-get_at (x ∷ xs) (suc k) d lt = get_at xs k d (omega (arith, lt))
 
 pub commitments_in_order_places : (cs : List CommitmentValue) → All (λ c. slice_get cs c.0 ≡ Some c.1) (commitments_in_order cs)
 unfolding commitments_in_order
 commitments_in_order_places cs =
-    all_in_order commitment_before (λ c. slice_get cs c.0 ≡ Some c.1) (enumerate_from 0 cs) (all_enumerate (λ c. slice_get cs c.0 ≡ Some c.1) cs (get_at cs))
+    all_in_order commitment_before (λ c. slice_get cs c.0 ≡ Some c.1) (enumerate_from 0 cs) (all_enumerate (λ c. slice_get cs c.0 ≡ Some c.1) cs (slice_get-get_or cs))
 
 -- each commitment of the order keeps its limits
 pub ordered_valid : (cs : List CommitmentValue) → All IsCommitment cs → All (λ c. IsCommitment c.1) (commitments_in_order cs)
