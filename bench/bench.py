@@ -193,25 +193,26 @@ def measure(command, stdin, options):
         return Turn(seconds, started.returncode, output, complaint, told.read())
 
 
-def build_rust(options, notes):
-    """The path of the plain Rust program, built over Debian's crates; None where it can't be built."""
+def build_rust(options, notes, name="expert", crates=("csv", "serde-json")):
+    """The path of a plain Rust program of bench/peers, built over Debian's crates; None where it can't be built."""
     if not shutil.which("cargo"):
         notes.append(f"{RUST}: there is no cargo")
         return None
     if not os.path.isdir(DEBIAN_CRATES):
-        notes.append(f"{RUST}: Debian's librust-csv-dev and librust-serde-json-dev aren't installed")
+        notes.append(f"{RUST}: Debian's {' and '.join(f'librust-{it}-dev' for it in crates)} aren't installed")
         return None
-    folder, target = os.path.join(options.scratch, "expert"), os.path.join(options.scratch, "target")
-    shutil.copytree(os.path.join(PEERS, "expert"), folder, dirs_exist_ok=True)
+    # The programs share modules, so they lie beside each other.
+    folder, target = os.path.join(options.scratch, "peers"), os.path.join(options.scratch, "target")
+    shutil.copytree(PEERS, folder, dirs_exist_ok=True)
     words = ["cargo", "build", "--release", "--offline", "--quiet", "--target-dir", target]
     words += ["--config", 'source.crates-io.replace-with="debian"']
     words += ["--config", f'source.debian.directory="{DEBIAN_CRATES}"']
-    say("building the plain Rust program")
-    ran = subprocess.run(words, cwd=folder, capture_output=True, text=True)
+    say(f"building the plain Rust program {name}")
+    ran = subprocess.run(words, cwd=os.path.join(folder, name), capture_output=True, text=True)
     if ran.returncode:
         notes.append(f"{RUST}: not built: {ran.stderr.strip()[-300:]}")
         return None
-    return os.path.join(target, "release", "expert")
+    return os.path.join(target, "release", name)
 
 
 def programs_of(data, options, notes):

@@ -1,0 +1,130 @@
+//! The yardstick of reports: the reports of `focusd run` as a plain Rust program, without proofs.
+//!
+//! It reads a script of commitments, posts, policies and reports from standard input, and writes the answers of `focusd`. Rows are
+//! read by the modules of the yardstick of ingest (`../expert`). What a report needs is made once for all rows and commitments, when
+//! the first report after a change asks for it: rows clustered by hour, with those that a commitment may take first (`index`).
+//! A report is then one pass over the hours of its range (`cover`).
+//!
+//! It trusts the script: entries in turn, commitments and policies that break no rule, and sums that fit 64 bits. Where one doesn't,
+//! it stops with status 101.
+#[path = "../../expert/src/fields.rs"]
+mod fields;
+#[allow(dead_code)] // the yardstick of ingest has more of it
+#[path = "../../expert/src/names.rs"]
+mod names;
+#[path = "../../expert/src/rows.rs"]
+mod rows;
+
+mod cover;
+mod index;
+mod policy;
+mod share;
+mod terms;
+
+use index::Index;
+use names::Names;
+use policy::Policy;
+use rows::Row;
+use std::collections::BTreeMap;
+use std::fmt;
+use std::io::{self, BufRead, BufReader, BufWriter, Write};
+use terms::Commitment;
+
+const BUFFER: usize = 1 << 18;
+
+/// All that was accepted, and what is made of it for reports.
+struct Warehouse {
+    entries: usize,
+    rows: Vec<Row>,
+    names: Names,
+    commitments: Vec<Commitment>,
+    policy: Option<Policy>,
+    /// None where rows or commitments came since it was made.
+    index: Option<Index>,
+}
+
+impl Warehouse {
+    fn new() -> Warehouse {
+        Warehouse { entries: 0, rows: Vec::new(), names: Names::new(), commitments: Vec::new(), policy: None, index: None }
+    }
+
+    fn take(&mut self, kind: &str, text: &[u8]) -> usize {
+        match kind {
+            "post" => {
+                rows::read(text, b"USD", &mut self.names, &mut self.rows).unwrap_or_else(|fault| panic!("{fault}"));
+                self.index = None;
+            }
+            "commit" => {
+                self.commitments.push(Commitment::read(text, &mut self.names));
+                self.index = None;
+            }
+            _ => self.policy = Some(Policy::read(text)),
+        }
+        self.entries += 1;
+        self.entries
+    }
+
+    fn report(&mut self, key: &str, from: i64, to: i64) -> String {
+        let index = self.index.get_or_insert_with(|| Index::new(&self.rows, &self.commitments));
+        let direct = cover::report(index, &self.commitments, &self.names, key, from, to);
+        let mut charged: BTreeMap<&str, i128> = direct.iter().map(|(&group, sums)| (group, sums[1])).collect();
+        if let Some(policy) = self.policy.as_ref().filter(|policy| policy.key == key) {
+            policy.share(&mut charged);
+        }
+        let mut text = String::from("Group,BilledCost,EffectiveCost,ChargedCost\n");
+        for (group, charged) in charged {
+            let [billed, effective] = direct.get(group).copied().unwrap_or_default();
+            let quoted = if group.contains([',', '"', '\r', '\n']) {
+                format!("\"{}\"", group.replace('"', "\"\""))
+            } else {
+                group.to_string()
+            };
+            text += &format!("{quoted},{},{},{}\n", Nanos(billed), Nanos(effective), Nanos(charged));
+        }
+        text
+    }
+}
+
+struct Nanos(i128);
+
+impl fmt::Display for Nanos {
+    fn fmt(&self, out: &mut fmt::Formatter<'_>) -> fmt::Result {
+        let (sign, amount) = (if self.0 < 0 { "-" } else { "" }, self.0.unsigned_abs());
+        write!(out, "{sign}{}.{:09}", amount / 1_000_000_000, amount % 1_000_000_000)
+    }
+}
+
+/// The hour of an instant, counted from 1970.
+fn hour(text: &str) -> i64 {
+    fields::seconds(text.as_bytes()).expect("an instant") / 3_600
+}
+
+fn main() -> io::Result<()> {
+    let mut input = BufReader::with_capacity(BUFFER, io::stdin().lock());
+    let mut output = BufWriter::new(io::stdout().lock());
+    let mut warehouse = Warehouse::new();
+    let (mut line, mut text) = (String::new(), Vec::new());
+    while input.read_line(&mut line)? > 0 {
+        let words: Vec<&str> = line.trim_end_matches('\n').split(' ').collect();
+        match words[..] {
+            [kind @ ("post" | "commit" | "policy"), _, _, lines] => {
+                text.clear();
+                for _ in 0..lines.parse::<usize>().expect("a number of lines") {
+                    input.read_until(b'\n', &mut text)?;
+                }
+                writeln!(output, "accepted {}", warehouse.take(kind, &text))?;
+            }
+            ["report", ref key @ .., from, to] => {
+                let text = warehouse.report(&key.join(" "), hour(from), hour(to));
+                write!(output, "bytes {}\n{text}", text.len())?;
+            }
+            ["state"] => {
+                let (rows, commitments) = (warehouse.rows.len(), warehouse.commitments.len());
+                writeln!(output, "state {} {rows} {commitments} {}", warehouse.entries, usize::from(warehouse.policy.is_some()))?;
+            }
+            _ => writeln!(output, "bad command")?,
+        }
+        line.clear();
+    }
+    output.flush()
+}

@@ -1,0 +1,180 @@
+#!/usr/bin/env python3
+"""Measures what repeated reports cost, beside a plain Rust program in the same run, and prints the result as Markdown.
+
+    python3 bench/reports.py --date 2026-01-31 > result.md
+
+1,000,000 rows over 720 hours, posted in pieces of 4,096, and a policy; once without commitments and once under 40 of them. Half of the
+reports are over all hours by the tag `team`, half over a quarter of the hours by the tag `env`. A report's time is the processor time of
+a run with 42 reports less that of a run with 2, by 40, so that reading is left out, and so is what is made once for all reports. The
+programs take turns, and all answers must be equal. Progress goes to standard error.
+
+The plain Rust program (peers/reports) keeps its rows clustered by hour. Needs cargo, and on Debian 12
+librust-csv-dev, librust-serde-json-dev and librust-toml-dev. Exit status: 0 measured, 1 a program failed or the answers differ, 2 a wrong
+command line or a machine on which nothing can be measured.
+"""
+import argparse
+import hashlib
+import os
+import random
+import shlex
+import statistics
+import sys
+
+from bench import FOCUSD, HERE, ROOT, RUST, Stopped, build_rust, load, machine, measure, say, whole_number
+
+MOST_ROWS = 4_096
+FEW, MANY = 1, 21
+GOAL, BAR = 3, 10
+HEADER = (
+    "BilledCost,EffectiveCost,BillingCurrency,ChargeCategory,ChargePeriodStart,ChargePeriodEnd,"
+    "ConsumedQuantity,ConsumedUnit,SkuId,SubAccountId,Tags"
+)
+
+
+def instant(hour):
+    """The instant at which an hour of January 2024 and after begins, with 28 days to each month."""
+    day, of_day = divmod(hour, 24)
+    month, of_month = divmod(day, 28)
+    return f"2024-{month + 1:02}-{of_month + 1:02}T{of_day:02}:00Z"
+
+
+def commitments(count, hours, numbers):
+    for number in range(count):
+        skus = numbers.sample(range(30), 3)
+        start = numbers.randrange(hours // 2)
+        lines = [f'id = "plan-{number}"', f'start = "{instant(start)}"', f"hours = {numbers.randint(1, hours)}"]
+        if number % 2:
+            lines += ['category = "Usage"', 'unit = "Hours"', f'capacity = "{numbers.randint(1, 400)}"']
+            lines += ["skus = [" + ", ".join(f'"sku-{sku}"' for sku in skus) + "]"]
+        else:
+            lines += ['category = "Spend"', f'capacity = "{numbers.randint(1, 60)}"']
+            lines += ["rates = { " + ", ".join(f"sku-{sku} = {numbers.randint(300_000, 1_000_000)}" for sku in skus) + " }"]
+        lines += [f'tags = {{ team = "team-{numbers.randrange(50)}" }}']
+        cost = f"{numbers.randint(1, 90_000)}.{numbers.randrange(10**9):09}"
+        lines += [f'purchase = [{{ at = "{instant(start)}", billed = "{cost}" }}]']
+        yield "commit", lines
+
+
+def posts(rows, hours, numbers):
+    def row(number):
+        hour = number * hours // rows
+        cost = f"{numbers.randrange(5)}.{numbers.randrange(10**9):09}"
+        category = "Tax" if numbers.random() < 0.05 else "Usage"
+        quantity = f"{numbers.randrange(8)}.{numbers.randrange(1000):03}"
+        tags = f'{{""team"":""team-{numbers.randrange(50)}"",""env"":""e{numbers.randrange(4)}""}}'
+        return (
+            f"{cost},{cost},USD,{category},{instant(hour)},{instant(hour + 1)},"
+            f'{quantity},Hours,sku-{numbers.randrange(30)},account-{numbers.randrange(20)},"{tags}"'
+        )
+
+    for first in range(0, rows, MOST_ROWS):
+        yield "post", [HEADER, *map(row, range(first, min(first + MOST_ROWS, rows)))]
+
+
+POLICY = ("policy", ['key = "team"', "[[rule]]", 'from = "team-0"', "proportional = true", "[[rule]]", 'from = "team-1"', "to = { team-2 = 3, shared = 1 }"])
+
+
+def write_script(path, options, count, pairs):
+    """Writes a script with `count` commitments and twice `pairs` reports, where it isn't there yet."""
+    if os.path.exists(path):
+        return
+    say(f"making {os.path.basename(path)}")
+    numbers = random.Random(options.seed)
+    with open(path + ".part", "w", encoding="utf-8") as file:
+        entries = [*commitments(count, options.hours, numbers)], posts(options.rows, options.hours, numbers), [POLICY]
+        for number, (kind, lines) in enumerate((it for part in entries for it in part), 1):
+            file.write(f"{kind} bench {number} {len(lines)}\n" + "\n".join(lines) + "\n")
+        for _ in range(pairs):
+            file.write(f"report team {instant(0)} {instant(options.hours)}\n")
+            file.write(f"report env {instant(options.hours // 4)} {instant(options.hours // 2)}\n")
+    os.replace(path + ".part", path)
+
+
+class Program:
+    def __init__(self, name, command):
+        self.name, self.command, self.seconds, self.answers = name, command, [], set()
+
+    def take_turn(self, scripts, options):
+        took = []
+        for script in scripts:
+            turn = measure(self.command, script, options)
+            if turn.status != 0:
+                raise Stopped(f"{self.name} failed: {turn.complaint.strip()[-200:] or 'it took too long'}")
+            took.append(turn.processor_seconds)
+        self.answers.add(hashlib.sha256(turn.output).hexdigest())
+        self.seconds.append((took[1] - took[0]) / (2 * (MANY - FEW)))
+        say(f"  {self.name}: {self.seconds[-1] * 1000:.1f} ms a report")
+
+    @property
+    def middle(self):
+        return statistics.median(self.seconds)
+
+
+def compare(programs, count, options):
+    """Measures and prints one table; tells whether all answers are equal."""
+    paths = []
+    for pairs in (FEW, MANY):
+        name = f"reports-{options.rows}-{options.hours}-{options.seed}-{count}-{pairs}.script"
+        paths.append(os.path.join(options.scratch, name))
+        write_script(paths[-1], options, count, pairs)
+    measured = [Program(*it) for it in programs]
+    for turn in range(options.turns):
+        say(f"{count} commitments, turn {turn + 1} of {options.turns}")
+        for program in measured:
+            program.take_turn(paths, options)
+    rust = next((it.middle for it in measured if it.name == RUST), None)
+    print(f"\n{options.rows:,} rows over {options.hours} hours, {count} commitments:\n")
+    print(f"| program | milliseconds a report, {options.turns} turns | median | times plain Rust |\n|---|---|---|---|")
+    for program in measured:
+        turns = ", ".join(f"{it * 1000:.1f}" for it in program.seconds)
+        times = f"{program.middle / rust:.1f}" if rust else ""
+        print(f"| {program.name} | {turns} | {program.middle * 1000:.1f} | {times} |")
+    if rust:
+        ours = measured[0].middle / rust
+        print(f"\nThe goal, at most {GOAL} times plain Rust, is {'**met**' if ours <= GOAL else '**missed**'}; the bar of {BAR} times is {'**met**' if ours <= BAR else '**missed**'}.")
+    return len(set.union(*(it.answers for it in measured))) == 1
+
+
+def run(options):
+    os.makedirs(options.scratch, exist_ok=True)
+    if not os.access(options.program, os.X_OK):
+        raise Stopped(f"{options.program} isn't there: build it by `examples/run --proved`")
+    notes = []
+    programs = [(FOCUSD, [os.path.abspath(options.program), "run"])]
+    rust = build_rust(options, notes, "reports", ("csv", "serde-json", "toml"))
+    if rust:
+        programs.append((RUST, [rust]))
+    before = load()
+    print(f"Command: `{shlex.join(['python3', 'bench/reports.py', *sys.argv[1:]])}`  ")
+    for line in [f"Date: {options.date}"] * bool(options.date) + list(machine()):
+        print(f"{line}  ")
+    are_equal = all([compare(programs, count, options) for count in options.commitments])
+    print(f"\nLoad of the machine before and after: {before}; {load()}")
+    for note in notes:
+        print(f"- Left out: {note}")
+    if not are_equal:
+        say("reports.py: the programs gave different answers")
+    return 0 if are_equal else 1
+
+
+def main():
+    parser = argparse.ArgumentParser(description=__doc__, formatter_class=argparse.RawDescriptionHelpFormatter)
+    parser.add_argument("--program", default=os.path.join(ROOT, "out", "focusd"), help="the built focusd (default: out/focusd)")
+    parser.add_argument("--rows", type=whole_number, default=1_000_000, help="default: 1,000,000")
+    parser.add_argument("--hours", type=whole_number, default=720, help="default: 720")
+    parser.add_argument("--commitments", type=int, nargs="+", default=[0, 40], help="default: 0 40")
+    parser.add_argument("--turns", type=whole_number, default=3, help="default: 3")
+    parser.add_argument("--seed", type=int, default=7, help="default: 7")
+    parser.add_argument("--limit", type=whole_number, default=600, help="seconds for one run (default: 600)")
+    parser.add_argument("--date", default="", help="the date that the result is to carry")
+    parser.add_argument("--scratch", default=os.path.join(HERE, "scratch"), help="default: bench/scratch")
+    options = parser.parse_args()
+    try:
+        return run(options)
+    except Stopped as why:
+        say(f"reports.py: {why}")
+        return 2
+
+
+if __name__ == "__main__":
+    sys.exit(main())
