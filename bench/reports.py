@@ -5,8 +5,8 @@
 
 1,000,000 rows over 720 hours, posted in pieces of 4,096, and a policy; once without commitments and once under 40 of them. Half of the
 reports are over all hours by the tag `team`, half over a quarter of the hours by the tag `env`. A report's time is the processor time of
-a run with 42 reports less that of a run with 2, by 40, so that reading is left out, and so is what is made once for all reports. The
-programs take turns, and all answers must be equal. Progress goes to standard error.
+a run with many reports less that of a run with 2, by their number, so that reading is left out, and so is what is made once for all
+reports. The programs take turns, and all answers must be equal. Progress goes to standard error.
 
 The plain Rust program (peers/reports) keeps its rows clustered by hour. Needs cargo, and on Debian 12
 librust-csv-dev, librust-serde-json-dev and librust-toml-dev. Exit status: 0 measured, 1 a program failed or the answers differ, 2 a wrong
@@ -23,7 +23,8 @@ import sys
 from bench import FOCUSD, HERE, ROOT, RUST, Stopped, build_rust, load, machine, measure, say, whole_number
 
 MOST_ROWS = 4_096
-FEW, MANY = 1, 21
+# Pairs of reports in the two runs: without commitments a report takes a few milliseconds, of which it takes many to measure.
+FEW, MANY, MANY_COVERED = 1, 201, 41
 GOAL, BAR = 3, 10
 HEADER = (
     "BilledCost,EffectiveCost,BillingCurrency,ChargeCategory,ChargePeriodStart,ChargePeriodEnd,"
@@ -94,7 +95,7 @@ class Program:
     def __init__(self, name, command):
         self.name, self.command, self.seconds, self.answers = name, command, [], set()
 
-    def take_turn(self, scripts, options):
+    def take_turn(self, scripts, reports, options):
         took = []
         for script in scripts:
             turn = measure(self.command, script, options)
@@ -102,7 +103,7 @@ class Program:
                 raise Stopped(f"{self.name} failed: {turn.complaint.strip()[-200:] or 'it took too long'}")
             took.append(turn.processor_seconds)
         self.answers.add(hashlib.sha256(turn.output).hexdigest())
-        self.seconds.append((took[1] - took[0]) / (2 * (MANY - FEW)))
+        self.seconds.append((took[1] - took[0]) / reports)
         say(f"  {self.name}: {self.seconds[-1] * 1000:.1f} ms a report")
 
     @property
@@ -112,8 +113,8 @@ class Program:
 
 def compare(programs, count, options):
     """Measures and prints one table; tells whether all answers are equal."""
-    paths = []
-    for pairs in (FEW, MANY):
+    paths, many = [], MANY_COVERED if count else MANY
+    for pairs in (FEW, many):
         name = f"reports-{options.rows}-{options.hours}-{options.seed}-{count}-{pairs}.script"
         paths.append(os.path.join(options.scratch, name))
         write_script(paths[-1], options, count, pairs)
@@ -121,7 +122,7 @@ def compare(programs, count, options):
     for turn in range(options.turns):
         say(f"{count} commitments, turn {turn + 1} of {options.turns}")
         for program in measured:
-            program.take_turn(paths, options)
+            program.take_turn(paths, 2 * (many - FEW), options)
     rust = next((it.middle for it in measured if it.name == RUST), None)
     print(f"\n{options.rows:,} rows over {options.hours} hours, {count} commitments:\n")
     print(f"| program | milliseconds a report, {options.turns} turns | median | times plain Rust |\n|---|---|---|---|")
