@@ -312,10 +312,14 @@ fn is_failure_told(alloc: Global, volume: &mut FaultVolume<MemVolume>) -> Result
     let mut log = opened(volume, &EMPTY_LOG, 44)?;
     let sound = !log.has_failed();
     let first = log.append(alloc, volume, &PAYLOAD).err();
-    if first == Some(LogFault::NoMemory) {
-        return Err(LogFault::NoMemory);
-    }
     let failed = log.has_failed();
+    if first == Some(LogFault::NoMemory) {
+        return if failed {
+            Ok(false)
+        } else {
+            Err(LogFault::NoMemory)
+        };
+    }
     let second = log.append(alloc, volume, &PAYLOAD).err();
     let are_told = first == Some(LogFault::Device) && second == Some(LogFault::Failed);
     Ok(are_told && sound && failed)
