@@ -1,3 +1,5 @@
+//! Volumes in memory: what a stop leaves of them, and which of their calls a plan fails.
+use crate::calls::{Answer, Call, DONE, FAILS, Round, TOO_LARGE, are_answered, prints};
 use fw_disk::*;
 use std::alloc::Global;
 use std::test::Fail;
@@ -5,257 +7,490 @@ use std::test::Fail;
 /// A byte that none of the tables writes.
 const MARK: u8 = 170;
 
-/// Writes where the file is long enough for it.
-pub(crate) fn write(
-    volume: &mut impl Volume,
-    side: Side,
-    at: u64,
-    bytes: &[u8],
-) -> Result<(), VolumeFault> {
-    if at > volume.len(side) {
-        return Err(VolumeFault::TooLarge);
-    }
-    volume.write_at(side, at, bytes)
+/// Which calls of a volume fail.
+#[derive(Clone, Copy, Drop)]
+enum Plan {
+    /// None: the volume is one in memory, of this limit.
+    Limited(u8),
+    /// One after so many that pass, or each from there on.
+    First(u64, Mode),
+    /// The call after each of these numbers.
+    Series(&'static [u64]),
 }
 
-/// Whether a file reads as these bytes, at most 8, and ends there.
-pub(crate) fn reads_as(
-    volume: &mut impl Volume,
-    side: Side,
-    bytes: &[u8],
+/// A volume is called, stopped, called again, and stopped and called once more.
+type Case = (Plan, Choice, Round, Round, Round);
+
+const NO_CALL: Round = (&[], &[]);
+
+/// Goes on with a round where the ones before it were answered as they should be.
+fn play(volume: &mut impl Volume, round: Round, played: &mut Result<bool, VolumeFault>) {
+    if *played == Ok(true) {
+        *played = are_answered(volume, round);
+    }
+}
+
+/// Whether the calls before and after two stops answer as they should.
+fn is_played<V: Stoppable + Drop>(mut volume: V, case: &Case) -> Result<bool, VolumeFault> {
+    let mut played = Ok(true);
+    play(&mut volume, case.2, &mut played);
+    let mut volume = volume.stop();
+    play(&mut volume, case.3, &mut played);
+    let mut volume = volume.stop();
+    play(&mut volume, case.4, &mut played);
+    played
+}
+
+/// Whether a volume that fails after these numbers of calls answers as it should.
+fn is_series_right(
+    alloc: Global,
+    memory: MemVolume,
+    passes: &[u64],
+    case: &Case,
 ) -> Result<bool, VolumeFault> {
-    let mut buffer = [0; 8];
-    if bytes.len() > 8 || volume.len(side) != bytes.len() as u64 {
-        return Ok(false);
+    match passes.to_vec(alloc) {
+        Ok(passes) => is_played(FaultVolume::series(memory, passes), case),
+        Err(_) => Err(VolumeFault::Io),
     }
-    let read = &mut buffer[..bytes.len()];
-    volume.read(side, 0, read)?;
-    Ok(&*read == bytes)
 }
 
-/// Left was synced as 1 to 6 and then written three times, also over one another and past the end. After that Right
-/// was synced as 1 1, and then written once.
-fn with_pending_writes(alloc: Global, choice: Choice) -> Result<MemVolume, VolumeFault> {
-    let mut volume = MemVolume::new(alloc, 100, choice);
-    write(&mut volume, Side::Left, 0, &[1, 2, 3, 4, 5, 6])?;
-    volume.sync(Side::Left)?;
-    write(&mut volume, Side::Left, 1, &[7, 8])?;
-    write(&mut volume, Side::Left, 5, &[9, 9, 9])?;
-    write(&mut volume, Side::Left, 2, &[10])?;
-    write(&mut volume, Side::Right, 0, &[1, 1])?;
-    volume.sync(Side::Right)?;
-    write(&mut volume, Side::Right, 1, &[2])?;
-    Ok(volume)
+/// Whether a case's calls answer as they should.
+fn is_right(alloc: Global, case: &Case) -> Result<bool, VolumeFault> {
+    match case.0 {
+        Plan::Limited(limit) => { is_played(MemVolume::new(alloc, u64::from(limit), case.1), case) }
+        Plan::First(pass, mode) => is_played(
+            FaultVolume::new(MemVolume::new(alloc, 100, case.1), pass, mode),
+            case,
+        ),
+        Plan::Series(passes) => {
+            is_series_right(alloc, MemVolume::new(alloc, 100, case.1), passes, case)
+        }
+    }
 }
+
+/// The place of the first case whose calls answer otherwise.
+fn first_wrong(alloc: Global, cases: &[Case]) -> Result<Option<usize>, VolumeFault> {
+    for (place, case) in cases.iter().enumerate() {
+        if !is_right(alloc, case)? {
+            return Ok(Some(place));
+        }
+    }
+    Ok(None)
+}
+
+/// Left is synced as 1 to 6 and then written three times, also over one another and past the end. After that Right is
+/// synced as 1 1, and then written once.
+const PENDING: Round = (
+    &[
+        Call::WriteSynced(Side::Left, &[1, 2, 3, 4, 5, 6]),
+        Call::Write(Side::Left, 1, &[7, 8]),
+        Call::Write(Side::Left, 5, &[9, 9, 9]),
+        Call::Write(Side::Left, 2, &[10]),
+        Call::Write(Side::Right, 0, &[1, 1]),
+        Call::Sync(Side::Right),
+        Call::Write(Side::Right, 1, &[2]),
+    ],
+    &[DONE; 7],
+);
+
+const STOPS: &[Case] = &[
+    (
+        Plan::Limited(100),
+        Choice::Old,
+        PENDING,
+        (
+            &[
+                Call::Read(Side::Left, &[1, 2, 3, 4, 5, 6]),
+                Call::Read(Side::Right, &[1, 1]),
+            ],
+            &[DONE; 2],
+        ),
+        NO_CALL,
+    ),
+    (
+        Plan::Limited(100),
+        Choice::New,
+        PENDING,
+        (
+            &[
+                Call::Read(Side::Left, &[1, 7, 10, 4, 5, 9, 9, 9]),
+                Call::Read(Side::Right, &[1, 2]),
+            ],
+            &[DONE; 2],
+        ),
+        NO_CALL,
+    ),
+    (
+        Plan::Limited(100),
+        Choice::Torn(MARK),
+        PENDING,
+        (
+            &[
+                Call::Read(Side::Left, &[1, MARK, MARK, 4, 5, MARK, MARK, MARK]),
+                Call::Read(Side::Right, &[1, MARK]),
+            ],
+            &[DONE; 2],
+        ),
+        NO_CALL,
+    ),
+];
 
 #[test]
 fn a_stop_leaves_its_choice(rt: HostRuntime) -> Result<(), Fail> {
-    let mut old = with_pending_writes(rt.alloc(), Choice::Old)?.stop();
-    assert!(rt; reads_as(&mut old, Side::Left, &[1, 2, 3, 4, 5, 6])?);
-    assert!(rt; reads_as(&mut old, Side::Right, &[1, 1])?);
-    let mut new = with_pending_writes(rt.alloc(), Choice::New)?.stop();
-    assert!(rt; reads_as(&mut new, Side::Left, &[1, 7, 10, 4, 5, 9, 9, 9])?);
-    assert!(rt; reads_as(&mut new, Side::Right, &[1, 2])?);
-    let mut torn = with_pending_writes(rt.alloc(), Choice::Torn(MARK))?.stop();
-    let left = [1, MARK, MARK, 4, 5, MARK, MARK, MARK];
-    assert!(rt; reads_as(&mut torn, Side::Left, &left)?);
-    assert!(rt; reads_as(&mut torn, Side::Right, &[1, MARK])?);
+    let wrong = first_wrong(rt.alloc(), STOPS)?;
+    assert!(rt; wrong.is_none(), "case {wrong:?}");
     Ok(())
 }
 
 /// A gate of one byte, synced as 0, then opened by a 1 that no sync follows.
+const OPENED: Round = (
+    &[
+        Call::WriteSynced(Side::Right, &[0]),
+        Call::Write(Side::Right, 0, &[1]),
+    ],
+    &[DONE; 2],
+);
+
+const IS_0: Round = (&[Call::Read(Side::Right, &[0])], &[DONE]);
+
+const IS_1: Round = (&[Call::Read(Side::Right, &[1])], &[DONE]);
+
+const IS_7: Round = (&[Call::Read(Side::Right, &[7])], &[DONE]);
+
+/// Nothing is pending after a stop, so a second one leaves the same.
+const GATES: &[Case] = &[
+    (Plan::Limited(100), Choice::Old, OPENED, IS_0, IS_0),
+    (Plan::Limited(100), Choice::New, OPENED, IS_1, IS_1),
+    (Plan::Limited(100), Choice::Torn(7), OPENED, IS_7, IS_7),
+    (Plan::Limited(100), Choice::Torn(1), OPENED, IS_1, IS_1),
+];
+
 #[test]
 fn a_gate_is_shut_or_open_or_torn(rt: HostRuntime) -> Result<(), Fail> {
-    for (choice, gate) in [
-        (Choice::Old, 0),
-        (Choice::New, 1),
-        (Choice::Torn(7), 7),
-        (Choice::Torn(1), 1),
-    ] {
-        let mut volume = MemVolume::new(rt.alloc(), 100, choice);
-        write_synced(&mut volume, Side::Right, 0, &[0])?;
-        write(&mut volume, Side::Right, 0, &[1])?;
-        let mut volume = volume.stop();
-        assert!(rt; reads_as(&mut volume, Side::Right, &[gate])?, "{choice:?}");
-        // Nothing is pending after a stop, so a second one leaves the same.
-        let mut again = volume.stop();
-        assert!(rt;
-            reads_as(&mut again, Side::Right, &[gate])?,
-            "{choice:?} twice"
-        );
-    }
+    let wrong = first_wrong(rt.alloc(), GATES)?;
+    assert!(rt; wrong.is_none(), "case {wrong:?}");
     Ok(())
 }
+
+/// Writes of up to 4 bytes in a file of at most 3.
+const LIMITED: Round = (
+    &[
+        Call::Write(Side::Left, 0, &[1, 2]),
+        Call::Write(Side::Left, 0, &[7; 4]),
+        Call::Write(Side::Left, 1, &[7; 3]),
+        Call::Write(Side::Left, 2, &[7; 2]),
+        Call::Write(Side::Left, 1, &[7; 2]),
+        Call::Write(Side::Left, 2, &[7]),
+        Call::Write(Side::Left, 3, &[7]),
+        Call::Write(Side::Left, 3, &[]),
+        Call::Limit(3),
+        Call::Read(Side::Left, &[1, 7, 7]),
+    ],
+    &[
+        DONE, TOO_LARGE, TOO_LARGE, TOO_LARGE, DONE, DONE, TOO_LARGE, DONE, DONE, DONE,
+    ],
+);
+
+const LIMITS: &[Case] = &[(Plan::Limited(3), Choice::New, LIMITED, NO_CALL, NO_CALL)];
 
 #[test]
 fn a_write_ends_at_the_limit_or_is_too_large(rt: HostRuntime) -> Result<(), Fail> {
-    let mut volume = MemVolume::new(rt.alloc(), 3, Choice::New);
-    write(&mut volume, Side::Left, 0, &[1, 2])?;
-    let bytes = [7; 4];
-    for (at, len, fits) in [
-        (0, 4, false),
-        (1, 3, false),
-        (2, 2, false),
-        (1, 2, true),
-        (2, 1, true),
-        (3, 1, false),
-        (3, 0, true),
-    ] {
-        match write(&mut volume, Side::Left, at, &bytes[..len]) {
-            Ok(()) => assert!(rt; fits, "{len} bytes at {at}"),
-            Err(VolumeFault::TooLarge) => assert!(rt; !fits, "{len} bytes at {at}"),
-            Err(VolumeFault::Io) => return Err(VolumeFault::Io.into()),
-        }
-    }
-    assert_eq!(rt; volume.limit(), 3);
-    assert!(rt; reads_as(&mut volume, Side::Left, &[1, 7, 7])?);
+    let wrong = first_wrong(rt.alloc(), LIMITS)?;
+    assert!(rt; wrong.is_none(), "case {wrong:?}");
     Ok(())
 }
 
-/// Whether a call failed where it was to; one that failed where it was to pass is an error of the test.
-fn is_as_planned(answer: Result<(), VolumeFault>, fails: bool) -> Result<bool, VolumeFault> {
-    if fails {
-        return Ok(answer == Err(VolumeFault::Io));
-    }
-    answer?;
-    Ok(true)
-}
+/// A write, a sync, a read, a write that is no call of a plan since it is too large, and a sync.
+const PLANNED: &[Call] = &[
+    Call::Write(Side::Left, 0, &[5]),
+    Call::Sync(Side::Left),
+    Call::Read(Side::Left, &[5]),
+    Call::Write(Side::Left, 1, &[0; 100]),
+    Call::Sync(Side::Left),
+];
+
+const FIRST_FAILS: &[Answer] = &[FAILS, DONE, DONE, TOO_LARGE, DONE];
+
+const SECOND_FAILS: &[Answer] = &[DONE, FAILS, DONE, TOO_LARGE, DONE];
+
+const THIRD_FAILS: &[Answer] = &[DONE, DONE, FAILS, TOO_LARGE, DONE];
+
+const LAST_FAILS: &[Answer] = &[DONE, DONE, DONE, TOO_LARGE, FAILS];
+
+const NONE_FAILS: &[Answer] = &[DONE, DONE, DONE, TOO_LARGE, DONE];
+
+const ALL_FAIL: &[Answer] = &[FAILS, FAILS, FAILS, TOO_LARGE, FAILS];
+
+const THREE_FAIL: &[Answer] = &[DONE, FAILS, FAILS, TOO_LARGE, FAILS];
+
+const TWO_FAIL: &[Answer] = &[DONE, DONE, FAILS, TOO_LARGE, FAILS];
+
+/// Each plan that begins within these calls, and the first after them.
+const PLANS: &[Case] = &[
+    (
+        Plan::First(0, Mode::Once),
+        Choice::Old,
+        (PLANNED, FIRST_FAILS),
+        NO_CALL,
+        NO_CALL,
+    ),
+    (
+        Plan::First(0, Mode::After),
+        Choice::Old,
+        (PLANNED, ALL_FAIL),
+        NO_CALL,
+        NO_CALL,
+    ),
+    (
+        Plan::First(1, Mode::Once),
+        Choice::Old,
+        (PLANNED, SECOND_FAILS),
+        NO_CALL,
+        NO_CALL,
+    ),
+    (
+        Plan::First(1, Mode::After),
+        Choice::Old,
+        (PLANNED, THREE_FAIL),
+        NO_CALL,
+        NO_CALL,
+    ),
+    (
+        Plan::First(2, Mode::Once),
+        Choice::Old,
+        (PLANNED, THIRD_FAILS),
+        NO_CALL,
+        NO_CALL,
+    ),
+    (
+        Plan::First(2, Mode::After),
+        Choice::Old,
+        (PLANNED, TWO_FAIL),
+        NO_CALL,
+        NO_CALL,
+    ),
+    (
+        Plan::First(3, Mode::Once),
+        Choice::Old,
+        (PLANNED, LAST_FAILS),
+        NO_CALL,
+        NO_CALL,
+    ),
+    (
+        Plan::First(3, Mode::After),
+        Choice::Old,
+        (PLANNED, LAST_FAILS),
+        NO_CALL,
+        NO_CALL,
+    ),
+    (
+        Plan::First(4, Mode::Once),
+        Choice::Old,
+        (PLANNED, NONE_FAILS),
+        NO_CALL,
+        NO_CALL,
+    ),
+    (
+        Plan::First(4, Mode::After),
+        Choice::Old,
+        (PLANNED, NONE_FAILS),
+        NO_CALL,
+        NO_CALL,
+    ),
+];
 
 #[test]
 fn a_plan_fails_its_calls(rt: HostRuntime) -> Result<(), Fail> {
-    for pass in 0..5 {
-        for mode in [Mode::Once, Mode::After] {
-            let memory = MemVolume::new(rt.alloc(), 100, Choice::Old);
-            let mut volume = FaultVolume::new(memory, pass, mode);
-            let fails = |call: u64| match mode {
-                Mode::Once => call == pass,
-                Mode::After => call >= pass,
-            };
-            let wrote = write(&mut volume, Side::Left, 0, &[5]);
-            assert!(rt;
-                is_as_planned(wrote, fails(0))?,
-                "write, {mode:?} after {pass}"
-            );
-            let synced = volume.sync(Side::Left);
-            assert!(rt;
-                is_as_planned(synced, fails(1))?,
-                "sync, {mode:?} after {pass}"
-            );
-            let mut byte = [0];
-            if volume.len(Side::Left) < 1 {
-                return Err(VolumeFault::Io.into());
-            }
-            let read = volume.read(Side::Left, 0, &mut byte);
-            assert!(rt;
-                is_as_planned(read, fails(2))?,
-                "read, {mode:?} after {pass}"
-            );
-            let large = write(&mut volume, Side::Left, 1, &[0; 100]);
-            assert_eq!(rt; large, Err(VolumeFault::TooLarge), "no call of the plan");
-            let again = volume.sync(Side::Left);
-            assert!(rt;
-                is_as_planned(again, fails(3))?,
-                "second sync, {mode:?} after {pass}"
-            );
-        }
-    }
+    let wrong = first_wrong(rt.alloc(), PLANS)?;
+    assert!(rt; wrong.is_none(), "case {wrong:?}");
     Ok(())
 }
 
-/// A write that fails reaches the volume below, a sync that fails doesn't, and after a stop nothing fails.
+const WRITTEN: &[Call] = &[Call::WriteSynced(Side::Left, &[5])];
+
+/// After a stop nothing fails.
+const LEFT_5: Round = (
+    &[Call::Read(Side::Left, &[5]), Call::Sync(Side::Left)],
+    &[DONE; 2],
+);
+
+const LEFT_NONE: Round = (
+    &[Call::Read(Side::Left, &[]), Call::Sync(Side::Left)],
+    &[DONE; 2],
+);
+
+/// A write that fails reaches the volume below, and a sync that fails doesn't.
+const FAILED: &[Case] = &[
+    (
+        Plan::First(0, Mode::After),
+        Choice::New,
+        (WRITTEN, &[FAILS]),
+        LEFT_5,
+        NO_CALL,
+    ),
+    (
+        Plan::First(0, Mode::After),
+        Choice::Old,
+        (WRITTEN, &[FAILS]),
+        LEFT_NONE,
+        NO_CALL,
+    ),
+    (
+        Plan::First(1, Mode::After),
+        Choice::New,
+        (WRITTEN, &[FAILS]),
+        LEFT_5,
+        NO_CALL,
+    ),
+    (
+        Plan::First(1, Mode::After),
+        Choice::Old,
+        (WRITTEN, &[FAILS]),
+        LEFT_NONE,
+        NO_CALL,
+    ),
+    (
+        Plan::First(2, Mode::After),
+        Choice::Old,
+        (WRITTEN, &[DONE]),
+        LEFT_5,
+        NO_CALL,
+    ),
+];
+
 #[test]
 fn a_failed_call_reaches_the_volume_below_or_not(rt: HostRuntime) -> Result<(), Fail> {
-    for (pass, choice, left) in [
-        (0, Choice::New, [5].as_slice()),
-        (0, Choice::Old, [].as_slice()),
-        (1, Choice::New, [5].as_slice()),
-        (1, Choice::Old, [].as_slice()),
-        (2, Choice::Old, [5].as_slice()),
-    ] {
-        let memory = MemVolume::new(rt.alloc(), 100, choice);
-        let mut volume = FaultVolume::new(memory, pass, Mode::After);
-        let done = write_synced(&mut volume, Side::Left, 0, &[5]);
-        assert!(rt; is_as_planned(done, pass < 2)?, "{choice:?} after {pass}");
-        if pass < 2 && choice == Choice::New && volume.len(Side::Left) < 1 {
-            return Err(VolumeFault::Io.into());
-        }
-        let mut stopped = volume.stop();
-        assert!(rt;
-            reads_as(&mut stopped, Side::Left, left)?,
-            "{choice:?} after {pass}"
-        );
-        stopped.sync(Side::Left)?;
-    }
+    let wrong = first_wrong(rt.alloc(), FAILED)?;
+    assert!(rt; wrong.is_none(), "case {wrong:?}");
     Ok(())
 }
 
-/// What is written to Right and not synced stays pending through a read and a sync of Left: a stop leaves the choice.
+/// What is written to Right and not synced stays pending through a read and a sync of Left, and through a sync that fails.
+const BOTH: Round = (
+    &[
+        Call::Write(Side::Right, 0, &[2]),
+        Call::Write(Side::Left, 0, &[1]),
+        Call::Sync(Side::Left),
+        Call::Read(Side::Left, &[1]),
+        Call::Sync(Side::Right),
+    ],
+    &[DONE, DONE, DONE, DONE, FAILS],
+);
+
+/// A stop leaves the choice of Right.
+const SIDES: &[Case] = &[
+    (
+        Plan::First(4, Mode::After),
+        Choice::Old,
+        BOTH,
+        (
+            &[Call::Read(Side::Left, &[1]), Call::Read(Side::Right, &[])],
+            &[DONE; 2],
+        ),
+        NO_CALL,
+    ),
+    (
+        Plan::First(4, Mode::After),
+        Choice::New,
+        BOTH,
+        (
+            &[Call::Read(Side::Left, &[1]), Call::Read(Side::Right, &[2])],
+            &[DONE; 2],
+        ),
+        NO_CALL,
+    ),
+    (
+        Plan::First(4, Mode::After),
+        Choice::Torn(MARK),
+        BOTH,
+        (
+            &[
+                Call::Read(Side::Left, &[1]),
+                Call::Read(Side::Right, &[MARK]),
+            ],
+            &[DONE; 2],
+        ),
+        NO_CALL,
+    ),
+];
+
 #[test]
 fn a_side_stays_pending_through_calls_on_the_other(rt: HostRuntime) -> Result<(), Fail> {
-    for (choice, right) in [
-        (Choice::Old, [].as_slice()),
-        (Choice::New, [2].as_slice()),
-        (Choice::Torn(MARK), [MARK].as_slice()),
-    ] {
-        let memory = MemVolume::new(rt.alloc(), 100, choice);
-        let mut volume = FaultVolume::new(memory, 4, Mode::After);
-        write(&mut volume, Side::Right, 0, &[2])?;
-        write(&mut volume, Side::Left, 0, &[1])?;
-        volume.sync(Side::Left)?;
-        assert!(rt; reads_as(&mut volume, Side::Left, &[1])?);
-        // A sync that fails settles nothing either.
-        assert_eq!(rt; volume.sync(Side::Right), Err(VolumeFault::Io));
-        let mut stopped = volume.stop();
-        assert!(rt; reads_as(&mut stopped, Side::Left, &[1])?, "{choice:?}");
-        assert!(rt; reads_as(&mut stopped, Side::Right, right)?, "{choice:?}");
-    }
+    let wrong = first_wrong(rt.alloc(), SIDES)?;
+    assert!(rt; wrong.is_none(), "case {wrong:?}");
     Ok(())
 }
 
+const SYNCS: &[Call] = &[Call::Sync(Side::Left); 6];
+
+/// A series goes on after a stop: one call passes and one fails, then one passes and one fails again, and then none fails.
+const GOES_ON: Case = (
+    Plan::Series(&[1, 1]),
+    Choice::Old,
+    (WRITTEN, &[FAILS]),
+    (
+        &[
+            Call::Read(Side::Left, &[]),
+            Call::Sync(Side::Left),
+            Call::Sync(Side::Left),
+        ],
+        &[DONE, FAILS, DONE],
+    ),
+    NO_CALL,
+);
+
 /// The numbers of a series, and which of its first six calls fail.
-const SERIES: [(&[u64], [bool; 6]); 5] = [
-    (&[], [false, false, false, false, false, false]),
-    (&[0], [true, false, false, false, false, false]),
-    (&[2], [false, false, true, false, false, false]),
-    (&[0, 0, 1], [true, true, false, true, false, false]),
-    (&[1, 2], [false, true, false, false, true, false]),
+const SERIES: &[Case] = &[
+    (
+        Plan::Series(&[]),
+        Choice::Old,
+        (SYNCS, &[DONE; 6]),
+        NO_CALL,
+        NO_CALL,
+    ),
+    (
+        Plan::Series(&[0]),
+        Choice::Old,
+        (SYNCS, &[FAILS, DONE, DONE, DONE, DONE, DONE]),
+        NO_CALL,
+        NO_CALL,
+    ),
+    (
+        Plan::Series(&[2]),
+        Choice::Old,
+        (SYNCS, &[DONE, DONE, FAILS, DONE, DONE, DONE]),
+        NO_CALL,
+        NO_CALL,
+    ),
+    (
+        Plan::Series(&[0, 0, 1]),
+        Choice::Old,
+        (SYNCS, &[FAILS, FAILS, DONE, FAILS, DONE, DONE]),
+        NO_CALL,
+        NO_CALL,
+    ),
+    (
+        Plan::Series(&[1, 2]),
+        Choice::Old,
+        (SYNCS, &[DONE, FAILS, DONE, DONE, FAILS, DONE]),
+        NO_CALL,
+        NO_CALL,
+    ),
+    GOES_ON,
 ];
 
 #[test]
 fn a_series_fails_the_call_after_each_number(rt: HostRuntime) -> Result<(), Fail> {
-    for (passes, failing) in SERIES {
-        let passes = passes.to_vec(rt.alloc())?;
-        let memory = MemVolume::new(rt.alloc(), 100, Choice::Old);
-        let mut volume = FaultVolume::series(memory, passes);
-        for (call, fails) in failing.iter().enumerate() {
-            let synced = volume.sync(Side::Left);
-            assert!(rt; is_as_planned(synced, *fails)?, "call {call}");
-        }
-    }
-    Ok(())
-}
-
-/// One call passes and one fails; after the stop one passes and one fails again, and then none fails.
-#[test]
-fn a_series_goes_on_after_a_stop(rt: HostRuntime) -> Result<(), Fail> {
-    let passes = [1, 1].to_vec(rt.alloc())?;
-    let memory = MemVolume::new(rt.alloc(), 100, Choice::Old);
-    let mut volume = FaultVolume::series(memory, passes);
-    let done = write_synced(&mut volume, Side::Left, 0, &[5]);
-    assert_eq!(rt; done, Err(VolumeFault::Io));
-    let mut stopped = volume.stop();
-    assert!(rt; reads_as(&mut stopped, Side::Left, &[])?);
-    let synced = stopped.sync(Side::Left);
-    assert_eq!(rt; synced, Err(VolumeFault::Io));
-    stopped.sync(Side::Left)?;
+    let wrong = first_wrong(rt.alloc(), SERIES)?;
+    assert!(rt; wrong.is_none(), "case {wrong:?}");
     Ok(())
 }
 
 #[test]
 fn faults_read_as_sentences(rt: HostRuntime) -> Result<(), Fail> {
-    let io = format!(in rt.alloc(); "{}", VolumeFault::Io)?;
-    assert_eq!(rt; io.as_str(), "the device failed");
-    let too_large = format!(in rt.alloc(); "{}", VolumeFault::TooLarge)?;
-    assert_eq!(rt; too_large.as_str(), "the write would end past the limit");
+    let io = prints(rt.alloc(), VolumeFault::Io, "the device failed")?;
+    let text = "the write would end past the limit";
+    let too_large = prints(rt.alloc(), VolumeFault::TooLarge, text)?;
+    assert!(rt; io && too_large);
     Ok(())
 }

@@ -1,7 +1,8 @@
 //! Volumes of real files. Each test makes a folder of its own below the working folder, and removes it.
-use crate::disk::{reads_as, write};
+use crate::calls::{Call, DONE, FAILS, Round, TOO_LARGE, are_answered, fill, prints};
 use fw_disk::*;
-use fw_journal::{Log, replay};
+use fw_journal::{Log, LogFault, replay};
+use std::alloc::{AllocError, Global};
 use std::fs::OpenOptions;
 use std::os::unix::fs::symlink;
 use std::test::Fail;
@@ -29,82 +30,190 @@ fn refusal(rt: &HostRuntime, folder: &str) -> Result<Option<FolderFault>, Folder
     }
 }
 
+/// Whether calls were answered as they should be; a device that failed is a fault of the folder.
+fn answered(played: Result<bool, VolumeFault>) -> Result<bool, FolderFault> {
+    match played {
+        Ok(right) => Ok(right),
+        Err(_) => Err(FolderFault::Io(io::ErrorKind::Other.into())),
+    }
+}
+
+/// Whether the volume of a folder answers as it should. It is closed afterwards.
+fn plays(rt: &HostRuntime, folder: &str, round: Round) -> Result<bool, FolderFault> {
+    let mut volume = FileVolume::open(rt, folder)?;
+    answered(are_answered(&mut volume, round))
+}
+
+const WRITTEN: Round = (
+    &[
+        Call::Limit(1 << 40),
+        Call::WriteSynced(Side::Left, &[1, 2, 3]),
+        Call::Write(Side::Left, 1, &[9]),
+        Call::Read(Side::Left, &[1, 9, 3]),
+        Call::Write(Side::Left, 3, &[4, 5]),
+        Call::Len(Side::Left, 5),
+    ],
+    &[DONE; 6],
+);
+
+const KEPT: Round = (
+    &[
+        Call::Read(Side::Left, &[1, 9, 3, 4, 5]),
+        Call::Read(Side::Right, &[]),
+    ],
+    &[DONE; 2],
+);
+
+/// Whether a folder's files are made, and keep their bytes.
+fn are_kept(rt: &HostRuntime) -> Result<bool, FolderFault> {
+    let folder = "fw_test_disk_kept";
+    make_folder(rt, folder)?;
+    let are_kept = plays(rt, folder, WRITTEN)? && plays(rt, folder, KEPT)?;
+    remove_folder(rt, folder)?;
+    Ok(are_kept)
+}
+
 #[test]
 fn files_are_made_and_keep_their_bytes(rt: HostRuntime) -> Result<(), Fail> {
-    let folder = "fw_test_disk_kept";
-    make_folder(&rt, folder)?;
-    let mut volume = FileVolume::open(&rt, folder)?;
-    assert_eq!(rt; volume.limit(), 1 << 40);
-    write_synced(&mut volume, Side::Left, 0, &[1, 2, 3])?;
-    write(&mut volume, Side::Left, 1, &[9])?;
-    assert!(rt; reads_as(&mut volume, Side::Left, &[1, 9, 3])?);
-    write(&mut volume, Side::Left, 3, &[4, 5])?;
-    assert_eq!(rt; volume.len(Side::Left), 5);
-    drop(volume);
-    let mut again = FileVolume::open(&rt, folder)?;
-    assert!(rt; reads_as(&mut again, Side::Left, &[1, 9, 3, 4, 5])?);
-    assert!(rt; reads_as(&mut again, Side::Right, &[])?);
-    remove_folder(&rt, folder)?;
+    let are_kept = are_kept(&rt)?;
+    assert!(rt; are_kept);
     Ok(())
+}
+
+/// Writes a log of one payload.
+fn log_one(alloc: Global, volume: &mut FileVolume) -> Result<bool, LogFault> {
+    if fill(volume, Side::Right, &[0]).is_err() {
+        return Err(LogFault::Device);
+    }
+    let mut log = Log::open(volume, Side::Right, 0)?;
+    log.append(alloc, volume, &[5, 6, 7])?;
+    Ok(true)
+}
+
+/// Whether the log has that payload and no other.
+fn has_one(alloc: Global, volume: &mut FileVolume) -> Result<bool, LogFault> {
+    let payloads = replay(alloc, volume, Side::Right, 0)?;
+    Ok(payloads.len() == 1 && payloads[0].as_slice() == [5, 6, 7].as_slice())
+}
+
+/// What a log's fault is to a test: out of memory, or a device that failed.
+fn logged(answer: Result<bool, LogFault>) -> Result<bool, FolderFault> {
+    match answer {
+        Ok(right) => Ok(right),
+        Err(LogFault::NoMemory) => Err(FolderFault::NoMemory),
+        Err(_) => Err(FolderFault::Io(io::ErrorKind::Other.into())),
+    }
+}
+
+fn log_one_in(rt: &HostRuntime, folder: &str) -> Result<bool, FolderFault> {
+    let mut volume = FileVolume::open(rt, folder)?;
+    logged(log_one(rt.alloc(), &mut volume))
+}
+
+fn has_one_in(rt: &HostRuntime, folder: &str) -> Result<bool, FolderFault> {
+    let mut volume = FileVolume::open(rt, folder)?;
+    logged(has_one(rt.alloc(), &mut volume))
+}
+
+/// Whether a log is there after its folder is opened again.
+fn is_logged(rt: &HostRuntime) -> Result<bool, FolderFault> {
+    let folder = "fw_test_disk_log";
+    make_folder(rt, folder)?;
+    let is_logged = log_one_in(rt, folder)? && has_one_in(rt, folder)?;
+    remove_folder(rt, folder)?;
+    Ok(is_logged)
 }
 
 #[test]
 fn a_log_is_there_after_the_folder_is_opened_again(rt: HostRuntime) -> Result<(), Fail> {
-    let folder = "fw_test_disk_log";
-    make_folder(&rt, folder)?;
-    let mut volume = FileVolume::open(&rt, folder)?;
-    write_synced(&mut volume, Side::Right, 0, &[0])?;
-    let mut log = Log::open(&mut volume, Side::Right, 0)?;
-    log.append(rt.alloc(), &mut volume, &[5, 6, 7])?;
-    drop(volume);
-    let mut again = FileVolume::open(&rt, folder)?;
-    let payloads = replay(rt.alloc(), &mut again, Side::Right, 0)?;
-    assert_eq!(rt; payloads.len(), 1);
-    assert_eq!(rt; payloads[0].as_slice(), [5, 6, 7].as_slice());
-    remove_folder(&rt, folder)?;
+    let is_logged = is_logged(&rt)?;
+    assert!(rt; is_logged);
     Ok(())
+}
+
+/// Whether a folder is in use while its volume is open.
+fn is_in_use(rt: &HostRuntime, folder: &str) -> Result<bool, FolderFault> {
+    let _volume = FileVolume::open(rt, folder)?;
+    match refusal(rt, folder) {
+        Ok(fault) => Ok(matches!(fault, Some(FolderFault::InUse))),
+        Err(fault) => Err(fault),
+    }
+}
+
+/// Whether a folder is in use while its volume is open, and no longer.
+fn is_in_use_once(rt: &HostRuntime) -> Result<bool, FolderFault> {
+    let folder = "fw_test_disk_in_use";
+    make_folder(rt, folder)?;
+    let is_in_use = is_in_use(rt, folder)? && refusal(rt, folder)?.is_none();
+    remove_folder(rt, folder)?;
+    Ok(is_in_use)
 }
 
 #[test]
 fn an_open_folder_is_in_use(rt: HostRuntime) -> Result<(), Fail> {
-    let folder = "fw_test_disk_in_use";
-    make_folder(&rt, folder)?;
-    let volume = FileVolume::open(&rt, folder)?;
-    assert!(rt; matches!(refusal(&rt, folder)?, Some(FolderFault::InUse)));
-    drop(volume);
-    assert!(rt; refusal(&rt, folder)?.is_none());
-    remove_folder(&rt, folder)?;
+    let is_in_use = is_in_use_once(&rt)?;
+    assert!(rt; is_in_use);
     Ok(())
+}
+
+const THREE_BYTES: Round = (
+    &[
+        Call::WriteSynced(Side::Left, &[1, 2, 3]),
+        Call::Read(Side::Left, &[1, 2, 3]),
+    ],
+    &[DONE; 2],
+);
+
+const SHORT: Round = (&[Call::Read(Side::Left, &[1, 2, 3])], &[FAILS]);
+
+/// Whether a read of a file that lost a byte fails, and spoils no write.
+fn reads_on(volume: &mut FileVolume) -> Result<bool, VolumeFault> {
+    let short = are_answered(volume, SHORT)?;
+    let sound = volume.failure(Side::Left).is_none();
+    Ok(are_answered(volume, THREE_BYTES)? && short && sound)
+}
+
+/// Whether that is so of a file that is written, and then loses its last byte.
+fn reads_short(rt: &HostRuntime, volume: &mut FileVolume, path: &str) -> Result<bool, FolderFault> {
+    let written = answered(are_answered(volume, THREE_BYTES))?;
+    fs::write(rt, path, [1, 2].as_slice())?;
+    Ok(answered(reads_on(volume))? && written)
+}
+
+fn reads_short_in(rt: &HostRuntime, folder: &str, path: &str) -> Result<bool, FolderFault> {
+    let mut volume = FileVolume::open(rt, folder)?;
+    reads_short(rt, &mut volume, path)
+}
+
+fn is_short_read(rt: &HostRuntime) -> Result<bool, FolderFault> {
+    let folder = "fw_test_disk_short";
+    make_folder(rt, folder)?;
+    let is_right = reads_short_in(rt, folder, "fw_test_disk_short/left")?;
+    remove_folder(rt, folder)?;
+    Ok(is_right)
 }
 
 #[test]
 fn a_read_that_comes_short_fails(rt: HostRuntime) -> Result<(), Fail> {
-    let folder = "fw_test_disk_short";
-    make_folder(&rt, folder)?;
-    let mut volume = FileVolume::open(&rt, folder)?;
-    write_synced(&mut volume, Side::Left, 0, &[1, 2, 3])?;
-    fs::write(&rt, "fw_test_disk_short/left", [1, 2].as_slice())?;
-    assert_eq!(rt;
-        reads_as(&mut volume, Side::Left, &[1, 2, 3]),
-        Err(VolumeFault::Io)
-    );
-    assert!(rt; volume.failure(Side::Left).is_none());
-    // A read that fails spoils no write.
-    write_synced(&mut volume, Side::Left, 0, &[1, 2, 3])?;
-    assert!(rt; reads_as(&mut volume, Side::Left, &[1, 2, 3])?);
-    remove_folder(&rt, folder)?;
+    let is_right = is_short_read(&rt)?;
+    assert!(rt; is_right);
     Ok(())
 }
 
-/// Whether a folder is opened where its file has this length, which takes no room on the disk.
+/// Makes a file of this length, which takes no room on the disk.
+fn set_len(rt: &HostRuntime, path: &str, len: u64) -> io::Result<()> {
+    let file = OpenOptions::new().write(true).create(true).open(rt, path)?;
+    file.set_len(len)
+}
+
+/// Whether a folder is opened where its file has this length.
 fn opens_at_length(
     rt: &HostRuntime,
     folder: &str,
     path: &str,
     len: u64,
 ) -> Result<bool, FolderFault> {
-    let file = OpenOptions::new().write(true).create(true).open(rt, path)?;
-    file.set_len(len)?;
+    set_len(rt, path, len)?;
     match refusal(rt, folder)? {
         None => Ok(true),
         Some(FolderFault::TooLong) => Ok(false),
@@ -112,49 +221,99 @@ fn opens_at_length(
     }
 }
 
-#[test]
-fn a_file_past_the_limit_is_refused(rt: HostRuntime) -> Result<(), Fail> {
+const FULL: Round = (
+    &[
+        Call::Len(Side::Right, FileVolume::LIMIT),
+        Call::Write(Side::Right, FileVolume::LIMIT, &[1]),
+        Call::Write(Side::Right, FileVolume::LIMIT - 1, &[1]),
+    ],
+    &[DONE, TOO_LARGE, DONE],
+);
+
+/// Whether a file at the limit is opened, and one past it is not.
+fn is_limited(rt: &HostRuntime) -> Result<bool, FolderFault> {
     let folder = "fw_test_disk_long";
     let path = "fw_test_disk_long/right";
-    make_folder(&rt, folder)?;
-    assert!(rt; !opens_at_length(&rt, folder, path, FileVolume::LIMIT + 1)?);
-    assert!(rt; opens_at_length(&rt, folder, path, FileVolume::LIMIT)?);
-    let mut volume = FileVolume::open(&rt, folder)?;
-    assert_eq!(rt; volume.len(Side::Right), FileVolume::LIMIT);
-    let late = write(&mut volume, Side::Right, FileVolume::LIMIT, &[1]);
-    assert_eq!(rt; late, Err(VolumeFault::TooLarge));
-    let last = write(&mut volume, Side::Right, FileVolume::LIMIT - 1, &[1]);
-    assert_eq!(rt; last, Ok(()));
-    remove_folder(&rt, folder)?;
+    make_folder(rt, folder)?;
+    let is_limited = !opens_at_length(rt, folder, path, FileVolume::LIMIT + 1)?
+        && opens_at_length(rt, folder, path, FileVolume::LIMIT)?
+        && plays(rt, folder, FULL)?;
+    remove_folder(rt, folder)?;
+    Ok(is_limited)
+}
+
+#[test]
+fn a_file_past_the_limit_is_refused(rt: HostRuntime) -> Result<(), Fail> {
+    let is_limited = is_limited(&rt)?;
+    assert!(rt; is_limited);
     Ok(())
+}
+
+/// Whether a folder is refused by a call of the system.
+fn is_io(rt: &HostRuntime, folder: &str) -> Result<bool, FolderFault> {
+    let refused = refusal(rt, folder)?;
+    Ok(matches!(refused, Some(FolderFault::Io(_))))
+}
+
+fn is_folder_for_file_refused(
+    rt: &HostRuntime,
+    folder: &str,
+    path: &str,
+) -> Result<bool, FolderFault> {
+    fs::create_dir(rt, path)?;
+    let is_refused = is_io(rt, folder)?;
+    fs::remove_dir(rt, path)?;
+    Ok(is_refused)
+}
+
+fn is_device_for_file_refused(
+    rt: &HostRuntime,
+    folder: &str,
+    path: &str,
+) -> Result<bool, FolderFault> {
+    symlink(rt, "/dev/null", path)?;
+    is_io(rt, folder)
+}
+
+/// Whether a missing folder, a folder for a file and a device for a file are refused.
+fn are_others_refused(rt: &HostRuntime) -> Result<bool, FolderFault> {
+    let folder = "fw_test_disk_other";
+    let path = "fw_test_disk_other/left";
+    make_folder(rt, folder)?;
+    let are_refused = is_io(rt, "fw_test_disk_other/none")?
+        && is_folder_for_file_refused(rt, folder, path)?
+        && is_device_for_file_refused(rt, folder, path)?;
+    remove_folder(rt, folder)?;
+    Ok(are_refused)
 }
 
 #[test]
 fn what_is_no_folder_and_no_file_is_refused(rt: HostRuntime) -> Result<(), Fail> {
-    let folder = "fw_test_disk_other";
-    make_folder(&rt, folder)?;
-    assert!(rt;
-        matches!(
-            refusal(&rt, "fw_test_disk_other/none")?,
-            Some(FolderFault::Io(_))
-        )
-    );
-    fs::create_dir(&rt, "fw_test_disk_other/left")?;
-    assert!(rt; matches!(refusal(&rt, folder)?, Some(FolderFault::Io(_))));
-    fs::remove_dir(&rt, "fw_test_disk_other/left")?;
-    symlink(&rt, "/dev/null", "fw_test_disk_other/left")?;
-    assert!(rt; matches!(refusal(&rt, folder)?, Some(FolderFault::Io(_))));
-    remove_folder(&rt, folder)?;
+    let are_refused = are_others_refused(&rt)?;
+    assert!(rt; are_refused);
     Ok(())
+}
+
+/// The faults of a folder that are no system's, and what they print.
+const SENTENCES: &[(FolderFault, &str)] = &[
+    (FolderFault::InUse, "the folder is in use"),
+    (FolderFault::TooLong, "a file is longer than 2^40 bytes"),
+    (FolderFault::NoMemory, "out of memory"),
+];
+
+/// The first that prints something else.
+fn wrong_sentence(alloc: Global) -> Result<Option<usize>, AllocError> {
+    for (place, (fault, text)) in SENTENCES.iter().enumerate() {
+        if !prints(alloc, *fault, text)? {
+            return Ok(Some(place));
+        }
+    }
+    Ok(None)
 }
 
 #[test]
 fn folder_faults_read_as_sentences(rt: HostRuntime) -> Result<(), Fail> {
-    let in_use = format!(in rt.alloc(); "{}", FolderFault::InUse)?;
-    assert_eq!(rt; in_use.as_str(), "the folder is in use");
-    let too_long = format!(in rt.alloc(); "{}", FolderFault::TooLong)?;
-    assert_eq!(rt; too_long.as_str(), "a file is longer than 2^40 bytes");
-    let no_memory = format!(in rt.alloc(); "{}", FolderFault::NoMemory)?;
-    assert_eq!(rt; no_memory.as_str(), "out of memory");
+    let wrong = wrong_sentence(rt.alloc())?;
+    assert!(rt; wrong.is_none(), "case {wrong:?}");
     Ok(())
 }
