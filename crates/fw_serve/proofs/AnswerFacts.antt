@@ -1,6 +1,5 @@
 -- Lemmas on what single commands are answered.
-use Rattle.std.proofs.Common.{◌≡◌, ◌∙◌, ◌+◌, ◌++◌, ◌∷◌, [], ◌<◌, ℕ, zero, suc, true, false, List, length, Some, None, Ok, Err, refl, sym, ap, subst, inl, inr, ◌⊎◌, arith}
-use Rattle.std.proofs.lemmas.List.{length-append}
+use Rattle.std.proofs.Common.{◌≡◌, ◌<◌, ℕ, zero, suc, true, false, List, length, Some, None, Ok, Err, refl, ap, inl, inr, ◌⊎◌, arith}
 use Rattle.std.proofs.Math.Dec.{eqb-suc-zero}
 use Rattle.std.proofs.lemmas.Bool.{le-ltb, lt-ltb}
 use Rattle.std.specs.Borrow.{Bor}
@@ -11,14 +10,13 @@ use Rattle.fw_query.specs.RangeLines.{AreRangeLines}
 use Rattle.fw_query.specs.Refusals.{AreRefused}
 use Rattle.fw_rows.specs.Rows.{RowsRead}
 use Rattle.fw_script.specs.declared.commands.EntryKind.{EntryKind}
-use Rattle.fw_script.specs.declared.commands.EntryKind.TheVariants as kind
 use Rattle.fw_entry.specs.Entry.{CommandValue, EntryValue, is_origin}
 use Rattle.fw_entry.specs.Refusals.{IsRefused}
 use Rattle.fw_entry.specs.Spelling as spelling
 use Rattle.fw_entry.specs.Spelling.{most_entry_bytes, IsEntry, IsRowCount}
 use Rattle.fw_entry.specs.declared.fault.EntryFault.{EntryFault}
 use Rattle.fw_entry.specs.declared.fault.EntryFault.TheVariants as entry_fault
-use Rattle.fw_snapshot.specs.History.{History, rows_of, commitments_of, policy_of}
+use Rattle.fw_snapshot.specs.History.{History, rows_of, commitments_of}
 use Rattle.fw_serve.specs.Contents.{ContentReads}
 use Rattle.fw_serve.specs.Answers.{Entered, SequenceReads, parts_entry, entry_made, Makes, Submits, Takes, RanOut}
 use Rattle.fw_serve.specs.Standings.{Standing}

@@ -8,3 +8,4 @@ pub mod SilentFacts
 pub mod RunFacts
 pub mod OneAnswerFacts
 pub mod WrittenFacts
+pub mod FailedFacts

@@ -1,5 +1,5 @@
 -- Lemmas on what commands leave of a store.
-use Rattle.std.proofs.Common.{◌≡◌, ◌∙◌, ℕ, ◌≤◌, List, [], ◌∷◌, ◌++◌, Bool, true, false, refl, sym, ap, subst, inl, inr, ⊎_elim, ◌⊎◌, arith, append-nil, append_assoc, IsTrue}
+use Rattle.std.proofs.Common.{◌≡◌, ◌∙◌, ℕ, ◌≤◌, List, [], ◌∷◌, ◌++◌, Bool, true, false, refl, sym, ap, subst, inl, inr, ⊎_elim, arith, append-nil, append_assoc, IsTrue}
 use Rattle.fw_disk.specs.Volume.{Image, View, LeavesOnly, Rose}
 use Rattle.fw_disk.proofs.Moments.{started, goes_through, weakened}
 use Rattle.fw_entry.specs.Entry.{EntryValue}

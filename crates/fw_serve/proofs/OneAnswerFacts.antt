@@ -128,7 +128,7 @@ unfolding ContentReads
 policy_content currency content (Ok command) given = (Ok given.0, ap Ok given.1, given.2)
 policy_content currency content (Err line) given = (Err given.0, ap Err given.1, given.2)
 
-content_one : (k : EntryKind) (currency content : List ℕ) (r s : Result CommandValue (List ℕ)) → ContentReads k currency content r → ContentReads k currency content s
+pub content_one : (k : EntryKind) (currency content : List ℕ) (r s : Result CommandValue (List ℕ)) → ContentReads k currency content r → ContentReads k currency content s
     → (r ≡ s) ⊎ ((r ≡ Err no_memory_line) ⊎ (s ≡ Err no_memory_line))
 content_one kind.Post currency content r s a b =
     let p = post_content currency content r a in
@@ -146,7 +146,7 @@ content_one kind.Policy currency content r s a b =
     images_same set_policy policy_fault_line policy_fault.NoMemory policy_no_memory p.0 q.0 r s p.1 q.1
     (reading_same (PolicyReads content) policy_fault.NoMemory policy_out (policy_texts.text-one content) p.0 q.0 p.2 q.2)
 
-number_one : (word : List ℕ) (m n : ℕ) → SequenceReads word m → SequenceReads word n → m ≡ n
+pub number_one : (word : List ℕ) (m n : ℕ) → SequenceReads word m → SequenceReads word n → m ≡ n
 number_one word zero zero a b = refl
 number_one word zero (suc n) a b = absurd (a (suc n) b)
 number_one word (suc m) zero a b = absurd (b (suc m) a)

@@ -1,5 +1,5 @@
 -- Lemmas on what a store's calls are answered.
-use Rattle.std.proofs.Common.{◌≡◌, ◌∙◌, ℕ, ◌+◌, ◌-◌, ◌^◌, ◌<◌, List, [], ◌∷◌, ◌++◌, length, Bool, true, false, refl, sym, ap, subst, inl, inr, ⊎_elim, ◌⊎◌, arith, ◌↔◌, IsTrue, ◌≤◌}
+use Rattle.std.proofs.Common.{◌≡◌, ◌∙◌, ℕ, ◌+◌, List, [], ◌∷◌, length, Bool, true, false, refl, ap, subst, inl, inr, ⊎_elim, ◌⊎◌, arith, ◌↔◌, IsTrue, ◌≤◌}
 use Rattle.std.specs.Prelude.{Result, Ok, Err, IsErrOf, IfErr, OnErr}
 use Rattle.fw_disk.specs.declared.volume.Side.{Side}
 use Rattle.std.proofs.lemmas.List.{length-append}
@@ -17,10 +17,10 @@ use Rattle.fw_snapshot.specs.Judging.{judged}
 use Rattle.fw_snapshot.specs.Verdicts.{kept_by}
 use Rattle.fw_snapshot.specs.declared.verdict.Verdict.{Verdict}
 use Rattle.fw_snapshot.specs.declared.verdict.Verdict.TheVariants as verdict
-use Rattle.fw_serve.proofs.MoveFacts.{by_flag, not_both, Moves-lost, Moves-checkpoint}
-use Rattle.fw_serve.specs.Answers.{Stays, RanOut, Stores, Judges, Submits, Renews, Checkpoints, last_generation, lost, with_entry}
-use Rattle.fw_serve.specs.Replies.{verdict_line, store_fault_line, accepted_line, checkpointed_line, no_memory_line}
-use Rattle.fw_serve.specs.Standings.{Standing, standing_of, Moves}
+use Rattle.fw_serve.proofs.MoveFacts.{by_flag, Moves-lost, Moves-checkpoint}
+use Rattle.fw_serve.specs.Answers.{RanOut, Judges, Submits, Checkpoints, last_generation, lost}
+use Rattle.fw_serve.specs.Replies.{verdict_line, store_fault_line, accepted_line, checkpointed_line}
+use Rattle.fw_serve.specs.Standings.{standing_of, Moves}
 
 -- an entry that was committed, by its verdict
 committed_by : {V : Type 0} (tells : Bool) (view : V → View) (old new : StoreState V) (e : EntryValue) (v : Verdict) (text : List ℕ) → old.failed ≡ false

@@ -223,7 +223,7 @@ accepted_now before command n next after later answered more low few =
     let same : length before.history.entries + 1 ≡ n = sym (accepted_number n (length before.history.entries + 1) low below said.1) in
     (e, sends, subst (λ k. StandsAt after.entries k e) same (stands_later before.history e next.history after later one more))
 
-same_currency : (before : Standing) (command : PlainCommand) (text : List ℕ) (after : Standing) → OneStep before command text after → after.history.currency ≡ before.history.currency
+pub same_currency : (before : Standing) (command : PlainCommand) (text : List ℕ) (after : Standing) → OneStep before command text after → after.history.currency ≡ before.history.currency
 same_currency before command text after (inl passed) = ap (λ (h : History). h.currency) passed.2
 same_currency before command text after (inr (e, sends, says, grows)) = ap (λ (h : History). h.currency) grows
 

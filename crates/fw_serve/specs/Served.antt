@@ -1,5 +1,5 @@
 -- What serving a script does.
-use Rattle.std.specs.Prelude.{◌≡◌, ℕ, List, [], ◌∷◌, Option, IfSome, ◌≤◌, ◌^◌, length, ◌⊎◌}
+use Rattle.std.specs.Prelude.{◌≡◌, ℕ, List, Option, IfSome, ◌≤◌, ◌^◌, length, ◌⊎◌}
 use Rattle.std.specs.Io.KnownBytes.{Appends, Keeps}
 use Rattle.fw_script.specs.Commands.{CommandsOf, FirstCommand, StartsWithCommands}
 use Rattle.fw_script.specs.Plain.{PlainCommand}

@@ -1,11 +1,12 @@
 //! What holds of every run of commands: laws over the relation that [`serve`](crate::serve) promises between a script and what was written, each the
 //! contract of a function that does nothing.
-ghost use Rattle.std.specs.Prelude.{◌≡◌, ◌+◌, ◌<◌, ◌^◌, List, Some, length, slice_get, ℕ};
+ghost use Rattle.std.specs.Prelude.{◌≡◌, ◌⊎◌, ◌+◌, ◌<◌, ◌^◌, List, Some, length, slice_get, true, ℕ};
 ghost use Rattle.std.specs.List.{concat};
 ghost use Rattle.fw_entry.specs.Entry.{EntryValue};
-ghost use Rattle.fw_script.specs.Plain.{PlainCommand};
+ghost use Rattle.fw_recover.specs.declared.fault.StoreFault.TheVariants as store_fault;
+ghost use Rattle.fw_script.specs.Plain.{PlainCommand, checkpoint};
 ghost use Rattle.fw_serve.specs.Answers.{Answer, Answers};
-ghost use Rattle.fw_serve.specs.Replies.{accepted_line, already_line, conflict_line, gap_line};
+ghost use Rattle.fw_serve.specs.Replies.{accepted_line, already_line, conflict_line, gap_line, no_memory_line, store_fault_line};
 ghost use Rattle.fw_serve.specs.Runs.{AnswersEach, AreOne, AreTold, AreUnhindered, IsHindered, NoneHindered, Sends, StandsAt};
 ghost use Rattle.fw_serve.specs.Standings.{Standing};
 ghost use Rattle.fw_snapshot.specs.History.{entries_from};
@@ -58,4 +59,17 @@ pub fn what_is_written_is_true()
         → (e : EntryValue) × Sends before.history.currency command e × (n ≡ entries_from e.origin before.history.entries + 1) × (n < e.seq) × (after.history ≡ before.history) }
     ensures refused { (before after : Standing) (command : PlainCommand) (why : Conflict) → Answer before command (conflict_line why) after
         → (e : EntryValue) × Sends before.history.currency command e × (judged before.history.entries e ≡ verdict.Refused why) × (after.history ≡ before.history) }
+{}
+
+/// A store whose device has failed takes nothing more. What is answered `store S3 Device` leaves such a store, with the entries that it had (`failed`). From
+/// then on nothing changes (`stays`): in the rest of the script each command that sends an entry is answered `store S4 Failed`, or that memory ran out
+/// (`entries`), and each checkpoint `store S4 Failed` (`checkpoints`). All else is answered from these entries still ([`one_command_has_one_answer`]).
+pub fn a_store_that_failed_takes_nothing_more()
+    ensures failed { (before after : Standing) (command : PlainCommand) → Answer before command (store_fault_line store_fault.Device) after → (after.failed ≡ true) × (after.history ≡ before.history) }
+    ensures stays { (before after : Standing) (commands : List PlainCommand) (answers : List (List ℕ)) → before.failed ≡ true → AnswersEach before commands answers after → after ≡ before }
+    ensures entries { (before after : Standing) (commands : List PlainCommand) (answers : List (List ℕ)) (place later : ℕ) (command : PlainCommand) (answer : List ℕ) (e : EntryValue) → AnswersEach before commands answers after
+        → slice_get answers place ≡ Some (store_fault_line store_fault.Device) → place < later → slice_get commands later ≡ Some command → slice_get answers later ≡ Some answer → Sends before.history.currency command e
+        → (answer ≡ store_fault_line store_fault.Failed) ⊎ (answer ≡ no_memory_line) }
+    ensures checkpoints { (before after : Standing) (commands : List PlainCommand) (answers : List (List ℕ)) (place later : ℕ) (answer : List ℕ) → AnswersEach before commands answers after
+        → slice_get answers place ≡ Some (store_fault_line store_fault.Device) → place < later → slice_get commands later ≡ Some checkpoint → slice_get answers later ≡ Some answer → answer ≡ store_fault_line store_fault.Failed }
 {}

@@ -19,6 +19,9 @@ mod writing;
 
 pub use fault::ServeFault;
 pub use input::read_within;
-pub use laws::{answers_say_what_is_held, one_command_has_one_answer, what_is_written_is_true};
+pub use laws::{
+    a_store_that_failed_takes_nothing_more, answers_say_what_is_held, one_command_has_one_answer,
+    what_is_written_is_true,
+};
 pub use reply::{Detail, Refusal, Reply};
 pub use server::serve;

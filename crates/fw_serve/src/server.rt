@@ -1,6 +1,8 @@
 //! Scripts that are served: read, run command by command, and answered.
-ghost use Rattle.std.specs.Prelude.{◌≡◌, ◌≢◌, ◌<◌, ◌≤◌, false, true, length, OnOk, IfErr, IfSome, IsTrue, Err};
-ghost use Rattle.fw_disk.specs.Volume.{LeavesOnly, Rose};
+ghost use Rattle.std.specs.Prelude.{◌≡◌, ◌≢◌, ◌<◌, ◌≤◌, List, false, true, length, OnOk, IfErr, IfSome, IsTrue, Err};
+ghost use Rattle.fw_disk.specs.Volume.{Image, LeavesOnly, Rose};
+ghost use Rattle.fw_entry.specs.Entry.{EntryValue};
+ghost use Rattle.fw_recover.specs.Stands.{EachStandsFor, StandsForEither};
 ghost use Rattle.fw_serve.specs.Served.{IsServed, IsServedInPart, Serves, ServesInPart, most_bytes, most_workers};
 ghost use Rattle.fw_serve.specs.Standings.{standing_of, IsBetween, Moves};
 
@@ -23,7 +25,8 @@ use std::io::{Read, Write};
 ///
 /// An entry is answered `accepted` only when it is on the volume, synced. What a crash leaves at any moment stands for the
 /// warehouse before the call with the entries that were accepted by then; where the device fails in the middle of an entry,
-/// it may have that one too, and every later entry is answered `store S4 Failed`.
+/// it may have that one too, and every later entry is answered `store S4 Failed`. So after the call, whatever it returns, each image has all that
+/// was answered `accepted`.
 ///
 /// There are 1 to 64 workers. Their number has no effect yet.
 pub fn serve<R: Read, W: Write, V: Volume>(
@@ -40,11 +43,16 @@ pub fn serve<R: Read, W: Write, V: Volume>(
     ensures untouched { IfErr result (λ why. (why ≢ ServeFault.Write) → (store.new ≡ store.old) × (writer.new ≡ writer.old)) }
     ensures too_long { result ≡ Err ServeFault.TooLong → IfSome (R.remaining reader.old) (λ bytes. most_bytes < length bytes) }
     ensures any_moment { IsTrue V.tells → store.old.failed ≡ false → LeavesOnly (V.view store.old.volume) (V.view store.new.volume) (IsBetween store.old.history (standing_of V.view store.new)) }
+    ensures each { IsTrue V.tells → store.new.failed ≡ false → EachStandsFor store.new.history (V.view store.new.volume) }
+    ensures each_once_failed { IsTrue V.tells → store.new.failed ≡ true
+        → (more : List EntryValue) × ((c : Image) → (V.view store.new.volume).may_leave c → StandsForEither store.new.history more c) }
     ensures cause { store.old.failed ≡ false → store.new.failed ≡ true → Rose (V.view store.old.volume).failures (V.view store.new.volume).failures }
 {
     store.keeps();
     let text = read_script(alloc, reader)?;
-    answer_all(alloc, text.as_slice(), writer, store)
+    let served = answer_all(alloc, text.as_slice(), writer, store);
+    store.keeps();
+    served
 }
 
 // Runs the commands of a script, and writes their answers.

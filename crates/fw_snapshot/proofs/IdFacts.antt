@@ -15,6 +15,7 @@ use Rattle.fw_terms.specs.Commitment.{CommitmentValue}
 use Rattle.fw_entry.specs.Entry.{CommandValue, EntryValue}
 use Rattle.fw_entry.specs.Entry.CommandValue.{post, commit, set_policy}
 use Rattle.fw_snapshot.specs.History.{posted, committed, rows_posted, rows_of, commitments_of}
+use Rattle.fw_snapshot.specs.Ids.{NoneHasIdOf, NoRowHasIdOf}
 use Rattle.fw_snapshot.specs.Judging.{judged, IsLegal, has_id, carries, is_registered, has_registered_id, carries_any, command_conflict}
 use Rattle.fw_snapshot.specs.declared.verdict.Verdict.TheVariants as verdict
 use Rattle.fw_snapshot.proofs.EntryFacts.{rows_of_more, commitments_of_more}
@@ -71,7 +72,7 @@ apart_more (d ∷ cs) c apart new =
     let other = both_false (is_registered d.id cs) (bytes_eq d.id c.id) apart.0 (swapped d.id c.id ∙ parts.0) in
     (registered_more d.id cs c ∙ other, apart_more cs c apart.1 parts.1)
 
-registered_at : (id : List ℕ) (cs : List CommitmentValue) (place : ℕ) (c : CommitmentValue) → slice_get cs place ≡ Some c → id ≡ c.id → is_registered id cs ≡ true
+pub registered_at : (id : List ℕ) (cs : List CommitmentValue) (place : ℕ) (c : CommitmentValue) → slice_get cs place ≡ Some c → id ≡ c.id → is_registered id cs ≡ true
 unfolding is_registered
 registered_at id cs place c h same =
     let equal : bytes_eq id c.id ≡ true = (bytes_eq-Decides id c.id).1 same in
@@ -183,9 +184,37 @@ own_id es legal = apart_once (commitments_of es) (commitments_apart es legal)
 pub alone : (es : List EntryValue) → IsLegal es → (place : ℕ) (c : CommitmentValue) → slice_get (commitments_of es) place ≡ Some c → filter (λ d. bytes_eq d.id c.id) (commitments_of es) ≡ c ∷ []
 alone es legal = apart_alone (commitments_of es) (commitments_apart es legal)
 
-pub other_ids : (es : List EntryValue) → IsLegal es → (i j : ℕ) (row : Charge) (discount : DiscountText) (c : CommitmentValue) → slice_get (rows_of es) i ≡ Some row → row.discount ≡ Some discount → slice_get (commitments_of es) j ≡ Some c → discount.id ≢ c.id
-other_ids es legal i j row discount c hr hd hc same =
-    let none = other_row (commitments_of es) (rows_of es) i row (none_carried es legal) hr in
-    let read : has_registered_id (commitments_of es) row ≡ is_registered discount.id (commitments_of es) = ap (λ o. option_map_or (λ d. is_registered d.id (commitments_of es)) o false) hd in
-    let found = registered_at discount.id (commitments_of es) j c hc same in
+-- no row carries the id of a commitment
+pub apart_ids : (rows : List Charge) (cs : List CommitmentValue) → carries_any rows cs ≡ false → NoRowHasIdOf rows cs
+apart_ids rows cs none i j row discount c hr hd hc same =
+    let other = other_row cs rows i row none hr in
+    let read : has_registered_id cs row ≡ is_registered discount.id cs = ap (λ o. option_map_or (λ d. is_registered d.id cs) o false) hd in
+    let found = registered_at discount.id cs j c hc same in
+    absurd (cc)
+
+pub other_ids : (es : List EntryValue) → IsLegal es → NoRowHasIdOf (rows_of es) (commitments_of es)
+other_ids es legal = apart_ids (rows_of es) (commitments_of es) (none_carried es legal)
+
+-- and no commitment has that of another
+pub new_among : (cs : List CommitmentValue) (c : CommitmentValue) → is_registered c.id cs ≡ false → NoneHasIdOf cs c
+new_among cs c none place other at same =
+    let found = registered_at c.id cs place other at (sym same) in
+    absurd (cc)
+
+carried_at : (id : List ℕ) (rows : List Charge) (place : ℕ) (row : Charge) → slice_get rows place ≡ Some row → has_id id row ≡ true → carries id rows ≡ true
+unfolding carries
+carried_at id rows place row h has =
+    let read = get_or_from_slice_get rows place row row h in
+    list_any_at (has_id id) rows place row (slice_get_within rows place row h) (ap (has_id id) read ∙ has)
+
+the_only : (c d : CommitmentValue) (place : ℕ) → slice_get (c ∷ []) place ≡ Some d → c ≡ d
+the_only c d zero at = cc
+the_only c d (suc place) at = absurd (cc)
+
+pub unused_by_rows : (rows : List Charge) (c : CommitmentValue) → carries c.id rows ≡ false → NoRowHasIdOf rows (c ∷ [])
+unused_by_rows rows c none i j row discount d hr hd hc same =
+    let one = the_only c d j hc in
+    let equal : bytes_eq c.id discount.id ≡ true = (bytes_eq-Decides c.id discount.id).1 (ap (λ (c : CommitmentValue). c.id) one ∙ sym same) in
+    let has : has_id c.id row ≡ true = ap (λ o. option_map_or (λ d. bytes_eq c.id d.id) o false) hd ∙ equal in
+    let found = carried_at c.id rows i row hr has in
     absurd (cc)

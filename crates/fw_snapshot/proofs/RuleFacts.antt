@@ -17,6 +17,8 @@ use Rattle.fw_snapshot.specs.declared.verdict.Conflict.{Conflict}
 use Rattle.fw_snapshot.specs.declared.verdict.Conflict.TheVariants as conflict
 use Rattle.fw_snapshot.specs.declared.verdict.Verdict.{Verdict}
 use Rattle.fw_snapshot.specs.declared.verdict.Verdict.TheVariants as verdict
+use Rattle.fw_snapshot.proofs.IdFacts.{apart_ids, new_among, unused_by_rows}
+use Rattle.fw_snapshot.proofs.LegalFacts.{accepted_command, new_id, no_registered_id, unused_id}
 
 -- texts and ids that differ
 fails : {P : Type 0} (r : Bool) → Decides r P → (P → ⊥) → r ≡ false
@@ -162,24 +164,30 @@ double_of es (post rows) h = absurd (grind (arith, h))
 double_of es (commit c) h = (c, refl, grind (arith, h))
 double_of es (set_policy p) h = absurd (cc)
 
-in_use_of : (es : List EntryValue) (c : CommandValue) → command_conflict es c ≡ Some conflict.IdInUse → (d : CommitmentValue) × (c ≡ commit d) × (carries d.id (rows_of es) ≡ true)
+in_use_of : (es : List EntryValue) (c : CommandValue) → command_conflict es c ≡ Some conflict.IdInUse
+    → (d : CommitmentValue) × (c ≡ commit d) × (is_registered d.id (commitments_of es) ≡ false) × (carries d.id (rows_of es) ≡ true)
 unfolding command_conflict rows_conflict commitment_conflict
 in_use_of es (post rows) h = absurd (grind (arith, h))
-in_use_of es (commit c) h = (c, refl, grind (arith, h))
+in_use_of es (commit c) h = (c, refl, grind (arith, h), grind (arith, h))
 in_use_of es (set_policy p) h = absurd (cc)
 
-own_of : (es : List EntryValue) (c : CommandValue) → command_conflict es c ≡ Some conflict.OwnCommitment → (rows : List Charge) × (c ≡ post rows) × (carries_any rows (commitments_of es) ≡ true)
+own_of : (es : List EntryValue) (c : CommandValue) → command_conflict es c ≡ Some conflict.OwnCommitment
+    → (rows : List Charge) × (c ≡ post rows) × (length (rows_posted es) + length rows ≤ most_rows) × (carries_any rows (commitments_of es) ≡ true)
 unfolding command_conflict rows_conflict commitment_conflict
-own_of es (post rows) h = (rows, refl, grind (arith, h))
+own_of es (post rows) h =
+    let fits : nat_lt most_rows (length (rows_posted es) + length rows) ≡ false = grind (arith, h) in
+    (rows, refl, grind (arith, nat_tests), grind (arith, h))
 own_of es (commit c) h = absurd (grind (arith, h))
 own_of es (set_policy p) h = absurd (cc)
 
-too_many_of : (es : List EntryValue) (c : CommandValue) → command_conflict es c ≡ Some conflict.TooManyCommitments → (d : CommitmentValue) × (c ≡ commit d) × (most_commitments ≤ length (commitments_of es))
+too_many_of : (es : List EntryValue) (c : CommandValue) → command_conflict es c ≡ Some conflict.TooManyCommitments
+    → (d : CommitmentValue) × (c ≡ commit d) × (is_registered d.id (commitments_of es) ≡ false) × (carries d.id (rows_of es) ≡ false)
+    × (most_commitments ≤ length (commitments_of es))
 unfolding command_conflict rows_conflict commitment_conflict
 too_many_of es (post rows) h = absurd (grind (arith, h))
 too_many_of es (commit c) h =
     let test : nat_le most_commitments (length (commitments_of es)) ≡ true = grind (arith, h) in
-    (c, refl, grind (arith, nat_tests))
+    (c, refl, grind (arith, h), grind (arith, h), grind (arith, nat_tests))
 too_many_of es (set_policy p) h = absurd (cc)
 
 unlike : (b : Bool) → b ≡ true → b ≡ false → ⊥
@@ -193,15 +201,48 @@ refused_double es e h =
     let found = double_of es e.command (refused_for es e conflict.DoubleId h).1 in
     (found.0, found.1, λ none. unlike (is_registered found.0.id (commitments_of es)) found.2 (new_commitment (commitments_of es) found.0 none))
 
-pub refused_in_use : (es : List EntryValue) (e : EntryValue) → judged es e ≡ verdict.Refused conflict.IdInUse → (c : CommitmentValue) × (e.command ≡ commit c) × (NoRowHasIdOf (rows_of es) (c ∷ []) → ⊥)
+pub refused_in_use : (es : List EntryValue) (e : EntryValue) → judged es e ≡ verdict.Refused conflict.IdInUse
+    → (c : CommitmentValue) × (e.command ≡ commit c) × NoneHasIdOf (commitments_of es) c × (NoRowHasIdOf (rows_of es) (c ∷ []) → ⊥)
 refused_in_use es e h =
     let found = in_use_of es e.command (refused_for es e conflict.IdInUse h).1 in
-    (found.0, found.1, λ none. unlike (carries found.0.id (rows_of es)) found.2 (not_carried (rows_of es) found.0 none))
+    (found.0, found.1, new_among (commitments_of es) found.0 found.2, λ none. unlike (carries found.0.id (rows_of es)) found.3 (not_carried (rows_of es) found.0 none))
 
-pub refused_own : (es : List EntryValue) (e : EntryValue) → judged es e ≡ verdict.Refused conflict.OwnCommitment → (rows : List Charge) × (e.command ≡ post rows) × (NoRowHasIdOf rows (commitments_of es) → ⊥)
+pub refused_own : (es : List EntryValue) (e : EntryValue) → judged es e ≡ verdict.Refused conflict.OwnCommitment
+    → (rows : List Charge) × (e.command ≡ post rows) × (length (rows_posted es) + length rows ≤ most_rows) × (NoRowHasIdOf rows (commitments_of es) → ⊥)
 refused_own es e h =
     let found = own_of es e.command (refused_for es e conflict.OwnCommitment h).1 in
-    (found.0, found.1, λ none. unlike (carries_any found.0 (commitments_of es)) found.2 (none_carried found.0 (commitments_of es) none))
+    (found.0, found.1, found.2, λ none. unlike (carries_any found.0 (commitments_of es)) found.3 (none_carried found.0 (commitments_of es) none))
 
-pub refused_too_many : (es : List EntryValue) (e : EntryValue) → judged es e ≡ verdict.Refused conflict.TooManyCommitments → (c : CommitmentValue) × (e.command ≡ commit c) × (most_commitments ≤ length (commitments_of es))
-refused_too_many es e h = too_many_of es e.command (refused_for es e conflict.TooManyCommitments h).1
+pub refused_too_many : (es : List EntryValue) (e : EntryValue) → judged es e ≡ verdict.Refused conflict.TooManyCommitments
+    → (c : CommitmentValue) × (e.command ≡ commit c) × NoneHasIdOf (commitments_of es) c × NoRowHasIdOf (rows_of es) (c ∷ []) × (most_commitments ≤ length (commitments_of es))
+refused_too_many es e h =
+    let found = too_many_of es e.command (refused_for es e conflict.TooManyCommitments h).1 in
+    (found.0, found.1, new_among (commitments_of es) found.0 found.2, unused_by_rows (rows_of es) found.0 found.3, found.4)
+
+-- what is accepted breaks no rule
+post_keeps : (es : List EntryValue) (rows : List Charge) → command_conflict es (post rows) ≡ None → length (rows_posted es) + length rows ≤ most_rows
+unfolding command_conflict rows_conflict
+post_keeps es rows h =
+    let fits : nat_lt most_rows (length (rows_posted es) + length rows) ≡ false = grind (arith, h) in
+    grind (arith, nat_tests)
+
+commit_keeps : (es : List EntryValue) (c : CommitmentValue) → command_conflict es (commit c) ≡ None → length (commitments_of es) < most_commitments
+unfolding command_conflict commitment_conflict
+commit_keeps es c h =
+    let fits : nat_le most_commitments (length (commitments_of es)) ≡ false = grind (arith, h) in
+    grind (arith, nat_tests)
+
+accepted_of_command : (es : List EntryValue) (e : EntryValue) (c : CommandValue) → judged es e ≡ verdict.Accept → e.command ≡ c → command_conflict es c ≡ None
+accepted_of_command es e c h is = ap (command_conflict es) (sym is) ∙ accepted_command es e h
+
+pub accepted_post : (es : List EntryValue) (e : EntryValue) (rows : List Charge) → judged es e ≡ verdict.Accept → e.command ≡ post rows
+    → (length (rows_posted es) + length rows ≤ most_rows) × NoRowHasIdOf rows (commitments_of es)
+accepted_post es e rows h is =
+    let none = accepted_of_command es e (post rows) h is in
+    (post_keeps es rows none, apart_ids rows (commitments_of es) (no_registered_id es rows none))
+
+pub accepted_commit : (es : List EntryValue) (e : EntryValue) (c : CommitmentValue) → judged es e ≡ verdict.Accept → e.command ≡ commit c
+    → (length (commitments_of es) < most_commitments) × NoneHasIdOf (commitments_of es) c × NoRowHasIdOf (rows_of es) (c ∷ [])
+accepted_commit es e c h is =
+    let none = accepted_of_command es e (commit c) h is in
+    (commit_keeps es c none, new_among (commitments_of es) c (new_id es c none), unused_by_rows (rows_of es) c (unused_id es c none))

@@ -102,7 +102,18 @@ pub fn a_gap_names_the_next_number()
     ensures only { (before : List EntryValue) (e : EntryValue) (expected : ℕ) → judged before e ≡ verdict.Gap expected → (expected ≡ entries_from e.origin before + 1) × (expected < e.seq) }
 {}
 
-/// A refusal has its reason: the entry is the next of its origin, and what it brings breaks the rule that the answer names.
+/// What is accepted is the next of its origin and breaks no rule. So an entry that breaks one isn't accepted, whatever else is so.
+pub fn what_is_accepted_breaks_no_rule()
+    ensures next { (before : List EntryValue) (e : EntryValue) → judged before e ≡ verdict.Accept → e.seq ≡ entries_from e.origin before + 1 }
+    ensures post { (before : List EntryValue) (e : EntryValue) (rows : List Charge) → judged before e ≡ verdict.Accept → e.command ≡ post rows
+        → (length (rows_posted before) + length rows ≤ most_rows) × NoRowHasIdOf rows (commitments_of before) }
+    ensures commit { (before : List EntryValue) (e : EntryValue) (c : CommitmentValue) → judged before e ≡ verdict.Accept → e.command ≡ commit c
+        → (length (commitments_of before) < most_commitments) × NoneHasIdOf (commitments_of before) c × NoRowHasIdOf (rows_of before) (c ∷ []) }
+{}
+
+/// A refusal has its reason: the entry is the next of its origin, and what it brings breaks the rule that the answer names, and none that is looked at
+/// before it. Of a post these are how many rows there are, and then their ids; of a commitment that no other one has its id, that no row carries it, and
+/// how many there are.
 pub fn a_refusal_has_its_reason()
     ensures next { (before : List EntryValue) (e : EntryValue) (why : Conflict) → judged before e ≡ verdict.Refused why → e.seq ≡ entries_from e.origin before + 1 }
     ensures full { (before : List EntryValue) (e : EntryValue) → judged before e ≡ verdict.Refused conflict.Full
@@ -110,11 +121,11 @@ pub fn a_refusal_has_its_reason()
     ensures double_id { (before : List EntryValue) (e : EntryValue) → judged before e ≡ verdict.Refused conflict.DoubleId
         → (c : CommitmentValue) × (e.command ≡ commit c) × (NoneHasIdOf (commitments_of before) c → ⊥) }
     ensures id_in_use { (before : List EntryValue) (e : EntryValue) → judged before e ≡ verdict.Refused conflict.IdInUse
-        → (c : CommitmentValue) × (e.command ≡ commit c) × (NoRowHasIdOf (rows_of before) (c ∷ []) → ⊥) }
+        → (c : CommitmentValue) × (e.command ≡ commit c) × NoneHasIdOf (commitments_of before) c × (NoRowHasIdOf (rows_of before) (c ∷ []) → ⊥) }
     ensures own_commitment { (before : List EntryValue) (e : EntryValue) → judged before e ≡ verdict.Refused conflict.OwnCommitment
-        → (rows : List Charge) × (e.command ≡ post rows) × (NoRowHasIdOf rows (commitments_of before) → ⊥) }
+        → (rows : List Charge) × (e.command ≡ post rows) × (length (rows_posted before) + length rows ≤ most_rows) × (NoRowHasIdOf rows (commitments_of before) → ⊥) }
     ensures too_many { (before : List EntryValue) (e : EntryValue) → judged before e ≡ verdict.Refused conflict.TooManyCommitments
-        → (c : CommitmentValue) × (e.command ≡ commit c) × (most_commitments ≤ length (commitments_of before)) }
+        → (c : CommitmentValue) × (e.command ≡ commit c) × NoneHasIdOf (commitments_of before) c × NoRowHasIdOf (rows_of before) (c ∷ []) × (most_commitments ≤ length (commitments_of before)) }
 {}
 
 /// A repeat is answered `Already`, with the last number of its origin. Nothing else is: an entry whose number is at

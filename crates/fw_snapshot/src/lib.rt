@@ -27,7 +27,8 @@ pub use laws::{
     each_commitment_has_its_own_id, each_entry_once, entries_are_judged_in_turn,
     no_number_is_missing, no_row_has_the_id_of_a_commitment, numbers_are_in_turn,
     rows_and_commitments_are_few, sending_again_changes_nothing, sent_at_least_once_is_kept_once,
-    what_breaks_no_rule_is_accepted, what_is_sent_often_stands_once,
+    what_breaks_no_rule_is_accepted, what_is_accepted_breaks_no_rule,
+    what_is_sent_often_stands_once,
 };
 pub use snapshot::Snapshot;
 pub use state::State;

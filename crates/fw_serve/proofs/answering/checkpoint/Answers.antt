@@ -1,4 +1,4 @@
-use Rattle.std.proofs.Common.{◌≡◌, Err, false, refl}
+use Rattle.std.proofs.Common.{Err, refl}
 use Rattle.fw_serve.specs.ReplyText.{reply_text}
 use Rattle.fw_serve.proofs.MoveFacts.{not_both, Moves-checkpoint}
 use Rattle.fw_serve.proofs.StoreFacts.{CheckpointFails, works_ok, Checkpoints-done, Checkpoints-failed, Moves-unmade}

@@ -1,5 +1,4 @@
-use Rattle.std.proofs.Common.{◌≡◌, ◌∙◌, Err, ap, inl, refl}
-use Rattle.fw_serve.specs.Replies.{verdict_line}
+use Rattle.std.proofs.Common.{Err, inl, refl}
 use Rattle.fw_serve.proofs.MoveFacts.{Moves-committed}
 use Rattle.fw_serve.proofs.StoreFacts.{CommitFails, works_ok, Submits-committed, Submits-failed, Moves-failed}
 use Rattle.fw_serve.proofs.answering.submit.Given as given

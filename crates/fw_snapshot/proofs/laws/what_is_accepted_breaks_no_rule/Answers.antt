@@ -1,0 +1,12 @@
+use Rattle.fw_snapshot.proofs.LegalFacts.{accepted_number}
+use Rattle.fw_snapshot.proofs.RuleFacts.{accepted_post, accepted_commit}
+use Rattle.fw_snapshot.proofs.laws.what_is_accepted_breaks_no_rule.Goals as goal
+
+pub returns-clause-next : goal.returns-clause-next
+returns-clause-next c = accepted_number
+
+pub returns-clause-post : goal.returns-clause-post
+returns-clause-post c = accepted_post
+
+pub returns-clause-commit : goal.returns-clause-commit
+returns-clause-commit c = accepted_commit
