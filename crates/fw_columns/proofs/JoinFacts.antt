@@ -113,7 +113,6 @@ module _ (a b : Table) (ra rb : List Charge) (ca : AreColumns a ra) (cb : AreCol
         tags = g.tags;
       }) (ra ++ rb)
   joined_columns fits seen some p k g plain coded listed = record {
-    some = let n : 0 < length ra = ca.some in rw length-append (omega (arith, n));
     few = rw length-append fits;
     charges = All-append IsCharge ra rb ca.charges cb.charges;
     names = seen ∙ (ap (λ ns. with_texts (with_texts [] ns) b.names) ca.names ∙ (ap (λ ns. with_texts (with_texts [] (names_of ra)) ns) cb.names ∙ names_of-append ra rb));

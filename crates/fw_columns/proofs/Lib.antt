@@ -1,7 +1,8 @@
-mod NameFacts
-mod TextFacts
+pub mod NameFacts
+pub mod TextFacts
 mod ListFacts
 mod TableFacts
 mod RowFacts
 mod JoinFacts
 mod GroupFacts
+mod AddFacts

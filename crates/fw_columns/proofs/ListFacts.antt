@@ -3,17 +3,17 @@ use Rattle.std.proofs.Common.{◌≡◌, ℕ, zero, suc, ◌+◌, ◌-◌, ◌<�
 use Rattle.std.specs.Prelude.{All}
 use Rattle.std.specs.List.{list_any}
 use Rattle.std.specs.Str.{bytes_eq}
-use Rattle.std.proofs.lemmas.List.{get_or-map, length-map, map_push, map_more, map-append}
+use Rattle.std.proofs.lemmas.List.{get_or-map, length-map, map_push, map-append}
 use Rattle.std.proofs.Math.Seq.{take-length}
 use Rattle.std.proofs.lemmas.Simd.{map-map}
 use Rattle.std.proofs.lemmas.List.Elements.{All-nil, All-cons, All-head, All-tail, All-append}
 use Rattle.fw_charge.specs.Charge.{Charge}
 use Rattle.fw_columns.specs.Names.{Text, place_of, with_text}
-use Rattle.fw_columns.specs.Texts.{with_texts, texts_of, texts_of_tags, names_of}
+use Rattle.fw_columns.specs.Texts.{with_texts, texts_of_tags}
 use Rattle.fw_columns.specs.Lists.{tag_places, lists_of}
 use Rattle.fw_columns.specs.Joining.{replaced}
 use Rattle.fw_columns.proofs.NameFacts.{text_at_place}
-use Rattle.fw_columns.proofs.TextFacts.{IsKnown, AreKnown, IsKnown-more, IsRowKnown, with_texts-grows, with_texts-append, AreKnown-seen, rows-known, names_of_more}
+use Rattle.fw_columns.proofs.TextFacts.{IsKnown, AreKnown, IsKnown-more, IsRowKnown, with_texts-grows, with_texts-append, AreKnown-seen}
 
 pub AreKnown-at : (names ts : List Text) (i : ℕ) → AreKnown names ts → i < length ts → IsKnown names (get_or ts i [])
 AreKnown-at names [] i h lt = absurd (omega arith)
@@ -87,49 +87,11 @@ pub length-lists_of : (names : List Text) (rows : List Charge) → length (lists
 unfolding lists_of
 length-lists_of names rows = length-map rows (λ (c : Charge). tag_places names c.tags)
 
-lists_kept : (names ms : List Text) (rows : List Charge) → All (IsRowKnown names) rows → lists_of (with_texts names ms) rows ≡ lists_of names rows
+pub lists_kept : (names ms : List Text) (rows : List Charge) → All (IsRowKnown names) rows → lists_of (with_texts names ms) rows ≡ lists_of names rows
 unfolding lists_of tag_places
 lists_kept names ms [] all = refl
 lists_kept names ms (r ∷ rs) all =
     rw (places_kept names ms (texts_of_tags r.tags) (All-head (IsRowKnown names) r rs all).tags, lists_kept names ms rs (All-tail (IsRowKnown names) r rs all)) refl
-
--- one more row: its list comes last, and the others stay
-last_list : (names : List Text) (rows : List Charge) (i : ℕ) (d : Charge) → i < length rows → lists_of names (take (i + 1) rows) ≡ lists_of names (take i rows) ++ tag_places names (get_or rows i d).tags ∷ []
-unfolding lists_of
-last_list names rows i d h = map_more (λ (c : Charge). tag_places names c.tags) rows i d h
-
-pub lists_of_more : (rows : List Charge) (i : ℕ) (d : Charge) → i < length rows
-    → lists_of (names_of (take i rows)) (take i rows) ++ tag_places (names_of (take (i + 1) rows)) (get_or rows i d).tags ∷ [] ≡ lists_of (names_of (take (i + 1) rows)) (take (i + 1) rows)
-lists_of_more rows i d h =
-    let now = names_of (take (i + 1) rows) in
-    let grown : with_texts (names_of (take i rows)) (texts_of (get_or rows i d)) ≡ now = names_of_more rows i d h in
-    let kept : lists_of (names_of (take i rows)) (take i rows) ≡ lists_of now (take i rows) =
-    sym (lists_kept (names_of (take i rows)) (texts_of (get_or rows i d)) (take i rows) (rows-known (take i rows))) ∙ (λ j. lists_of (grown j) (take i rows)) in
-    (λ j. kept j ++ tag_places now (get_or rows i d).tags ∷ []) ∙ sym (last_list now rows i d h)
-
--- ---- what stands of the rows so far
-
-pub record AreTexts (names : List Text) (lists : List (List ℕ)) (tags : List ℕ) (rows : List Charge) : Type 0 where
-  pub seen : names ≡ names_of rows
-  pub listed : AreListed [] lists tags (lists_of names rows)
-
-pub texts_none : AreTexts [] [] [] []
-unfolding with_texts names_of lists_of
-texts_none = record { seen = refl; listed = listed_none [] }
-
-pub texts_more : (names : List Text) (lists : List (List ℕ)) (tags : List ℕ) (rows : List Charge) (i : ℕ) (d : Charge) → i < length rows → AreTexts names lists tags (take i rows)
-    → (named : List Text) (list : List ℕ) (now : List (List ℕ)) (code : ℕ) (more : List ℕ)
-    → named ≡ with_texts names (texts_of (get_or rows i d)) → list ≡ tag_places named (get_or rows i d).tags → now ≡ with_text lists list → code ≡ place_of now list → more ≡ tags ++ code ∷ []
-    → AreTexts named now more (take (i + 1) rows)
-texts_more names lists tags rows i d h before named list now code more seen is listed placed pushed =
-    let all : named ≡ names_of (take (i + 1) rows) = seen ∙ ((λ j. with_texts (before.seen j) (texts_of (get_or rows i d))) ∙ names_of_more rows i d h) in
-    let last : list ≡ tag_places (names_of (take (i + 1) rows)) (get_or rows i d).tags = is ∙ (λ j. tag_places (all j) (get_or rows i d).tags) in
-    let lists_are : lists_of names (take i rows) ++ list ∷ [] ≡ lists_of named (take (i + 1) rows) =
-    (λ j. lists_of (before.seen j) (take i rows) ++ last j ∷ []) ∙ (lists_of_more rows i d h ∙ (λ j. lists_of (sym all j) (take (i + 1) rows))) in
-    record {
-      seen = all;
-      listed = subst (AreListed [] now more) lists_are (listed_more [] lists tags (lists_of names (take i rows)) before.listed now list code more listed placed pushed);
-    }
 
 -- what a slice's pattern leaves behind two items
 pub behind_two : (xs : List ℕ) → take (length xs - 2) (drop 2 xs) ≡ drop 2 xs

@@ -1,5 +1,5 @@
 -- Facts on names: where a text stands among them, and what a text adds to them.
-use Rattle.std.proofs.Common.{◌≡◌, ℕ, ◌+◌, ◌<◌, Bool, true, false, cond, eqb, List, [], ◌∷◌, ◌++◌, length, map, get_or, refl, sym, ap, ◌∙◌, true≢false, arith, if◌then◌else◌, Some, None, position}
+use Rattle.std.proofs.Common.{◌≡◌, ℕ, zero, suc, ◌+◌, ◌<◌, Bool, true, false, cond, eqb, List, [], ◌∷◌, ◌++◌, length, map, get_or, refl, sym, ap, ◌∙◌, true≢false, arith, if◌then◌else◌, Some, None, position}
 use Rattle.std.specs.List.{list_any, position_or_len, IsDistinct, AllByRecursion}
 use Rattle.std.specs.Str.{bytes_eq}
 use Rattle.std.specs.Cmp.Lexicographic.{bytes_decides}
@@ -89,3 +89,19 @@ unfolding with_text place_of
 new_text f keys key text same missing =
     let gone : list_any (bytes_eq text) (map f keys) ≡ false = sym (list_any-map f (bytes_eq text) keys) ∙ missing in
     (rw (same, missing, gone, map_push f keys key, same) refl, rw gone (sym (length-map keys f) ∙ sym (at_its_end (map f keys) text gone)))
+
+-- the place of a text that stands among distinct names
+pub place_at : (names : List Text) (i : ℕ) (d : Text) → AreDistinct names → i < length names → place_of names (get_or names i d) ≡ i
+unfolding place_of IsDistinct
+place_at [] i d h lt = absurd (omega arith)
+place_at (x ∷ xs) zero d h lt = rw ((bytes_decides x x).1 refl) refl
+place_at (x ∷ xs) (suc i) d h lt = let next : 1 + i ≡ suc i = omega arith in rw (other xs i (omega arith) h.0) (ap (λ n. 1 + n) (place_at xs i d h.1 (omega arith)) ∙ next)
+  where
+    other : (ys : List Text) (k : ℕ) → k < length ys → AllByRecursion (λ y. bytes_eq x y ≡ false) ys → bytes_eq (get_or ys k d) x ≡ false
+    other [] k lt all = absurd (omega arith)
+    other (y ∷ ys) zero lt all = by (bytes_eq y x) refl
+      where
+        by : (b : Bool) → bytes_eq y x ≡ b → bytes_eq y x ≡ false
+        by true e = absurd (true≢false (sym ((bytes_decides x y).1 (sym ((bytes_decides y x).0 e))) ∙ all.0))
+        by false e = e
+    other (y ∷ ys) (suc k) lt all = other ys k (omega arith) all.1

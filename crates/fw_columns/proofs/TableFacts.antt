@@ -4,6 +4,7 @@ use Rattle.std.specs.Prelude.{option_map, option_to_list, is_some, ℤ, pos, nat
 use Rattle.std.proofs.lemmas.List.{get_or-map, length-map}
 use Rattle.std.proofs.lemmas.List.FromFn.{fill_by_all}
 use Rattle.fw_charge.specs.Tags.{TagText}
+use Rattle.fw_charge.proofs.ChargeFacts.{equal_fields}
 use Rattle.fw_charge.specs.Charge.{Charge, DiscountText}
 use Rattle.fw_charge.specs.declared.category.Category.{Category}
 use Rattle.fw_charge.specs.declared.discount.DiscountStatus.{DiscountStatus}
@@ -127,20 +128,7 @@ module _ (t : Table) (rows : List Charge) (columns : AreColumns t rows) (i : ℕ
       let e11 : text_of t.names (get_or t.sub_accounts.items i 0) ≡ r.sub_account =
       rw (columns.sub_accounts, get_or-map (λ c. text_code t.names c.sub_account) rows i d 0 h) (text-back t.names r.sub_account known.sub_account) in
       let e12 : tags_of t.names (list_at t i) ≡ r.tags = ap (tags_of t.names) list-shown ∙ tags-back t.names r.tags known.tags in
-      λ j. record {
-        billed = e1 j;
-        effective = e2 j;
-        category = e3 j;
-        is_correction = e4 j;
-        start = e5 j;
-        end = e6 j;
-        discount = e7 j;
-        quantity = e8 j;
-        unit = e9 j;
-        sku = e10 j;
-        sub_account = e11 j;
-        tags = e12 j;
-      }
+      equal_fields (charge_at t i) r e1 e2 e3 e4 e5 e6 e7 e8 e9 e10 e11 e12
 
 -- the rows of the columns of rows are these rows
 pub shown : (t : Table) (rows : List Charge) → AreColumns t rows → rows_of t ≡ rows

@@ -57,7 +57,7 @@ IsKnown-more names more t h =
     (same, record { below = let b : place_of names t < length names = h.below in omega (arith, same, length-append names more) })
 
 -- and adds nothing when it comes again
-known_adds_nothing : (names : List Text) (t : Text) → IsKnown names t → with_text names t ≡ names
+pub known_adds_nothing : (names : List Text) (t : Text) → IsKnown names t → with_text names t ≡ names
 unfolding with_text place_of
 known_adds_nothing names t h = by (list_any (bytes_eq t) names) refl
   where
@@ -131,7 +131,11 @@ with_text_adds_one names t = by (list_any (bytes_eq t) names) refl
     by true e = rw e (omega arith)
     by false e = rw (e, length-append) (omega arith)
 
--- one more tag, and one more row
+-- and takes none away
+pub with_text_takes_none : (names : List Text) (t : Text) → length names ≤ length (with_text names t)
+with_text_takes_none names t = let grown = with_text-grows names t in rw (grown.1, length-append) (omega arith)
+
+-- one more tag
 pub tags_in_turn : (tags : List TagText) (i : ℕ) (d : TagText) → i < length tags
     → (texts_of_tags (take i tags) ++ (get_or tags i d).key ∷ []) ++ (get_or tags i d).value ∷ [] ≡ texts_of_tags (take (i + 1) tags)
 unfolding texts_of_tags
@@ -139,14 +143,6 @@ tags_in_turn tags i d h =
     let texts = λ (t : TagText). t.key ∷ t.value ∷ [] in
     append_assoc (flat_map texts (take i tags)) ((get_or tags i d).key ∷ []) ((get_or tags i d).value ∷ [])
     ∙ sym (ap (flat_map texts) (take_more tags i d h) ∙ flat_map-append texts (take i tags) (get_or tags i d ∷ []))
-
-pub names_of_more : (rows : List Charge) (i : ℕ) (d : Charge) → i < length rows → with_texts (names_of (take i rows)) (texts_of (get_or rows i d)) ≡ names_of (take (i + 1) rows)
-unfolding names_of
-names_of_more rows i d h = rw (take_more rows i d h, flat_map-append, append-nil, with_texts-append) refl
-
--- the texts of a row are seen field by field
-pub seen_in_turn : (names a b c d e : List Text) → with_texts (with_texts (with_texts (with_texts (with_texts names a) b) c) d) e ≡ with_texts names (a ++ (b ++ (c ++ (d ++ e))))
-seen_in_turn names a b c d e = rw (with_texts-append, with_texts-append, with_texts-append, with_texts-append) refl
 
 -- one more of other names
 pub seen_more : (names other : List Text) (i : ℕ) (t : Text) → slice_get other i ≡ Some t → with_texts (with_texts names (take i other)) (t ∷ []) ≡ with_texts names (take (i + 1) other)

@@ -4,5 +4,7 @@ pub mod Lists
 pub mod Codes
 pub mod Table
 pub mod Joining
+pub mod RowViews
+pub mod Adding
 pub mod Reading
 pub mod Grouping

@@ -34,7 +34,6 @@ quantity_kept (Some quantity) = quantity
 
 -- the columns of rows
 pub record AreColumns (t : Table) (rows : List Charge) : Type 0 where
-  pub some : 0 < length rows
   pub few : length rows ≤ 65536
   pub charges : All IsCharge rows
   pub names : t.names ≡ names_of rows

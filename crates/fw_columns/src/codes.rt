@@ -1,25 +1,16 @@
 //! What columns hold in place of texts, discounts and tags, and what it stands for.
-ghost use Rattle.std.specs.Prelude.{◌≡◌, ◌<◌, ◌≤◌, length, nat_abs, option_copied, option_map, string_bytes, IfOk};
+ghost use Rattle.std.specs.Prelude.{Option, ◌≡◌, ◌<◌, ◌≤◌, length, nat_abs, option_map, string_bytes, IfOk};
 ghost use Rattle.fw_money.specs.Amount.{most_nanos};
 ghost use Rattle.fw_charge.specs.Codes.{status_code};
-ghost use Rattle.fw_columns.specs.Codes.{text_code};
-ghost use Rattle.fw_columns.specs.Table.{text_of, text_at, id_kept, kind_kept, status_kept, quantity_kept, discount_of, quantity_of, tag_of};
+ghost use Rattle.fw_charge.specs.declared.discount.DiscountKind.{DiscountKind};
+ghost use Rattle.fw_charge.specs.declared.discount.DiscountStatus.{DiscountStatus};
+ghost use Rattle.fw_columns.specs.RowViews.{discount_with};
+ghost use Rattle.fw_columns.specs.Table.{text_of, text_at, kind_kept, status_kept, quantity_kept, discount_of, quantity_of, tag_of};
 
 use crate::names::Names;
 use fw_charge::{Discount, DiscountKind, DiscountStatus, Tag};
 use fw_money::Nanos;
 use std::alloc::{AllocError, Global};
-
-/// The code of a text: 0 where it is null, else 1 more than its place.
-#[tactic(auto, unfolding(crate::specs::Codes::text_code))]
-pub fn text_code(names: &Names, text: Option<&str>) -> u32
-    ensures { result ≡ text_code names.now (option_copied text.entry) }
-{
-    match text {
-        Some(text) => names.place(text) + 1,
-        None => 0,
-    }
-}
 
 /// The text of a code.
 #[tactic(auto, unfolding(crate::specs::Table::text_of, crate::specs::Table::text_at))]
@@ -33,35 +24,24 @@ pub fn text_of(alloc: Global, names: &Names, code: u32) -> Result<Option<String>
     }
 }
 
-/// The code of a discount's id.
-#[tactic(auto, unfolding(crate::specs::Codes::text_code))]
-pub fn id_kept(names: &Names, discount: Option<&Discount>) -> u32
-    ensures { result ≡ id_kept names.now (option_copied discount.entry) }
-{
-    match discount {
-        Some(discount) => names.place(discount.id()) + 1,
-        None => 0,
-    }
-}
-
 /// The code of a discount's kind, 0 where there is no discount.
 #[tactic(auto, unfolding(crate::specs::Table::kind_kept))]
-pub fn kind_kept(discount: Option<&Discount>) -> u8
-    ensures { result ≡ kind_kept (option_copied discount.entry) }
+pub fn kind_kept(discount: Option<&str>, kind: DiscountKind) -> u8
+    ensures { (status : Option DiscountStatus) → result ≡ kind_kept (discount_with discount.entry kind status) }
 {
     match discount {
-        Some(discount) => discount.kind().code(),
+        Some(_) => kind.code(),
         None => 0,
     }
 }
 
 /// The code of a discount's status, 0 where it is null or there is no discount.
 #[tactic(auto, unfolding(crate::specs::Table::status_kept))]
-pub fn status_kept(discount: Option<&Discount>) -> u8
-    ensures { result ≡ status_kept (option_copied discount.entry) }
+pub fn status_kept(discount: Option<&str>, status: Option<DiscountStatus>) -> u8
+    ensures { (kind : DiscountKind) → result ≡ status_kept (discount_with discount.entry kind status) }
 {
     match discount {
-        Some(discount) => status_code(discount.status()),
+        Some(_) => status_code(status),
         None => 0,
     }
 }

@@ -7,11 +7,12 @@ ghost use Rattle.fw_columns.specs.Texts.{names_of};
 ghost use Rattle.fw_charge.specs.Codes.{category_code, class_code};
 ghost use Rattle.fw_columns.specs.Codes.{tag_code, AgreeWithGroups};
 
+use crate::builder::ColumnsBuilder;
 use crate::grouping::{group_codes, group_texts};
 use crate::joining::joined;
-use crate::making::table_of;
 use crate::names::Names;
 use crate::reading::fields_at;
+use crate::row_view::push_row;
 use crate::table::Table;
 use fw_charge::Row;
 use std::alloc::{AllocError, Global};
@@ -20,11 +21,11 @@ use std::marker::Model;
 /// 1 to 65,536 charge rows kept by column, each of their texts and each of their lists of tags once. A contract sees the list of the rows.
 #[derive(Drop)]
 pub struct Columns {
-    table: Table,
+    pub(crate) table: Table,
 }
 
 impl Model for Columns {
-    ghost use Rattle.std.specs.Prelude.{List};
+    ghost use Rattle.std.specs.Prelude.{◌<◌, List, length};
     ghost use Rattle.fw_charge.specs.Charge.{Charge};
     ghost use Rattle.fw_columns.specs.Table.{rows_of, AreColumns};
 
@@ -32,7 +33,7 @@ impl Model for Columns {
 
     ghost view = { λ c. rows_of c.table };
 
-    ghost invariant = { λ c. AreColumns c.table (rows_of c.table) };
+    ghost invariant = { λ c. (0 < length (rows_of c.table)) × AreColumns c.table (rows_of c.table) };
 }
 
 impl Columns {
@@ -42,9 +43,11 @@ impl Columns {
         requires few { length rows.now ≤ 65536 }
         ensures { IfOk result (λ columns. columns ≡ rows.now) }
     {
-        Ok(Columns {
-            table: table_of(alloc, rows)?,
-        })
+        let mut builder = ColumnsBuilder::new(alloc);
+        for row in rows {
+            push_row(&mut builder, row)?;
+        }
+        Ok(builder.finish())
     }
 
     /// How many rows there are: 1 to 65,536.

@@ -1,16 +1,20 @@
 //! Charge rows kept by column, each of their texts and each of their lists of tags once.
 #![tactic(auto)]
 
+mod adding;
+mod builder;
 mod codes;
 mod columns;
 mod grouping;
 mod joining;
 mod lists;
-mod making;
 mod names;
 mod naming;
 mod reading;
+mod row_view;
 mod table;
 
+pub use builder::ColumnsBuilder;
 pub use columns::Columns;
 pub use names::Names;
+pub use row_view::RowView;

@@ -49,6 +49,7 @@ impl Names {
         requires { length self.old < 2 ^ 30 }
         ensures names { OnOk result (self.new ≡ with_text self.old text.now) }
         ensures place { IfOk result (λ code. code ≡ place_of self.new text.now) }
+        ensures within { IfOk result (λ code. code < length self.new) }
         ensures few { length self.new ≤ length self.old + 1 }
         ensures refused { OnErr result (self.new ≡ self.old) }
     {

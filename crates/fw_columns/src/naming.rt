@@ -1,44 +1,12 @@
-//! The names of the texts of rows, and their lists of tags.
-ghost use Rattle.std.specs.Prelude.{◌≡◌, ◌+◌, ◌*◌, ◌^◌, ◌<◌, ◌≤◌, [], length, map, option_copied, option_map, option_to_list, All, IfOk, OnOk};
-ghost use Rattle.fw_charge.specs.Charge.{IsCharge};
+//! The names of texts, and the lists of the places of tags.
+ghost use Rattle.std.specs.Prelude.{◌≡◌, ◌+◌, ◌*◌, ◌^◌, ◌≤◌, [], length, map, option_copied, option_to_list, All, IfOk, OnOk};
 ghost use Rattle.fw_columns.specs.Names.{place_of};
-ghost use Rattle.fw_columns.specs.Texts.{with_texts, texts_of_tags, texts_of, names_of, most_texts};
-ghost use Rattle.fw_columns.specs.Lists.{tag_places, lists_of};
+ghost use Rattle.fw_columns.specs.Texts.{with_texts, texts_of_tags};
+ghost use Rattle.fw_columns.specs.Lists.{tag_places};
 
-use crate::lists::Lists;
 use crate::names::Names;
-use fw_charge::{Discount, Row, Tag};
+use fw_charge::Tag;
 use std::alloc::{AllocError, Global};
-
-/// The texts of rows and their lists of tags, each once, and for each row the place of its list.
-#[derive(Drop)]
-pub struct Texts {
-    pub names: Names,
-    pub lists: Lists,
-    pub tags: Vec<u32>,
-}
-
-/// The texts of rows and their lists of tags. It takes memory for what is new, and none for a row whose texts and tags are known.
-pub fn texts_of(alloc: Global, rows: &[Row]) -> Result<Texts, AllocError>
-    requires { length rows.now ≤ 65536 }
-    ensures names { IfOk result (λ texts. texts.names ≡ names_of rows.now) }
-    ensures few { IfOk result (λ texts. length texts.names ≤ most_texts * length rows.now) }
-    ensures lists { IfOk result (λ texts. texts.lists ≡ with_texts [] (lists_of texts.names rows.now)) }
-    ensures lists_few { IfOk result (λ texts. length texts.lists ≤ length rows.now) }
-    ensures tags { IfOk result (λ texts. texts.tags.items ≡ map (place_of texts.lists) (lists_of texts.names rows.now)) }
-    ensures valid { OnOk result (All IsCharge rows.now) }
-{
-    let mut names = Names::new(alloc);
-    let mut lists = Lists::new(alloc);
-    let mut tags = Vec::with_capacity(alloc, rows.len())?;
-    let mut list = Vec::new(alloc);
-    for row in rows {
-        see_row(&mut names, row, &mut list)?;
-        let code = lists.code(list.as_slice())?;
-        tags.push(code)?;
-    }
-    Ok(Texts { names, lists, tags })
-}
 
 /// The names of two lists of names, the second behind the first.
 pub fn joined_names(alloc: Global, first: &Names, second: &Names) -> Result<Names, AllocError>
@@ -76,38 +44,8 @@ pub fn places_in(alloc: Global, names: &Names, other: &Names) -> Result<Vec<u32>
     Ok(places)
 }
 
-/// Adds the texts of a row that are new, and puts the places of its tags' texts into a list.
-fn see_row(names: &mut Names, row: &Row, list: &mut Vec<u32>) -> Result<(), AllocError>
-    requires { length names.old + most_texts ≤ 2 ^ 30 }
-    ensures seen { OnOk result (names.new ≡ with_texts names.old (texts_of row.now)) }
-    ensures few { OnOk result (length names.new ≤ length names.old + most_texts) }
-    ensures list { OnOk result (list.new.items ≡ tag_places names.new row.now.tags) }
-    ensures valid { IsCharge row.now }
-{
-    let tags = row.tags().as_slice();
-    see_discount(names, row.discount())?;
-    see(names, row.unit())?;
-    see(names, row.sku())?;
-    see(names, row.sub_account())?;
-    see_tags(names, tags, list)?;
-    Ok(())
-}
-
-/// Adds the id of a discount that is there, if it is new.
-#[tactic(auto, unfolding(crate::specs::Texts::with_texts))]
-fn see_discount(names: &mut Names, discount: Option<&Discount>) -> Result<(), AllocError>
-    requires { length names.old + 1 ≤ 2 ^ 30 }
-    ensures seen { OnOk result (names.new ≡ with_texts names.old (option_to_list (option_map (λ d. d.id) (option_copied discount.entry)))) }
-    ensures few { OnOk result (length names.new ≤ length names.old + 1) }
-{
-    if let Some(discount) = discount {
-        see(names, Some(discount.id()))?;
-    }
-    Ok(())
-}
-
 /// Adds the texts of tags that are new, and puts their places into a list.
-fn see_tags(names: &mut Names, tags: &[Tag], list: &mut Vec<u32>) -> Result<(), AllocError>
+pub fn see_tags(names: &mut Names, tags: &[Tag], list: &mut Vec<u32>) -> Result<(), AllocError>
     requires { length names.old + 2 * length tags.now ≤ 2 ^ 30 }
     ensures seen { OnOk result (names.new ≡ with_texts names.old (texts_of_tags tags.now)) }
     ensures few { OnOk result (length names.new ≤ length names.old + 2 * length tags.now) }

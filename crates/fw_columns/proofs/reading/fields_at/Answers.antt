@@ -3,6 +3,7 @@ use Rattle.std.specs.Prelude.{ℤ, pos, nat_abs}
 use Rattle.std.proofs.lemmas.List.{get_or_read}
 use Rattle.std.proofs.lemmas.List.Elements.{All-same}
 use Rattle.std.proofs.lemmas.Option.{get_or_from_slice_get}
+use Rattle.fw_charge.proofs.ChargeFacts.{equal_fields}
 use Rattle.fw_charge.specs.Tags.{IsTags}
 use Rattle.fw_columns.specs.Table.{charge_at, category_at, class_at, text_of, discount_of, quantity_of, tags_of, list_at}
 use Rattle.fw_columns.proofs.reading.fields_at.Goals as goal
@@ -51,17 +52,4 @@ returns c =
     let list : c.list.result.now ≡ get_or t.lists (get_or t.tags.items i 0) [] =
     sym (get_or_from_slice_get t.lists _ _ [] c.list.ensures) ∙ ap (λ place. get_or t.lists place []) (get_or_read t.tags.items i _ c.requires.tags c.index-5.ensures 0) in
     let e12 = c.in_ok-tags.ensures ∙ ap (tags_of t.names) list in
-    λ j. record {
-      billed = e1 j;
-      effective = e2 j;
-      category = e3 j;
-      is_correction = e4 j;
-      start = e5 j;
-      end = e6 j;
-      discount = e7 j;
-      quantity = e8 j;
-      unit = e9 j;
-      sku = e10 j;
-      sub_account = e11 j;
-      tags = e12 j;
-    }
+    equal_fields _ _ e1 e2 e3 e4 e5 e6 e7 e8 e9 e10 e11 e12

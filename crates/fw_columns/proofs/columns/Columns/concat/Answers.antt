@@ -1,4 +1,4 @@
-use Rattle.std.proofs.Common.{◌≡◌, ◌++◌, ◌∙◌, ap, length, arith}
+use Rattle.std.proofs.Common.{◌≡◌, ◌++◌, ◌∙◌, ap, length, length-append, ◌<◌, arith}
 use Rattle.fw_columns.specs.Table.{rows_of}
 use Rattle.fw_columns.proofs.TableFacts.{shown, columns_shown}
 use Rattle.fw_columns.proofs.columns.Columns.concat.Goals as goal
@@ -10,7 +10,12 @@ joined-requires-clause-few c =
     omega (arith, a, b, c.requires)
 
 pub invariant_of-result : goal.invariant_of-result
-invariant_of-result c = columns_shown c.in_ok-joined.field-0 (rows_of c.first.inside.table ++ rows_of c.second.inside.table) c.in_ok-joined.ensures
+invariant_of-result c =
+    let t = c.in_ok-joined.field-0 in
+    let all = rows_of c.first.inside.table ++ rows_of c.second.inside.table in
+    let size : length (rows_of t) ≡ length all = ap length (shown t all c.in_ok-joined.ensures) in
+    let some : 0 < length all = rw length-append (omega (arith, c.first.invariant.0)) in
+    (omega (arith, size, some), columns_shown t all c.in_ok-joined.ensures)
 
 pub returns : goal.returns
 returns c =

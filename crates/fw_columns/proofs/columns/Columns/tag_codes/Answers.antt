@@ -8,7 +8,7 @@ use Rattle.fw_columns.proofs.columns.Columns.tag_codes.Goals as goal
 
 pub returns-clause-codes : goal.returns-clause-codes
 returns-clause-codes c =
-    let same : c.self.inside.table.names ≡ names_of c.args.self.now = c.self.invariant.names ∙ ap names_of c.self.view_is in
+    let same : c.self.inside.table.names ≡ names_of c.args.self.now = c.self.invariant.1.names ∙ ap names_of c.self.view_is in
     c.in_ok-codes.ensures ∙ (λ j. map (tag_code c.args.key.now (same j)) (c.self.view_is j))
 
 pub returns-clause-agree : goal.returns-clause-agree
@@ -17,4 +17,4 @@ returns-clause-agree c =
     let t = c.self.inside.table in
     let ToCodes : List ℕ → Type 0 = λ codes. AgreeWithGroups key (rows_of t) codes in
     let ToRows : List Charge → Type 0 = λ rows. AgreeWithGroups key rows c.in_ok-codes.codes.items in
-    subst ToRows c.self.view_is (subst ToCodes (sym c.in_ok-codes.ensures) (groups_agree t (rows_of t) c.self.invariant key))
+    subst ToRows c.self.view_is (subst ToCodes (sym c.in_ok-codes.ensures) (groups_agree t (rows_of t) c.self.invariant.1 key))

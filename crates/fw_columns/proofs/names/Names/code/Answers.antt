@@ -1,6 +1,7 @@
-use Rattle.std.proofs.Common.{string_bytes, sym}
+use Rattle.std.proofs.Common.{◌≡◌, ◌∙◌, ap, string_bytes, sym, arith}
+use Rattle.fw_columns.specs.Names.{place_of, with_text}
 use Rattle.fw_columns.proofs.NameFacts.{found_text, new_text}
-use Rattle.fw_columns.proofs.TextFacts.{with_text_adds_one}
+use Rattle.fw_columns.proofs.TextFacts.{IsKnown-seen, with_text_adds_one}
 use Rattle.fw_columns.proofs.names.Names.code.Goals as goal
 
 pub returns-in-Some-clause-names : goal.returns-in-Some-clause-names
@@ -22,3 +23,10 @@ returns-in_ok-insert-in-None-clause-place c =
 pub returns-in_ok-insert-in-None-clause-few : goal.returns-in_ok-insert-in-None-clause-few
 returns-in_ok-insert-in-None-clause-few c =
     rw (returns-in_ok-insert-in-None-clause-names c) (with_text_adds_one c.args.self.now c.args.text.now)
+
+pub returns-in_ok-insert-in-None-clause-within : goal.returns-in_ok-insert-in-None-clause-within
+returns-in_ok-insert-in-None-clause-within c =
+    let text = c.args.text.now in
+    let names = returns-in_ok-insert-in-None-clause-names c in
+    let there : c.len-place.result ≡ place_of (with_text c.args.self.now text) text = returns-in_ok-insert-in-None-clause-place c ∙ ap (λ ns. place_of ns text) names in
+    rw names (omega (arith, there, (IsKnown-seen c.args.self.now text).below))

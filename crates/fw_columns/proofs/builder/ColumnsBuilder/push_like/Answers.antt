@@ -1,0 +1,11 @@
+use Rattle.std.proofs.Common.{◌∙◌, ◌++◌, [], ◌∷◌}
+use Rattle.fw_columns.specs.RowViews.{charge_with, tags_at}
+use Rattle.fw_columns.proofs.TableFacts.{shown, columns_shown}
+use Rattle.fw_columns.proofs.builder.ColumnsBuilder.push_like.Goals as goal
+
+pub invariant_of-self : goal.invariant_of-self
+invariant_of-self c = columns_shown _ _ c.in-Ok.ensures
+
+pub returns-in-Ok-clause-added : goal.returns-in-Ok-clause-added
+returns-in-Ok-clause-added c =
+    shown _ _ c.in-Ok.ensures ∙ (λ j. c.self.view_is j ++ charge_with c.args.row.now (tags_at (c.self.view_is j) c.args.place) ∷ [])

@@ -1,0 +1,166 @@
+//! One more row in columns.
+ghost use Rattle.std.specs.Prelude.{◌≡◌, ◌^◌, ◌<◌, ◌≤◌, ◌+◌, ◌++◌, [], ◌∷◌, ℕ, length, option_copied, option_map, option_to_list, All, IfOk, OnOk, IsTrue, Some};
+ghost use Rattle.fw_charge.specs.Charge.{IsCharge, last_second};
+ghost use Rattle.fw_columns.specs.Codes.{text_code};
+ghost use Rattle.fw_columns.specs.Texts.{with_texts};
+ghost use Rattle.fw_columns.specs.Joining.{AreCodesBelow};
+ghost use Rattle.fw_columns.specs.RowViews.{charge_with, tags_at};
+ghost use Rattle.fw_columns.specs.Adding.{texts_of_view, AreCodesWithin, AreCodesOf, HasMore};
+ghost use Rattle.fw_columns.specs.Table.{AreColumns, rows_of};
+
+use crate::codes::{kind_kept, quantity_kept, status_kept};
+use crate::names::Names;
+use crate::naming::see_tags;
+use crate::row_view::RowView;
+use crate::table::Table;
+use fw_charge::{Tags, class_code};
+use std::alloc::AllocError;
+
+/// The codes of the texts of a row: 0 where a text is null, else 1 more than its place in the names.
+#[derive(Clone, Copy, Drop)]
+pub struct TextCodes {
+    pub discount: u32,
+    pub unit: u32,
+    pub sku: u32,
+    pub sub_account: u32,
+}
+
+/// Adds a row with these tags, whose texts' places go into a list that is kept for that.
+pub fn add_row(
+    table: &mut Table,
+    list: &mut Vec<u32>,
+    row: &RowView<'_>,
+    tags: &Tags,
+) -> Result<(), AllocError>
+    requires columns { AreColumns table.old (rows_of table.old) }
+    requires few { length (rows_of table.old) < 65536 }
+    requires valid { IsCharge (charge_with row.now tags.now) }
+    ensures { OnOk result (AreColumns table.new (rows_of table.old ++ charge_with row.now tags.now ∷ [])) }
+{
+    let before = last_codes(table);
+    let codes = see_texts(&mut table.names, before, row)?;
+    see_tags(&mut table.names, tags.as_slice(), list)?;
+    let place = table.lists.code(list.as_slice())?;
+    push_values(table, row, codes, place)?;
+    Ok(())
+}
+
+/// Adds a row with the tags of the row at a place.
+pub fn add_row_like(table: &mut Table, row: &RowView<'_>, place: usize) -> Result<(), AllocError>
+    requires columns { AreColumns table.old (rows_of table.old) }
+    requires few { length (rows_of table.old) < 65536 }
+    requires place { place < length (rows_of table.old) }
+    requires valid { IsCharge (charge_with row.now (tags_at (rows_of table.old) place)) }
+    ensures { OnOk result (AreColumns table.new (rows_of table.old ++ charge_with row.now (tags_at (rows_of table.old) place) ∷ [])) }
+{
+    let before = last_codes(table);
+    let codes = see_texts(&mut table.names, before, row)?;
+    let list = table.tags[place];
+    push_values(table, row, codes, list)?;
+    Ok(())
+}
+
+/// The codes of the texts of the last row; of null texts where there is none.
+fn last_codes(table: &Table) -> TextCodes
+    ensures { (n : ℕ) → AreCodesBelow table.now n → AreCodesWithin n result }
+{
+    TextCodes {
+        discount: last_code(table.discounts.as_slice()),
+        unit: last_code(table.units.as_slice()),
+        sku: last_code(table.skus.as_slice()),
+        sub_account: last_code(table.sub_accounts.as_slice()),
+    }
+}
+
+/// The last code of a column, 0 where it has none.
+fn last_code(column: &[u32]) -> u32
+    ensures { (n : ℕ) → All (λ code. code ≤ n) column.now → result ≤ n }
+{
+    match column.len().checked_sub(1) {
+        Some(last) => column[last],
+        None => 0,
+    }
+}
+
+/// Adds the texts of a row that are new, but those of its tags, and returns the codes of all. A text that the row before has too isn't looked up.
+fn see_texts(
+    names: &mut Names,
+    before: TextCodes,
+    row: &RowView<'_>,
+) -> Result<TextCodes, AllocError>
+    requires room { length names.old + 4 ≤ 2 ^ 30 }
+    requires before { AreCodesWithin (length names.old) before }
+    ensures seen { OnOk result (names.new ≡ with_texts names.old (texts_of_view row.now)) }
+    ensures codes { IfOk result (λ codes. AreCodesOf names.new row.now codes) }
+    ensures few { OnOk result (length names.new ≤ length names.old + 4) }
+{
+    let discount = see_code(names, before.discount, row.discount)?;
+    let unit = see_code(names, before.unit, row.unit)?;
+    let sku = see_code(names, before.sku, row.sku)?;
+    let sub_account = see_code(names, before.sub_account, row.sub_account)?;
+    Ok(TextCodes {
+        discount,
+        unit,
+        sku,
+        sub_account,
+    })
+}
+
+/// Adds a text that is there and new. Returns its code, which is looked up only where it isn't the code before.
+#[tactic(auto, unfolding(crate::specs::Texts::with_texts, crate::specs::Codes::text_code))]
+fn see_code(names: &mut Names, before: u32, text: Option<&str>) -> Result<u32, AllocError>
+    requires room { length names.old + 1 ≤ 2 ^ 30 }
+    requires before { before ≤ length names.old }
+    ensures seen { OnOk result (names.new ≡ with_texts names.old (option_to_list (option_copied text.entry))) }
+    ensures code { IfOk result (λ code. code ≡ text_code names.new (option_copied text.entry)) }
+    ensures grown { OnOk result (length names.old ≤ length names.new) }
+    ensures few { OnOk result (length names.new ≤ length names.old + 1) }
+{
+    let Some(text) = text else {
+        return Ok(0);
+    };
+    if is_code_of(names, before, text) {
+        return Ok(before);
+    }
+    Ok(names.code(text)? + 1)
+}
+
+/// Whether a code is that of a text.
+fn is_code_of(names: &Names, code: u32, text: &str) -> bool
+    requires { code ≤ length names.now }
+    ensures { IsTrue result → code ≡ text_code names.now (Some text.now) }
+{
+    prove!(names.len() <= 1 << 30);
+    match code.checked_sub(1) {
+        Some(place) => names.text(place) == text,
+        None => false,
+    }
+}
+
+/// Adds a value to each column.
+fn push_values(
+    table: &mut Table,
+    row: &RowView<'_>,
+    codes: TextCodes,
+    list: u32,
+) -> Result<(), AllocError>
+    requires { row.now.start ≤ last_second }
+    ensures { OnOk result (HasMore table.old table.new row.now codes list) }
+{
+    table.billed.push(row.billed.count())?;
+    table.effective.push(row.effective.count())?;
+    table.categories.push(row.category.code())?;
+    table.classes.push(class_code(row.is_correction))?;
+    table.starts.push(row.start as i64)?;
+    table.ends.push(row.end)?;
+    table.discounts.push(codes.discount)?;
+    table.kinds.push(kind_kept(row.discount, row.kind))?;
+    table.statuses.push(status_kept(row.discount, row.status))?;
+    table.quantities.push(quantity_kept(row.quantity))?;
+    table.has_quantity.push(row.quantity.is_some())?;
+    table.units.push(codes.unit)?;
+    table.skus.push(codes.sku)?;
+    table.sub_accounts.push(codes.sub_account)?;
+    table.tags.push(list)?;
+    Ok(())
+}

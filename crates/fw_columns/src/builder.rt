@@ -1,0 +1,96 @@
+//! Columns that are made row by row.
+ghost use Rattle.std.specs.Prelude.{◌≡◌, ◌<◌, ◌≤◌, ◌++◌, [], ◌∷◌, length, OnErr, OnOk, IfOk};
+ghost use Rattle.fw_charge.specs.Charge.{IsCharge};
+ghost use Rattle.fw_columns.specs.RowViews.{charge_with, tags_at};
+
+use crate::adding::{add_row, add_row_like};
+use crate::columns::Columns;
+use crate::row_view::RowView;
+use crate::table::Table;
+use fw_charge::Tags;
+use std::alloc::{AllocError, Global};
+use std::marker::Model;
+
+/// Columns to which rows are added one by one, at most 65,536. A contract sees the list of the rows.
+#[derive(Drop)]
+pub struct ColumnsBuilder {
+    table: Table,
+    /// Where the places of a row's tags are put together.
+    list: Vec<u32>,
+}
+
+impl Model for ColumnsBuilder {
+    ghost use Rattle.std.specs.Prelude.{List};
+    ghost use Rattle.fw_charge.specs.Charge.{Charge};
+    ghost use Rattle.fw_columns.specs.Table.{rows_of, AreColumns};
+
+    ghost Value = { List Charge };
+
+    ghost view = { λ b. rows_of b.table };
+
+    ghost invariant = { λ b. AreColumns b.table (rows_of b.table) };
+}
+
+impl ColumnsBuilder {
+    /// No rows yet. It takes no memory.
+    pub fn new(alloc: Global) -> ColumnsBuilder
+        ensures { result ≡ [] }
+    {
+        ColumnsBuilder {
+            table: Table::empty(alloc),
+            list: Vec::new(alloc),
+        }
+    }
+
+    /// How many rows there are: at most 65,536.
+    pub fn len(&self) -> usize
+        ensures count { result ≡ length self.now }
+        ensures few { result ≤ 65536 }
+    {
+        self.table.billed.len()
+    }
+
+    /// Adds a row with these values and these tags, which together keep the rules of a row. Where memory is refused, no rows are left.
+    pub fn push(&mut self, row: &RowView<'_>, tags: &Tags) -> Result<(), AllocError>
+        requires few { length self.old < 65536 }
+        requires valid { IsCharge (charge_with row.now tags.now) }
+        ensures added { OnOk result (self.new ≡ self.old ++ charge_with row.now tags.now ∷ []) }
+        ensures refused { OnErr result (self.new ≡ []) }
+    {
+        match add_row(&mut self.table, &mut self.list, row, tags) {
+            Ok(()) => Ok(()),
+            Err(refused) => {
+                self.table = Table::empty(*self.list.allocator());
+                Err(refused)
+            }
+        }
+    }
+
+    /// Adds a row with these values and the tags of the row at a place, counted from 0, which together keep the rules of a row. No text of a tag is
+    /// looked at. Where memory is refused, no rows are left.
+    pub fn push_like(&mut self, row: &RowView<'_>, place: usize) -> Result<(), AllocError>
+        requires few { length self.old < 65536 }
+        requires place { place < length self.old }
+        requires valid { IsCharge (charge_with row.now (tags_at self.old place)) }
+        ensures added { OnOk result (self.new ≡ self.old ++ charge_with row.now (tags_at self.old place) ∷ []) }
+        ensures refused { OnErr result (self.new ≡ []) }
+    {
+        match add_row_like(&mut self.table, row, place) {
+            Ok(()) => Ok(()),
+            Err(refused) => {
+                self.table = Table::empty(*self.list.allocator());
+                Err(refused)
+            }
+        }
+    }
+
+    /// The columns of the rows, of which there is one at least.
+    pub fn finish(self) -> Columns
+        requires { 0 < length self }
+        ensures { result ≡ self }
+    {
+        let mut table = self.table;
+        table.shrink();
+        Columns { table }
+    }
+}

@@ -1,0 +1,85 @@
+//! A charge row as it is added to columns.
+ghost use Rattle.std.specs.Prelude.{◌≡◌, ◌<◌, ◌++◌, [], ◌∷◌, length, option_copied, OnOk};
+ghost use Rattle.fw_charge.specs.Charge.{IsCharge};
+ghost use Rattle.fw_columns.specs.RowViews.{charge_with, discount_with};
+
+use crate::builder::ColumnsBuilder;
+use fw_charge::{Category, Discount, DiscountKind, DiscountStatus, Row};
+use fw_money::Nanos;
+use std::alloc::AllocError;
+
+/// The values of a charge row but its tags. Its texts stand where they are. An `Option` is `None` where the column is null.
+#[derive(Clone, Copy, Debug, Drop)]
+pub struct RowView<'a> {
+    /// BilledCost, in nanos.
+    pub billed: Nanos,
+    /// EffectiveCost, in nanos.
+    pub effective: Nanos,
+    /// ChargeCategory.
+    pub category: Category,
+    /// ChargeClass: whether the row corrects a charge of an earlier billing period.
+    pub is_correction: bool,
+    /// ChargePeriodStart: the first second of the charge period, counted from 1970.
+    pub start: u64,
+    /// ChargePeriodEnd: the second after the charge period, counted from 1970.
+    pub end: u64,
+    /// CommitmentDiscountId: the commitment discount that the row belongs to.
+    pub discount: Option<&'a str>,
+    /// CommitmentDiscountCategory. It counts only where there is a discount.
+    pub kind: DiscountKind,
+    /// CommitmentDiscountStatus. It counts only where there is a discount.
+    pub status: Option<DiscountStatus>,
+    /// ConsumedQuantity, in nanos of its unit.
+    pub quantity: Option<Nanos>,
+    /// ConsumedUnit.
+    pub unit: Option<&'a str>,
+    /// SkuId.
+    pub sku: Option<&'a str>,
+    /// SubAccountId.
+    pub sub_account: Option<&'a str>,
+}
+
+/// Adds a row to columns.
+pub(crate) fn push_row(builder: &mut ColumnsBuilder, row: &Row) -> Result<(), AllocError>
+    requires { length builder.old < 65536 }
+    ensures { OnOk result (builder.new ≡ builder.old ++ row.now ∷ []) }
+{
+    let view = view_of(row);
+    builder.push(&view, row.tags())?;
+    Ok(())
+}
+
+/// A row as it stands, but its tags.
+fn view_of(row: &Row) -> RowView<'_>
+    ensures row { charge_with result row.now.tags ≡ row.now }
+    ensures valid { IsCharge row.now }
+{
+    let (discount, kind, status) = discount_parts(row.discount());
+    RowView {
+        billed: row.billed(),
+        effective: row.effective(),
+        category: row.category(),
+        is_correction: row.is_correction(),
+        start: row.start(),
+        end: row.end(),
+        discount,
+        kind,
+        status,
+        quantity: row.quantity(),
+        unit: row.unit(),
+        sku: row.sku(),
+        sub_account: row.sub_account(),
+    }
+}
+
+/// The id, the kind and the status of a discount. Where there is none, any kind will do.
+fn discount_parts(
+    discount: Option<&Discount>,
+) -> (Option<&str>, DiscountKind, Option<DiscountStatus>)
+    ensures { discount_with result.0 result.1 result.2 ≡ option_copied discount.entry }
+{
+    match discount {
+        Some(discount) => (Some(discount.id()), discount.kind(), discount.status()),
+        None => (None, DiscountKind::Usage, None),
+    }
+}
