@@ -1,0 +1,4 @@
+pub mod Items
+pub mod Limits
+pub mod Answers
+pub mod HandView
