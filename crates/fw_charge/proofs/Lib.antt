@@ -1,4 +1,3 @@
 pub mod TagFacts
 pub mod Fitting
 pub mod CodeFacts
-pub mod ChargeFacts
