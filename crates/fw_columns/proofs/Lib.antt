@@ -5,3 +5,4 @@ mod TableFacts
 mod RowFacts
 mod JoinFacts
 mod GroupFacts
+pub mod LendingFacts

@@ -6,3 +6,4 @@ pub mod Table
 pub mod Joining
 pub mod Reading
 pub mod Grouping
+pub mod Lending

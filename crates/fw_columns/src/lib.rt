@@ -5,6 +5,7 @@ mod codes;
 mod columns;
 mod grouping;
 mod joining;
+mod lending;
 mod lists;
 mod making;
 mod names;
@@ -13,4 +14,5 @@ mod reading;
 mod table;
 
 pub use columns::Columns;
+pub use lending::{LentDiscount, LentRow, LentTags};
 pub use names::Names;
