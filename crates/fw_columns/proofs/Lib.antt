@@ -7,3 +7,4 @@ mod JoinFacts
 mod GroupFacts
 mod AddFacts
 mod ChargeFacts
+pub mod LendingFacts

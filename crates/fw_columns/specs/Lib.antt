@@ -8,3 +8,4 @@ pub mod RowViews
 pub mod Adding
 pub mod Reading
 pub mod Grouping
+pub mod Lending

@@ -10,6 +10,7 @@ ghost use Rattle.fw_columns.specs.Codes.{tag_code, AgreeWithGroups};
 use crate::builder::ColumnsBuilder;
 use crate::grouping::{group_codes, group_texts};
 use crate::joining::joined;
+use crate::lending::{LentRow, lent_row, lent_tags};
 use crate::names::Names;
 use crate::reading::fields_at;
 use crate::row_view::push_row;
@@ -66,6 +67,15 @@ impl Columns {
     {
         let alloc = *self.table.billed.allocator();
         Ok(Row::of_fields(fields_at(alloc, &self.table, place)?))
+    }
+
+    /// The row at a place, counted from 0, with its texts and tags lent. It takes no memory.
+    pub fn lent(&self, place: usize) -> LentRow<'_>
+        requires { place < length self.now }
+        ensures { slice_get self.now place ≡ Some result }
+    {
+        let tags = lent_tags(&self.table, place);
+        lent_row(&self.table, tags, place)
     }
 
     /// The texts of the rows, each once, in the order in which it first occurs when the rows are read in turn, and in each row its

@@ -7,6 +7,7 @@ mod codes;
 mod columns;
 mod grouping;
 mod joining;
+mod lending;
 mod lists;
 mod names;
 mod naming;
@@ -16,5 +17,6 @@ mod table;
 
 pub use builder::ColumnsBuilder;
 pub use columns::Columns;
+pub use lending::{LentDiscount, LentRow, LentTags};
 pub use names::Names;
 pub use row_view::RowView;

@@ -8,7 +8,7 @@ use std::marker::Model;
 /// Texts, each once, numbered from 0 in the order in which they were first seen. The number of a text is its code.
 ///
 /// A contract sees the list of the texts in this order.
-#[derive(Drop)]
+#[derive(Debug, Drop)]
 pub struct Names {
     texts: IndexSet<String>,
 }

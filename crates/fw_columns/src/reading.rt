@@ -44,7 +44,7 @@ pub fn fields_at(alloc: Global, table: &Table, place: usize) -> Result<RowFields
 }
 
 /// The amount at a place.
-fn amount_at(column: &[i64], place: usize) -> Nanos
+pub(crate) fn amount_at(column: &[i64], place: usize) -> Nanos
     requires within { place < length column.now }
     requires in_range { nat_abs (slice_index_or column.now place (pos 0)) ≤ most_nanos }
     ensures { result ≡ slice_index_or column.now place (pos 0) }
@@ -53,7 +53,7 @@ fn amount_at(column: &[i64], place: usize) -> Nanos
 }
 
 /// The category at a place. The column has the codes of categories alone; any other code counts as an adjustment.
-fn category_at(column: &[u8], place: usize) -> Category
+pub(crate) fn category_at(column: &[u8], place: usize) -> Category
     requires { place < length column.now }
     ensures { result ≡ category_at (slice_index_or column.now place 0) }
 {
@@ -61,7 +61,7 @@ fn category_at(column: &[u8], place: usize) -> Category
 }
 
 /// Whether the class at a place is that of a correction. The column has the codes of classes alone; any other code counts as none.
-fn class_at(column: &[u8], place: usize) -> bool
+pub(crate) fn class_at(column: &[u8], place: usize) -> bool
     requires { place < length column.now }
     ensures { result ≡ class_at (slice_index_or column.now place 0) }
 {
@@ -69,7 +69,7 @@ fn class_at(column: &[u8], place: usize) -> bool
 }
 
 /// The second at a place.
-fn second_at(column: &[i64], place: usize) -> u64
+pub(crate) fn second_at(column: &[i64], place: usize) -> u64
     requires { place < length column.now }
     ensures { result ≡ nat_abs (slice_index_or column.now place (pos 0)) }
 {
