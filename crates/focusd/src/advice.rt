@@ -1,11 +1,27 @@
 //! What a person can do about a fault: a further line on standard error, where that is a terminal.
+use crate::failed;
 use crate::fault::Fault;
 use fw_disk::{FolderFault, Side};
 use fw_recover::StoreFault;
-use std::io;
+use std::io::{self, IsTerminal};
+use std::process::ExitCode;
 
-/// Prints what was wrong in words, and what helps, where there is more to say than the fault's own line does.
-pub(crate) fn print_advice(rt: &HostRuntime, folder: &str, fault: &Fault) -> io::Result<()> {
+/// The status of what was done with a folder. A fault is printed, and what helps where standard error is a terminal.
+pub(crate) fn advised(rt: &HostRuntime, folder: &str, done: Result<ExitCode, Fault>) -> ExitCode {
+    match done {
+        Ok(status) => status,
+        Err(fault) => {
+            let status = failed(rt, &fault);
+            if rt.stderr().is_terminal() {
+                let _ = print_advice(rt, folder, &fault);
+            }
+            status
+        }
+    }
+}
+
+// Prints what was wrong in words, and what helps, where there is more to say than the fault's own line does.
+fn print_advice(rt: &HostRuntime, folder: &str, fault: &Fault) -> io::Result<()> {
     match fault {
         Fault::Folder(FolderFault::InUse) => {
             eprintln!(rt; "{folder}: another process has this folder open")

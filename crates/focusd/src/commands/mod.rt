@@ -1,0 +1,3 @@
+//! The commands, a module each: its name, its part of the command line, and its run.
+pub(crate) mod report;
+pub(crate) mod run;

@@ -1,0 +1,140 @@
+//! `focusd run`: a script is read from standard input and answered.
+use crate::advice::advised;
+use crate::command_line::{DIR, dir_option};
+use crate::fault::Fault;
+use crate::wrong_use;
+use clap::{Arg, ArgAction, ArgMatches, Command};
+use fw_disk::{Choice, FileVolume, MemVolume, Volume};
+use fw_recover::{Store, StoreFault};
+use fw_rows::Currency;
+use fw_serve::serve;
+use std::alloc::{AllocError, Global};
+use std::io::{BufWriter, LineWriter, Write};
+use std::process::ExitCode;
+
+/// The command's name.
+pub(crate) const NAME: &str = "run";
+
+/// The id of the option that names the currency.
+const CURRENCY: &str = "currency";
+
+/// The id of the option that creates the warehouse.
+const CREATE: &str = "create";
+
+/// How many bytes of answers are written at once.
+const OUTPUT_BUFFER: usize = 64 * 1024;
+
+const SCRIPT: &str = "Commands of a script, one a line, which a line feed alone ends:
+  post ORIGIN SEQUENCE LINES    accept the charge rows of the CSV on the next LINES lines
+  commit ORIGIN SEQUENCE LINES  accept the commitment whose TOML stands on the next LINES lines
+  policy ORIGIN SEQUENCE LINES  share costs by the policy whose TOML stands on the next LINES lines
+  report KEY FROM TO            sum the costs of the hours from FROM up to, not including, TO, by the tag KEY
+  lines FROM TO                 list what these hours cost, line by line: purchases, rows, used and unused parts
+  state                         count the entries, rows and commitments, and whether a policy holds (1) or not (0)
+  checkpoint                    write the whole warehouse anew, so that the next run opens it without reading a long log
+
+ORIGIN names the sender: 1 to 64 ASCII letters, digits, `-`, `_` and `.`. SEQUENCE numbers this origin's entries: 1, 2, 3 ..
+So an entry that is sent again is not billed twice, and a skipped number is reported.
+LINES is at most 1,000,000 and counts line feeds, also those within quotes; a post has at most 4,096 rows.
+FROM and TO are instants on whole hours, as 2024-01-01T00:00Z, at most 26,304 hours apart.
+KEY is a tag's key; rows without the tag are in the group of the empty text.
+
+An entry is answered `accepted N`, where N counts the accepted entries of all origins; `already L`, where its number was
+accepted before and L is the origin's last; `gap E`, where the origin's next number would be E; or `refused CODE NAME`
+and the column, record or field. Only an accepted entry uses its number up.
+A checkpoint is answered `checkpointed`. It costs as much as writing the whole warehouse: make one whenever as many rows
+came since the last one as there were before it.
+A report and lines are answered `bytes N` and a CSV of N bytes, or `refused` and why.
+A command that runs out of memory is answered `no memory`, and changes nothing.
+An entry or a checkpoint that the folder refuses is answered `store CODE NAME`. After `store S3 Device`, where a read, a write
+or a sync failed, each further one is answered `store S4 Failed`: run the program again, and send what wasn't accepted.
+Other lines are answered `bad command`; an entry with too few lines after it `bad end`.
+
+With --dir the warehouse is kept in two files of the folder, `left` and `right`. An entry is answered `accepted` only when it is
+on the disk, by the word of the system. Only one program at a time can have the folder open.
+
+Exit status: 0 where the script was served, 1 where the folder, reading, writing or memory failed (with one line `focusd: CODE
+NAME` on standard error), 2 where the command line is wrong.";
+
+/// The command's part of the command line.
+pub(crate) fn command<'a>(alloc: Global) -> Result<Command<'a>, AllocError> {
+    let currency = Arg::new(alloc, CURRENCY)
+        .long("currency")
+        .value_name("CUR")
+        .default_value("USD")
+        .help("The currency of all costs, where a warehouse is created: three capital letters");
+    let folder = dir_option(alloc).help(
+        "The folder of the warehouse, which has to be there; without it the warehouse is in memory",
+    );
+    let create = Arg::new(alloc, CREATE)
+        .long("create")
+        .action(ArgAction::SetTrue)
+        .help("Creates the warehouse in the folder; without --dir it changes nothing");
+    Command::new(alloc, NAME)
+        .about("Reads a script from standard input and prints the answers")
+        .after_help(SCRIPT)
+        .arg(currency)?
+        .arg(folder)?
+        .arg(create)
+}
+
+/// Opens or creates the warehouse that the options name, and serves the script on standard input from it.
+pub(crate) fn run(rt: &HostRuntime, options: &ArgMatches<'_>) -> Result<ExitCode, Fault> {
+    let text = options.get_str(CURRENCY).unwrap_or("USD");
+    let Some(currency) = Currency::new(text.as_bytes()) else {
+        return Ok(wrong_use(rt, "currency"));
+    };
+    match options.get_str(DIR) {
+        Some(folder) => {
+            let served = serve_folder(rt, folder, options.get_flag(CREATE), currency);
+            Ok(advised(rt, folder, served))
+        }
+        None => serve_memory(rt, currency),
+    }
+}
+
+// Serves the script from the warehouse of a folder. Each answer is written as soon as its line ends: whoever reads `accepted`
+// knows then that the entry is stored.
+fn serve_folder(
+    rt: &HostRuntime,
+    folder: &str,
+    creates: bool,
+    currency: Currency,
+) -> Result<ExitCode, Fault> {
+    let alloc = rt.alloc();
+    let Ok(mut output) = LineWriter::with_capacity(alloc, OUTPUT_BUFFER, rt.stdout()) else {
+        return Err(Fault::NoMemory);
+    };
+    let volume = FileVolume::open(rt, folder)?;
+    let opened = if creates {
+        Store::create(alloc, volume, currency)
+    } else {
+        Store::open(alloc, volume)
+    };
+    serve_streams(rt, &mut output, opened)
+}
+
+// Serves the script from an empty warehouse in memory.
+fn serve_memory(rt: &HostRuntime, currency: Currency) -> Result<ExitCode, Fault> {
+    let alloc = rt.alloc();
+    let Ok(mut output) = BufWriter::with_capacity(alloc, OUTPUT_BUFFER, rt.stdout()) else {
+        return Err(Fault::NoMemory);
+    };
+    let volume = MemVolume::new(alloc, FileVolume::LIMIT, Choice::Old);
+    serve_streams(rt, &mut output, Store::create(alloc, volume, currency))
+}
+
+// Serves the script on standard input from a store.
+fn serve_streams<W: Write, V: Volume + Drop>(
+    rt: &HostRuntime,
+    output: &mut W,
+    opened: Result<Store<V>, (V, StoreFault)>,
+) -> Result<ExitCode, Fault> {
+    match opened {
+        Ok(mut store) => {
+            serve(rt.alloc(), &mut rt.stdin(), output, &mut store, 1)?;
+            Ok(ExitCode::SUCCESS)
+        }
+        Err((_, fault)) => Err(Fault::Store(fault)),
+    }
+}

@@ -1,0 +1,8 @@
+//! Times as people write them: a month, a date or an instant, each for the hour at which it begins.
+//!
+//! Hours are counted from 1970-01-01T00:00Z, and all dates are those of UTC.
+#![tactic(auto)]
+
+mod times;
+
+pub use times::read_time;
