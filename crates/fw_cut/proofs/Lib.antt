@@ -1,0 +1,4 @@
+mod RecordFacts
+mod CutFacts
+mod PieceFacts
+mod PartFacts

@@ -1,0 +1,61 @@
+-- A text that is read and cut into parts.
+use Rattle.std.specs.Prelude.{◌≡◌, ◌⊎◌, ◌≤◌, ℕ, Bool, true, List, ◌++◌, Option, Some, None, length, ⊤}
+use Rattle.std.specs.Io.KnownBytes.{IsAtEnd, prepend_known}
+use Rattle.fw_cut.specs.Records.{all_records, records_in, IsWhole}
+use Rattle.fw_cut.specs.declared.cutter.Part.{Part}
+
+-- a reader, the header of its text, what was read behind the header and isn't in a part yet, and whether the reader has nothing left
+pub record CutterState (R : Type 0) : Type 0 where
+  pub reader : R
+  pub header : List ℕ
+  pub buffer : List ℕ
+  pub at_end : Bool
+
+-- what is left, where it is known: what was read, and then what the reader has
+abbrev pub left_of : {R : Type 0} → (R → Option (List ℕ)) → CutterState R → Option (List ℕ)
+left_of remaining c = prepend_known c.buffer (remaining c.reader)
+
+-- the records of a header with anything behind it are those of the header, and then those of what is behind it
+abbrev pub IsHeader : List ℕ → Type 0
+IsHeader header = (more : List ℕ) → records_in (header ++ more) ≡ records_in header ++ all_records more
+
+pub record IsCutter {R : Type 0} (remaining : R → Option (List ℕ)) (c : CutterState R) : Type 0 where
+  pub header : IsHeader c.header
+  pub end : c.at_end ≡ true → IsAtEnd (remaining c.reader)
+
+-- known bytes begin with a header, and their records are that of the header and then those of what is left
+abbrev pub HeaderThen : Option (List ℕ) → List ℕ → Option (List ℕ) → Type 0
+HeaderThen None header left = ⊤
+HeaderThen (Some text) header None = ⊥
+HeaderThen (Some text) header (Some left) = (text ≡ header ++ left) × (records_in text ≡ records_in header ++ all_records left)
+
+-- the header was read, which is one record
+pub record BeginsWith (known : Option (List ℕ)) (header : List ℕ) (left : Option (List ℕ)) : Type 0 where
+  pub one : length (records_in header) ≡ 1
+  pub then : HeaderThen known header left
+
+-- the known records that were left are those of some bytes, and then those that are left now
+abbrev pub RecordsThen : Option (List ℕ) → List ℕ → Option (List ℕ) → Type 0
+RecordsThen None bytes new = ⊤
+RecordsThen (Some old) bytes None = ⊥
+RecordsThen (Some old) bytes (Some new) = (old ≡ bytes ++ new) × (all_records old ≡ all_records bytes ++ all_records new)
+
+-- the most records of a part
+abbrev pub most_records : ℕ
+most_records = 4096
+
+-- A part of a text: the header, and the bytes that are next. Its records are that of the header and those that are next.
+pub record IsPart (header : List ℕ) (old new : Option (List ℕ)) (part : Part) : Type 0 where
+  pub bytes : List ℕ
+  pub text : part.text.items ≡ header ++ bytes
+  pub header_len : part.header ≡ length header
+  pub few : length (all_records bytes) ≤ most_records
+  pub read : records_in part.text.items ≡ records_in header ++ all_records bytes
+  pub next : RecordsThen old bytes new
+  pub last : part.is_last ≡ true → IsAtEnd new
+
+-- where a part can end: behind whole records, or at the end of the text
+pub record CanEnd {R : Type 0} (c : CutterState R) (end : ℕ) (bytes : List ℕ) : Type 0 where
+  pub within : end ≤ length c.buffer
+  pub few : length (all_records bytes) ≤ most_records
+  pub whole : IsWhole bytes ⊎ ((c.at_end ≡ true) × (end ≡ length c.buffer))

@@ -1,0 +1,184 @@
+//! The parts of a text that is read piece by piece.
+ghost use Rattle.std.specs.Prelude.{◌≡◌, ◌≤◌, ◌^◌, length, take, drop, IfOk, IfSome, OnOk};
+ghost use Rattle.std.specs.Io.KnownBytes.{Keeps};
+ghost use Rattle.fw_cut.specs.Records.{mark_len};
+ghost use Rattle.fw_cut.specs.Parts.{left_of, BeginsWith, IsPart, CanEnd};
+
+use crate::cutting::cut_off;
+use crate::fault::CutFault;
+use crate::input::fill;
+use std::alloc::{AllocError, Global};
+use std::io::Read;
+use std::marker::Model;
+
+/// A text of the header and some records behind it.
+#[derive(Debug, Drop)]
+pub struct Part {
+    /// The header and the records, each as its bytes in the whole text.
+    pub text: Vec<u8>,
+    /// How many bytes of it are the header, with its byte order mark and what ends it.
+    pub header: usize,
+    /// Whether nothing is left behind this part.
+    pub is_last: bool,
+}
+
+/// A text that is read and cut into parts.
+#[derive(Drop)]
+pub struct Cutter<R: Read> {
+    reader: R,
+    // the first record, with the byte order mark before it and what ends it
+    header: Vec<u8>,
+    // what was read and isn't in a part yet
+    buffer: Vec<u8>,
+    // whether the reader has nothing left
+    at_end: bool,
+}
+
+impl<R: Read> Model for Cutter<R> {
+    ghost use Rattle.fw_cut.specs.Parts.{CutterState, IsCutter};
+
+    ghost Value = { CutterState R };
+
+    ghost view = { λ c. record { reader = c.reader; header = c.header.items; buffer = c.buffer.items; at_end = c.at_end } };
+
+    ghost invariant = { λ c. IsCutter R.remaining (record { reader = c.reader; header = c.header.items; buffer = c.buffer.items; at_end = c.at_end }) };
+}
+
+/// The most records of a part.
+const MOST_RECORDS: usize = 4096;
+
+/// How many bytes are looked at for a part, and the most bytes of a header.
+const PART_BYTES: usize = 2 * 1024 * 1024;
+
+/// The most bytes of a record.
+const RECORD_BYTES: usize = 4 * 1024 * 1024;
+
+/// How many bytes of a text are its byte order mark.
+#[tactic(auto, unfolding(crate::specs::Records::mark_len))]
+fn mark_len(text: &[u8]) -> usize
+    ensures value { result ≡ mark_len text.now }
+    ensures within { result ≤ length text.now }
+{
+    match text {
+        [0xEF, 0xBB, 0xBF, ..] => 3,
+        _ => 0,
+    }
+}
+
+/// The bytes from a place on.
+fn rest_of(alloc: Global, text: &[u8], from: usize) -> Result<Vec<u8>, AllocError>
+    requires { from ≤ length text.now }
+    ensures { IfOk result (λ rest. rest.items ≡ drop from text.now) }
+{
+    let mut rest = Vec::new(alloc);
+    rest.extend_from_slice(&text[from..])?;
+    Ok(rest)
+}
+
+impl<R: Read + Drop> Cutter<R> {
+    /// Reads the header of a text. Records are those that the `csv` crate reads with its default settings, and the first is the header; a
+    /// byte order mark may stand before it.
+    ///
+    /// # Errors
+    /// `NoRecord` where the text ends before a line feed or carriage return ends the header, `TooLong` for a header of more than 2 MiB,
+    /// `Read` where a read failed, `NoMemory`.
+    pub fn open(alloc: Global, reader: R) -> Result<Cutter<R>, CutFault>
+        ensures { IfOk result (λ c. BeginsWith (R.remaining reader) c.header (left_of R.remaining c)) }
+    {
+        let mut reader = reader;
+        let mut buffer = Vec::new(alloc);
+        let at_end = fill(&mut reader, &mut buffer, PART_BYTES)?;
+        let mark = mark_len(&buffer);
+        let cut = cut_off(&buffer[mark..], 1);
+        if cut.records == 0 {
+            return Err(if at_end {
+                CutFault::NoRecord
+            } else {
+                CutFault::TooLong
+            });
+        }
+        let rest = rest_of(alloc, &buffer, mark + cut.end)?;
+        buffer.truncate(mark + cut.end);
+        Ok(Cutter {
+            reader,
+            header: buffer,
+            buffer: rest,
+            at_end,
+        })
+    }
+}
+
+impl<R: Read> Cutter<R> {
+    /// The header, with its byte order mark and what ends it.
+    pub fn header(&self) -> &[u8]
+        ensures { result.now ≡ self.now.header }
+    {
+        &self.header
+    }
+
+    /// The next part: the header, and the records that are next, as many as there are within 2 MiB and at most 4,096. The last part has all
+    /// that is left, which may be no record. A record that is longer is in a part of its own or with those behind it within 4 MiB.
+    ///
+    /// # Errors
+    /// `TooLong` for a record of more than 4 MiB, `Read` where a read failed, `NoMemory`. After an error the cutter is of no further use.
+    pub fn next_part(&mut self, alloc: Global) -> Result<Part, CutFault>
+        ensures part { IfOk result (λ part. IsPart self.old.header (left_of R.remaining self.old) (left_of R.remaining self.new) part) }
+        ensures header { OnOk result (self.new.header ≡ self.old.header) }
+    {
+        self.read_on(PART_BYTES)?;
+        if let Some(end) = self.end_of_part() {
+            let part = self.taken(alloc, end)?;
+            return Ok(part);
+        }
+        self.read_on(RECORD_BYTES)?;
+        if let Some(end) = self.end_of_part() {
+            let part = self.taken(alloc, end)?;
+            return Ok(part);
+        }
+        Err(CutFault::TooLong)
+    }
+
+    // Reads on until there are at least `enough` bytes, or all.
+    fn read_on(&mut self, enough: usize) -> Result<(), CutFault>
+        requires { enough ≤ 2 ^ 30 }
+        ensures keeps { OnOk result (Keeps (left_of R.remaining self.old) (left_of R.remaining self.new)) }
+        ensures header { OnOk result (self.new.header ≡ self.old.header) }
+    {
+        if self.at_end {
+            return Ok(());
+        }
+        self.at_end = fill(&mut self.reader, &mut self.buffer, enough)?;
+        Ok(())
+    }
+
+    // Where the next part ends, if what was read has a whole record or is all.
+    fn end_of_part(&self) -> Option<usize>
+        ensures { IfSome result (λ end. CanEnd self.now end (take end self.now.buffer)) }
+    {
+        let cut = cut_off(&self.buffer, MOST_RECORDS);
+        if self.at_end && cut.records < MOST_RECORDS {
+            return Some(self.buffer.len());
+        }
+        if cut.records == 0 {
+            return None;
+        }
+        Some(cut.end)
+    }
+
+    // The part that ends at a place of what was read.
+    fn taken(&mut self, alloc: Global, end: usize) -> Result<Part, CutFault>
+        requires { CanEnd self.old end (take end self.old.buffer) }
+        ensures part { IfOk result (λ part. IsPart self.old.header (left_of R.remaining self.old) (left_of R.remaining self.new) part) }
+        ensures header { OnOk result (self.new.header ≡ self.old.header) }
+    {
+        let mut text = Vec::new(alloc);
+        text.extend_from_slice(&self.header)?;
+        text.extend_from_slice(&self.buffer[..end])?;
+        self.buffer = rest_of(alloc, &self.buffer, end)?;
+        Ok(Part {
+            text,
+            header: self.header.len(),
+            is_last: self.at_end && self.buffer.is_empty(),
+        })
+    }
+}
