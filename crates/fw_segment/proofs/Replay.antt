@@ -1,10 +1,13 @@
 -- The entries of heads, judged in turn.
-use Rattle.std.proofs.Common.{◌≡◌, ◌<◌, ◌≤◌, ◌+◌, ◌-◌, ℕ, Bool, true, false, cond, List, [], ◌∷◌, ◌++◌, length, take, drop, map, get_or, All, Some, None, Ok, Err, refl, sym, ap, ◌∙◌, arith, length-drop, append_assoc, append-nil}
-use Rattle.std.specs.Prelude.{◌&&◌, nat_le}
-use Rattle.std.proofs.lemmas.Bool.{and_parts, leb-true, le-leb, lt-leb}
-use Rattle.std.proofs.lemmas.List.{length-take-le, take_more, map-append, take-append-drop}
+use Rattle.std.proofs.Common.{◌≡◌, ◌<◌, ◌≤◌, ◌-◌, ℕ, Bool, true, false, cond, eqb, List, [], ◌∷◌, ◌++◌, length, take, drop, map, All, Some, None, Result, Ok, Err, refl, sym, ap, ◌∙◌, arith, length-append, length-drop, append_assoc, append-nil}
+use Rattle.std.specs.Prelude.{◌&&◌, not, nat_le}
+use Rattle.std.proofs.lemmas.Bool.{and_parts, leb-true, le-leb, lt-leb, ltb-true, ltb-false, eq-eqb, ne_eqb}
+use Rattle.std.proofs.lemmas.List.{length-take-le}
 use Rattle.std.proofs.lemmas.List.Elements.{All-nil, All-cons, All-head, All-tail, All-take, All-drop}
 use Rattle.std.proofs.Math.Seq.{take-append_seam, drop-append_seam}
+use Rattle.fw_bytes.specs.Reading.{◌>>=◌, Fails}
+use Rattle.fw_bytes.specs.declared.fault.ReadError.{ReadError}
+use Rattle.fw_bytes.specs.declared.fault.ReadError.TheVariants as errors
 use Rattle.fw_bytes.proofs.Laws.{passed, ok_is}
 use Rattle.fw_charge.specs.Charge.{Charge}
 use Rattle.fw_charge.specs.Spelling.{IsRow}
@@ -19,9 +22,12 @@ use Rattle.fw_snapshot.specs.declared.verdict.Verdict.{Verdict}
 use Rattle.fw_snapshot.specs.declared.verdict.Verdict.TheVariants as verdict
 use Rattle.fw_snapshot.proofs.HeadFacts.{row_counts_cons, row_count_back, entry_back}
 use Rattle.fw_segment.specs.Heads.{head, IsContent, IsHead}
-use Rattle.fw_segment.specs.declared.heads.ReadHead.{ReadHead}
-use Rattle.fw_segment.specs.HeadView.{head_view}
-use Rattle.fw_segment.specs.States.{goes_behind, followed, replayed, replayed_state}
+use Rattle.fw_entry_bytes.specs.declared.form.Form.{Form}
+use Rattle.fw_entry_bytes.specs.Whole.{whole}
+use Rattle.fw_segment.specs.States.{bytes_before_heads, goes_behind, followed, parts_at, replayed, replayed_state, state_at, state_from}
+use Rattle.fw_segment.specs.declared.rows_left.RowsLeft.{RowsLeft}
+use Rattle.fw_segment.specs.RowsLeft.{behind, AreReadOut}
+use Rattle.fw_segment.specs.Replaying.{continued, state_behind, stepped, with_rows, AreBehind, AreReplayed}
 
 accepted : (v : Verdict) → is_accept v ≡ true → v ≡ verdict.Accept
 accepted verdict.Accept e = refl
@@ -115,71 +121,142 @@ follows_not_large h e more = refused_none h e (too_large h.entries e more)
 pub follows : (h : History) (e : EntryValue) → length (entry e) ≤ most_entry_bytes → is_accept (judged h.entries e) ≡ true → followed h e ≡ Some (record { currency = h.currency; entries = h.entries ++ e ∷ [] })
 follows h e small accept = rw (behind_from h.entries e small (accepted (judged h.entries e) accept)) refl
 
--- ---- how many rows heads say
+-- ---- heads in turn, with the rows that they take
 
 pub no_row_counts : row_counts [] ≡ 0
 unfolding row_counts
 no_row_counts = refl
 
-pub row_counts_append : (hs ks : List HeadValue) → row_counts (hs ++ ks) ≡ row_counts hs + row_counts ks
-row_counts_append [] ks = let none = no_row_counts in omega arith
-row_counts_append (h ∷ hs) ks = rw (row_counts_cons h (hs ++ ks), row_counts_append hs ks, row_counts_cons h hs) (omega arith)
+step_on : (b : Bool) (left less : ℕ) (currency : List ℕ) (entries : List EntryValue) (hs : List HeadValue) (rows : List Charge)
+    → (cond b (replayed less entries hs rows) (Err left) >>= λ es. Ok (record { currency = currency; entries = es }))
+    ≡ continued less (cond b (Ok (record { currency = currency; entries = entries })) (Err left)) hs rows
+unfolding continued
+step_on true left less currency entries hs rows = refl
+step_on false left less currency entries hs rows = refl
 
--- of the first heads, and one more
-pub row_counts_more : (heads : List ReadHead) (i : ℕ) (d : ReadHead) → i < length heads → row_counts (map head_view (take (i + 1) heads)) ≡ row_counts (map head_view (take i heads)) + row_count (head_view (get_or heads i d)).content
-row_counts_more heads i d lt =
-    let one = head_view (get_or heads i d) in
-    let step : map head_view (take (i + 1) heads) ≡ map head_view (take i heads) ++ one ∷ [] = rw (take_more heads i d lt, map-append head_view (take i heads) (get_or heads i d ∷ [])) refl in
-    let sum = row_counts_append (map head_view (take i heads)) (one ∷ []) in
-    let last = row_counts_cons one [] in
-    let none = no_row_counts in
-    rw step (omega arith)
+-- one entry and then the others
+pub continued_step : (left : ℕ) (answer : Result History ℕ) (h : HeadValue) (hs : List HeadValue) (front rest : List Charge) → length front ≡ row_count h.content
+    → continued left answer (h ∷ hs) (front ++ rest) ≡ continued (left - length (head h)) (stepped left answer (entry_of h front)) hs rest
+unfolding continued replayed
+continued_step left (Ok so_far) h hs front rest e =
+    let n = row_count h.content in
+    let one : take n (front ++ rest) ≡ front = rw (sym e) (take-append_seam front rest) in
+    let others : drop n (front ++ rest) ≡ rest = rw (sym e) (drop-append_seam front rest) in
+    rw (one, others) (step_on (goes_behind so_far.entries (entry_of h front)) left (left - length (head h)) so_far.currency (so_far.entries ++ entry_of h front ∷ []) hs rest)
+continued_step left (Err at) h hs front rest e = refl
 
--- the first heads say no more than all
-pub row_counts_front : (heads : List ReadHead) (i : ℕ) → row_counts (map head_view (take i heads)) ≤ row_counts (map head_view heads)
-row_counts_front heads i =
-    let parts : map head_view (take i heads) ++ map head_view (drop i heads) ≡ map head_view heads = sym (map-append head_view (take i heads) (drop i heads)) ∙ ap (map head_view) (take-append-drop i heads) in
-    let sum = row_counts_append (map head_view (take i heads)) (map head_view (drop i heads)) in
-    let all : row_counts (map head_view (take i heads) ++ map head_view (drop i heads)) ≡ row_counts (map head_view heads) = ap row_counts parts in
-    omega arith
+pub continued_end : (left : ℕ) (answer : Result History ℕ) (rows : List Charge) → continued left answer [] rows ≡ answer
+unfolding continued replayed
+continued_end left (Ok h) rows = refl
+continued_end left (Err at) rows = refl
 
--- ---- a step of replaying
+pub continued_all : (left : ℕ) (currency : List ℕ) (hs : List HeadValue) (rows : List Charge) → continued left (Ok (record { currency = currency; entries = [] })) hs rows ≡ replayed_state left currency hs rows
+unfolding continued replayed_state
+continued_all left currency hs rows = refl
 
-stopped_on : {A : Type 0} (b : Bool) (x : A) → cond b (Some x) None ≡ None → b ≡ false
-stopped_on true x e = absurd cc
-stopped_on false x e = refl
+step_followed : {A : Type 0} (b : Bool) (x y : A) (left : ℕ) → Some y ≡ cond b (Some x) None → Ok y ≡ cond b (Ok x) (Err left)
+step_followed true x y left e = let same : y ≡ x = cc in rw same refl
+step_followed false x y left e = absurd cc
 
-stopped : (h : History) (e : EntryValue) → followed h e ≡ None → goes_behind h.entries e ≡ false
-stopped h e n = stopped_on (goes_behind h.entries e) (record { currency = h.currency; entries = h.entries ++ e ∷ [] }) n
+step_stopped : {A : Type 0} (b : Bool) (x : A) (left : ℕ) → None ≡ cond b (Some x) None → Err left ≡ cond b (Ok x) (Err left)
+step_stopped true x left e = absurd cc
+step_stopped false x left e = refl
 
-followed_on : {A : Type 0} (b : Bool) (x y : A) → Some y ≡ cond b (Some x) None → (b ≡ true) × (y ≡ x)
-followed_on true x y e = (refl, cc)
-followed_on false x y e = absurd cc
+-- where an entry follows a warehouse, and where it doesn't
+pub stepped_on : (left : ℕ) (h next : History) (e : EntryValue) → Some next ≡ followed h e → Ok next ≡ stepped left (Ok h) e
+stepped_on left h next e f = step_followed (goes_behind h.entries e) (record { currency = h.currency; entries = h.entries ++ e ∷ [] }) next left f
 
-followed_parts : (h : History) (e : EntryValue) (next : History) → Some next ≡ followed h e → (goes_behind h.entries e ≡ true) × (next ≡ record { currency = h.currency; entries = h.entries ++ e ∷ [] })
-followed_parts h e next n = followed_on (goes_behind h.entries e) (record { currency = h.currency; entries = h.entries ++ e ∷ [] }) next n
+pub stepped_off : (left : ℕ) (h : History) (e : EntryValue) → None ≡ followed h e → Err left ≡ stepped left (Ok h) e
+stepped_off left h e f = step_stopped (goes_behind h.entries e) (record { currency = h.currency; entries = h.entries ++ e ∷ [] }) left f
 
--- where the first entry doesn't follow, nothing is replayed
-pub replay_stops : (left : ℕ) (h : History) (head_one : HeadValue) (hs : List HeadValue) (rows : List Charge) → followed h (entry_of head_one (take (row_count head_one.content) rows)) ≡ None → replayed left h.entries (head_one ∷ hs) rows ≡ Err left
-unfolding replayed
-replay_stops left h g hs rows e = rw (stopped h (entry_of g (take (row_count g.content) rows)) e) refl
+-- the rows that were taken, and those that were only read
+replayed_by : (whole more : Bool) (left : ℕ) (hs : List HeadValue) (old new : Result History ℕ) (from mid to : RowsLeft) (b : AreBehind whole left hs old new from mid) (o : AreReadOut more mid to)
+    → (whole && not more) ≡ eqb (length (b.taken ++ o.rows)) (row_counts hs)
+replayed_by true true left hs old new from mid to b o =
+    let some = ltb-true _ _ (sym o.found) in
+    let all = b.enough refl in
+    let sum = length-append b.taken o.rows in
+    sym (ne_eqb _ _ (λ e. omega (arith, some, all, sum, e)))
+replayed_by true false left hs old new from mid to b o =
+    let none = ltb-false _ _ (sym o.found) in
+    let all = b.enough refl in
+    let sum = length-append b.taken o.rows in
+    sym (eq-eqb _ _ (omega (arith, none, all, sum)))
+replayed_by false more left hs old new from mid to b o =
+    let short = b.short refl in
+    let none : o.rows ≡ [] = ap (λ (x : List Charge × List ℕ). x.0) (ok_is (o.rows, to.bytes.now) ([], mid.bytes.now) (sym o.read ∙ short.1)) in
+    let count : length o.rows ≡ 0 = rw none refl in
+    let sum = length-append b.taken o.rows in
+    let few = short.0 in
+    sym (ne_eqb _ _ (λ e. omega (arith, count, few, sum, e)))
 
--- where it follows, the others are replayed behind it
-pub replay_goes_on : (left : ℕ) (h next : History) (g : HeadValue) (hs : List HeadValue) (rows : List Charge) → Some next ≡ followed h (entry_of g (take (row_count g.content) rows)) → (replayed left h.entries (g ∷ hs) rows ≡ replayed (left - length (head g)) next.entries hs (drop (row_count g.content) rows)) × (next.currency ≡ h.currency)
-unfolding replayed
-replay_goes_on left h next g hs rows e =
-    let p = followed_parts h (entry_of g (take (row_count g.content) rows)) next e in
-    (rw (p.0, p.1) refl, rw p.1 refl)
+replayed_after : (whole more : Bool) (left : ℕ) (hs : List HeadValue) (old new : Result History ℕ) (from mid to : RowsLeft) (b : AreBehind whole left hs old new from mid) (o : AreReadOut more mid to)
+    → (whole && not more) ≡ true → continued left old hs (b.taken ++ o.rows) ≡ new
+replayed_after true more left hs old new from mid to b o e = b.after refl o.rows
+replayed_after false more left hs old new from mid to b o e = absurd cc
 
--- ---- and of the whole
+are_replayed : (whole more : Bool) (left : ℕ) (hs : List HeadValue) (old new : Result History ℕ) (from mid to : RowsLeft) → AreBehind whole left hs old new from mid → AreReadOut more mid to
+    → AreReplayed (whole && not more) left hs old new from to
+are_replayed whole more left hs old new from mid to b o = record {
+  rows = b.taken ++ o.rows;
+  read = b.front ∙ ap (behind b.taken) o.read;
+  count = replayed_by whole more left hs old new from mid to b o;
+  after = replayed_after whole more left hs old new from mid to b o;
+}
 
-pub state_stops : (first : ℕ) (currency : List ℕ) (hs : List HeadValue) (rows : List Charge) (left : ℕ) → replayed first [] hs rows ≡ Err left → replayed_state first currency hs rows ≡ Err left
-unfolding replayed_state
-state_stops first currency hs rows left e = rw e refl
+pub replayed_then : (whole more : Bool) (left : ℕ) (hs : List HeadValue) (old new : Result History ℕ) (from mid to : RowsLeft) → whole ≡ true → AreBehind whole left hs old new from mid → AreReadOut more mid to
+    → AreReplayed (not more) left hs old new from to
+replayed_then true more left hs old new from mid to e b o = are_replayed true more left hs old new from mid to b o
+replayed_then false more left hs old new from mid to e b o = absurd cc
 
-pub state_ends : (first : ℕ) (currency : List ℕ) (hs : List HeadValue) (rows : List Charge) (h : History) (left : ℕ) (others : List Charge) → replayed first [] hs rows ≡ replayed left h.entries [] others → h.currency ≡ currency → replayed_state first currency hs rows ≡ Ok h
-unfolding replayed_state replayed
-state_ends first currency hs rows h left others e same = rw (e, ← same) refl
+pub replayed_else : (whole more : Bool) (left : ℕ) (hs : List HeadValue) (old new : Result History ℕ) (from mid to : RowsLeft) → whole ≡ false → AreBehind whole left hs old new from mid → AreReadOut more mid to
+    → AreReplayed false left hs old new from to
+replayed_else true more left hs old new from mid to e b o = absurd cc
+replayed_else false more left hs old new from mid to e b o = are_replayed false more left hs old new from mid to b o
+
+-- ---- all of the bytes
+
+pub rest_behind : (total : ℕ) (currency : List ℕ) (hs : List HeadValue) (read : Result (List Charge × List ℕ) ℕ) (rows : List Charge) (rest : List ℕ)
+    → read ≡ Ok (rows, rest) → eqb (length rest) 0 ≡ false → state_behind total currency hs read ≡ Err (length rest)
+unfolding state_behind
+rest_behind total currency hs read rows rest e more = rw (e, more) refl
+
+pub other_count_behind : (total : ℕ) (currency : List ℕ) (hs : List HeadValue) (read : Result (List Charge × List ℕ) ℕ) (rows : List Charge) (rest : List ℕ)
+    → read ≡ Ok (rows, rest) → eqb (length rest) 0 ≡ true → eqb (length rows) (row_counts hs) ≡ false → state_behind total currency hs read ≡ Err total
+unfolding state_behind state_from
+other_count_behind total currency hs read rows rest e none other = rw (e, none, other) refl
+
+pub all_behind : (total : ℕ) (currency : List ℕ) (hs : List HeadValue) (read : Result (List Charge × List ℕ) ℕ) (rows : List Charge) (rest : List ℕ)
+    → read ≡ Ok (rows, rest) → eqb (length rest) 0 ≡ true → eqb (length rows) (row_counts hs) ≡ true → state_behind total currency hs read ≡ replayed_state (total - bytes_before_heads) currency hs rows
+unfolding state_behind state_from
+all_behind total currency hs read rows rest e none same = rw (e, none, same) refl
+
+parts_on_test : (b : Bool) (total : ℕ) (currency : List ℕ) (hs : List HeadValue) (rows : List Charge) (left : ℕ)
+    → (cond b (Ok (currency, (hs, rows))) (Err left) >>= λ p. state_from total p) ≡ (cond b (Ok rows) (Err left) >>= λ rs. state_from total (currency, (hs, rs)))
+parts_on_test true total currency hs rows left = refl
+parts_on_test false total currency hs rows left = refl
+
+parts_on : (total : ℕ) (currency : List ℕ) (hs : List HeadValue) (read : Result (List Charge × List ℕ) ℕ)
+    → ((with_rows currency hs read >>= λ x. cond (eqb (length x.1) 0) (Ok x.0) (Err (length x.1))) >>= λ p. state_from total p) ≡ state_behind total currency hs read
+unfolding state_behind
+parts_on total currency hs (Ok x) = parts_on_test (eqb (length x.1) 0) total currency hs x.0 (length x.1)
+parts_on total currency hs (Err left) = refl
+
+-- the state of bytes whose parts are a currency, heads, and rows behind them
+pub state_of_read : (form : Form) (bytes currency : List ℕ) (hs : List HeadValue) (read : Result (List Charge × List ℕ) ℕ)
+    → parts_at form bytes ≡ with_rows currency hs read → state_at form bytes ≡ state_behind (length bytes) currency hs read
+unfolding state_at whole
+state_of_read form bytes currency hs read e = rw e (parts_on (length bytes) currency hs read)
+
+pub state_fails : (form : Form) (bytes : List ℕ) (e : ReadError) → Fails e (parts_at form bytes) → Fails e (state_at form bytes)
+unfolding state_at whole
+state_fails form bytes errors.NoMemory h = tt
+state_fails form bytes (errors.Corrupt left) h = rw h refl
+
+pub behind_read_fails : (total : ℕ) (currency : List ℕ) (hs : List HeadValue) (read : Result (List Charge × List ℕ) ℕ) (e : ReadError) → Fails e read → Fails e (state_behind total currency hs read)
+unfolding state_behind
+behind_read_fails total currency hs read errors.NoMemory h = tt
+behind_read_fails total currency hs read (errors.Corrupt left) h = rw h refl
 
 -- an entry whose parts are those of a head with these rows
 pub same_entry : (h : HeadValue) (rows : List Charge) (origin : List ℕ) (command : CommandValue) (e : EntryValue) → e ≡ record { origin = origin; seq = h.seq; command = command } → origin ≡ h.origin → command ≡ command_of h.content rows → e ≡ entry_of h rows

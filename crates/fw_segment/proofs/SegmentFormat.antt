@@ -1,9 +1,13 @@
 -- Groups and segments: what is read is spelled so, and what is spelled so is read.
-use Rattle.std.proofs.Common.{◌≡◌, ℕ, zero, suc, List, [], ◌∷◌, ◌++◌, Ok, arith}
+use Rattle.std.proofs.Common.{◌≡◌, ◌<◌, ◌≤◌, ℕ, zero, suc, cond, ltb, List, [], ◌∷◌, ◌++◌, length, Result, Ok, Err, sym, ap, ◌∙◌, arith}
+use Rattle.std.specs.Int.{w32}
+use Rattle.std.proofs.lemmas.Bool.{ltb-false}
+use Rattle.fw_bytes.specs.Reading.{◌>>=◌, number_at, times, list_at}
 use Rattle.fw_bytes.specs.Spelling.{listed, FitsList}
-use Rattle.fw_bytes.proofs.Laws.{IsBytes, IsBytes-rest, IsFormat, Takes, Takes-behind, list_format, list_parts, list_fits}
+use Rattle.fw_bytes.proofs.Laws.{IsBytes, IsBytes-rest, IsFormat, Takes, Takes-behind, bind_ok, guard_ok, list_format, list_parts, list_fits, ok_is}
 use Rattle.fw_charge.specs.Charge.{Charge}
 use Rattle.fw_charge.specs.Spelling.{row, IsRow}
+use Rattle.fw_row_bytes.specs.Reading.{row_at}
 use Rattle.fw_row_bytes.proofs.RowFormat.{row_format}
 use Rattle.fw_entry.specs.Entry.{EntryValue}
 use Rattle.fw_entry.specs.Spelling.{IsEntry}
@@ -45,3 +49,35 @@ rows_format = record { takes = segment_takes; again = segment_again }
 
 pub segment_format : (kind : Kind) → IsFormat segment_at (segment kind) IsSegment
 segment_format Rows = rows_format
+
+-- ---- how many rows are read
+
+times_count : {A : Type 0} (read : List ℕ → Result (A × List ℕ) ℕ) (n : ℕ) (bytes : List ℕ) (x : List A × List ℕ) → times read n bytes ≡ Ok x → length x.0 ≡ n
+unfolding times
+times_count {A = A} read zero bytes x e =
+    let made : List A × List ℕ = ([], bytes) in
+    ap (λ (y : List A × List ℕ). length y.0) (sym (ok_is made x e))
+times_count {A = A} read (suc n) bytes x e =
+    let a = bind_ok (read bytes) (λ first. times read n first.1 >>= λ others. Ok (first.0 ∷ others.0, others.1)) x e in
+    let b = bind_ok (times read n a.0.1) (λ others. Ok (a.0.0 ∷ others.0, others.1)) x a.2 in
+    let made : List A × List ℕ = (a.0.0 ∷ b.0.0, b.0.1) in
+    ap (λ (y : List A × List ℕ). length y.0) (sym (ok_is made x b.2)) ∙ ap suc (times_count read n a.0.1 b.0 b.1)
+
+list_count : {A : Type 0} (least most : ℕ) (read : List ℕ → Result (A × List ℕ) ℕ) (bytes : List ℕ) (x : List A × List ℕ) → list_at least most read bytes ≡ Ok x → (least ≤ length x.0) × (length x.0 ≤ most)
+unfolding list_at
+list_count least most read bytes x e =
+    let n = bind_ok (number_at w32 bytes) (λ n. cond (ltb n.0 least) (Err (length bytes)) (cond (ltb most n.0) (Err (length bytes)) (times read n.0 n.1))) x e in
+    let enough = guard_ok (ltb n.0.0 least) (length bytes) (cond (ltb most n.0.0) (Err (length bytes)) (times read n.0.0 n.0.1)) x n.2 in
+    let few = guard_ok (ltb most n.0.0) (length bytes) (times read n.0.0 n.0.1) x enough.1 in
+    let count = times_count read n.0.0 n.0.1 x few.1 in
+    let low = ltb-false _ _ enough.0 in
+    let high = ltb-false _ _ few.0 in
+    (omega (arith, count, low), omega (arith, count, high))
+
+-- a segment that is read has 1 to 65,536 rows
+pub segment_count : (bytes : List ℕ) (x : List Charge × List ℕ) → segment_at bytes ≡ Ok x → (0 < length x.0) × (length x.0 ≤ most_segment_rows)
+unfolding segment_at
+segment_count [] x e = absurd cc
+segment_count (zero ∷ rest) x e = absurd cc
+segment_count (suc zero ∷ rest) x e = let p = list_count 1 most_segment_rows row_at rest x e in (omega (arith, p.0), p.1)
+segment_count (suc (suc layout) ∷ rest) x e = absurd cc

@@ -1,47 +1,54 @@
--- Rows that are taken from the front of segments, one after the other.
-use Rattle.std.proofs.Common.{◌≡◌, ◌≤◌, ◌<◌, ◌+◌, ℕ, List, [], ◌∷◌, ◌++◌, Option, Some, None, length, take, drop, slice_get, get_or, sym, ap, ◌∙◌, arith, length-append}
-use Rattle.std.specs.Prelude.{IfSome}
-use Rattle.std.specs.Option.{option_to_list}
-use Rattle.std.proofs.lemmas.List.{drop_at, drop_more, drop_all, drop-append-le, take_more, flat_map_more}
-use Rattle.std.proofs.lemmas.Option.{slice_get_within, get_or_from_slice_get}
+-- Rows that are read, segment by segment, and taken from the front.
+use Rattle.std.proofs.Common.{◌≡◌, ℕ, suc, List, [], ◌∷◌, ◌++◌, Result, Ok, Err, refl, sym, ap, ◌∙◌, append_assoc}
+use Rattle.fw_bytes.specs.Reading.{◌>>=◌, Fails, seen, times}
+use Rattle.fw_bytes.specs.declared.fault.ReadError.{ReadError}
+use Rattle.fw_bytes.specs.declared.fault.ReadError.TheVariants as errors
 use Rattle.fw_charge.specs.Charge.{Charge}
 use Rattle.fw_snapshot.specs.Heads.{segment_rows}
+use Rattle.fw_segment.specs.Segments.{segment_at}
+use Rattle.fw_segment.specs.RowsLeft.{behind, segments_at}
 
--- without a first segment there are none
-pub none_left : (cut : List (List Charge)) (place : ℕ) → slice_get cut 0 ≡ None → drop place (segment_rows cut) ≡ []
-none_left [] place e = drop_all place [] (omega arith)
-none_left (rows ∷ cut) place e = absurd cc
+abbrev pub Read : Type 0
+Read = Result (List Charge × List ℕ) ℕ
 
-pub first_is : (cut : List (List Charge)) (rows : List Charge) → 0 < length cut → ((d : List Charge) → rows ≡ get_or cut 0 d) → slice_get cut 0 ≡ Some rows
-first_is [] rows lt e = absurd (omega (arith, lt))
-first_is (first ∷ cut) rows lt e = ap Some (sym (e rows))
+pub behind_nothing : (read : Read) → behind [] read ≡ read
+behind_nothing (Ok x) = refl
+behind_nothing (Err left) = refl
 
-row_first : (rows others : List Charge) (place : ℕ) (row : Charge) → slice_get rows place ≡ Some row → drop place (rows ++ others) ≡ row ∷ drop (place + 1) (rows ++ others)
-row_first rows others place row e =
-    let lt : place < length rows = slice_get_within rows place row e in
-    let one : get_or rows place row ≡ row = get_or_from_slice_get rows place row row e in
-    drop-append-le place rows others (omega (arith, lt))
-    ∙ (ap (λ (l : List Charge). l ++ others) (drop_more rows place row lt ∙ ap (λ (x : Charge). x ∷ drop (place + 1) rows) one)
-    ∙ ap (λ (l : List Charge). row ∷ l) (sym (drop-append-le (place + 1) rows others (omega (arith, lt)))))
+pub behind_both : (first second : List Charge) (read : Read) → behind first (behind second read) ≡ behind (first ++ second) read
+behind_both first second (Ok x) = ap (λ (rows : List Charge). Ok (rows, x.1)) (sym (append_assoc first second x.0))
+behind_both first second (Err left) = refl
 
--- the row at the place in the first segment is the first of those that are left
-pub row_left : (cut : List (List Charge)) (rows : List Charge) (place : ℕ) (row : Charge) → slice_get cut 0 ≡ Some rows → slice_get rows place ≡ Some row
-    → drop place (segment_rows cut) ≡ row ∷ drop (place + 1) (segment_rows cut)
-row_left [] rows place row e h = absurd cc
-row_left (first ∷ cut) rows place row e h =
-    let same : first ≡ rows = cc in
-    row_first first (segment_rows cut) place row (rw same h)
+-- of rows that are ready the first goes to those that were taken
+pub one_taken : (front : List Charge) (row : Charge) (ready : List Charge) (read : Read) → behind front (behind (row ∷ ready) read) ≡ behind (front ++ row ∷ []) (behind ready read)
+one_taken front row ready read =
+    behind_both front (row ∷ ready) read
+    ∙ (ap (λ (rows : List Charge). behind rows read) (sym (append_assoc front (row ∷ []) ready)) ∙ sym (behind_both (front ++ row ∷ []) ready read))
 
--- at the end of the first segment, those that are left are those of the others
-pub next_left : (cut others : List (List Charge)) (rows : List Charge) (taken : Option (List Charge)) (place : ℕ) → slice_get cut 0 ≡ Some rows → IfSome (slice_get cut 0) (λ r. place ≤ length r) → length rows ≤ place
-    → taken ≡ Some rows → cut ≡ option_to_list taken ++ others → drop place (segment_rows cut) ≡ segment_rows others
-next_left cut others rows taken place e within end t parts =
-    let both : cut ≡ rows ∷ others = parts ∙ ap (λ (o : Option (List Charge)). option_to_list o ++ others) t in
-    rw both (drop_at rows (segment_rows others) place (let at : place ≤ length rows = rw e at within in omega (arith, at, end)))
+pub behind_fails : (rows : List Charge) (e : ReadError) (read : Read) → Fails e read → Fails e (behind rows read)
+behind_fails rows errors.NoMemory read h = tt
+behind_fails rows (errors.Corrupt left) read h = rw h refl
 
--- the rows of one segment more
-pub rows_more : (cut : List (List Charge)) (i : ℕ) (d : List Charge) → i < length cut → length (segment_rows (take (i + 1) cut)) ≡ length (segment_rows (take i cut)) + length (get_or cut i d)
-rows_more cut i d lt =
-    let one = get_or cut i d in
-    let more : segment_rows (take (i + 1) cut) ≡ segment_rows (take i cut) ++ one = ap segment_rows (take_more cut i d lt) ∙ sym (flat_map_more (λ rows. rows) [] (take i cut) one) in
-    ap (λ (rows : List Charge). length rows) more ∙ length-append (segment_rows (take i cut)) one
+abbrev put_first : List Charge → List (List Charge) × List ℕ → Result (List (List Charge) × List ℕ) ℕ
+put_first rows x = Ok (rows ∷ x.0, x.1)
+
+abbrev as_rows : List (List Charge) × List ℕ → Read
+as_rows x = Ok (segment_rows x.0, x.1)
+
+next_joined : (rows : List Charge) (read : Result (List (List Charge) × List ℕ) ℕ) → ((read >>= put_first rows) >>= as_rows) ≡ behind rows (read >>= as_rows)
+next_joined rows (Ok x) = refl
+next_joined rows (Err left) = refl
+
+-- the first of some segments, and the others
+pub next_read : (n m : ℕ) (bytes : List ℕ) (rows : List Charge) (after : List ℕ) → n ≡ suc m → segment_at bytes ≡ Ok (rows, after) → segments_at n bytes ≡ behind rows (segments_at m after)
+unfolding segments_at seen times
+next_read n m bytes rows after more e = rw (more, e) (next_joined rows (times segment_at m after))
+
+pub next_fails : (n m : ℕ) (bytes : List ℕ) (e : ReadError) → n ≡ suc m → Fails e (segment_at bytes) → Fails e (segments_at n bytes)
+unfolding segments_at seen times
+next_fails n m bytes errors.NoMemory more h = tt
+next_fails n m bytes (errors.Corrupt left) more h = rw (more, h) refl
+
+pub none_next : (n : ℕ) (bytes : List ℕ) → n ≡ 0 → segments_at n bytes ≡ Ok ([], bytes)
+unfolding segments_at seen times
+none_next n bytes none = rw none refl

@@ -5,4 +5,5 @@ pub mod Heads
 pub mod HeadView
 pub mod States
 pub mod RowsLeft
+pub mod Replaying
 pub mod FaultPlace

@@ -1,13 +1,31 @@
--- The rows of segments of which some were taken from the front.
-use Rattle.std.specs.Prelude.{◌≤◌, List, length, drop, slice_get, IfSome}
+-- The rows of segments that are read one after the other, of which some were taken from the front.
+use Rattle.std.specs.Prelude.{◌≡◌, ◌<◌, ◌≤◌, ℕ, Bool, List, [], ◌++◌, length, nat_lt, Result, Ok}
+use Rattle.fw_bytes.specs.Reading.{Reading, ◌>>=◌, seen, times}
 use Rattle.fw_charge.specs.Charge.{Charge}
 use Rattle.fw_snapshot.specs.Heads.{segment_rows}
+use Rattle.fw_segment.specs.Segments.{segment_at}
 use Rattle.fw_segment.specs.declared.rows_left.RowsLeft.{RowsLeft}
 
--- those that aren't taken yet, in order
-abbrev pub rows_left : RowsLeft → List Charge
-rows_left r = drop r.place (segment_rows r.segments.items)
+-- what was read before, and what is still read
+abbrev pub behind : List Charge → Result (List Charge × List ℕ) ℕ → Result (List Charge × List ℕ) ℕ
+behind rows read = read >>= λ x. Ok (rows ++ x.0, x.1)
 
--- the place is within the first segment, or at its end
-abbrev pub IsPlaced : RowsLeft → Type 0
-IsPlaced r = IfSome (slice_get r.segments.items 0) (λ rows. r.place ≤ length rows)
+-- the rows of so many segments
+unfoldable pub segments_at : ℕ → Reading (List Charge)
+segments_at n = seen segment_rows (times segment_at n)
+
+-- the rows that aren't taken yet, in order, and the bytes behind the last segment; or the first fault of the segments that aren't read yet
+abbrev pub rows_left : RowsLeft → Result (List Charge × List ℕ) ℕ
+rows_left r = behind r.ready.items (segments_at r.segments r.bytes.now)
+
+-- of what was left, these rows were taken, so many where there are so many
+pub record AreTaken (count : ℕ) (rows : List Charge) (old new : RowsLeft) : Type 0 where
+  pub front : rows_left old ≡ behind rows (rows_left new)
+  pub few : length rows ≤ count
+  pub short : length rows < count → rows_left new ≡ Ok ([], new.bytes.now)
+
+-- what was left is read to the end: the rows, of which there are some or none, and the bytes behind them
+pub record AreReadOut (some : Bool) (old new : RowsLeft) : Type 0 where
+  pub rows : List Charge
+  pub read : rows_left old ≡ Ok (rows, new.bytes.now)
+  pub found : some ≡ nat_lt 0 (length rows)

@@ -1,26 +1,26 @@
 //! The reader and the writer of a state.
-ghost use Rattle.std.specs.Prelude.{◌≡◌, ◌++◌, ◌==◌, ◌≤◌, ℕ, List, length, map, take, drop, All, OnOk, IfOk};
-ghost use Rattle.fw_bytes.specs.Reading.{Gives};
+ghost use Rattle.std.specs.Prelude.{◌≡◌, ◌++◌, ◌≤◌, ℕ, List, length, map, All, OnOk, IfOk, IfErr};
+ghost use Rattle.fw_bytes.specs.Reading.{Fails, Gives};
 ghost use Rattle.fw_bytes.specs.Spelling.{listed, text, Fits64};
 ghost use Rattle.fw_charge.specs.Currencies.{IsCode};
 ghost use Rattle.fw_entry.specs.Spelling.{IsEntry};
 ghost use Rattle.fw_entry.specs.View.{command_view};
-ghost use Rattle.fw_entry_bytes.specs.Whole.{whole};
 ghost use Rattle.fw_snapshot.specs.Judging.{most_rows, IsLegal};
-ghost use Rattle.fw_snapshot.specs.Heads.{command_of, entry_of, head_of, row_count, row_counts, segment_rows};
+ghost use Rattle.fw_snapshot.specs.Heads.{command_of, entry_of, head_of, row_count};
 ghost use Rattle.fw_segment.specs.HeadView.{content_view, head_view};
 ghost use Rattle.fw_segment.specs.Heads.{IsHead, heads};
-ghost use Rattle.fw_segment.specs.RowsLeft.{rows_left, IsPlaced};
+ghost use Rattle.fw_segment.specs.Replaying.{stepped, state_behind, with_rows, AreBehind, AreReplayed};
+ghost use Rattle.fw_segment.specs.RowsLeft.{rows_left};
 ghost use Rattle.fw_segment.specs.Segments.{IsSegment, segment};
-ghost use Rattle.fw_segment.specs.States.{Spells, currency_at, followed, most_segments, parts_at, replayed_state, state_at};
+ghost use Rattle.fw_segment.specs.States.{Spells, currency_at, followed, parts_at, rows_at, state_at};
 ghost use Rattle.fw_segment.specs.declared.kind.Kind.TheVariants.{Rows};
 
 use crate::heads::{ReadContent, ReadHead, heads_of, put_head};
 use crate::kind::Kind;
 use crate::rows_left::RowsLeft;
-use crate::segments::{put_segment, segments_of};
-use fw_bytes::{ReadError, put_u32, put_u64, str_at};
-use fw_charge::Currency;
+use crate::segments::put_segment;
+use fw_bytes::{ReadError, put_u32, put_u64, str_at, u32_at};
+use fw_charge::{Currency, Row};
 use fw_columns::Columns;
 use fw_entry::{Command, Entry, EntryFault};
 use fw_entry_bytes::Form;
@@ -43,32 +43,40 @@ fn currency_of(bytes: &[u8]) -> Result<(Currency, &[u8]), ReadError>
     }
 }
 
-/// The parts of a state: its currency, its heads, and its segments.
+/// The parts of a state: its currency, its heads, and the rows of its segments.
 #[derive(Drop)]
-struct Parts {
+struct Parts<'a> {
     currency: Currency,
     heads: Vec<ReadHead>,
-    segments: Vec<Columns>,
+    rows: RowsLeft<'a>,
 }
 
-/// The parts of a state, in order.
+/// The rows of segments behind their number. None is read yet.
+#[tactic(auto, unfolding(crate::specs::States::rows_at, crate::specs::RowsLeft::segments_at, fw_bytes::specs::Reading::list_at, fw_bytes::specs::Reading::seen))]
+fn rows_of(alloc: Global, bytes: &[u8]) -> Result<RowsLeft<'_>, ReadError>
+    ensures rows { IfOk result (λ rows. rows_at bytes.now ≡ rows_left rows) }
+    ensures fault { IfErr result (λ e. Fails e (rows_at bytes.now)) }
+{
+    let (segments, rest) = u32_at(bytes)?;
+    Ok(RowsLeft::of(alloc, segments, rest))
+}
+
+/// The parts of a state, in order. No row is read yet.
 #[tactic(auto, unfolding(crate::specs::States::parts_at, fw_bytes::specs::Reading::both))]
-fn parts_of(alloc: Global, form: Form, bytes: &[u8]) -> Result<(Parts, &[u8]), ReadError>
-    ensures parts { Gives (λ x. ((x.0.currency, (map head_view x.0.heads.items, segment_rows x.0.segments.items)), x.1.now)) result (parts_at form bytes.now) }
-    ensures few { IfOk result (λ x. length x.0.segments.items ≤ most_segments) }
+fn parts_of(alloc: Global, form: Form, bytes: &[u8]) -> Result<Parts<'_>, ReadError>
+    ensures parts { IfOk result (λ p. parts_at form bytes.now ≡ with_rows p.currency (map head_view p.heads.items) (rows_left p.rows)) }
+    ensures heads { IfOk result (λ p. All IsHead (map head_view p.heads.items)) }
+    ensures fault { IfErr result (λ e. Fails e (parts_at form bytes.now)) }
 {
     match currency_of(bytes) {
         Ok((currency, rest)) => {
             let (heads, rest) = heads_of(alloc, form, rest)?;
-            match segments_of(alloc, rest) {
-                Ok((segments, rest)) => Ok((
-                    Parts {
-                        currency,
-                        heads,
-                        segments,
-                    },
-                    rest,
-                )),
+            match rows_of(alloc, rest) {
+                Ok(rows) => Ok(Parts {
+                    currency,
+                    heads,
+                    rows,
+                }),
                 Err(e) => Err(e),
             }
         }
@@ -76,88 +84,34 @@ fn parts_of(alloc: Global, form: Form, bytes: &[u8]) -> Result<(Parts, &[u8]), R
     }
 }
 
-/// The parts of a state that is all of the bytes.
-#[tactic(auto, unfolding(fw_entry_bytes::specs::Whole::whole))]
-fn whole_parts_of(alloc: Global, form: Form, bytes: &[u8]) -> Result<Parts, ReadError>
-    ensures parts { Gives (λ x. (x.currency, (map head_view x.heads.items, segment_rows x.segments.items))) result (whole (parts_at form) bytes.now) }
-    ensures few { IfOk result (λ x. length x.segments.items ≤ most_segments) }
-{
-    match parts_of(alloc, form, bytes) {
-        Ok((parts, rest)) => {
-            if !rest.is_empty() {
-                return Err(ReadError::Corrupt(rest.len()));
-            }
-            Ok(parts)
-        }
-        Err(e) => Err(e),
-    }
-}
-
-/// Whether there are as many rows as heads say.
-fn are_as_many(heads: &[ReadHead], rows: usize) -> bool
-    ensures { result ≡ (rows == row_counts (map head_view heads.now)) }
-{
-    let mut left = rows;
-    for head in heads {
-        let count = head.rows();
-        if count > left {
-            return false;
-        }
-        left -= count;
-    }
-    left == 0
-}
-
-/// How many rows segments have.
-fn row_total(segments: &[Columns]) -> usize
-    requires { length segments.now ≤ most_segments }
-    ensures { result ≡ length (segment_rows segments.now) }
-{
-    let mut total = 0;
-    for columns in segments {
-        total += columns.len();
-    }
-    total
-}
-
-/// The command of a head. A post takes its rows from the front.
-fn command_of(
-    alloc: Global,
-    content: ReadContent,
-    rows: &mut RowsLeft,
-) -> Result<Command, AllocError>
-    requires { IsPlaced rows.old }
-    ensures command { IfOk result (λ command. command_view command ≡ command_of (content_view content) (take (row_count (content_view content)) (rows_left rows.old))) }
-    ensures rest { IfOk result (λ _. rows_left rows.new ≡ drop (row_count (content_view content)) (rows_left rows.old)) }
-    ensures placed { IsPlaced rows.new }
+/// The command of a head, with these rows if it is a post.
+fn command_of(content: ReadContent, rows: Vec<Row>) -> Command
+    ensures { command_view result ≡ command_of (content_view content) rows.items }
 {
     match content {
-        ReadContent::Post(count) => Ok(Command::Post(rows.take_front(alloc, count)?)),
-        ReadContent::Commit(commitment) => Ok(Command::Commit(commitment)),
-        ReadContent::SetPolicy(policy) => Ok(Command::SetPolicy(policy)),
+        ReadContent::Post(_) => Command::Post(rows),
+        ReadContent::Commit(commitment) => Command::Commit(commitment),
+        ReadContent::SetPolicy(policy) => Command::SetPolicy(policy),
     }
 }
 
-/// The state after the entry of a head, or `None` where the entry is too large or isn't accepted.
+/// The state after the entry of a head with these rows, or `None` where the entry is too large or isn't accepted.
 fn state_after(
     alloc: Global,
     state: &State,
     head: ReadHead,
-    rows: &mut RowsLeft,
+    rows: Vec<Row>,
 ) -> Result<Option<State>, AllocError>
     requires head { IsHead (head_view head) }
-    requires enough { row_count (content_view head.content) ≤ length (rows_left rows.old) }
-    requires placed { IsPlaced rows.old }
-    ensures state { IfOk result (λ next. next ≡ followed state.now (entry_of (head_view head) (take (row_count (content_view head.content)) (rows_left rows.old)))) }
-    ensures rest { IfOk result (λ _. rows_left rows.new ≡ drop (row_count (content_view head.content)) (rows_left rows.old)) }
-    ensures placed { IsPlaced rows.new }
+    requires rows { length rows.items ≡ row_count (content_view head.content) }
+    ensures { IfOk result (λ next. next ≡ followed state.now (entry_of (head_view head) rows.items)) }
 {
     let ReadHead {
         origin,
         seq,
         content,
     } = head;
-    let command = command_of(alloc, content, rows)?;
+    let command = command_of(content, rows);
     let entry = match Entry::new(alloc, origin.as_bytes(), seq, command) {
         Ok(entry) => entry,
         Err(fault) => match fault {
@@ -173,45 +127,106 @@ fn state_after(
     Ok(Some(state.apply(&entry)?))
 }
 
-/// The state after the entries of heads, each judged after those before it; so many bytes are left from the first head on.
-fn replay(
+/// Puts the entry of a head behind the state, where no entry before it was refused. Where it is refused itself, so many bytes are left from its
+/// head on.
+fn put_behind(
     alloc: Global,
-    currency: Currency,
-    heads: Vec<ReadHead>,
-    segments: Vec<Columns>,
+    answer: &mut Result<State, usize>,
+    head: ReadHead,
+    rows: Vec<Row>,
     left: usize,
-) -> Result<State, ReadError>
-    requires heads { All IsHead (map head_view heads.items) }
-    requires rows { length (segment_rows segments.items) ≡ row_counts (map head_view heads.items) }
-    ensures { Gives (λ s. s) result (replayed_state left currency (map head_view heads.items) (segment_rows segments.items)) }
+) -> Result<(), AllocError>
+    requires head { IsHead (head_view head) }
+    requires rows { length rows.items ≡ row_count (content_view head.content) }
+    ensures { OnOk result (answer.new ≡ stepped left answer.old (entry_of (head_view head) rows.items)) }
 {
-    let mut state = State::empty(alloc, currency);
-    let mut rows = RowsLeft::of(segments);
+    if let Ok(state) = answer {
+        match state_after(alloc, state, head, rows)? {
+            Some(next) => *answer = Ok(next),
+            None => *answer = Err(left),
+        }
+    }
+    Ok(())
+}
+
+/// Puts the entries of heads behind the state, each judged after those before it, and answers whether there were rows for all of them. After
+/// the first that is refused, rows are only read. So many bytes are left from the first head on.
+fn put_all_behind(
+    alloc: Global,
+    answer: &mut Result<State, usize>,
+    heads: Vec<ReadHead>,
+    rows: &mut RowsLeft,
+    left: usize,
+) -> Result<bool, ReadError>
+    requires { All IsHead (map head_view heads.items) }
+    ensures behind { IfOk result (λ whole. AreBehind whole left (map head_view heads.items) answer.old answer.new rows.old rows.new) }
+    ensures fault { IfErr result (λ e. Fails e (rows_left rows.old)) }
+{
     let mut left = left;
     for head in heads {
         let len = head.encoded_len();
-        match state_after(alloc, &state, head, &mut rows)? {
-            Some(next) => state = next,
-            None => return Err(ReadError::Corrupt(left)),
+        let count = head.rows();
+        let front = rows.take_front(alloc, count)?;
+        if front.len() < count {
+            return Ok(false);
         }
+        put_behind(alloc, answer, head, front, left)?;
         left = left.saturating_sub(len);
     }
-    Ok(state)
+    Ok(true)
+}
+
+/// Puts the entries of heads behind the state, each judged after those before it, and answers whether there are as many rows as the heads
+/// say. All rows are read.
+fn replay(
+    alloc: Global,
+    answer: &mut Result<State, usize>,
+    heads: Vec<ReadHead>,
+    rows: &mut RowsLeft,
+    left: usize,
+) -> Result<bool, ReadError>
+    requires { All IsHead (map head_view heads.items) }
+    ensures replayed { IfOk result (λ even. AreReplayed even left (map head_view heads.items) answer.old answer.new rows.old rows.new) }
+    ensures fault { IfErr result (λ e. Fails e (rows_left rows.old)) }
+{
+    let whole = put_all_behind(alloc, answer, heads, rows, left)?;
+    let more = rows.read_out(alloc)?;
+    Ok(whole && !more)
+}
+
+/// The state of parts that are all of so many bytes.
+fn state_of_parts(alloc: Global, parts: Parts, total: usize) -> Result<State, ReadError>
+    requires { All IsHead (map head_view parts.heads.items) }
+    ensures { Gives (λ s. s) result (state_behind total parts.entry.currency (map head_view parts.entry.heads.items) (rows_left parts.entry.rows)) }
+{
+    let Parts {
+        currency,
+        heads,
+        rows,
+    } = parts;
+    let mut rows = rows;
+    let mut answer = Ok(State::empty(alloc, currency));
+    let left = total.saturating_sub(BYTES_BEFORE_HEADS);
+    let even = replay(alloc, &mut answer, heads, &mut rows, left)?;
+    let rest = rows.bytes();
+    if !rest.is_empty() {
+        return Err(ReadError::Corrupt(rest.len()));
+    }
+    if !even {
+        return Err(ReadError::Corrupt(total));
+    }
+    match answer {
+        Ok(state) => Ok(state),
+        Err(left) => Err(ReadError::Corrupt(left)),
+    }
 }
 
 /// The state that is all of the bytes.
-#[tactic(auto, unfolding(crate::specs::States::state_at, crate::specs::States::state_from))]
 pub fn state_of(alloc: Global, form: Form, bytes: &[u8]) -> Result<State, ReadError>
     ensures { Gives (λ s. s) result (state_at form bytes.now) }
 {
-    match whole_parts_of(alloc, form, bytes) {
-        Ok(parts) => {
-            if !are_as_many(&parts.heads, row_total(&parts.segments)) {
-                return Err(ReadError::Corrupt(bytes.len()));
-            }
-            let left = bytes.len().saturating_sub(BYTES_BEFORE_HEADS);
-            replay(alloc, parts.currency, parts.heads, parts.segments, left)
-        }
+    match parts_of(alloc, form, bytes) {
+        Ok(parts) => state_of_parts(alloc, parts, bytes.len()),
         Err(e) => Err(e),
     }
 }

@@ -1,8 +1,13 @@
-use Rattle.std.proofs.Common.{arith}
-use Rattle.std.proofs.lemmas.List.Elements.{All-from_recursion}
-use Rattle.fw_segment.specs.Heads.{IsHead}
-use Rattle.fw_segment.proofs.StateFormat.{parts_taken}
+use Rattle.std.proofs.Common.{map}
+use Rattle.fw_segment.specs.HeadView.{head_view}
+use Rattle.fw_segment.specs.RowsLeft.{rows_left}
+use Rattle.fw_segment.proofs.Replay.{state_of_read, state_fails}
 use Rattle.fw_segment.proofs.states.state_of.Goals as goal
 
-pub replay-requires-clause-heads : goal.replay-requires-clause-heads
-replay-requires-clause-heads c = All-from_recursion IsHead _ (parts_taken c.args.form c.args.bytes.now _ (λ i. omega (arith, c.type_inv.bytes i)) c.in-Ok.ensures.parts).heads.1
+pub returns-in-Ok : goal.returns-in-Ok
+returns-in-Ok c =
+    let parts = c.in-Ok.parts in
+    rw (state_of_read c.args.form c.args.bytes.now parts.currency (map head_view parts.heads.items) (rows_left parts.rows) c.in-Ok.ensures.parts) c.state_of_parts.ensures
+
+pub returns-in-Err : goal.returns-in-Err
+returns-in-Err c = state_fails c.args.form c.args.bytes.now c.in-Err.e c.in-Err.ensures.fault

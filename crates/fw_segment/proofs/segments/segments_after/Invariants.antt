@@ -1,9 +1,0 @@
-use Rattle.std.proofs.Common.{◌≡◌, ◌-◌, length}
-use Rattle.fw_bytes.specs.Reading.{times}
-use Rattle.fw_bytes.proofs.Loop.{with_front}
-use Rattle.fw_segment.specs.Segments.{segment_at}
-use Rattle.fw_segment.proofs.segments.segments_after.Given as goal
-
--- the segments so far, and what is still read of the rest, are what is read of all
-abbrev pub invariant-loop : goal.invariant-loop
-invariant-loop l = (with_front l.segments.items (times segment_at (l.count - l.counter) l.rest) ≡ times segment_at l.count l.bytes) × (length l.segments.items ≡ l.counter)
