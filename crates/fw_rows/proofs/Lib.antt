@@ -1,12 +1,12 @@
 mod FieldFacts
 mod RecordFacts
 mod HeaderFacts
-mod JudgedFacts
-mod WordFacts
+pub mod JudgedFacts
+pub mod WordFacts
 mod DiscountFacts
-mod TagFacts
+pub mod TagFacts
 mod ColumnFacts
 mod CellFacts
-mod MakingFacts
+pub mod MakingFacts
 mod RowFacts
 pub mod OneReading

@@ -21,7 +21,7 @@ use Rattle.fw_rows.proofs.JudgedFacts.{first-back, rules_parted}
 -- ---- what the row keeps
 
 -- a text that isn't null and isn't too long
-short_text : (t : List ℕ) → t ≢ [] → length t ≤ longest_short_text → IsShortText t
+pub short_text : (t : List ℕ) → t ≢ [] → length t ≤ longest_short_text → IsShortText t
 short_text [] some few = absurd (some refl)
 short_text (b ∷ t) some few = record { some = omega arith; few = few }
 
@@ -31,7 +31,7 @@ short_or_null [] o is few = rw is tt
 short_or_null (b ∷ t) o is few = rw is (record { some = omega arith; few = few })
 
 -- a usage row's discount has a status
-has_status : (c : Category) (text id status : List ℕ) (s : Option DiscountStatus) → text ≡ category_word c → id ≢ [] → StatusReads text id status s → c ≡ category.Usage → IsSome s
+pub has_status : (c : Category) (text id status : List ℕ) (s : Option DiscountStatus) → text ≡ category_word c → id ≢ [] → StatusReads text id status s → c ≡ category.Usage → IsSome s
 unfolding StatusReads
 has_status c text id status None word some reads usage = absurd (reads.1 some (word ∙ ap category_word usage))
 has_status c text id status (Some s) word some reads usage = refl
@@ -57,15 +57,15 @@ texts_are : (header fields : Record) (cells : Cells) → AreCells header fields 
 texts_are header fields cells are = λ i c. are.texts c i
 
 -- what the texts say is what the record says
-pub record_judged : (currency : List ℕ) (header fields : Record) (cells : Cells) (r : Result Charge Refusal) → length fields ≡ length header → AreCells header fields cells
-    → JudgedWithin (text_rules currency (texts_of cells)) (Stands (texts_of cells)) r → JudgedWithin (rules_of currency header fields) (Stands (text_in header fields)) r
+pub record_judged : {A : Type 0} (P : Texts → A → Type 0) (currency : List ℕ) (header fields : Record) (cells : Cells) (r : Result A Refusal) → length fields ≡ length header → AreCells header fields cells
+    → JudgedWithin (text_rules currency (texts_of cells)) (P (texts_of cells)) r → JudgedWithin (rules_of currency header fields) (P (text_in header fields)) r
 unfolding rules_of form_rules NoneBroken FirstBroken
-record_judged currency header fields cells (Ok row) as_long are judged =
+record_judged P currency header fields cells (Ok x) as_long are judged =
     let same = texts_are header fields cells are in
-    ((λ other. other as_long, (are.all_text, subst (λ at. NoneBroken (text_rules currency at)) same judged.0)), subst (λ at. Stands at row) same judged.1)
-record_judged currency header fields cells (Err (refusal.Broken f)) as_long are judged =
+    ((λ other. other as_long, (are.all_text, subst (λ at. NoneBroken (text_rules currency at)) same judged.0)), subst (λ at. P at x) same judged.1)
+record_judged P currency header fields cells (Err (refusal.Broken f)) as_long are judged =
     inr (λ other. other as_long, inr (are.all_text, subst (λ at. FirstBroken (text_rules currency at) f) (texts_are header fields cells are) judged))
-record_judged currency header fields cells (Err refusal.NoMemory) as_long are judged = tt
+record_judged P currency header fields cells (Err refusal.NoMemory) as_long are judged = tt
 
 -- what it is charged for breaks a rule
 pub details_fault : (currency : List ℕ) (at : Texts) (e : Refusal) → NoneBroken (charged_rules currency at) → JudgedWithin {A = Charge} (detail_rules at) (λ _. ⊥) (Err e)

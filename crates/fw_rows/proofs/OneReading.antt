@@ -2,6 +2,7 @@
 use Rattle.std.proofs.Common.{◌≡◌, ◌≢◌, ℕ, ℤ, suc, ◌<◌, List, [], ◌∷◌, ◌++◌, length, Option, Some, None, Result, Ok, Err, refl, sym, ap, ◌∙◌, arith, length-append, subst, Bool, inl, inr}
 use Rattle.std.specs.Prelude.{MatchOption}
 use Rattle.std.specs.List.{AllZip, All}
+use Rattle.fw_charge.proofs.ChargeFacts.{equal_fields}
 use Rattle.fw_charge.specs.Charge.{Charge, DiscountText}
 use Rattle.fw_charge.specs.Codes.{category_word, class_word, status_word}
 use Rattle.fw_charge.proofs.CodeFacts.{category_word-one, class_word-one, kind_word-one, status_word-one}
@@ -96,20 +97,7 @@ stands-one at x y a b =
     let sku = a.sku ∙ sym b.sku in
     let sub_account = a.sub_account ∙ sym b.sub_account in
     let tags = tags-one (tags_stated (at column.Tags)) x.tags y.tags a.tags b.tags in
-    λ i. record {
-      billed = billed i;
-      effective = effective i;
-      category = category i;
-      is_correction = is_correction i;
-      start = start i;
-      end = end i;
-      discount = discount i;
-      quantity = quantity i;
-      unit = unit i;
-      sku = sku i;
-      sub_account = sub_account i;
-      tags = tags i;
-    }
+    equal_fields x y billed effective category is_correction start end discount quantity unit sku sub_account tags
 
 -- a record that breaks no rule has no fault
 unbroken : (currency : List ℕ) (header fields : Record) (f : RecordFault) → BreaksNoRule currency header fields → RecordReads currency header fields (Err f) → ⊥

@@ -1,5 +1,5 @@
 -- What the records of a text that were read say of its rows.
-use Rattle.std.proofs.Common.{◌≡◌, ℕ, zero, suc, ◌<◌, ◌≤◌, ◌+◌, ◌-◌, true, false, List, [], ◌∷◌, ◌++◌, length, get_or, Result, Ok, Err, refl, ◌∙◌, arith, length-append}
+use Rattle.std.proofs.Common.{◌≡◌, ℕ, zero, suc, ◌<◌, ◌≤◌, ◌+◌, ◌-◌, true, false, List, [], ◌∷◌, ◌++◌, length, get_or, Result, Ok, Err, refl, sym, ap, subst, ◌∙◌, arith, length-append}
 use Rattle.std.specs.List.{AllZip}
 use Rattle.csv.specs.Reading.{default_config, records_from, strip_bom, Reached}
 use Rattle.csv.specs.declared.parser.State.{State}
@@ -12,7 +12,9 @@ use Rattle.fw_rows.specs.Columns.{Record, missing_column, place_in, text_in}
 use Rattle.fw_rows.specs.Header.{ArePlaces}
 use Rattle.fw_rows.specs.Judged.{JudgedWithin}
 use Rattle.fw_rows.specs.Refusals.{fault_at}
+use Rattle.fw_rules.specs.Table.{FirstBroken}
 use Rattle.fw_rows.specs.Rules.{RecordReads, BreaksNoRule, Stands, rules_of}
+use Rattle.fw_rows.specs.Sinks.{AddsRow}
 use Rattle.fw_rows.specs.Rows.{RecordsRead, RowsRead, IsHeader, records_of, most_rows}
 use Rattle.fw_rows.specs.declared.header.Places.{Places}
 use Rattle.fw_rows.specs.declared.fault.RecordFault.{RecordFault}
@@ -23,17 +25,17 @@ use Rattle.fw_rows.specs.declared.fault.RowFault.TheVariants as fault
 use Rattle.fw_rows.specs.declared.column.Column.TheVariants as column
 use Rattle.fw_rows.proofs.RecordFacts.{records_end, records_more, whole_end, whole_more, whole_last, reached_next, reached_first, no_rows}
 
--- what the reader has found of a record
-abbrev pub Judged : List ℕ → Record → Record → Result Charge Refusal → Type 0
-Judged currency header fields r = JudgedWithin (rules_of currency header fields) (Stands (text_in header fields)) r
+-- what was found of a record, and the rows before it and behind it
+abbrev pub Judged : List ℕ → Record → Record → List Charge → List Charge → Result (Unit {0}) Refusal → Type 0
+Judged currency header fields old new r = JudgedWithin (rules_of currency header fields) (λ _. AddsRow (text_in header fields) old new) r
 
-row-reads : (currency : List ℕ) (header fields : Record) (row : Charge) → Judged currency header fields (Ok row) → RecordReads currency header fields (Ok row)
+row-reads : (currency : List ℕ) (header fields : Record) (row : Charge) → BreaksNoRule currency header fields → Stands (text_in header fields) row → RecordReads currency header fields (Ok row)
 unfolding RecordReads
-row-reads currency header fields row judged = judged
+row-reads currency header fields row none stands = (none, stands)
 
-fault-reads : (currency : List ℕ) (header fields : Record) (f : RecordFault) → Judged currency header fields (Err (refusal.Broken f)) → RecordReads currency header fields (Err f)
+fault-reads : (currency : List ℕ) (header fields : Record) (f : RecordFault) → FirstBroken (rules_of currency header fields) f → RecordReads currency header fields (Err f)
 unfolding RecordReads
-fault-reads currency header fields f judged = judged
+fault-reads currency header fields f first = first
 
 -- the rows are those of the records
 abbrev pub AreRows : List ℕ → Record → List Record → List Charge → Type 0
@@ -110,10 +112,9 @@ read-start currency text new f places finds stand whole = record {
 }
 
 -- a record more was read, and stands for a row
-pub read-more : (currency text : List ℕ) (old new : Reader (Bor (List ℕ))) (places : Places) (rows : List Charge) (f : Record) (row : Charge) → Read currency text old places rows
-    → ((s : State) (y : List ℕ) → At old s y → Finds new s y f true) → ((header : Record) → ArePlaces header places → Judged currency header f (Ok row)) → length rows < 4096
-    → Read currency text new places (rows ++ row ∷ [])
-read-more currency text old new places rows f row r finds reads few =
+read-row : (currency text : List ℕ) (old new : Reader (Bor (List ℕ))) (places : Places) (rows : List Charge) (f : Record) (row : Charge) (r : Read currency text old places rows)
+    → ((s : State) (y : List ℕ) → At old s y → Finds new s y f true) → RecordReads currency r.header f (Ok row) → length rows < 4096 → Read currency text new places (rows ++ row ∷ [])
+read-row currency text old new places rows f row r finds reads few =
     let m = finds r.state r.rest r.at in
     record {
       state = m.0;
@@ -124,14 +125,24 @@ read-more currency text old new places rows f row r finds reads few =
       reached = reached_next r.state m.0 (strip_bom text) r.rest m.1 r.header f r.body r.reached m.3;
       stand = r.stand;
       whole = r.whole;
-      are = AllZip-push (λ fields charge. RecordReads currency r.header fields (Ok charge)) r.body rows f row r.are (row-reads currency r.header f row (reads r.header r.stand));
+      are = AllZip-push (λ fields charge. RecordReads currency r.header fields (Ok charge)) r.body rows f row r.are reads;
       counted = omega (arith, r.counted, length-append r.body (f ∷ []), length-append rows (row ∷ []));
       few = omega (arith, r.counted, length-append r.body (f ∷ []));
     }
 
+-- a record more was read, and its row was added
+pub read-more : (currency text : List ℕ) (old new : Reader (Bor (List ℕ))) (places : Places) (rows now : List Charge) (f : Record) → Read currency text old places rows
+    → ((s : State) (y : List ℕ) → At old s y → Finds new s y f true) → ((header : Record) → ArePlaces header places → Judged currency header f rows now (Ok tt)) → length rows < 4096
+    → Read currency text new places now × (length now ≡ length rows + 1)
+read-more currency text old new places rows now f r finds reads few =
+    let judged = reads r.header r.stand in
+    let row = judged.1.0 in
+    let is : now ≡ rows ++ row ∷ [] = judged.1.2 in
+    (subst (Read currency text new places) (sym is) (read-row currency text old new places rows f row r finds (row-reads currency r.header f row judged.0 judged.1.1) few), ap length is ∙ length-append rows (row ∷ []))
+
 -- a record more was read, and breaks a rule
 read-fault : (currency text : List ℕ) (old new : Reader (Bor (List ℕ))) (places : Places) (rows : List Charge) (f : Record) (number : ℕ) (e : RecordFault) → Read currency text old places rows
-    → ((s : State) (y : List ℕ) → At old s y → Finds new s y f true) → ((header : Record) → ArePlaces header places → Judged currency header f (Err (refusal.Broken e))) → length rows < 4096
+    → ((s : State) (y : List ℕ) → At old s y → Finds new s y f true) → ((header : Record) → ArePlaces header places → FirstBroken (rules_of currency header f) e) → length rows < 4096
     → number ≡ length rows + 1 → RowsRead currency text (Err (fault.Record number e))
 read-fault currency text old new places rows f number e r finds reads few is =
     let m = finds r.state r.rest r.at in
@@ -142,11 +153,11 @@ read-fault currency text old new places rows f number e r finds reads few is =
     (r.whole, r.body, f, after, refl, omega (arith, r.counted), omega (arith, r.counted), none_broken currency r.header r.body rows r.are, fault-reads currency r.header f e (reads r.header r.stand))
 
 -- a record more was read, and no row comes of it
-pub read-refused : (currency text : List ℕ) (old new : Reader (Bor (List ℕ))) (places : Places) (rows : List Charge) (f : Record) (number : ℕ) (e : Refusal) → Read currency text old places rows
-    → ((s : State) (y : List ℕ) → At old s y → Finds new s y f true) → ((header : Record) → ArePlaces header places → Judged currency header f (Err e)) → length rows < 4096
+pub read-refused : (currency text : List ℕ) (old new : Reader (Bor (List ℕ))) (places : Places) (rows now : List Charge) (f : Record) (number : ℕ) (e : Refusal) → Read currency text old places rows
+    → ((s : State) (y : List ℕ) → At old s y → Finds new s y f true) → ((header : Record) → ArePlaces header places → Judged currency header f rows now (Err e)) → length rows < 4096
     → number ≡ length rows + 1 → RowsRead currency text (Err (fault_at number e))
-read-refused currency text old new places rows f number (refusal.Broken e) r finds reads few is = read-fault currency text old new places rows f number e r finds reads few is
-read-refused currency text old new places rows f number refusal.NoMemory r finds reads few is = memory_reads currency text
+read-refused currency text old new places rows now f number (refusal.Broken e) r finds reads few is = read-fault currency text old new places rows f number e r finds reads few is
+read-refused currency text old new places rows now f number refusal.NoMemory r finds reads few is = memory_reads currency text
 
 -- a record more was read than a text may have
 pub read-full : (currency text : List ℕ) (old new : Reader (Bor (List ℕ))) (places : Places) (rows : List Charge) (f : Record) → Read currency text old places rows

@@ -7,3 +7,4 @@ pub mod Header
 pub mod Refusals
 pub mod Judged
 pub mod Parts
+pub mod Sinks

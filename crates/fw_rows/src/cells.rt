@@ -12,7 +12,7 @@ use csv::ByteRecord;
 
 /// The texts of a record in the columns that are read, in their order. A text that is null is empty.
 #[derive(Clone, Copy, Drop)]
-pub(crate) struct Cells<'a> {
+pub struct Cells<'a> {
     texts: [&'a str; COUNT],
 }
 
@@ -42,7 +42,7 @@ impl<'a> Cells<'a> {
     }
 
     /// The text in a column.
-    pub(crate) fn text(&self, column: Column) -> &'a str
+    pub fn text(&self, column: Column) -> &'a str
         ensures { result.now ≡ texts_of self.now column }
     {
         self.texts[column.index()]

@@ -15,36 +15,36 @@ use fw_money::Nanos;
 
 /// ChargeCategory, and whether ChargeClass is that of a correction.
 #[derive(Clone, Copy, Drop)]
-pub(crate) struct Words {
-    pub(crate) category: Category,
-    pub(crate) is_correction: bool,
+pub struct Words {
+    pub category: Category,
+    pub is_correction: bool,
 }
 
 /// BilledCost and EffectiveCost.
 #[derive(Clone, Copy, Drop)]
-pub(crate) struct Costs {
-    pub(crate) billed: Nanos,
-    pub(crate) effective: Nanos,
+pub struct Costs {
+    pub billed: Nanos,
+    pub effective: Nanos,
 }
 
 /// The seconds of ChargePeriodStart and ChargePeriodEnd.
 #[derive(Clone, Copy, Drop)]
-pub(crate) struct Period {
-    pub(crate) start: u64,
-    pub(crate) end: u64,
+pub struct Period {
+    pub start: u64,
+    pub end: u64,
 }
 
 /// What is charged: the kind of charge, the costs and the period.
 #[derive(Clone, Copy, Drop)]
-pub(crate) struct Charged {
-    pub(crate) words: Words,
-    pub(crate) costs: Costs,
-    pub(crate) period: Period,
+pub struct Charged {
+    pub words: Words,
+    pub costs: Costs,
+    pub period: Period,
 }
 
 impl<'a> Cells<'a> {
     /// What is charged.
-    pub(crate) fn charged(&self, currency: Currency) -> Result<Charged, RecordFault>
+    pub fn charged(&self, currency: Currency) -> Result<Charged, RecordFault>
         ensures { let at = texts_of self.now in Judged (charged_rules currency at) (ChargedStands at) result }
     {
         let words = self.words()?;

@@ -18,10 +18,10 @@ use std::alloc::Global;
 
 /// The commitment discount that a record names.
 #[derive(Clone, Copy, Drop)]
-pub(crate) struct NamedDiscount<'a> {
-    pub(crate) id: &'a str,
-    pub(crate) kind: DiscountKind,
-    pub(crate) status: Option<DiscountStatus>,
+pub struct NamedDiscount<'a> {
+    pub id: &'a str,
+    pub kind: DiscountKind,
+    pub status: Option<DiscountStatus>,
 }
 
 /// What it is charged for: discount, quantity and tags.
@@ -89,7 +89,7 @@ impl<'a> Cells<'a> {
     }
 
     /// The commitment discount.
-    fn discount(&self) -> Result<Option<NamedDiscount<'a>>, RecordFault>
+    pub fn discount(&self) -> Result<Option<NamedDiscount<'a>>, RecordFault>
         ensures { let at = texts_of self.now in Judged (discount_rules at) (NamedOrNull at) result }
     {
         let kind = self.kind()?;
@@ -105,7 +105,7 @@ impl<'a> Cells<'a> {
     }
 
     /// The quantity.
-    fn quantity(&self) -> Result<Option<Nanos>, RecordFault>
+    pub fn quantity(&self) -> Result<Option<Nanos>, RecordFault>
         ensures { let at = texts_of self.now in Judged (quantity_rules at) (QuantityReads (at column.ConsumedQuantity)) result }
     {
         match quantity_of(self.text(Column::ConsumedQuantity)) {
@@ -132,7 +132,7 @@ impl<'a> Cells<'a> {
     }
 
     /// Whether id, unit, SKU and sub-account are short enough.
-    fn are_short(&self) -> bool
+    pub fn are_short(&self) -> bool
         ensures { IsTrue result ↔ TextsAreShort (texts_of self.now) }
     {
         self.is_short(Column::CommitmentDiscountId)
@@ -142,7 +142,7 @@ impl<'a> Cells<'a> {
     }
 
     /// The tags, where all texts are short enough.
-    fn short_tags(&self, alloc: Global) -> Result<Tags, Refusal>
+    pub fn short_tags(&self, alloc: Global) -> Result<Tags, Refusal>
         ensures { let at = texts_of self.now in JudgedWithin (length_rules at) (λ tags. (tags_stated (at column.Tags) ≡ Some tags) × AreShort at × IsTags tags) result }
     {
         let tags = self.tags(alloc)?;

@@ -55,7 +55,7 @@ pub enum RecordFault {
 
 /// Why no row comes of a record.
 #[derive(Clone, Copy, Debug, Drop, PartialEq, Eq)]
-pub(crate) enum Refusal {
+pub enum Refusal {
     /// The record breaks a rule, and this is the first one.
     Broken(RecordFault),
     /// Memory ran out.
@@ -88,6 +88,14 @@ impl From<AllocError> for Refusal {
     ghost from_gives = { λ _ refusal. refusal ≡ WantOfMemory };
 
     fn from(_refused: AllocError) -> Refusal {
+        Refusal::NoMemory
+    }
+}
+
+impl<T: Drop> From<AllocFailed<T>> for Refusal {
+    ghost from_gives = { λ _ refusal. refusal ≡ WantOfMemory };
+
+    fn from(_refused: AllocFailed<T>) -> Refusal {
         Refusal::NoMemory
     }
 }

@@ -14,12 +14,17 @@ mod laws;
 mod reading;
 mod records;
 mod row;
+mod sink;
 mod values;
 
+pub use cells::Cells;
+pub use charged::{Charged, Costs, Period, Words};
 pub use column::Column;
-pub use fault::{RecordFault, RowFault};
+pub use details::NamedDiscount;
+pub use fault::{RecordFault, Refusal, RowFault};
 pub use fw_charge::{
     Category, Currency, Discount, DiscountKind, DiscountStatus, Row, RowFields, Tag, Tags,
 };
 pub use laws::rows_read_as_one;
-pub use reading::read_rows;
+pub use reading::{read_into, read_rows};
+pub use sink::RowSink;

@@ -1,12 +1,20 @@
 //! How a CSV text reads as rows.
+ghost use Rattle.std.specs.Prelude.{◌≡◌, ◌<◌, [], length, OnOk};
+ghost use Rattle.csv.specs.Records.{fields_of};
+ghost use Rattle.fw_rows.specs.Columns.{Record, text_in};
+ghost use Rattle.fw_rows.specs.Header.{ArePlaces};
+ghost use Rattle.fw_rows.specs.Judged.{JudgedWithin};
 ghost use Rattle.fw_rows.specs.Rows.{RowsRead};
+ghost use Rattle.fw_rows.specs.Rules.{rules_of};
 ghost use Rattle.fw_rows.specs.Shown.{rows_shown};
+ghost use Rattle.fw_rows.specs.Sinks.{AddsRow, rows_in};
 
+use crate::cells::Cells;
 use crate::column::Column;
-use crate::fault::RowFault;
+use crate::fault::{RecordFault, Refusal, RowFault};
 use crate::header::Places;
 use crate::records::{advance, open};
-use crate::row::row_of;
+use crate::sink::RowSink;
 use csv::ByteRecord;
 use fw_charge::{Currency, Row};
 use std::alloc::Global;
@@ -23,27 +31,64 @@ const MOST_ROWS: usize = 4096;
 pub fn read_rows(alloc: Global, text: &[u8], currency: Currency) -> Result<Vec<Row>, RowFault>
     ensures { RowsRead currency text.now (rows_shown result) }
 {
+    let mut rows = Vec::new(alloc);
+    read_into(alloc, text, currency, &mut rows)?;
+    Ok(rows)
+}
+
+/// Reads the rows of a CSV text into what takes them, which has none yet. What the rows are, and where there is a fault, is as of [`read_rows`].
+/// After a fault nothing is known of what takes them.
+pub fn read_into<S: RowSink>(
+    alloc: Global,
+    text: &[u8],
+    currency: Currency,
+    sink: &mut S,
+) -> Result<(), RowFault>
+    requires ready { S.is_ready sink.old }
+    requires none { S.rows sink.old ≡ [] }
+    ensures rows { RowsRead currency text.now (rows_in (S.rows sink.new) result) }
+    ensures some { OnOk result (0 < length (S.rows sink.new)) }
+    ensures ready { OnOk result (S.is_ready sink.new) }
+{
     let mut reader = open(alloc, text);
     let mut fields = ByteRecord::new(alloc);
     if !advance(&mut reader, &mut fields)? {
         return Err(RowFault::MissingColumn(Column::BilledCost));
     }
     let places = Places::of_header(&fields)?;
-    let mut rows = Vec::new(alloc);
-    while advance(&mut reader, &mut fields)? {
-        if rows.len() == MOST_ROWS {
+    let mut count = 0;
+    'records: while advance(&mut reader, &mut fields)? {
+        if count == MOST_ROWS {
             return Err(RowFault::TooManyRows);
         }
-        match row_of(alloc, &fields, &places, currency) {
-            Ok(row) => rows.push(row)?,
-            Err(refusal) => {
-                let number = rows.len() as u32 + 1;
-                return Err(refusal.at_record(number));
-            }
+        count += 1;
+        if let Err(refusal) = add_record(sink, &fields, &places, currency) {
+            return Err(refusal.at_record(count as u32));
         }
     }
-    if rows.is_empty() {
+    if count == 0 {
         return Err(RowFault::NoRows);
     }
-    Ok(rows)
+    Ok(())
+}
+
+/// Adds the row of a record under a header with these places, if it breaks no rule.
+fn add_record<S: RowSink>(
+    sink: &mut S,
+    fields: &ByteRecord,
+    places: &Places,
+    currency: Currency,
+) -> Result<(), Refusal>
+    requires ready { S.is_ready sink.old }
+    requires room { length (S.rows sink.old) < 4096 }
+    ensures row { (header : Record) → ArePlaces header places.now → JudgedWithin (rules_of currency header (fields_of fields.now)) (λ _. AddsRow (text_in header (fields_of fields.now)) (S.rows sink.old) (S.rows sink.new)) result }
+    ensures ready { OnOk result (S.is_ready sink.new) }
+{
+    if fields.len() != places.fields {
+        return Err(Refusal::Broken(RecordFault::Fields));
+    }
+    match Cells::of_record(fields, places) {
+        Some(cells) => sink.add(&cells, currency),
+        None => Err(Refusal::Broken(RecordFault::NotUtf8)),
+    }
 }

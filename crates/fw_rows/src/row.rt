@@ -1,20 +1,15 @@
-//! The row that comes of a record.
+//! The row that the texts of a record stand for.
 ghost use Rattle.std.specs.Prelude.{◌≡◌, IfOk};
-ghost use Rattle.csv.specs.Records.{fields_of};
-ghost use Rattle.fw_rows.specs.Columns.{Record, text_in};
-ghost use Rattle.fw_rows.specs.Header.{ArePlaces};
 ghost use Rattle.fw_rows.specs.Judged.{JudgedWithin};
 ghost use Rattle.fw_rows.specs.Parts.{texts_of, ChargedStands, DetailsStand, NamedOrNull, discount_text};
-ghost use Rattle.fw_rows.specs.Rules.{Stands, rules_of, text_rules};
+ghost use Rattle.fw_rows.specs.Rules.{Stands, text_rules};
 
 use crate::cells::Cells;
 use crate::charged::Charged;
 use crate::column::Column;
 use crate::details::{Details, NamedDiscount};
-use crate::fault::{RecordFault, Refusal};
-use crate::header::Places;
+use crate::fault::Refusal;
 use crate::values::copy_of;
-use csv::ByteRecord;
 use fw_charge::{Currency, Discount, Row, RowFields};
 use std::alloc::{AllocError, Global};
 
@@ -60,29 +55,11 @@ impl<'a> Cells<'a> {
     }
 
     /// The row that the texts stand for, or the first rule that is broken.
-    fn row(&self, alloc: Global, currency: Currency) -> Result<Row, Refusal>
+    pub(crate) fn row(&self, alloc: Global, currency: Currency) -> Result<Row, Refusal>
         ensures { let at = texts_of self.now in JudgedWithin (text_rules currency at) (Stands at) result }
     {
         let charged = self.charged(currency)?;
         let details = self.details(alloc)?;
         Ok(self.made(alloc, charged, details)?)
-    }
-}
-
-/// What a record reads as under a header with these places.
-pub(crate) fn row_of(
-    alloc: Global,
-    fields: &ByteRecord,
-    places: &Places,
-    currency: Currency,
-) -> Result<Row, Refusal>
-    ensures { (header : Record) → ArePlaces header places.now → JudgedWithin (rules_of currency header (fields_of fields.now)) (Stands (text_in header (fields_of fields.now))) result }
-{
-    if fields.len() != places.fields {
-        return Err(Refusal::Broken(RecordFault::Fields));
-    }
-    match Cells::of_record(fields, places) {
-        Some(cells) => cells.row(alloc, currency),
-        None => Err(Refusal::Broken(RecordFault::NotUtf8)),
     }
 }

@@ -1,0 +1,88 @@
+use Rattle.std.proofs.Common.{◌≡◌, ◌≤◌, ◌<◌, ◌+◌, ◌∙◌, [], length, sym, ap, subst, List, rules, arith, true, false}
+use Rattle.csv.specs.Reading.{strip_bom}
+use Rattle.csv.specs.Records.{fields_of}
+use Rattle.csv.specs.declared.parser.State.TheVariants as st
+use Rattle.std.proofs.lemmas.Result.{err_from_is_err_and}
+use Rattle.fw_charge.specs.Charge.{Charge}
+use Rattle.fw_rows.proofs.RowFacts.{Read, nothing_reads, header_reads, memory_reads, read-start, read-more, read-refused, read-full, read-none, read-all}
+use Rattle.fw_rows.proofs.reading.read_into.Goals as goal
+
+pub returns-in_err-advance-clause-rows : goal.returns-in_err-advance-clause-rows
+returns-in_err-advance-clause-rows g c =
+    let p = err_from_is_err_and c.from_residual.result c.from_residual.ensures.1 in rw (p.1, p.2) (memory_reads c.args.currency c.args.text.now)
+
+pub returns-then-not-branch-clause-rows : goal.returns-then-not-branch-clause-rows
+returns-then-not-branch-clause-rows g c =
+    let none : c.in_ok-advance.field-0 ≡ false = search rules in
+    nothing_reads c.args.currency c.args.text.now c.advance.new.reader (fields_of c.advance.new.fields)
+    (rw none at (c.in_ok-advance.ensures st.StartRecord (strip_bom c.args.text.now) c.open-reader.ensures))
+
+pub returns-in_err-places-clause-rows : goal.returns-in_err-places-clause-rows
+returns-in_err-places-clause-rows g c =
+    let p = err_from_is_err_and c.from_residual-in_err-places.result c.from_residual-in_err-places.ensures.1 in
+    let some : c.in_ok-advance.field-0 ≡ true = search rules in
+    rw (p.1, p.2) (header_reads c.args.currency c.args.text.now c.advance.new.reader (fields_of c.advance.new.fields) c.in_err-places.field-0.0
+    (rw some at (c.in_ok-advance.ensures st.StartRecord (strip_bom c.args.text.now) c.open-reader.ensures)) c.in_err-places.ensures)
+
+pub records-init : goal.records-init
+records-init g c =
+    let some : c.in_ok-advance.field-0 ≡ true = search rules in
+    let start =
+    read-start c.args.currency c.args.text.now c.advance.new.reader (fields_of c.advance.new.fields) c.in_ok-places.places
+    (rw some at (c.in_ok-advance.ensures st.StartRecord (strip_bom c.args.text.now) c.open-reader.ensures)) c.in_ok-places.ensures.0 c.in_ok-places.ensures.1 in
+    let NowRead : List Charge → Type 0 = λ rows. Read c.args.currency c.args.text.now c.advance.new.reader c.in_ok-places.places rows in
+    record { read = subst NowRead (sym c.requires.none) start; counted = ap length c.requires.none; few = omega arith; ready = c.requires.ready }
+
+pub returns-in_err-advance-2-clause-rows : goal.returns-in_err-advance-2-clause-rows
+returns-in_err-advance-2-clause-rows g c =
+    let p = err_from_is_err_and c.from_residual-in_err-advance-2.result c.from_residual-in_err-advance-2.ensures.1 in rw (p.1, p.2) (memory_reads c.args.currency c.args.text.now)
+
+pub returns-then-count-eq-MOST_ROWS-clause-rows : goal.returns-then-count-eq-MOST_ROWS-clause-rows
+returns-then-count-eq-MOST_ROWS-clause-rows g c =
+    let some : c.in_ok-advance-2.field-0 ≡ true = search rules in
+    read-full c.args.currency c.args.text.now c.records.reader c.advance-in-records.new.reader c.in_ok-places.places (g.S.RowSink.rows c.records.sink)
+    (fields_of c.advance-in-records.new.fields) c.records.invariant.read
+    (rw some at c.in_ok-advance-2.ensures) (omega (arith, c.records.invariant.counted, c.if-count-eq-MOST_ROWS.true))
+
+pub add_record-requires-clause-room : goal.add_record-requires-clause-room
+add_record-requires-clause-room g c = omega (arith, c.records.invariant.counted, c.records.invariant.few, c.if-count-eq-MOST_ROWS.false)
+
+pub returns-in-Err-clause-rows : goal.returns-in-Err-clause-rows
+returns-in-Err-clause-rows g c =
+    let some : c.in_ok-advance-2.field-0 ≡ true = search rules in
+    rw c.at_record.ensures (read-refused c.args.currency c.args.text.now c.records.reader c.advance-in-records.new.reader c.in_ok-places.places
+    (g.S.RowSink.rows c.records.sink) (g.S.RowSink.rows c.add_record.new.sink) (fields_of c.advance-in-records.new.fields) (c.records.count + 1) c.in-Err.refusal c.records.invariant.read
+    (rw some at c.in_ok-advance-2.ensures) c.in-Err.ensures.row (omega (arith, c.records.invariant.counted, c.records.invariant.few, c.if-count-eq-MOST_ROWS.false))
+    (omega (arith, c.records.invariant.counted)))
+
+pub records-preserved : goal.records-preserved
+records-preserved g c =
+    let some : c.in_ok-advance-2.field-0 ≡ true = search rules in
+    let before = c.records.invariant in
+    let more =
+    read-more c.args.currency c.args.text.now c.records.reader c.advance-in-records.new.reader c.in_ok-places.places
+    (g.S.RowSink.rows c.records.sink) (g.S.RowSink.rows c.add_record.new.sink) (fields_of c.advance-in-records.new.fields) before.read
+    (rw some at c.in_ok-advance-2.ensures) c.in_default.ensures.row (omega (arith, before.counted, before.few, c.if-count-eq-MOST_ROWS.false)) in
+    record {
+      read = more.0;
+      counted = omega (arith, more.1, before.counted);
+      few = omega (arith, before.few, c.if-count-eq-MOST_ROWS.false);
+      ready = c.in_default.ensures.ready;
+    }
+
+pub returns-then-count-eq0-clause-rows : goal.returns-then-count-eq0-clause-rows
+returns-then-count-eq0-clause-rows g c =
+    let none : c.in_ok-advance-2.field-0 ≡ false = search rules in
+    read-none c.args.currency c.args.text.now c.records.reader c.advance-in-records.new.reader c.in_ok-places.places (g.S.RowSink.rows c.records.sink)
+    (fields_of c.advance-in-records.new.fields) c.records.invariant.read
+    (rw none at c.in_ok-advance-2.ensures) (omega (arith, c.records.invariant.counted, c.if-count-eq0.true))
+
+pub returns-clause-rows : goal.returns-clause-rows
+returns-clause-rows g c =
+    let none : c.in_ok-advance-2.field-0 ≡ false = search rules in
+    read-all c.args.currency c.args.text.now c.records.reader c.advance-in-records.new.reader c.in_ok-places.places (g.S.RowSink.rows c.records.sink)
+    (fields_of c.advance-in-records.new.fields) c.records.invariant.read
+    (rw none at c.in_ok-advance-2.ensures) (omega (arith, c.records.invariant.counted, c.if-count-eq0.false))
+
+pub returns-clause-some : goal.returns-clause-some
+returns-clause-some g c = omega (arith, c.records.invariant.counted, c.if-count-eq0.false)

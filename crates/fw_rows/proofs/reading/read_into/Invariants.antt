@@ -1,0 +1,17 @@
+use Rattle.fw_rows.proofs.RowFacts.{Read}
+use Rattle.std.proofs.Common.{◌≡◌, ◌≤◌, ◌-◌, length}
+use Rattle.fw_rows.proofs.reading.read_into.Given as goal
+
+-- the records so far were read, and their rows added
+abbrev pub invariant-records : goal.invariant-records
+invariant-records g l =
+    let rows = g.S.RowSink.rows l.sink in
+    record {
+      read : Read l.fn.currency l.fn.text l.reader l.places rows;
+      counted : length rows ≡ l.count;
+      few : l.count ≤ 4096;
+      ready : g.S.RowSink.is_ready l.sink;
+    }
+
+abbrev pub decreases-records : goal.decreases-records
+decreases-records g l = 4097 - l.count
