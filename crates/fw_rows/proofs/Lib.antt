@@ -10,3 +10,4 @@ mod CellFacts
 pub mod MakingFacts
 mod RowFacts
 pub mod OneReading
+mod ChargeFacts
