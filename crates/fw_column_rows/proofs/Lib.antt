@@ -1,0 +1,2 @@
+mod FillFacts
+mod ViewFacts

@@ -1,0 +1,12 @@
+use Rattle.std.proofs.Common.{List, Ok, sym, subst}
+use Rattle.std.proofs.lemmas.Result.{err_from_is_err_and}
+use Rattle.fw_charge.specs.Charge.{Charge}
+use Rattle.fw_rows.specs.Rows.{RowsRead}
+use Rattle.fw_column_rows.proofs.reading.read_columns.Goals as goal
+
+pub returns-in_err-read_into : goal.returns-in_err-read_into
+returns-in_err-read_into c =
+    let p = err_from_is_err_and c.from_residual.result c.from_residual.ensures.1 in rw (p.1, p.2) c.in_err-read_into.ensures.rows
+
+pub returns : goal.returns
+returns c = let Reads : List Charge → Type 0 = λ rows. RowsRead c.args.currency c.args.text.now (Ok rows) in subst Reads (sym c.finish.ensures) c.in_ok-read_into.ensures.rows

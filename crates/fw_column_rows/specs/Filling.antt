@@ -1,0 +1,24 @@
+-- Texts of tags, and rows that have the tags that they state. The private functions of the crate cite it.
+use Rattle.std.specs.Prelude.{◌≡◌, ◌<◌, ◌≤◌, ◌++◌, ℕ, List, [], ◌∷◌, length, slice_index, slice_index_or, Some}
+use Rattle.fw_charge.specs.Charge.{Charge}
+use Rattle.fw_charge.specs.Tags.{TagText, IsTags}
+use Rattle.fw_columns.specs.RowViews.{charge_with, tags_at}
+use Rattle.fw_columns.specs.declared.row_view.RowView.{RowView}
+use Rattle.fw_rows.specs.Rules.{Texts, AreShort, tags_stated}
+use Rattle.fw_rows.specs.declared.column.Column.TheVariants as column
+
+-- the row at a place has the tags that a text states
+pub record HasTagsOf (text : List ℕ) (place : ℕ) (rows : List Charge) : Type 0 where
+  pub within : place < length rows
+  pub stated : tags_stated text ≡ Some (tags_at rows place)
+  pub kept : IsTags (tags_at rows place)
+
+-- for each text there is the place of a row with its tags
+pub record AreTagsOf (texts : List (List ℕ)) (places : List ℕ) (rows : List Charge) : Type 0 where
+  pub one_each : length places ≡ length texts
+  pub few : length places ≤ length rows
+  pub each : (k : ℕ) → k < length places → HasTagsOf (slice_index_or texts k []) (slice_index places k) rows
+
+-- there is one row more: that with these values, and with the tags that the text of a record states
+abbrev pub AddsView : Texts → RowView → List Charge → List Charge → Type 0
+AddsView at row old new = AreShort at × (tags : List TagText) × (tags_stated (at column.Tags) ≡ Some tags) × (new ≡ old ++ charge_with row tags ∷ [])

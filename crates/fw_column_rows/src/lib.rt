@@ -1,0 +1,10 @@
+//! What a CSV text of charges reads as, as columns: its rows, or its first fault.
+//!
+//! The meaning is that of [`fw_rows::read_rows`]. No row is made on the way, and a text of tags that stands in many records is read once.
+#![tactic(auto)]
+
+mod filling;
+mod reading;
+mod view;
+
+pub use reading::read_columns;
