@@ -15,7 +15,8 @@ use crate::line::Line;
 use crate::shared::push_commitment;
 use crate::single::{given_line, is_in_hour, purchase_line, rest_line};
 use fw_charge::Row;
-use fw_cover::{HourCover, Roster, Taken, is_eligible, is_in_term};
+use fw_columns::LentRow;
+use fw_cover::{HourCover, Roster, Taken, is_eligible, is_in_term, lend, references};
 use fw_terms::Commitment;
 use std::alloc::{AllocError, Global};
 
@@ -53,7 +54,11 @@ fn push_purchases<'a>(
 
 /// Adds the rows that no commitment may cover.
 #[tactic(auto, unfolding(crate::specs::Lines::given_lines))]
-fn push_given<'a>(lines: &mut Vec<Line<'a>>, rows: &[&'a Row], hour: u32) -> Result<(), AllocError>
+fn push_given<'a>(
+    lines: &mut Vec<Line<'a>>,
+    rows: &[&LentRow<'a>],
+    hour: u32,
+) -> Result<(), AllocError>
     ensures { OnOk result (lines.new.items ≡ lines.old.items ++ given_lines (map (λ r. r.now) rows.now) hour) }
 {
     for row in rows {
@@ -68,7 +73,7 @@ fn push_given<'a>(lines: &mut Vec<Line<'a>>, rows: &[&'a Row], hour: u32) -> Res
 #[tactic(auto, unfolding(crate::specs::Lines::rest_of))]
 fn push_rest<'a>(
     lines: &mut Vec<Line<'a>>,
-    row: &'a Row,
+    row: &LentRow<'a>,
     left: u64,
     hour: u32,
 ) -> Result<(), AllocError>
@@ -84,7 +89,7 @@ fn push_rest<'a>(
 /// Adds what is left of the rows that commitments may cover.
 fn push_rests<'a>(
     lines: &mut Vec<Line<'a>>,
-    rows: &[&'a Row],
+    rows: &[&LentRow<'a>],
     cover: &HourCover,
     hour: u32,
 ) -> Result<(), AllocError>
@@ -115,7 +120,7 @@ fn push_shared_at<'a>(
     lines: &mut Vec<Line<'a>>,
     commitments: &'a [Commitment],
     place: usize,
-    rows: &[&'a Row],
+    rows: &[&LentRow<'a>],
     cover: &HourCover,
     takes: &[Taken],
     hour: u32,
@@ -148,7 +153,7 @@ fn push_shared<'a>(
     alloc: Global,
     lines: &mut Vec<Line<'a>>,
     roster: &Roster<'a>,
-    rows: &[&'a Row],
+    rows: &[&LentRow<'a>],
     cover: &HourCover,
     hour: u32,
 ) -> Result<(), AllocError>
@@ -194,7 +199,7 @@ fn rows_in<'a>(alloc: Global, rows: &'a [Row], hour: u32) -> Result<Vec<&'a Row>
 pub fn lines_by_roster<'a>(
     alloc: Global,
     roster: &Roster<'a>,
-    rows: &[&'a Row],
+    rows: &[&LentRow<'a>],
     hour: u32,
 ) -> Result<Vec<Line<'a>>, AllocError>
     requires hour { HasHour roster.now hour }
@@ -224,9 +229,11 @@ pub fn lines_of_hour<'a>(
     requires { All (λ r. hour_of r.start ≡ hour) (map (λ r. r.now) rows.now) }
     ensures { IfOk result (λ v. AreHourLines commitments.now (map (λ r. r.now) rows.now) hour v.items) }
 {
+    let lent = lend(alloc, rows)?;
+    let rows = references(alloc, &lent)?;
     let first = u64::from(hour);
     let roster = Roster::new(alloc, commitments, first, first + 1)?;
-    lines_by_roster(alloc, &roster, rows, hour)
+    lines_by_roster(alloc, &roster, &rows, hour)
 }
 
 /// The lines of an hour, counted from 1970, among rows of any hours; rows of other hours are passed over. They are those of

@@ -1,7 +1,9 @@
 //! A line of an hour.
 ghost use Rattle.std.specs.Prelude.{◌≡◌, option_map, option_copied};
+ghost use Rattle.fw_columns.specs.Lending.{tags_lent};
 
-use fw_charge::{Category, DiscountKind, DiscountStatus, Tags};
+use fw_charge::{Category, DiscountKind, DiscountStatus};
+use fw_columns::LentTags;
 use fw_money::Nanos;
 use std::marker::Model;
 
@@ -53,7 +55,7 @@ pub struct LineFields<'a> {
     /// SubAccountId: the part of the account that the charge falls to.
     pub sub_account: Option<&'a str>,
     /// Tags: the keys and texts that the customer gave.
-    pub tags: &'a Tags,
+    pub tags: LentTags<'a>,
 }
 
 /// A line of an hour. Its texts and tags are lent by the row or the commitment that it comes from.
@@ -159,8 +161,8 @@ impl<'a> Line<'a> {
     }
 
     /// Tags: the keys and texts that the customer gave.
-    pub fn tags(&self) -> &'a Tags
-        ensures { result.now ≡ self.now.tags }
+    pub fn tags(&self) -> LentTags<'a>
+        ensures { tags_lent result ≡ self.now.tags }
     {
         self.fields.tags
     }

@@ -10,7 +10,7 @@ ghost use Rattle.fw_amortise.specs.Adding.{AreTakesOf, AddsCommitment};
 use crate::amount::hour_amount;
 use crate::line::Line;
 use crate::single::{unused_line, used_line};
-use fw_charge::Row;
+use fw_columns::LentRow;
 use fw_cover::Taken;
 use fw_shares::share_counts;
 use fw_terms::Commitment;
@@ -67,7 +67,7 @@ fn shares_of(
 fn push_used<'a>(
     lines: &mut Vec<Line<'a>>,
     commitment: &'a Commitment,
-    rows: &[&'a Row],
+    rows: &[&LentRow<'a>],
     takes: &[Taken],
     shares: &[u128],
     hour: u32,
@@ -104,7 +104,7 @@ pub(crate) fn push_commitment<'a>(
     alloc: Global,
     lines: &mut Vec<Line<'a>>,
     commitment: &'a Commitment,
-    rows: &[&'a Row],
+    rows: &[&LentRow<'a>],
     takes: &[Taken],
     unused: u64,
     hour: u32,

@@ -7,7 +7,8 @@ ghost use Rattle.fw_amortise.specs.LineView.{discount_of};
 ghost use Rattle.fw_amortise.specs.Lines.{purchase_line, given_line, used_line, unused_line, rest_line};
 
 use crate::line::{Line, LineDiscount, LineFields, LineKind};
-use fw_charge::{Category, DiscountStatus, Row, hour_of};
+use fw_charge::{Category, DiscountStatus, hour_of};
+use fw_columns::{LentRow, LentTags};
 use fw_cover::Taken;
 use fw_money::Nanos;
 use fw_terms::{Commitment, Purchase};
@@ -49,25 +50,25 @@ pub(crate) fn purchase_line<'a>(
         quantity: None,
         sku: None,
         sub_account: commitment.sub_account(),
-        tags: commitment.tags(),
+        tags: LentTags::Whole(commitment.tags()),
     })
 }
 
 /// The discount that a row belongs to.
-fn discount_of_row<'a>(row: &'a Row) -> Option<LineDiscount<'a>>
+fn discount_of_row<'a>(row: &LentRow<'a>) -> Option<LineDiscount<'a>>
     ensures { option_map discount_of result ≡ row.now.discount }
 {
     let discount = row.discount()?;
     Some(LineDiscount {
-        id: discount.id(),
-        kind: discount.kind(),
-        status: discount.status(),
+        id: discount.id,
+        kind: discount.kind,
+        status: discount.status,
     })
 }
 
 /// A row as it was given.
 #[tactic(auto, unfolding(crate::specs::Lines::given_line))]
-pub(crate) fn given_line<'a>(row: &'a Row, hour: u32) -> Line<'a>
+pub(crate) fn given_line<'a>(row: &LentRow<'a>, hour: u32) -> Line<'a>
     ensures { result ≡ given_line hour row.now }
 {
     Line::of_fields(LineFields {
@@ -88,7 +89,7 @@ pub(crate) fn given_line<'a>(row: &'a Row, hour: u32) -> Line<'a>
 #[tactic(auto, unfolding(crate::specs::Lines::used_line))]
 pub(crate) fn used_line<'a>(
     commitment: &'a Commitment,
-    rows: &[&'a Row],
+    rows: &[&LentRow<'a>],
     take: &Taken,
     share: u128,
     hour: u32,
@@ -137,12 +138,12 @@ pub(crate) fn unused_line<'a>(commitment: &'a Commitment, share: u128, hour: u32
         quantity: None,
         sku: None,
         sub_account: commitment.sub_account(),
-        tags: commitment.tags(),
+        tags: LentTags::Whole(commitment.tags()),
     })
 }
 
 /// The quantity of a row, or 0 where it has none.
-fn quantity_of(row: &Row) -> u64
+fn quantity_of(row: &LentRow<'_>) -> u64
     ensures value { result ≡ quantity_of row.now }
     ensures bound { result ≤ 10 ^ 17 }
 {
@@ -166,7 +167,7 @@ fn part_of(cost: Nanos, left: u64, quantity: u64) -> Nanos
 
 /// What is left of a row.
 #[tactic(auto, unfolding(crate::specs::Lines::rest_line))]
-pub(crate) fn rest_line<'a>(row: &'a Row, left: u64, hour: u32) -> Line<'a>
+pub(crate) fn rest_line<'a>(row: &LentRow<'a>, left: u64, hour: u32) -> Line<'a>
     requires some { 0 < left }
     requires left { left ≤ quantity_of row.now }
     ensures { result ≡ rest_line hour row.now left }

@@ -2,20 +2,21 @@
 ghost use Rattle.std.specs.Prelude.{◌≡◌};
 ghost use Rattle.fw_cover.specs.Eligible.{is_eligible, is_open_use, is_measured, is_one_hour, is_positive};
 
-use fw_charge::{Category, Row};
+use fw_charge::Category;
+use fw_columns::LentRow;
 use fw_money::Nanos;
 
 #[tactic(auto, unfolding(crate::specs::Eligible::is_eligible))]
 /// Whether commitments may cover a row: it is a use, belongs to no commitment yet, is no correction, has a period of exactly one clock
 /// hour, a quantity above 0 and a SKU, and none of its costs is below 0.
-pub fn is_eligible(row: &Row) -> bool
+pub fn is_eligible(row: &LentRow<'_>) -> bool
     ensures { result ≡ is_eligible row.now }
 {
     is_open_use(row) && is_measured(row)
 }
 
 /// Whether a row is a use of exactly one clock hour that belongs to no commitment yet and is no correction.
-fn is_open_use(row: &Row) -> bool
+fn is_open_use(row: &LentRow<'_>) -> bool
     ensures { result ≡ is_open_use row.now }
 {
     row.category() == Category::Usage
@@ -25,7 +26,7 @@ fn is_open_use(row: &Row) -> bool
 }
 
 /// Whether a row has a quantity above 0 and a SKU, and no cost below 0.
-fn is_measured(row: &Row) -> bool
+fn is_measured(row: &LentRow<'_>) -> bool
     ensures { result ≡ is_measured row.now }
 {
     is_positive(row.quantity())
@@ -35,7 +36,7 @@ fn is_measured(row: &Row) -> bool
 }
 
 /// Whether a row's period is exactly one clock hour.
-fn is_one_hour(row: &Row) -> bool
+fn is_one_hour(row: &LentRow<'_>) -> bool
     ensures { result ≡ is_one_hour row.now.start row.now.end }
 {
     let start = row.start();

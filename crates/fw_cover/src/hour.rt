@@ -3,6 +3,7 @@ ghost use Rattle.std.specs.Prelude.{◌≡◌, ◌+◌, ◌<◌, ℕ, length, ma
 ghost use Rattle.fw_cover.specs.Cover.{IsTakeWithin, taken_of_row, used_of};
 ghost use Rattle.fw_cover.specs.Hour.{hour_cover, quantities_of, capacities_of};
 
+use crate::lending::{lend, references};
 use crate::roster::Roster;
 use crate::taken::Taken;
 use fw_charge::Row;
@@ -36,8 +37,10 @@ pub fn cover_hour(
     ensures row_left { IfOk result (λ h. (r : ℕ) → taken_of_row r h.taken.items + slice_index h.row_left.items r ≡ slice_index (quantities_of (map (λ r. r.now) rows.now)) r) }
     ensures unused { IfOk result (λ h. (c : ℕ) → used_of c h.taken.items + slice_index h.unused.items c ≡ slice_index (capacities_of commitments.now) c) }
 {
+    let lent = lend(alloc, rows)?;
+    let rows = references(alloc, &lent)?;
     let first = u64::from(hour);
-    Roster::new(alloc, commitments, first, first + 1)?.cover(alloc, rows, hour)
+    Roster::new(alloc, commitments, first, first + 1)?.cover(alloc, &rows, hour)
 }
 
 /// What the commitments take of the rows of an hour, commitment by commitment in their order; rows of other hours are passed over. The

@@ -17,6 +17,7 @@ mod covering;
 mod eligible;
 mod hour;
 mod laws;
+mod lending;
 mod matching;
 mod numbers;
 mod offers;
@@ -32,6 +33,7 @@ pub use laws::{
     a_commitment_that_goes_last_changes_nothing_before_it, commitments_take_what_they_can,
     takes_apply, takes_stand_by_commitment, takes_stay_within, untouched_rows_change_nothing,
 };
+pub use lending::{lend, references};
 pub use order::{in_order, is_in_term};
 pub use roster::Roster;
 pub use taken::Taken;

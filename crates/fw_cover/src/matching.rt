@@ -12,13 +12,13 @@ use crate::eligible::is_eligible;
 use crate::offers::{Offer, offered};
 use crate::order::is_in_term;
 use crate::pair::{Pair, RankedPair};
-use fw_charge::Row;
+use fw_columns::LentRow;
 use fw_terms::{Commitment, Terms};
 use std::alloc::{AllocError, Global};
 use std::cmp::Ordering;
 
 /// Whether a commitment takes rows of this row's sub-account.
-fn allows(commitment: &Commitment, row: &Row) -> bool
+fn allows(commitment: &Commitment, row: &LentRow<'_>) -> bool
     ensures { result ≡ allows commitment.now.sub_account row.now.sub_account }
 {
     match commitment.sub_account() {
@@ -28,7 +28,7 @@ fn allows(commitment: &Commitment, row: &Row) -> bool
 }
 
 /// Whether terms are for rows in this row's unit.
-fn has_unit(terms: &Terms, row: &Row) -> bool
+fn has_unit(terms: &Terms, row: &LentRow<'_>) -> bool
     ensures { result ≡ has_unit (terms_view terms.now) row.now.unit }
 {
     match terms {
@@ -38,7 +38,7 @@ fn has_unit(terms: &Terms, row: &Row) -> bool
 }
 
 /// Whether a row's quantity is in a unit.
-fn is_in_unit(row: &Row, unit: &str) -> bool
+fn is_in_unit(row: &LentRow<'_>, unit: &str) -> bool
     ensures { result ≡ is_text unit.now row.now.unit }
 {
     row.unit().is_some_and(|own| own == unit)
@@ -46,7 +46,7 @@ fn is_in_unit(row: &Row, unit: &str) -> bool
 
 /// Whether a commitment runs in an hour and takes rows of this one's sub-account and unit.
 #[tactic(auto, unfolding(crate::specs::Applies::fits))]
-fn fits(commitment: &Commitment, hour: u32, row: &Row) -> bool
+fn fits(commitment: &Commitment, hour: u32, row: &LentRow<'_>) -> bool
     ensures { result ≡ fits commitment.now hour row.now }
 {
     is_in_term(commitment, hour) && allows(commitment, row) && has_unit(commitment.terms(), row)
@@ -64,7 +64,7 @@ fn keep(pairs: &mut Vec<RankedPair>, pair: Option<RankedPair>) -> Result<(), All
 
 impl<'a> Offer<'a> {
     /// The pair that the offer makes with a row of its SKU, where the commitment takes the row.
-    fn pair(&self, hour: u32, at: usize, row: &Row) -> Option<RankedPair>
+    fn pair(&self, hour: u32, at: usize, row: &LentRow<'_>) -> Option<RankedPair>
         ensures { result ≡ pair_by hour (at, row.now) (offer_of self.now) }
     {
         if fits(self.placed.commitment, hour, row) {
@@ -84,7 +84,7 @@ impl<'a> Offer<'a> {
 
 /// Whether commitments may cover a row in an hour.
 #[tactic(auto, unfolding(crate::specs::Eligible::is_of_hour))]
-fn is_open(row: &Row, hour: u32) -> bool
+fn is_open(row: &LentRow<'_>, hour: u32) -> bool
     ensures { result ≡ is_open hour row.now }
 {
     is_eligible(row) && row.hour() == hour
@@ -96,7 +96,7 @@ fn add_pairs(
     offers: &[Offer],
     hour: u32,
     at: usize,
-    row: &Row,
+    row: &LentRow<'_>,
 ) -> Result<(), AllocError>
     ensures { OnOk result (pairs.new.items ≡ pairs.old.items ++ filter_map (pair_by hour (at, row.now)) (map offer_of offers.now)) }
 {
@@ -112,7 +112,7 @@ fn add_row(
     index: &[Offer],
     hour: u32,
     at: usize,
-    row: &Row,
+    row: &LentRow<'_>,
 ) -> Result<(), AllocError>
     requires sorted { IsSortedBy (λ a b. offer_before (offer_of a) (offer_of b)) index.now }
     ensures { OnOk result (pairs.new.items ≡ pairs.old.items ++ pairs_with hour (map offer_of index.now) (at, row.now)) }
@@ -130,7 +130,7 @@ fn add_row(
 fn pairs_by_row(
     alloc: Global,
     index: &[Offer],
-    rows: &[&Row],
+    rows: &[&LentRow<'_>],
     hour: u32,
 ) -> Result<Vec<RankedPair>, AllocError>
     requires sorted { IsSortedBy (λ a b. offer_before (offer_of a) (offer_of b)) index.now }
@@ -160,7 +160,7 @@ impl RankedPair {
 pub(crate) fn pairs_in_order(
     alloc: Global,
     index: &[Offer],
-    rows: &[&Row],
+    rows: &[&LentRow<'_>],
     hour: u32,
 ) -> Result<Vec<RankedPair>, AllocError>
     requires sorted { IsSortedBy (λ a b. offer_before (offer_of a) (offer_of b)) index.now }

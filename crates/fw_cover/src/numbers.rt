@@ -4,12 +4,12 @@ ghost use Rattle.std.specs.Prelude.{unsigned_abs};
 ghost use Rattle.fw_terms.specs.Commitment.{IsCommitment};
 ghost use Rattle.fw_cover.specs.Hour.{quantity_of, billed_of, quantities_of, capacities_of};
 
-use fw_charge::Row;
+use fw_columns::LentRow;
 use fw_terms::Commitment;
 use std::alloc::{AllocError, Global};
 
 /// The quantity of a row, in nanos, as its absolute value; 0 where it has none.
-fn quantity(row: &Row) -> u64
+fn quantity(row: &LentRow<'_>) -> u64
     ensures value { result ≡ quantity_of row.now }
     ensures most { result ≤ 10 ^ 17 }
 {
@@ -18,7 +18,7 @@ fn quantity(row: &Row) -> u64
 }
 
 /// The billed cost of a row, in nanos, as its absolute value.
-fn billed(row: &Row) -> u64
+fn billed(row: &LentRow<'_>) -> u64
     ensures value { result ≡ unsigned_abs row.now.billed }
     ensures most { result ≤ 10 ^ 17 }
 {
@@ -34,7 +34,7 @@ fn capacity(commitment: &Commitment) -> u64
 }
 
 /// The quantities of the rows.
-pub(crate) fn quantities(alloc: Global, rows: &[&Row]) -> Result<Vec<u64>, AllocError>
+pub(crate) fn quantities(alloc: Global, rows: &[&LentRow<'_>]) -> Result<Vec<u64>, AllocError>
     ensures values { IfOk result (λ v. v.items ≡ quantities_of (map (λ r. r.now) rows.now)) }
     ensures most { IfOk result (λ v. All (λ q. q ≤ 10 ^ 17) v.items) }
 {
@@ -46,7 +46,7 @@ pub(crate) fn quantities(alloc: Global, rows: &[&Row]) -> Result<Vec<u64>, Alloc
 }
 
 /// The billed costs of the rows.
-pub(crate) fn billed_costs(alloc: Global, rows: &[&Row]) -> Result<Vec<u64>, AllocError>
+pub(crate) fn billed_costs(alloc: Global, rows: &[&LentRow<'_>]) -> Result<Vec<u64>, AllocError>
     ensures values { IfOk result (λ v. v.items ≡ billed_of (map (λ r. r.now) rows.now)) }
     ensures most { IfOk result (λ v. All (λ b. b ≤ 10 ^ 17) v.items) }
 {

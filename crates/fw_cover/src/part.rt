@@ -24,7 +24,7 @@ pub(crate) fn usage_part(row_left: u64, capacity_left: u64) -> Part
 
 /// A commitment to a cost takes all that is left of the row where what it needs for its cost fits in what is left of the capacity, and
 /// else the part that does, which then weighs all that is left. Nothing is taken where the cost is too small to need a nano, or the part
-/// too small to be one. The need is the cost at the rate, in parts per million, rounded up.
+/// too small to be one, or nothing is left of the one or the other. The need is the cost at the rate, in parts per million, rounded up.
 ///
 /// Each product stays within 128 bits. A row is billed at most 10^17 nanos, and what is left of it is below 2^64, so the first is below
 /// 2 * 10^36. The cost is at most what is billed, so the second is at most 10^17 * 10^6. The last is of two numbers below 2^64.
@@ -44,6 +44,18 @@ pub(crate) fn spend_part(
     ensures within_capacity { result.weight ≤ capacity_left }
     ensures nothing { result.quantity ≡ 0 → result.weight ≡ 0 }
 {
+    if row_left == 0 {
+        return Part {
+            quantity: 0,
+            weight: 0,
+        };
+    }
+    if capacity_left == 0 {
+        return Part {
+            quantity: 0,
+            weight: 0,
+        };
+    }
     let cost = u128::from(billed) * u128::from(row_left) / u128::from(quantity);
     let need = (cost * u128::from(rate)).div_ceil(1_000_000);
     if need == 0 {

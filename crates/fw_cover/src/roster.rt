@@ -11,7 +11,7 @@ use crate::matching::pairs_in_order;
 use crate::numbers::{billed_costs, capacities, quantities};
 use crate::offers::{Offer, index};
 use crate::order::{Placed, ordered, places};
-use fw_charge::Row;
+use fw_columns::LentRow;
 use fw_terms::Commitment;
 use std::alloc::{AllocError, Global};
 use std::marker::Model;
@@ -104,7 +104,12 @@ impl<'a> Roster<'a> {
 
     /// What the commitments cover of the rows of one of the roster's hours; rows of other hours are passed over. The places are those in the
     /// list of the commitments and in the slice of the rows.
-    pub fn cover(&self, alloc: Global, rows: &[&Row], hour: u32) -> Result<HourCover, AllocError>
+    pub fn cover(
+        &self,
+        alloc: Global,
+        rows: &[&LentRow<'_>],
+        hour: u32,
+    ) -> Result<HourCover, AllocError>
         requires { HasHour self.now hour }
         ensures taken { IfOk result (λ h. h.taken.items ≡ hour_cover self.now.commitments (map (λ r. r.now) rows.now) hour) }
         ensures rows { IfOk result (λ h. length h.row_left.items ≡ length rows.now) }
