@@ -9,3 +9,4 @@ pub mod RunFacts
 pub mod OneAnswerFacts
 pub mod WrittenFacts
 pub mod FailedFacts
+pub mod QuestionFacts

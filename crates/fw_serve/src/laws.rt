@@ -2,14 +2,21 @@
 //! contract of a function that does nothing.
 ghost use Rattle.std.specs.Prelude.{◌≡◌, ◌⊎◌, ◌+◌, ◌<◌, ◌^◌, List, Some, length, slice_get, true, ℕ};
 ghost use Rattle.std.specs.List.{concat};
+ghost use Rattle.fw_amortise.specs.LineValue.{LineValue};
 ghost use Rattle.fw_entry.specs.Entry.{EntryValue};
+ghost use Rattle.fw_query.specs.Limits.{IsRange};
+ghost use Rattle.fw_query.specs.OfHistory.{AreLinesOf, IsReportOn};
+ghost use Rattle.fw_query.specs.Refusals.{AreRefused, IsRefused};
+ghost use Rattle.fw_query.specs.Reports as reports;
+ghost use Rattle.fw_query.specs.Texts.{lines_text, report_text};
+ghost use Rattle.fw_query.specs.declared.fault.QueryFault.{QueryFault};
 ghost use Rattle.fw_recover.specs.declared.fault.StoreFault.TheVariants as store_fault;
-ghost use Rattle.fw_script.specs.Plain.{PlainCommand, checkpoint};
+ghost use Rattle.fw_script.specs.Plain.{PlainCommand, checkpoint, lines, report, state};
 ghost use Rattle.fw_serve.specs.Answers.{Answer, Answers};
-ghost use Rattle.fw_serve.specs.Replies.{accepted_line, already_line, conflict_line, gap_line, no_memory_line, store_fault_line};
+ghost use Rattle.fw_serve.specs.Replies.{accepted_line, already_line, conflict_line, counted, gap_line, no_memory_line, query_fault_line, state_line, store_fault_line};
 ghost use Rattle.fw_serve.specs.Runs.{AnswersEach, AreOne, AreTold, AreUnhindered, IsHindered, NoneHindered, Sends, StandsAt};
 ghost use Rattle.fw_serve.specs.Standings.{Standing};
-ghost use Rattle.fw_snapshot.specs.History.{entries_from};
+ghost use Rattle.fw_snapshot.specs.History.{commitments_of, entries_from, rows_of};
 ghost use Rattle.fw_snapshot.specs.Judging.{IsLegal, judged};
 ghost use Rattle.fw_snapshot.specs.Verdicts.{IsRepeat};
 ghost use Rattle.fw_snapshot.specs.declared.verdict.Conflict.{Conflict};
@@ -41,6 +48,19 @@ pub fn one_command_has_one_answer()
         → AnswersEach before commands answers after → AreUnhindered commands answers rest answered → AnswersEach other rest second after_other → NoneHindered second
         → (answered ≡ second) × (after.history ≡ after_other.history) }
     ensures entry { (currency : List ℕ) (command : PlainCommand) (first second : EntryValue) → Sends currency command first → Sends currency command second → first ≡ second }
+{}
+
+/// What is asked is answered from what is held, and changes nothing. A report that is printed is the one on the entries of the warehouse, under the policy
+/// that was set last (`report`), and lines that are printed are the lines of these entries (`lines`). So each law of `fw_query` on reports and lines is one
+/// of what was printed. Else the answer says why there is none. `state` counts what is held.
+pub fn questions_are_answered_from_what_is_held()
+    ensures report { (before after : Standing) (key : List ℕ) (from to : ℕ) (answer : List ℕ) → Answer before (report key from to) answer after
+        → (((fault : QueryFault) × IsRefused (commitments_of before.history.entries) (rows_of before.history.entries) key from to fault × (answer ≡ query_fault_line fault))
+        ⊎ ((found : List reports.EntryValue) × IsRange from to × IsReportOn before.history.entries key from to found × (answer ≡ counted (report_text found)))) × (after ≡ before) }
+    ensures lines { (before after : Standing) (from to : ℕ) (answer : List ℕ) → Answer before (lines from to) answer after
+        → (((fault : QueryFault) × AreRefused from to fault × (answer ≡ query_fault_line fault))
+        ⊎ ((found : List LineValue) × IsRange from to × AreLinesOf before.history.entries from to found × (answer ≡ counted (lines_text found)))) × (after ≡ before) }
+    ensures state { (before after : Standing) (answer : List ℕ) → Answer before state answer after → (answer ≡ state_line before.history) × (after ≡ before) }
 {}
 
 /// What is written is true. `accepted N` is answered to the command of an entry, and after the script this is the Nth of the warehouse, counted from 1

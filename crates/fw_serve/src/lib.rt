@@ -21,7 +21,7 @@ pub use fault::ServeFault;
 pub use input::read_within;
 pub use laws::{
     a_store_that_failed_takes_nothing_more, answers_say_what_is_held, one_command_has_one_answer,
-    what_is_written_is_true,
+    questions_are_answered_from_what_is_held, what_is_written_is_true,
 };
 pub use reply::{Detail, Refusal, Reply};
 pub use server::serve;
