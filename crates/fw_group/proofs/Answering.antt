@@ -1,7 +1,7 @@
 -- The answers to a group, place by place.
-use Rattle.std.proofs.Common.{◌≡◌, ◌≤◌, ◌<◌, ℕ, ◌+◌, ◌-◌, cond, Bool, true, false, zero, suc, List, [], ◌∷◌, ◌++◌, length, take, get_or, refl, ap, sym, subst, ◌∙◌, arith, length-append}
+use Rattle.std.proofs.Common.{◌≡◌, ◌⊎◌, inl, inr, ◌≤◌, ◌<◌, ℕ, ◌+◌, ◌-◌, cond, Bool, true, false, zero, suc, List, [], ◌∷◌, ◌++◌, length, take, get_or, refl, ap, sym, subst, ◌∙◌, arith, length-append}
 use Rattle.std.specs.List.{count_by}
-use Rattle.std.specs.Prelude.{slice_get, Some, Result, Ok, Err, All, map}
+use Rattle.std.specs.Prelude.{slice_get, Some, Result, Ok, Err, IfOk, IfErr, IsErrOf, All, map}
 use Rattle.std.specs.declared.vec.Vec.{Vec}
 use Rattle.std.specs.declared.alloc.Global.{Global}
 use Rattle.std.proofs.Math.ListN.{get_or-append}
@@ -11,12 +11,16 @@ use Rattle.fw_entry.specs.Entry.{EntryValue}
 use Rattle.fw_snapshot.specs.declared.verdict.Verdict.{Verdict}
 use Rattle.fw_snapshot.specs.declared.verdict.Verdict.TheVariants as verdict
 use Rattle.fw_snapshot.specs.Judging.{judged}
-use Rattle.fw_snapshot.specs.Verdicts.{is_accept, kept_by, taken, verdicts_on, accepted_of}
+use Rattle.fw_snapshot.specs.Verdicts.{is_accept, kept_by, taken, verdicts_on, accepted_of, with_more}
 use Rattle.fw_group.specs.declared.answer.Answer.{Answer}
+use Rattle.fw_snapshot.specs.History.{History}
+use Rattle.fw_snapshot.proofs.VerdictFacts.{as_many}
 use Rattle.fw_recover.specs.declared.fault.StoreFault.{StoreFault}
+use Rattle.fw_recover.specs.declared.fault.StoreFault.TheVariants.{TooLarge}
+use Rattle.fw_recover.specs.Committing.{PreparedState, prepared_on, IsCommitFault}
 use Rattle.fw_group.specs.declared.inbox.Item.{Item}
 use Rattle.fw_group.specs.Items.{entries_of}
-use Rattle.fw_group.specs.Answers.{told, answers_on, accepted_in, refusal, for_each, AnswerIs, AnswersAre}
+use Rattle.fw_group.specs.Answers.{told, answers_on, accepted_in, refusal, for_each, IsGroupFault, IsOutcome, AnswerIs, AnswersAre}
 use Rattle.fw_group.proofs.Items.{length_entries}
 
 count-cons : (v : Verdict) (vs : List Verdict) → accepted_in (v ∷ vs) ≡ cond (is_accept v) 1 0 + accepted_in vs
@@ -121,3 +125,39 @@ pub all_answers : {F : Type 0} (list : F → List EntryValue) (items : List Item
 all_answers list items (Ok v) front answers long each = λ before vs_are front_is.
     same_places answers (answers_on front before (entries_of items)) (long ∙ sym (length_answers front before (entries_of items) ∙ length_entries items)) (λ k a at. each k a at before vs_are front_is)
 all_answers list items (Err fault) front answers long each = all_alike answers items (refusal fault) long each
+
+alike_more : {F : Type 0} (b : Answer F) (items : List Item) (n : ℕ) → n < length items → for_each b (take (suc n) items) ≡ for_each b (take n items) ++ b ∷ []
+alike_more b [] n within = absurd (omega (arith, within))
+alike_more b (x ∷ items) zero within = refl
+alike_more b (x ∷ items) (suc n) within = ap (λ (l : List (Answer _)). b ∷ l) (alike_more b items n (omega (arith, within)))
+
+pub one_more_alike : {F : Type 0} (b : Answer F) (items : List Item) (n : ℕ) → n < length items → for_each b (take (n + 1) items) ≡ for_each b (take n items) ++ b ∷ []
+one_more_alike b items n within =
+    let next : n + 1 ≡ suc n = omega arith in
+    ap (λ (k : ℕ). for_each b (take k items)) next ∙ alike_more b items n within
+
+-- ---- what a store answered
+
+group_fault : (fault : StoreFault) → IsCommitFault fault → (fault ≡ TooLarge → ⊥) → IsGroupFault fault
+group_fault fault (inl is) fits = subst IsGroupFault (sym is) tt
+group_fault fault (inr (inl is)) fits = subst IsGroupFault (sym is) tt
+group_fault fault (inr (inr (inl is))) fits = absurd (fits is)
+group_fault fault (inr (inr (inr is))) fits = subst IsGroupFault (sym is) tt
+
+-- the front has the entries that the verdicts accept
+pub group_outcome : (C : Vec Verdict Global → Type 0) (h : History) (items : List Item) (next : History) (p : PreparedState) (result : Result (Vec Verdict Global) StoreFault)
+    → p ≡ prepared_on h (entries_of items) → next ≡ with_more h (accepted_of h.entries (entries_of items)) → IfOk result (λ v. (v.items ≡ p.verdicts) × C v)
+    → IfErr result IsCommitFault → (IsErrOf result TooLarge → ⊥) → IsOutcome (λ (k : History). k.entries) items next result
+group_outcome C h items next p (Ok v) prepared next_is done which fits =
+    let es = entries_of items in
+    let are : v.items ≡ verdicts_on h.entries es = done.0 ∙ ap (λ (q : PreparedState). q.verdicts) prepared in (
+      ap (λ (l : List Verdict). length l) are ∙ as_many h.entries es ∙ length_entries items,
+      omega (
+        arith,
+        ap accepted_in are,
+        accepted_length h.entries es,
+        length-append h.entries (accepted_of h.entries es),
+        ap (λ (k : History). length k.entries) next_is,
+      ),
+    )
+group_outcome C h items next p (Err fault) prepared next_is done which fits = group_fault fault which (λ is. fits (ap Err is))

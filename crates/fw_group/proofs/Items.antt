@@ -1,5 +1,5 @@
 -- Facts on items and the lists of their parts.
-use Rattle.std.proofs.Common.{◌≡◌, ◌≤◌, ℕ, ◌+◌, zero, suc, List, [], ◌∷◌, ◌++◌, length, take, ◌<◌, get_or, refl, ap, sym, ◌∙◌, map, arith, length-append}
+use Rattle.std.proofs.Common.{◌≡◌, ◌≢◌, ◌⊎◌, inl, inr, ◌≤◌, ℕ, ◌+◌, All, zero, suc, List, [], ◌∷◌, ◌++◌, length, take, ◌<◌, get_or, refl, ap, sym, ◌∙◌, map, arith, length-append}
 use Rattle.std.specs.List.{flat_map}
 use Rattle.std.proofs.lemmas.List.{take_more, map-append, append-nil, length-take}
 use Rattle.std.proofs.lemmas.Grind.{flat_map-append}
@@ -8,7 +8,7 @@ use Rattle.fw_entry.specs.Spelling.{entry}
 use Rattle.fw_segment.specs.Groups.{group}
 use Rattle.fw_recover.proofs.Judged.{length-group}
 use Rattle.fw_group.specs.declared.inbox.Item.{Item}
-use Rattle.fw_group.specs.Items.{entry_of, entries_of, importers_of}
+use Rattle.fw_group.specs.Items.{entry_of, entries_of, importers_of, IsFree}
 use Rattle.fw_group.specs.HandView.{items_of}
 use Rattle.fw_group.specs.Limits.{IsLongest}
 
@@ -85,3 +85,15 @@ wide_longest items n d within few short wide = record {
   fits = (omega (arith, few, length-take n items), short);
   no_more = λ more fits. omega (arith, wide, group_more items n d within, fits.1);
 }
+
+-- ---- whose items they are
+
+pub free_items : (items : List Item) (importer : ℕ) → All (λ (other : ℕ). other ≢ importer) (importers_of items) → IsFree importer items
+free_items [] importer free k d within = absurd (omega (arith, within))
+free_items (x ∷ items) importer free zero d within = free 0 d.importer (omega arith)
+free_items (x ∷ items) importer free (suc k) d within =
+    free_items items importer (λ i e inside. free (suc i) e (omega (arith, inside))) k d (omega (arith, within))
+
+pub none_or_some : (items : List Item) → (items ≡ []) ⊎ (items ≡ [] → ⊥)
+none_or_some [] = inl refl
+none_or_some (x ∷ items) = inr (λ none. cc)

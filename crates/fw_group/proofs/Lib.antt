@@ -1,2 +1,4 @@
 pub mod Items
 pub mod Answering
+pub mod Desks
+pub mod Turned

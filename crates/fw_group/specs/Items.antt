@@ -17,6 +17,10 @@ entries_of items = map entry_of items
 abbrev pub importers_of : List Item → List ℕ
 importers_of items = map importer_of items
 
+-- none of them is of this importer
+abbrev pub IsFree : ℕ → List Item → Type 0
+IsFree importer items = All (λ (item : Item). item.importer ≢ importer) items
+
 -- what waits, and whether later items are refused
 pub record InboxState : Type 0 where
   pub waiting : List Item

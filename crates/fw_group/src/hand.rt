@@ -1,7 +1,7 @@
 //! The items of the group that is being committed.
-ghost use Rattle.std.specs.Prelude.{◌≡◌, ◌↔◌, ◌+◌, ◌<◌, ◌≤◌, ◌++◌, [], length, take, drop, All, OnErr, OnOk, IsTrue, vec_len, vec_capacity};
+ghost use Rattle.std.specs.Prelude.{◌≡◌, ◌≢◌, ◌↔◌, ◌+◌, ◌<◌, ◌≤◌, ◌++◌, [], length, take, drop, All, OnErr, OnOk, IsTrue, vec_len, vec_capacity};
 ghost use Rattle.std.specs.VecDeque.{deque_len};
-ghost use Rattle.fw_group.specs.Items.{entries_of, importers_of};
+ghost use Rattle.fw_group.specs.Items.{entries_of, importers_of, IsFree};
 ghost use Rattle.fw_group.specs.Answers.{accepted_in, IsOutcome, AnswerIs, AnswersAre};
 
 use crate::{Answer, Front, Item};
@@ -70,6 +70,13 @@ impl Hand {
         &self.importers
     }
 
+    /// Whether no item of the importer is in hand.
+    pub(crate) fn is_free(&self, importer: usize) -> bool
+        ensures { IsTrue result ↔ IsFree importer self.now }
+    {
+        is_none(self.importers(), importer)
+    }
+
     /// Drops what is in hand. It takes no memory.
     pub fn clear(&mut self)
         ensures { self.new ≡ [] }
@@ -120,6 +127,13 @@ impl Hand {
             Err(fault) => Answer::refusal(fault),
         }
     }
+}
+
+// Whether none of the importers is this one.
+fn is_none(importers: &[usize], importer: usize) -> bool
+    ensures { IsTrue result ↔ All (λ other. other ≢ importer) importers.now }
+{
+    importers.iter().all(|other| *other != importer)
 }
 
 // How many verdicts accept their entry.

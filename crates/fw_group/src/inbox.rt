@@ -1,9 +1,9 @@
 //! What waits for the next groups.
-ghost use Rattle.std.specs.Prelude.{◌≡◌, ◌↔◌, ◌+◌, ◌≤◌, ◌++◌, ◌∷◌, [], length, take, drop, IfOk, IfErr, OnErr, OnOk, IsErrOf, true, false, vec_len, vec_capacity};
+ghost use Rattle.std.specs.Prelude.{◌≡◌, ◌↔◌, ◌+◌, ◌≤◌, ◌++◌, ◌∷◌, [], length, take, drop, IfOk, IfErr, OnErr, OnOk, IsErrOf, IsTrue, Ok, true, false, vec_len, vec_capacity};
 ghost use Rattle.std.specs.VecDeque.{deque_len};
 ghost use Rattle.fw_entry.specs.Spelling.{entry};
 ghost use Rattle.fw_group.specs.declared.inbox.PushFault.TheVariants.{Closed};
-ghost use Rattle.fw_group.specs.Items.{entries_of, importers_of};
+ghost use Rattle.fw_group.specs.Items.{entries_of, importers_of, IsFree};
 ghost use Rattle.fw_group.specs.Limits.{IsLongest};
 
 use crate::Hand;
@@ -63,6 +63,13 @@ impl Inbox {
         }
     }
 
+    /// Whether no item of the importer waits.
+    pub(crate) fn is_free(&self, importer: usize) -> bool
+        ensures { IsTrue result ↔ IsFree importer self.now.waiting }
+    {
+        self.items.iter().all(|item| item.importer != importer)
+    }
+
     /// Puts an item last.
     ///
     /// # Errors
@@ -95,7 +102,7 @@ impl Inbox {
     /// Where the allocator refused a growth. Nothing changes.
     pub fn take(&mut self, hand: &mut Hand) -> Result<usize, AllocError>
         ensures moved { IfOk result (λ n. hand.old ≡ [] → IsLongest self.old.waiting n × (hand.new ≡ take n self.old.waiting) × (self.new ≡ record self.old { waiting = drop n self.old.waiting })) }
-        ensures in_hand { (hand.old ≡ [] → ⊥) → IfOk result (λ n. n ≡ 0) × (hand.new ≡ hand.old) × (self.new ≡ self.old) }
+        ensures in_hand { (hand.old ≡ [] → ⊥) → (result ≡ Ok 0) × (hand.new ≡ hand.old) × (self.new ≡ self.old) }
         ensures refused { OnErr result ((hand.new ≡ hand.old) × (self.new ≡ self.old)) }
     {
         if !hand.is_empty() {

@@ -2,9 +2,13 @@
 #![tactic(auto)]
 
 mod answer;
+mod event;
 mod hand;
 mod inbox;
+mod run;
 
 pub use answer::{Answer, Front, Receipt, Seen};
-pub use hand::Hand;
+pub use event::{Event, EventAnswer, House};
+pub use hand::{Hand, answer_all};
 pub use inbox::{Inbox, Item, PushFault};
+pub use run::run_events;
