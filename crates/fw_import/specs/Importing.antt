@@ -1,0 +1,31 @@
+-- What importing a part does.
+use Rattle.std.specs.Prelude.{◌≡◌, ◌⊎◌, ◌≤◌, ℕ, length, Bool, List, [], ◌∷◌, false, IsTrue, Ok}
+use Rattle.fw_charge.specs.Charge.{Charge}
+use Rattle.fw_disk.specs.Volume.{View, LeavesOnly}
+use Rattle.fw_entry.specs.Entry.{EntryValue}
+use Rattle.fw_entry.specs.Entry.CommandValue.{post}
+use Rattle.fw_recover.specs.Stands.{StandsForEither}
+use Rattle.fw_recover.specs.Store.{StoreState}
+use Rattle.fw_rows.specs.Rows.{RowsRead}
+use Rattle.fw_snapshot.specs.Verdicts.{with_more}
+use Rattle.fw_import.specs.declared.importing.Outcome.{Outcome}
+use Rattle.fw_import.specs.declared.importing.Outcome.TheVariants as outcome
+
+-- the post of an origin under a number
+abbrev pub post_of : List ℕ → ℕ → List Charge → EntryValue
+post_of origin number rows = record { origin = origin; seq = number; command = post rows }
+
+-- the rows of a text as a post
+abbrev pub IsPostOf : List ℕ → List ℕ → ℕ → List ℕ → EntryValue → Type 0
+IsPostOf currency origin number text e = (rows : List Charge) × RowsRead currency text (Ok rows) × (e ≡ post_of origin number rows)
+
+-- the warehouse has the entry more; or it is as it was
+abbrev pub Becomes : {V : Type 0} → Outcome → EntryValue → StoreState V → StoreState V → Type 0
+Becomes outcome.Added e old new = new.history ≡ with_more old.history (e ∷ [])
+Becomes outcome.Same e old new = new ≡ old
+
+-- the store is as it was; or whatever a crash leaves since then stands for the warehouse as it was, or with one entry more at most
+abbrev pub MayStop : {V : Type 0} → Bool → (V → View) → StoreState V → StoreState V → Type 0
+MayStop tells view old new =
+    (new ≡ old)
+    ⊎ ((more : List EntryValue) × (length more ≤ 1) × (IsTrue tells → old.failed ≡ false → LeavesOnly (view old.volume) (view new.volume) (StandsForEither old.history more)))

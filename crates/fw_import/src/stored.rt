@@ -1,0 +1,53 @@
+//! Posts that a warehouse has.
+use fw_charge::Row;
+use fw_snapshot::{Content, State};
+use std::alloc::{AllocError, Global};
+
+/// The rows of the post that was accepted from an origin under a number, or no rows where another entry was, or none. It reads the heads
+/// of the entries up to this one.
+pub fn stored_post(
+    alloc: Global,
+    state: &State,
+    origin: &str,
+    number: u64,
+) -> Result<Vec<Row>, AllocError> {
+    let heads = state.heads();
+    let mut before: usize = 0;
+    for place in 0..heads.len() {
+        let head = heads.get(place);
+        let rows = match head.content() {
+            Content::Post { rows } => *rows as usize,
+            Content::Commit(_) | Content::SetPolicy(_) => 0,
+        };
+        if head.seq() == number && head.origin() == origin {
+            return rows_between(alloc, state, before, before.saturating_add(rows));
+        }
+        before = before.saturating_add(rows);
+    }
+    Ok(Vec::new(alloc))
+}
+
+// The rows of a warehouse from a place up to another, counted from 0.
+fn rows_between(
+    alloc: Global,
+    state: &State,
+    from: usize,
+    to: usize,
+) -> Result<Vec<Row>, AllocError> {
+    let segments = state.segments();
+    let mut rows = Vec::new(alloc);
+    let mut start: usize = 0;
+    for place in 0..segments.len() {
+        let columns = segments.get(place);
+        let end = start.saturating_add(columns.len());
+        if start < to && from < end {
+            let first = from.saturating_sub(start);
+            let last = to.saturating_sub(start).min(columns.len());
+            for row in first..last {
+                rows.push(columns.row(row)?)?;
+            }
+        }
+        start = end;
+    }
+    Ok(rows)
+}
