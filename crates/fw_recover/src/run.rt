@@ -1,5 +1,5 @@
 //! Entries that are committed one by one, and what a crash leaves of them.
-ghost use Rattle.std.specs.Prelude.{◌≡◌, ◌⊎◌, ◌↔◌, ◌+◌, ◌<◌, ◌≤◌, ℕ, true, false, length, take, drop, IfOk, IfErr, IsTrue};
+ghost use Rattle.std.specs.Prelude.{◌≡◌, ◌⊎◌, ◌↔◌, ◌+◌, ◌<◌, ◌≤◌, ℕ, true, false, length, take, drop, None, IfOk, IfErr, IfSome, IsTrue};
 ghost use Rattle.fw_disk.specs.Volume.{Image, LeavesOnly, Rose};
 ghost use Rattle.fw_snapshot.specs.Verdicts.{verdicts_on, accepted_of};
 ghost use Rattle.fw_recover.specs.declared.fault.StoreFault.TheVariants.{Device, Failed, TooLarge, NoMemory};
@@ -67,37 +67,50 @@ impl<V: Volume> Store<V> {
         Ok(verdicts)
     }
 
-    // The verdicts of `run`, whether it has come to a fault or not.
-    fn run_until_a_fault(&mut self, alloc: Global, entries: &[Entry]) -> Vec<Verdict>
+    // The verdicts of `run`, and the fault that it came to, if any.
+    fn run_until_a_fault(
+        &mut self,
+        alloc: Global,
+        entries: &[Entry],
+    ) -> (Vec<Verdict>, Option<StoreFault>)
         requires { self.old.failed ≡ false }
 
-        ensures answered { (length result.items ≤ length entries.now)
-            × (result.items ≡ verdicts_on self.old.history.entries (take (length result.items) entries.now)) }
-        ensures each { IsTrue V.tells → (c : Image) → (V.view self.new.volume).may_leave c → HasAnswered self.old.history entries.now (length result.items) c }
+        ensures answered { (length result.0.items ≤ length entries.now)
+            × (result.0.items ≡ verdicts_on self.old.history.entries (take (length result.0.items) entries.now)) }
+        ensures all { result.1 ≡ None → length result.0.items ≡ length entries.now }
+        ensures which { IfSome result.1 IsCommitFault }
+        ensures each { IsTrue V.tells → (c : Image) → (V.view self.new.volume).may_leave c → HasAnswered self.old.history entries.now (length result.0.items) c }
     {
         match self.run(alloc, entries) {
-            Ok(all) => all,
-            Err((some, _)) => some,
+            Ok(all) => (all, None),
+            Err((some, fault)) => (some, Some(fault)),
         }
     }
 }
 
-/// Commits entries in turn until one fails, is stopped as by a crash, and opened again. Whenever the stop came, the
-/// warehouse has the entries of a prefix in which each answered one is, and one more at most. It is never missing or
-/// corrupt: it opens, unless a read or a sync fails or memory runs out.
+/// Commits entries in turn until one fails, is stopped as by a crash, and opened again. It answers the verdicts on the entries before the one
+/// that failed, which are all where none failed, then the fault of that one, and then the warehouse. Whenever the stop came, the warehouse has
+/// the entries of a prefix in which each answered one is, and one more at most. It is never missing or corrupt: it opens, unless a read or a
+/// sync fails or memory runs out.
 pub fn run_and_recover<V: Stoppable>(
     alloc: Global,
     store: Store<V>,
     entries: &[Entry],
-) -> (Vec<Verdict>, Result<Store<V>, (V, StoreFault)>)
+) -> (
+    Vec<Verdict>,
+    Option<StoreFault>,
+    Result<Store<V>, (V, StoreFault)>,
+)
     requires { store.failed ≡ false }
 
     ensures answered { (length result.0.items ≤ length entries.now) × (result.0.items ≡ verdicts_on store.history.entries (take (length result.0.items) entries.now)) }
-    ensures recovered { IfOk result.1 (λ s. IsTrue V.tells → (n : ℕ) × (length result.0.items ≤ n) × (n ≤ length result.0.items + 1) × (s.history ≡ with_first store.history n entries.now)) }
-    ensures else_device_or_memory { IfErr result.1 (λ e. IsTrue V.tells → (e.1 ≡ Device) ⊎ (e.1 ≡ NoMemory)) }
+    ensures all { result.1 ≡ None → length result.0.items ≡ length entries.now }
+    ensures which { IfSome result.1 IsCommitFault }
+    ensures recovered { IfOk result.2 (λ s. IsTrue V.tells → (n : ℕ) × (length result.0.items ≤ n) × (n ≤ length result.0.items + 1) × (s.history ≡ with_first store.history n entries.now)) }
+    ensures else_device_or_memory { IfErr result.2 (λ e. IsTrue V.tells → (e.1 ≡ Device) ⊎ (e.1 ≡ NoMemory)) }
 {
     let mut store = store;
-    let verdicts = store.run_until_a_fault(alloc, entries);
+    let (verdicts, fault) = store.run_until_a_fault(alloc, entries);
     let volume = store.close().stop();
-    (verdicts, Store::open(alloc, volume))
+    (verdicts, fault, Store::open(alloc, volume))
 }

@@ -23,3 +23,6 @@ returns-in-Ok-clause-each g c told image left =
     let vs = c.in-Ok.all.items in
     let long : length vs ≡ length es = ap (λ (l : List Verdict). length l) c.in-Ok.ensures.all.0 ∙ as_many h.entries es in
     subst (λ (n : ℕ). HasAnswered h es n image) (sym long) (answered_all h c.run.new.self.history es (length es) image c.in-Ok.ensures.all.1 (c.in-Ok.ensures.each told image left))
+
+pub returns-in-Ok-clause-all : goal.returns-in-Ok-clause-all
+returns-in-Ok-clause-all g c none = ap (λ (verdicts : List Verdict). length verdicts) c.in-Ok.ensures.all.0 ∙ as_many c.args.self.now.history.entries c.args.entries.now
