@@ -1,10 +1,13 @@
 //! The command line, and what its help says.
-use crate::commands::{report, run};
+use crate::commands::{checkpoint, explain, lines, report, run, status, verify};
 use clap::{Arg, Command};
 use std::alloc::{AllocError, Global};
 
 /// The id of the option that names the folder of the warehouse.
 pub(crate) const DIR: &str = "dir";
+
+/// The version, which `--version` prints: the first number changes with what the program reads or writes.
+const VERSION: &str = "0.1.0";
 
 const EXAMPLE: &str = "Example:
   printf '%s\\n' \\
@@ -30,13 +33,42 @@ pub(crate) fn dir_option<'a>(alloc: Global) -> Arg<'a> {
     Arg::new(alloc, DIR).long("dir").value_name("DIR")
 }
 
+/// A command that takes a folder alone.
+pub(crate) fn folder_command<'a>(
+    alloc: Global,
+    name: &'a str,
+    about: &'a str,
+    example: &'a str,
+) -> Result<Command<'a>, AllocError> {
+    let folder = dir_option(alloc)
+        .required(true)
+        .help("The folder of the warehouse");
+    Command::new(alloc, name)
+        .about(about)
+        .after_help(example)
+        .arg(folder)
+}
+
 /// The command line of the program.
 pub(crate) fn command_line<'a>(alloc: Global) -> Result<Command<'a>, AllocError> {
     Command::new(alloc, "focusd")
+        .version(VERSION)
         .about("Keeps a warehouse of cloud charges in the columns of FOCUS 1.0")
         .after_help(EXAMPLE)
         .subcommand_required(true)
         .arg_required_else_help(true)
-        .subcommand(run::command(alloc)?)?
-        .subcommand(report::command(alloc)?)
+        .subcommands(commands(alloc)?)
+}
+
+// The commands, in the order in which the help has them.
+fn commands<'a>(alloc: Global) -> Result<Vec<Command<'a>>, AllocError> {
+    let mut commands = Vec::new(alloc);
+    commands.push(run::command(alloc)?)?;
+    commands.push(report::command(alloc)?)?;
+    commands.push(lines::command(alloc)?)?;
+    commands.push(status::command(alloc)?)?;
+    commands.push(verify::command(alloc)?)?;
+    commands.push(checkpoint::command(alloc)?)?;
+    commands.push(explain::command(alloc)?)?;
+    Ok(commands)
 }

@@ -1,10 +1,11 @@
-//! Why the program ended with status 1.
+//! Why the program ended with a status that isn't 0.
 use fw_disk::FolderFault;
+use fw_query::QueryFault;
 use fw_recover::StoreFault;
 use fw_serve::ServeFault;
 use std::alloc::AllocError;
 
-/// Why the program ended with status 1. The text of each is its code and its name, or `NoMemory`, and fits on one line.
+/// Why the program ended with a status that isn't 0. The text of each is its code and its name, or `NoMemory`, and fits on one line.
 #[derive(Clone, Copy, Debug, Drop, thiserror::Error)]
 pub enum Fault {
     /// The folder could not be opened.
@@ -16,6 +17,12 @@ pub enum Fault {
     /// The script was not served to its end.
     #[error("{0}")]
     Serve(ServeFault),
+    /// The range of a question has no hour, or more than 26,304.
+    #[error("Q1 Range: --from and --to must be at least one hour and at most 26,304 hours apart; that of --to is not in the range")]
+    Range,
+    /// The costs of a report are too large.
+    #[error("Q2 TotalTooLarge")]
+    TotalTooLarge,
     /// The allocator refused a growth.
     #[error("NoMemory")]
     NoMemory,
@@ -45,5 +52,25 @@ impl From<StoreFault> for Fault {
 impl From<ServeFault> for Fault {
     fn from(fault: ServeFault) -> Fault {
         Fault::Serve(fault)
+    }
+}
+
+impl From<QueryFault> for Fault {
+    fn from(fault: QueryFault) -> Fault {
+        match fault {
+            QueryFault::Range => Fault::Range,
+            QueryFault::TotalTooLarge { group: _ } => Fault::TotalTooLarge,
+            QueryFault::NoMemory => Fault::NoMemory,
+        }
+    }
+}
+
+impl Fault {
+    /// The exit status: 2 where the command line is wrong, else 1.
+    pub(crate) fn status(&self) -> u8 {
+        match self {
+            Fault::Range => 2,
+            _ => 1,
+        }
     }
 }

@@ -6,22 +6,24 @@
 #![tactic(auto)]
 
 mod advice;
+mod ask;
 mod command_line;
 mod commands;
 mod fault;
 mod output;
+mod range;
 
 use clap::ArgMatches;
 use clap::error::ErrorKind;
 use command_line::command_line;
-use commands::{report, run};
+use commands::{checkpoint, explain, lines, report, run, status, verify};
 use fault::Fault;
 use fw_serve::ServeFault;
 use std::process::ExitCode;
 use std::{env, io};
 
 /// Where the command line is wrong.
-const WRONG_USE: u8 = 2;
+pub(crate) const WRONG_USE: u8 = 2;
 
 fn main(rt: HostRuntime) -> ExitCode {
     match start(&rt) {
@@ -33,7 +35,7 @@ fn main(rt: HostRuntime) -> ExitCode {
 /// Prints the line of a fault. A closed standard error leaves nobody to tell.
 pub(crate) fn failed(rt: &HostRuntime, fault: &Fault) -> ExitCode {
     let _ = eprintln!(rt; "focusd: {fault}");
-    ExitCode::FAILURE
+    ExitCode::from(fault.status())
 }
 
 // Reads the command line, and runs its command.
@@ -57,6 +59,11 @@ fn run_command(rt: &HostRuntime, matches: &ArgMatches<'_>) -> Result<ExitCode, F
     match matches.subcommand() {
         Some(("run", options)) => run::run(rt, options),
         Some(("report", options)) => report::run(rt, options),
+        Some(("lines", options)) => lines::run(rt, options),
+        Some(("status", options)) => Ok(status::run(rt, options)),
+        Some(("verify", options)) => Ok(verify::run(rt, options)),
+        Some(("checkpoint", options)) => Ok(checkpoint::run(rt, options)),
+        Some(("explain", options)) => explain::run(rt, options),
         _ => Ok(wrong_use(rt, "no command")),
     }
 }

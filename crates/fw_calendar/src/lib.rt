@@ -3,6 +3,8 @@
 //! Hours are counted from 1970-01-01T00:00Z, and all dates are those of UTC.
 #![tactic(auto)]
 
+mod texts;
 mod times;
 
+pub use texts::hour_text;
 pub use times::read_time;

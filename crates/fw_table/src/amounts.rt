@@ -25,6 +25,14 @@ pub fn cents_text(alloc: Global, nanos: i128) -> Result<String, AllocError>
     joined(alloc, minus, whole.as_str(), (cents % 100) as u32)
 }
 
+/// The text of a count as people read it, with a comma before each three digits, as `1,234,567`.
+pub fn count_text(alloc: Global, count: u64) -> Result<String, AllocError>
+    ensures { IfOk result (λ s. string_bytes s ≡ grouped (decimal count)) }
+{
+    let digits = format!(in alloc; "{count}")?;
+    grouped(alloc, digits.as_str())
+}
+
 // The cents nearest to a count of nanos, of two that are as near the even one.
 fn nearest_cents(magnitude: u128) -> u128
     ensures { IsNearest result magnitude cent }

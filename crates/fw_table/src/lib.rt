@@ -7,6 +7,6 @@ mod amounts;
 mod layout;
 mod shares;
 
-pub use amounts::cents_text;
+pub use amounts::{cents_text, count_text};
 pub use layout::{Align, Line, table_text};
 pub use shares::share_text;

@@ -1,11 +1,15 @@
-//! What the commands for people print, as text: a report as a table.
+//! What the commands for people print, as text.
 //!
-//! Amounts come from `fw_query` and are exact; what is rounded is only what a table shows.
+//! [`answer`] answers a [`Question`] to an open warehouse. Amounts come from `fw_query` and are exact; what is rounded is only what a table
+//! shows.
 #![tactic(auto)]
 
+mod questions;
 mod report;
+mod status;
 mod sums;
 mod tables;
 
+pub use questions::{Question, answer};
 pub use report::{Format, report_text};
 pub use sums::{Sums, sums_of};

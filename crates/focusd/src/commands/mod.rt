@@ -1,3 +1,8 @@
-//! The commands, a module each: its name, its part of the command line, and its run.
+//! The commands, a module each: its part of the command line, and its run.
+pub(crate) mod checkpoint;
+pub(crate) mod explain;
+pub(crate) mod lines;
 pub(crate) mod report;
 pub(crate) mod run;
+pub(crate) mod status;
+pub(crate) mod verify;

@@ -12,9 +12,6 @@ use std::alloc::{AllocError, Global};
 use std::io::{BufWriter, LineWriter, Write};
 use std::process::ExitCode;
 
-/// The command's name.
-pub(crate) const NAME: &str = "run";
-
 /// The id of the option that names the currency.
 const CURRENCY: &str = "currency";
 
@@ -70,7 +67,7 @@ pub(crate) fn command<'a>(alloc: Global) -> Result<Command<'a>, AllocError> {
         .long("create")
         .action(ArgAction::SetTrue)
         .help("Creates the warehouse in the folder; without --dir it changes nothing");
-    Command::new(alloc, NAME)
+    Command::new(alloc, "run")
         .about("Reads a script from standard input and prints the answers")
         .after_help(SCRIPT)
         .arg(currency)?

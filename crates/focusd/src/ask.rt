@@ -1,0 +1,26 @@
+//! Questions to the warehouse of a folder.
+use crate::advice::advised;
+use crate::command_line::DIR;
+use crate::fault::Fault;
+use crate::output::print_answer;
+use clap::ArgMatches;
+use fw_disk::FileVolume;
+use fw_recover::Store;
+use fw_views::{Question, answer};
+use std::process::ExitCode;
+
+/// Opens the warehouse of the folder that the options name, and prints its answer to a question.
+pub(crate) fn ask(rt: &HostRuntime, options: &ArgMatches<'_>, question: &Question<'_>) -> ExitCode {
+    let folder = options.get_str(DIR).unwrap_or("");
+    let asked = answer_in(rt, folder, question).and_then(|text| print_answer(rt, text.as_slice()));
+    advised(rt, folder, asked)
+}
+
+// The answer of the warehouse of a folder.
+fn answer_in(rt: &HostRuntime, folder: &str, question: &Question<'_>) -> Result<Vec<u8>, Fault> {
+    let volume = FileVolume::open(rt, folder)?;
+    match Store::open(rt.alloc(), volume) {
+        Ok(store) => Ok(answer(rt.alloc(), &store, question)?),
+        Err((_, fault)) => Err(Fault::Store(fault)),
+    }
+}

@@ -1,0 +1,46 @@
+//! `focusd lines`: each line behind the costs of a range of time.
+use crate::ask::ask;
+use crate::command_line::dir_option;
+use crate::fault::Fault;
+use crate::range::{FROM, TO, read_range, time_option, wrong_time};
+use clap::{ArgMatches, Command};
+use fw_views::Question;
+use std::alloc::{AllocError, Global};
+use std::process::ExitCode;
+
+const EXAMPLE: &str =
+    "T is a month (2024-01), a date (2024-01-31) or a time on a whole hour (2024-01-31T14:00Z), in UTC, and
+stands for the hour at which it begins. The range has the hours from --from up to, not including, --to, at
+most 26,304 of them.
+
+The answer is a CSV: a record for each purchase, each row as it was given, each part of a row that a commitment
+covered (Used) and did not cover, and each part of a commitment that nothing used (Unused). Hour is counted
+from 1970; costs are exact, to the nano.
+
+Example: what one day cost, line by line
+  focusd lines --dir costs --from 2024-01-31 --to 2024-02-01 > lines.csv";
+
+/// The command's part of the command line.
+pub(crate) fn command<'a>(alloc: Global) -> Result<Command<'a>, AllocError> {
+    let folder = dir_option(alloc)
+        .required(true)
+        .help("The folder of the warehouse");
+    Command::new(alloc, "lines")
+        .about("Lists what a range of time cost, line by line, as CSV")
+        .after_help(EXAMPLE)
+        .arg(folder)?
+        .arg(time_option(alloc, FROM, "When the range begins"))?
+        .arg(time_option(
+            alloc,
+            TO,
+            "When the range ends; the hour that begins then is not in it",
+        ))
+}
+
+/// Prints the lines of the range that the options name.
+pub(crate) fn run(rt: &HostRuntime, options: &ArgMatches<'_>) -> Result<ExitCode, Fault> {
+    match read_range(rt.alloc(), options)? {
+        Ok((from, to)) => Ok(ask(rt, options, &Question::Lines { from, to })),
+        Err(option) => Ok(wrong_time(rt, options, option)),
+    }
+}

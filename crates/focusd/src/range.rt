@@ -1,0 +1,43 @@
+//! The range of time of a question: the options `--from` and `--to`.
+use clap::{Arg, ArgMatches};
+use fw_calendar::read_time;
+use std::alloc::{AllocError, Global};
+use std::process::ExitCode;
+
+/// The id of the option that says when the range begins.
+pub(crate) const FROM: &str = "from";
+
+/// The id of the option that says when the range ends.
+pub(crate) const TO: &str = "to";
+
+/// The option that takes a time.
+pub(crate) fn time_option<'a>(alloc: Global, id: &'a str, help: &'a str) -> Arg<'a> {
+    Arg::new(alloc, id)
+        .long(id)
+        .value_name("T")
+        .required(true)
+        .help(help)
+}
+
+/// The first hour of the range and the hour after the last, counted from 1970, or the id of the option that is no time.
+pub(crate) fn read_range(
+    alloc: Global,
+    options: &ArgMatches<'_>,
+) -> Result<Result<(u64, u64), &'static str>, AllocError> {
+    let from = read_time(alloc, options.get_str(FROM).unwrap_or(""))?;
+    let to = read_time(alloc, options.get_str(TO).unwrap_or(""))?;
+    match (from, to) {
+        (Some(from), Some(to)) => Ok(Ok((from, to))),
+        (None, _) => Ok(Err(FROM)),
+        (_, None) => Ok(Err(TO)),
+    }
+}
+
+/// Says that the value of an option is no time.
+pub(crate) fn wrong_time(rt: &HostRuntime, options: &ArgMatches<'_>, id: &str) -> ExitCode {
+    let text = options.get_str(id).unwrap_or("");
+    let _ = eprintln!(rt;
+        "focusd: --{id}: {text:?} is not a time: write a month (2024-01), a date (2024-01-31) or a whole hour (2024-01-31T14:00Z)"
+    );
+    ExitCode::from(crate::WRONG_USE)
+}

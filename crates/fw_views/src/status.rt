@@ -1,0 +1,153 @@
+//! What a warehouse holds.
+use fw_calendar::hour_text;
+use fw_charge::hour_of;
+use fw_columns::Columns;
+use fw_disk::Volume;
+use fw_persistent::Sequence;
+use fw_recover::Store;
+use fw_snapshot::{Head, State};
+use fw_table::{Align, Line, count_text, table_text};
+use indexmap::IndexMap;
+use std::alloc::{AllocError, Global};
+
+/// The columns of a status: a name, and what it is.
+const ALIGNS: [Align; 2] = [Align::Left, Align::Left];
+
+/// What a warehouse holds, as lines of a name and a value: its currency, its entries by origin, its rows and the hours that they are of,
+/// its commitments, its policy, how long its body and its log are, and whether a checkpoint pays.
+pub(crate) fn status_text<V: Volume>(
+    alloc: Global,
+    store: &Store<V>,
+) -> Result<String, AllocError> {
+    let mut lines = Vec::new(alloc);
+    push_contents(alloc, &mut lines, store.state().state())?;
+    push_sizes(alloc, &mut lines, store.body_len(), store.log_len())?;
+    table_text(alloc, &ALIGNS, lines.as_slice())
+}
+
+/// The status of a warehouse that was opened, which has read and judged all of it: its files are sound.
+pub(crate) fn sound_text<V: Volume>(alloc: Global, store: &Store<V>) -> Result<String, AllocError> {
+    let status = status_text(alloc, store)?;
+    format!(in alloc; "sound\n{status}")
+}
+
+// Adds the lines of what was accepted.
+fn push_contents(alloc: Global, lines: &mut Vec<Line>, state: &State) -> Result<(), AllocError> {
+    let currency = state.currency();
+    let code = str::from_utf8(currency.code()).unwrap_or("");
+    push(alloc, lines, "Currency", String::from_str(alloc, code)?)?;
+    push_count(alloc, lines, "Entries", state.entries() as u64)?;
+    push_origins(alloc, lines, state.heads())?;
+    push_count(alloc, lines, "Rows", state.rows() as u64)?;
+    push_hours(alloc, lines, state.segments())?;
+    push_count(alloc, lines, "Commitments", state.commitments() as u64)?;
+    push(alloc, lines, "Policy", policy_text(alloc, state)?)
+}
+
+// Adds a line of a name and a value.
+fn push(alloc: Global, lines: &mut Vec<Line>, name: &str, value: String) -> Result<(), AllocError> {
+    let mut cells = Vec::new(alloc);
+    cells.push(String::from_str(alloc, name)?)?;
+    cells.push(value)?;
+    lines.push(Line::Cells(cells))?;
+    Ok(())
+}
+
+// Adds a line of a name and a number.
+fn push_count(
+    alloc: Global,
+    lines: &mut Vec<Line>,
+    name: &str,
+    count: u64,
+) -> Result<(), AllocError> {
+    push(alloc, lines, name, count_text(alloc, count)?)
+}
+
+// Adds a line for each origin, in the order in which they came first, with the number of its entries.
+fn push_origins(
+    alloc: Global,
+    lines: &mut Vec<Line>,
+    heads: &Sequence<Head>,
+) -> Result<(), AllocError> {
+    let mut counts: IndexMap<&str, u64> = IndexMap::new(alloc);
+    for place in 0..heads.len() {
+        let head = heads.get(place);
+        counts.insert(head.origin(), head.seq())?;
+    }
+    for (origin, count) in counts.iter() {
+        let name = format!(in alloc; "  of {origin}")?;
+        push_count(alloc, lines, name.as_str(), *count)?;
+    }
+    Ok(())
+}
+
+// Adds the line of the hours that rows are of, where there are rows.
+fn push_hours(
+    alloc: Global,
+    lines: &mut Vec<Line>,
+    segments: &Sequence<Columns>,
+) -> Result<(), AllocError> {
+    let Some((first, last)) = seconds_of(segments) else {
+        return Ok(());
+    };
+    let first = hour_text(alloc, hour_of(first))?;
+    let last = hour_text(alloc, hour_of(last))?;
+    push(
+        alloc,
+        lines,
+        "Hours",
+        format!(in alloc; "{first} to {last}")?,
+    )
+}
+
+// The first and the last second at which a row's period begins, where there are rows.
+fn seconds_of(segments: &Sequence<Columns>) -> Option<(u64, u64)> {
+    let mut found = None;
+    for number in 0..segments.len() {
+        for start in segments.get(number).starts() {
+            let second = start.unsigned_abs();
+            let (first, last) = found.unwrap_or((second, second));
+            found = Some((second.min(first), second.max(last)));
+        }
+    }
+    found
+}
+
+// The key of the policy and how many rules it has.
+fn policy_text(alloc: Global, state: &State) -> Result<String, AllocError> {
+    match state.policy() {
+        Some(policy) => {
+            let key = policy.key();
+            let rules = policy.rules().len();
+            format!(in alloc; "by {key}, rules: {rules}")
+        }
+        None => String::from_str(alloc, "none"),
+    }
+}
+
+// Adds the lines of the files.
+fn push_sizes(alloc: Global, lines: &mut Vec<Line>, body: u64, log: u64) -> Result<(), AllocError> {
+    push(alloc, lines, "Body", bytes_text(alloc, body)?)?;
+    push(alloc, lines, "Log", bytes_text(alloc, log)?)?;
+    push(
+        alloc,
+        lines,
+        "Checkpoint",
+        String::from_str(alloc, checkpoint_word(body, log))?,
+    )
+}
+
+// A number of bytes.
+fn bytes_text(alloc: Global, bytes: u64) -> Result<String, AllocError> {
+    let count = count_text(alloc, bytes)?;
+    format!(in alloc; "{count} bytes")
+}
+
+// Whether a checkpoint pays: it costs as much as writing the body, and saves reading the log.
+fn checkpoint_word(body: u64, log: u64) -> &'static str {
+    if log >= body {
+        "pays: the log is as long as the body or longer"
+    } else {
+        "not yet: the log is shorter than the body"
+    }
+}

@@ -1,0 +1,186 @@
+#!/usr/bin/env python3
+"""Runs the commands for people of a built program, and compares what they print with what another program computed.
+
+    examples/test_commands.py PROGRAM
+
+The warehouse is made from a script by `focusd run --dir`. What reports and lines must be comes from expected.py; a table is
+made of that here, by Python's decimal.
+"""
+import decimal
+import pathlib
+import subprocess
+import sys
+import tempfile
+import unittest
+
+import expected
+
+HERE = pathlib.Path(__file__).resolve().parent
+PROGRAM = ""
+CENT = decimal.Decimal("0.01")
+MONTH = ("--from", "2024-01", "--to", "2024-02")
+
+
+def focusd(*words, given=b""):
+    """The status, standard output and standard error of a run."""
+    ran = subprocess.run([PROGRAM, *words], input=given, capture_output=True)
+    return ran.returncode, ran.stdout.decode(), ran.stderr.decode()
+
+
+def warehouse_of(script):
+    """The warehouse that expected.py keeps of a script of entries."""
+    kept = expected.Warehouse()
+    how = {"post": kept.post, "commit": kept.commit, "policy": kept.set_policy}
+    lines = iter(script.splitlines(keepends=True))
+    for line in lines:
+        words = line.decode().split()
+        if words and words[0] in how:
+            content = b"".join(next(lines) for _ in range(int(words[3])))
+            kept.enter(words[1], words[2], how[words[0]], content)
+    return kept
+
+
+def cents(nanos):
+    """An amount as a table shows it."""
+    rounded = (decimal.Decimal(nanos) / 10**9).quantize(CENT, rounding=decimal.ROUND_HALF_EVEN)
+    return f"{rounded + 0:,}"
+
+
+def share(part, whole):
+    """A share as a table shows it."""
+    if part < 0 or whole <= 0:
+        return ""
+    tenths = (2000 * part + whole) // (2 * whole)
+    return f"{tenths // 10}.{tenths % 10}%"
+
+
+class Commands(unittest.TestCase):
+    """Each command over the shipped scripts."""
+
+    @classmethod
+    def setUpClass(cls):
+        cls.made = tempfile.TemporaryDirectory()
+        cls.folder = cls.made.name
+        cls.script = (HERE / "commitments.script").read_bytes()
+        status, _, said = focusd("run", "--dir", cls.folder, "--create", given=cls.script)
+        assert status == 0, said
+        cls.kept = warehouse_of(cls.script)
+
+    @classmethod
+    def tearDownClass(cls):
+        cls.made.cleanup()
+
+    def asked(self, *words):
+        """What a command over the warehouse prints."""
+        status, printed, said = focusd(words[0], "--dir", self.folder, *words[1:])
+        self.assertEqual((status, said), (0, ""), words)
+        return printed
+
+    def report(self, key, low, high):
+        """The report of expected.py, as a CSV and as rows of group and nanos."""
+        text = self.kept.report(key, low, high)
+        text = text.split("\n", 1)[1]
+        rows = list(expected.csv.reader(text.splitlines()))[1:]
+        return text, [(row[0], *(expected.nanos(it) for it in row[1:])) for row in rows]
+
+    def test_report_csv(self):
+        for key in ("team", "env", "no such tag"):
+            text, _ = self.report(key, "2024-01-01T00:00Z", "2024-02-01T00:00Z")
+            self.assertEqual(self.asked("report", "--tag", key, *MONTH, "--format", "csv"), text)
+
+    def test_report_table(self):
+        _, rows = self.report("team", "2024-01-01T00:00Z", "2024-02-01T00:00Z")
+        totals = [sum(row[at] for row in rows) for at in (1, 2, 3)]
+        cells = [["Group", "BilledCost", "EffectiveCost", "ChargedCost", "Share"]]
+        for group, *costs in [*rows, ("Total", *totals)]:
+            cells.append([group or "(untagged)", *map(cents, costs), share(costs[2], totals[2])])
+        widths = [max(len(row[at]) for row in cells) for at in range(5)]
+        rule = "  ".join("-" * width for width in widths)
+        lines = ["  ".join(it.ljust(w) if at == 0 else it.rjust(w) for at, (it, w) in enumerate(zip(row, widths))) for row in cells]
+        lines = [lines[0], rule, *lines[1:-1], rule, lines[-1]]
+        self.assertEqual(self.asked("report", "--tag", "team", *MONTH).splitlines(), lines)
+
+    def test_times(self):
+        for low, high, first, end in (
+            ("2024-01", "2024-02", "2024-01-01T00:00Z", "2024-02-01T00:00Z"),
+            ("2024-01-01", "2024-01-02", "2024-01-01T00:00Z", "2024-01-02T00:00Z"),
+            ("2024-01-01T05:00Z", "2024-01-01T06:00Z", "2024-01-01T05:00Z", "2024-01-01T06:00Z"),
+        ):
+            text, _ = self.report("team", first, end)
+            self.assertEqual(self.asked("report", "--tag", "team", "--from", low, "--to", high, "--format", "csv"), text)
+
+    def test_lines(self):
+        text = self.kept.lines("2024-01-01T00:00Z", "2024-01-02T00:00Z")
+        text = text.split("\n", 1)[1]
+        self.assertEqual(self.asked("lines", "--from", "2024-01-01", "--to", "2024-01-02"), text)
+
+    def test_status_verify_and_checkpoint(self):
+        status = self.asked("status")
+        entries, rows, commitments, _ = self.kept.state().split()[1:]
+        for name, value in (("Currency", "USD"), ("Entries", f"{int(entries):,}"), ("Rows", f"{int(rows):,}"), ("Commitments", commitments)):
+            self.assertIn([name, value], [line.split() for line in status.splitlines()])
+        self.assertEqual(self.asked("verify"), "sound\n" + status)
+        before = self.asked("lines", "--from", "2024-01", "--to", "2024-02")
+        self.assertEqual(self.asked("checkpoint"), "checkpointed\n")
+        self.assertIn(["Log", "0", "bytes"], [line.split() for line in self.asked("status").splitlines()])
+        self.assertEqual(self.asked("lines", "--from", "2024-01", "--to", "2024-02"), before)
+
+    def test_damage_is_found_and_nothing_changes(self):
+        with tempfile.TemporaryDirectory() as folder:
+            focusd("run", "--dir", folder, "--create", given=self.script)
+            file = pathlib.Path(folder) / "left"
+            file.write_bytes(file.read_bytes()[:1] + b"X" + file.read_bytes()[2:])
+            damaged = file.read_bytes()
+            status, printed, said = focusd("verify", "--dir", folder)
+            self.assertEqual((status, printed), (1, ""))
+            self.assertTrue(said.startswith("focusd: S2 Corrupt\n"), said)
+            self.assertEqual(file.read_bytes(), damaged)
+
+    def test_explain(self):
+        status, printed, _ = focusd("explain", "V5")
+        self.assertEqual((status, printed.split(":")[0]), (0, "V5 Cost"))
+        status, printed, said = focusd("explain", "V99")
+        self.assertEqual((status, printed), (2, ""))
+        self.assertIn('"V99"', said)
+
+    def test_each_code_of_the_formats_is_explained(self):
+        text = (HERE.parent / "docs" / "FORMATS.md").read_text()
+        for code in sorted(set(expected.re.findall(r"(?:refused|store|focusd:) ([A-Z]\d+ [A-Z]\w+)", text))):
+            status, printed, _ = focusd("explain", code.split()[0])
+            self.assertEqual((status, printed.split(":")[0]), (0, code))
+
+    def test_what_is_wrong(self):
+        for words, wanted, named in (
+            (("report", "--dir", self.folder, "--tag", "t", "--from", "2024-13", "--to", "2024-02"), 2, "--from"),
+            (("report", "--dir", self.folder, "--tag", "t", "--from", "2024-01", "--to", "soon"), 2, "--to"),
+            (("report", "--dir", self.folder, "--tag", "t", "--from", "2024-02", "--to", "2024-01"), 2, "--from"),
+            (("report", "--dir", self.folder, "--from", "2024-01", "--to", "2024-02"), 2, "--tag"),
+            (("report", "--dir", self.folder + "/none", "--tag", "t", *MONTH), 1, "K1 Io"),
+            (("status",), 2, "--dir"),
+            (("lines", "--dir", self.folder, "--from", "2000-01", "--to", "2024-01"), 2, "26,304"),
+        ):
+            status, printed, said = focusd(*words)
+            self.assertEqual((status, printed), (wanted, ""), words)
+            self.assertIn(named, said, words)
+
+    def test_a_reader_that_stops_early(self):
+        command = [PROGRAM, "lines", "--dir", self.folder, "--from", "2024-01", "--to", "2024-02"]
+        with subprocess.Popen(command, stdout=subprocess.PIPE, stderr=subprocess.PIPE) as run:
+            run.stdout.read(10)
+            run.stdout.close()
+            self.assertEqual((run.stderr.read(), run.wait()), (b"", 0))
+
+    def test_help_and_version(self):
+        for words in ((), ("run",), ("report",), ("lines",), ("status",), ("verify",), ("checkpoint",), ("explain",)):
+            status, printed, said = focusd(*words, "--help")
+            self.assertEqual((status, said), (0, ""), words)
+            self.assertIn("Example", printed, words)
+        self.assertEqual(focusd("--version")[0], 0)
+
+
+if __name__ == "__main__":
+    if len(sys.argv) != 2 or sys.argv[1].startswith("-"):
+        print(__doc__)
+        sys.exit(2)
+    PROGRAM = str(pathlib.Path(sys.argv.pop(1)).resolve())
+    unittest.main()
