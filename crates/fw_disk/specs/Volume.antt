@@ -28,9 +28,8 @@ abbrev pub other : Side → Side
 other Left = Right
 other Right = Left
 
--- What both files hold at one moment. The numbers stand for bytes; that they are below 256 isn't said here: what holds of each
--- image with any numbers holds of each with bytes. A claim that rests on bytes says so itself, as that each image of bytes has a
--- meaning as a warehouse.
+-- What both files hold at one moment. The numbers stand for bytes; that they are below 256 isn't said, as nothing rests
+-- on it: what holds of each image with any numbers holds of each with bytes.
 abbrev pub Image : Type 0
 Image = Side → List ℕ
 
