@@ -5,7 +5,7 @@ use Rattle.std.proofs.lemmas.Bool.Decides.{nat_tests}
 use Rattle.std.proofs.lemmas.List.{drop_more, get_or-map, get_or-replicate, get_or_default, get_or_past, length-map}
 use Rattle.std.proofs.lemmas.List.Elements.{filter-append, filter_agree, filter_more}
 use Rattle.std.proofs.lemmas.List.FromFn.{get_or-map-range_with_len, length-map-range_with_len, map-range_with_len_more}
-use Rattle.std.specs.List.{range_with_len}
+use Rattle.std.specs.List.{list_any, range_with_len}
 use Rattle.std.specs.List.Sorted.{IsPermutation}
 use Rattle.fw_charge.specs.Charge.{Charge, hour_of}
 use Rattle.fw_cover.proofs.Sorting.{two_ways}
@@ -14,6 +14,7 @@ use Rattle.fw_terms.specs.Commitment.{CommitmentValue}
 use Rattle.fw_amortise.specs.Lines.{rows_in}
 use Rattle.fw_query.specs.Hours.{AreTouched, is_marked, is_touched, rows_marked}
 use Rattle.fw_query.proofs.AccountedFacts.{either_passes}
+use Rattle.fw_query.proofs.UntouchedFacts.{neither}
 
 -- ---- the mark of an hour
 
@@ -62,6 +63,13 @@ no_mark from hour = by (nat_le from hour)
     by : (b : Bool) → (b && false) ≡ false
     by true = refl
     by false = refl
+
+-- where no mark is true, no row is of a marked hour
+pub none_marked : (marks : List Bool) (from : ℕ) (rows : List Charge) → list_any (λ (mark : Bool). mark) (map (λ (row : Charge). is_marked marks from (hour_of row.start)) rows) ≡ false → rows_marked marks from rows ≡ []
+none_marked marks from [] none = refl
+none_marked marks from (row ∷ rows) none =
+    let both = neither (is_marked marks from (hour_of row.start)) (list_any (λ (mark : Bool). mark) (map (λ (row : Charge). is_marked marks from (hour_of row.start)) rows)) none in
+    rw both.0 (none_marked marks from rows both.1)
 
 pub no_marks : (rows : List Charge) (from : ℕ) → rows_marked [] from rows ≡ []
 no_marks [] from = refl

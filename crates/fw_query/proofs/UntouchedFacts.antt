@@ -22,7 +22,7 @@ use Rattle.fw_query.specs.Hours.{has_line, is_touched, row_cost}
 
 -- ---- lists of which nothing passes
 
-neither : (a b : Bool) → (a || b) ≡ false → (a ≡ false) × (b ≡ false)
+pub neither : (a b : Bool) → (a || b) ≡ false → (a ≡ false) × (b ≡ false)
 neither false b h = (refl, h)
 neither true b h = absurd (cc)
 

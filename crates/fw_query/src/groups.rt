@@ -13,11 +13,10 @@ ghost use Rattle.fw_query.specs.Sums.{AddsLine, AreAmounts, AreEntries, AreSums,
 use crate::entries::Entry;
 use crate::hours::{RowPlace, rows_by_hour};
 use crate::marks::{other_hours, touched_hours};
-use crate::segments::{lend, rows_at};
+use crate::segments::rows_at;
 use fw_amortise::{Line, lines_by_roster};
-use fw_charge::Row;
-use fw_columns::Columns;
-use fw_cover::Roster;
+use fw_columns::{Columns, LentRow};
+use fw_cover::{Roster, references};
 use fw_money::Nanos;
 use indexmap::IndexMap;
 use std::alloc::{AllocError, Global};
@@ -84,11 +83,11 @@ impl Groups {
 
     // The sums of the lines of so many hours from this one on. Where no commitment has a line in an hour, the lines bring what the rows do: such
     // rows are summed by column, and only those of other hours are sorted by hour.
-    pub(crate) fn of_hours(
+    pub(crate) fn of_hours<'a>(
         alloc: Global,
         key: &str,
-        segments: &[&Columns],
-        roster: &Roster<'_>,
+        segments: &[&'a Columns],
+        roster: &Roster<'a>,
         from: u64,
         hours: usize,
     ) -> Result<Groups, AllocError>
@@ -114,11 +113,11 @@ impl Groups {
 
     // Counts the lines of the touched hours, whose rows are at these places, where the rows of the untouched hours are counted. The first place
     // of either list is of this hour.
-    fn add_hours(
+    fn add_hours<'a>(
         &mut self,
         key: &str,
-        segments: &[&Columns],
-        roster: &Roster<'_>,
+        segments: &[&'a Columns],
+        roster: &Roster<'a>,
         by_hour: &[Vec<RowPlace>],
         touched: &[bool],
         from: u64,
@@ -141,11 +140,11 @@ impl Groups {
     }
 
     // Counts the lines of an hour whose rows are at these places, where the hour is touched.
-    fn add_hour(
+    fn add_hour<'a>(
         &mut self,
         key: &str,
-        segments: &[&Columns],
-        roster: &Roster<'_>,
+        segments: &[&'a Columns],
+        roster: &Roster<'a>,
         places: &[RowPlace],
         is_touched: bool,
         hour: u64,
@@ -165,11 +164,11 @@ impl Groups {
     }
 
     // Counts the lines of an hour whose rows are these.
-    fn add_touched(
+    fn add_touched<'a>(
         &mut self,
         key: &str,
-        roster: &Roster<'_>,
-        rows: &[Row],
+        roster: &Roster<'a>,
+        rows: &[LentRow<'a>],
         hour: u32,
     ) -> Result<(), AllocError>
         requires counts { (costs : List Cost) × Counts self.old costs }
@@ -177,7 +176,7 @@ impl Groups {
         requires of_hour { All (λ r. hour_of r.start ≡ hour) rows.now }
         ensures { OnOk result ((costs : List Cost) → Counts self.old costs → CountsHour self.new costs key.now roster.now.commitments rows.now hour) }
     {
-        let rows = lend(self.alloc, rows)?;
+        let rows = references(self.alloc, rows)?;
         let lines = lines_by_roster(self.alloc, roster, rows.as_slice(), hour)?;
         self.add_lines(key, lines.as_slice())
     }

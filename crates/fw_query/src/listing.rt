@@ -17,12 +17,11 @@ use crate::hours::{RowPlace, is_touched, rows_by_hour};
 use crate::line_text::{write_lines, write_names};
 use crate::marks::every_hour;
 use crate::query::MOST_HOURS;
-use crate::segments::{lend, rows_at, segments_of};
+use crate::segments::{rows_at, segments_of};
 use csv::{Writer, WriterBuilder};
 use fw_amortise::lines_by_roster;
-use fw_charge::Row;
-use fw_columns::Columns;
-use fw_cover::Roster;
+use fw_columns::{Columns, LentRow};
+use fw_cover::{Roster, references};
 use fw_snapshot::{Snapshot, State};
 use fw_terms::Commitment;
 use std::alloc::{AllocError, Global};
@@ -70,10 +69,10 @@ fn lines_csv_on(
 }
 
 // The text of the lines of so many hours from this one on.
-fn lines_csv_of(
+fn lines_csv_of<'a>(
     alloc: Global,
-    segments: &[&Columns],
-    commitments: &[Commitment],
+    segments: &[&'a Columns],
+    commitments: &'a [Commitment],
     from: u64,
     hours: usize,
 ) -> Result<Vec<u8>, AllocError>
@@ -100,11 +99,11 @@ fn lines_csv_of(
 }
 
 // Writes the lines of hours in turn, from this one on, whose rows are at these places.
-fn write_hours(
+fn write_hours<'a>(
     alloc: Global,
     writer: &mut Writer<Vec<u8>>,
-    segments: &[&Columns],
-    roster: &Roster<'_>,
+    segments: &[&'a Columns],
+    roster: &Roster<'a>,
     by_hour: &[Vec<RowPlace>],
     from: u64,
 ) -> Result<(), AllocError>
@@ -123,11 +122,11 @@ fn write_hours(
 }
 
 // Writes the lines of an hour whose rows are these.
-fn write_hour(
+fn write_hour<'a>(
     alloc: Global,
     writer: &mut Writer<Vec<u8>>,
-    roster: &Roster<'_>,
-    rows: &[Row],
+    roster: &Roster<'a>,
+    rows: &[LentRow<'a>],
     hour: u64,
 ) -> Result<(), AllocError>
     requires hour { HasHour roster.now hour }
@@ -137,13 +136,13 @@ fn write_hour(
     let Some(hour) = line_hour(roster.commitments(), rows, hour) else {
         return Ok(());
     };
-    let rows = lend(alloc, rows)?;
+    let rows = references(alloc, rows)?;
     let lines = lines_by_roster(alloc, roster, rows.as_slice(), hour)?;
     write_lines(alloc, writer, lines.as_slice())
 }
 
 // The hour, if it has rows or a commitment has a line in it; no later hour does.
-fn line_hour(commitments: &[Commitment], rows: &[Row], hour: u64) -> Option<u32>
+fn line_hour(commitments: &[Commitment], rows: &[LentRow<'_>], hour: u64) -> Option<u32>
     requires { All (λ r. hour_of r.start ≡ hour) rows.now }
     ensures { MatchOption result ((rows.now ≡ []) × (is_touched commitments.now hour ≡ false)) (λ h. h ≡ hour) }
 {

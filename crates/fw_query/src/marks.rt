@@ -1,5 +1,6 @@
 //! Marked hours: a mark for each of some hours in turn, and the rows of those that are marked.
 ghost use Rattle.std.specs.Prelude.{◌≡◌, ◌+◌, ◌<◌, ◌^◌, length, map, nat_abs, not, replicate, true, IfOk};
+ghost use Rattle.std.specs.List.{list_any};
 ghost use Rattle.fw_charge.specs.Charge.{hour_of};
 ghost use Rattle.fw_query.specs.Hours.{AreTouched, IsMarkedPlace, is_marked};
 
@@ -80,4 +81,16 @@ pub(crate) fn mask_of(
         mask.push(is_marked(second_of(seconds, place), from, marks))?;
     }
     Ok(mask)
+}
+
+// Whether some mark of a mask is true.
+pub(crate) fn has_mark(mask: &[bool]) -> bool
+    ensures { result ≡ list_any (λ mark. mark) mask.now }
+{
+    for mark in mask {
+        if *mark {
+            return true;
+        }
+    }
+    false
 }

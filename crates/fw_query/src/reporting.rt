@@ -60,10 +60,10 @@ fn report_on(alloc: Global, state: &State, query: &Query<'_>) -> Result<Report, 
 }
 
 // The report over segments of rows, commitments and a policy, in a range of hours.
-fn report_of(
+fn report_of<'a>(
     alloc: Global,
-    segments: &[&Columns],
-    commitments: &[Commitment],
+    segments: &[&'a Columns],
+    commitments: &'a [Commitment],
     policy: Option<&Policy>,
     query: &Query<'_>,
 ) -> Result<Report, QueryFault>
@@ -88,10 +88,10 @@ fn report_of(
 }
 
 // The entries of the groups of the query's lines, each charged its direct cost.
-fn direct_entries(
+fn direct_entries<'a>(
     alloc: Global,
-    segments: &[&Columns],
-    commitments: &[Commitment],
+    segments: &[&'a Columns],
+    commitments: &'a [Commitment],
     query: &Query<'_>,
 ) -> Result<Vec<Entry>, AllocError>
     requires { IsRange query.now.from_hour query.now.to_hour }

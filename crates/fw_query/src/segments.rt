@@ -1,10 +1,9 @@
 //! The rows of segments at places.
-ghost use Rattle.std.specs.Prelude.{◌≡◌, map, All, IfOk};
+ghost use Rattle.std.specs.Prelude.{◌≡◌, All, IfOk};
 ghost use Rattle.fw_query.specs.Hours.{IsThere, lent, rows_at};
 
 use crate::hours::RowPlace;
-use fw_charge::Row;
-use fw_columns::Columns;
+use fw_columns::{Columns, LentRow};
 use fw_persistent::Sequence;
 use std::alloc::{AllocError, Global};
 
@@ -22,28 +21,18 @@ pub(crate) fn segments_of(
     Ok(segments)
 }
 
-// The rows at places.
-pub(crate) fn rows_at(
+// The rows at places, lent.
+pub(crate) fn rows_at<'s>(
     alloc: Global,
-    segments: &[&Columns],
+    segments: &[&'s Columns],
     places: &[RowPlace],
-) -> Result<Vec<Row>, AllocError>
+) -> Result<Vec<LentRow<'s>>, AllocError>
     requires { All (IsThere (lent segments.now)) places.now }
     ensures { IfOk result (λ rows. rows.items ≡ rows_at (lent segments.now) places.now) }
 {
     let mut rows = Vec::with_capacity(alloc, places.len())?;
     for at in places {
-        match segments[at.segment as usize].row(at.place as usize) {
-            Ok(row) => rows.push(row)?,
-            Err(fault) => return Err(fault),
-        }
+        rows.push(segments[at.segment as usize].lent(at.place as usize))?;
     }
     Ok(rows)
-}
-
-// References to rows.
-pub(crate) fn lend(alloc: Global, rows: &[Row]) -> Result<Vec<&Row>, AllocError>
-    ensures { IfOk result (λ lent. map (λ r. r.now) lent.items ≡ rows.now) }
-{
-    rows.iter().collect(alloc)
 }

@@ -6,7 +6,7 @@ ghost use Rattle.fw_query.specs.Hours.{all_rows, lent, row_cost, rows_marked};
 ghost use Rattle.fw_query.specs.Sums.{AddsLine, Counts, HasRoom, sums_at};
 
 use crate::groups::{Groups, Sums};
-use crate::marks::mask_of;
+use crate::marks::{has_mark, mask_of};
 use fw_columns::{Columns, Names};
 use fw_lanes::{code_count, marks_by_code, sums_by_code};
 use std::alloc::{AllocError, Global};
@@ -91,6 +91,9 @@ impl Groups {
             return Err(AllocError);
         };
         let mask = mask_of(self.alloc, segment.starts(), from, marks)?;
+        if !has_mark(mask.as_slice()) {
+            return Ok(());
+        }
         let sums = code_sums(self.alloc, key, segment, mask.as_slice())?;
         for code in 0..sums.marks.len() {
             self.add_code(segment.names(), &sums, code)?;
