@@ -2,3 +2,4 @@ pub mod Items
 pub mod Answering
 pub mod Desks
 pub mod Turned
+pub mod Grown

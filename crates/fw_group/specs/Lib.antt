@@ -5,3 +5,4 @@ pub mod HandView
 pub mod Steps
 pub mod Turns
 pub mod Runs
+pub mod Laws

@@ -1,5 +1,5 @@
 //! The running system as one function: events, one after the other.
-ghost use Rattle.std.specs.Prelude.{◌≡◌, ◌⊎◌, ◌↔◌, ◌++◌, ◌∷◌, ◌≤◌, ℕ, Bool, false, [], List, length, take, All, IfOk, IfErr, OnOk, OnErr, IsTrue, IsSome, IsErrOf, slice_get, None, vec_capacity};
+ghost use Rattle.std.specs.Prelude.{◌≡◌, ◌⊎◌, ◌↔◌, ◌++◌, ◌∷◌, ◌<◌, ◌≤◌, ℕ, Bool, false, [], List, length, take, All, IfOk, IfErr, OnOk, OnErr, IsTrue, IsSome, IsErrOf, slice_get, None, Some, vec_capacity};
 ghost use Rattle.fw_disk.specs.Volume.{LeavesOnly};
 ghost use Rattle.fw_entry.specs.Entry.{EntryValue};
 ghost use Rattle.fw_entry.specs.Spelling.{IsEntry};
@@ -10,6 +10,8 @@ ghost use Rattle.fw_group.specs.Limits.{Fits};
 ghost use Rattle.fw_group.specs.Answers.{IsGroupFault, refusal, for_each};
 ghost use Rattle.fw_group.specs.Turns.{MayPost, Posts, Takes, Views, Learns, IsJudged, IsRefused, Stores, Commits, Checkpoints, Reopens, WhileOpen, Acts, Stays, IsDesk};
 ghost use Rattle.fw_group.specs.Steps.{State, receipt_at};
+ghost use Rattle.fw_group.specs.Laws.{shown_in, IsShown};
+ghost use Rattle.fw_group.specs.declared.answer.Receipt.{Receipt};
 ghost use Rattle.fw_group.specs.Runs.{start, Stands, HasRun};
 
 use crate::hand::answer_all;
@@ -328,6 +330,9 @@ fn step<V: Stoppable>(
 
 /// Runs events on a house, one after the other, for so many importers and analysts. Where memory runs out the run ends
 /// before that event: the answers are those of the events before it, and the house is as these left it.
+///
+/// An entry that was answered as accepted stands at its number in each list that is viewed or found by a later event,
+/// whatever was stopped, failed or opened in between.
 pub fn run_events<V: Stoppable>(
     alloc: Global,
     house: House<V>,
@@ -338,6 +343,10 @@ pub fn run_events<V: Stoppable>(
     ensures run { IsTrue V.tells → (published : History) (group : List EntryValue) (failed : Bool)
         → Stands V.view house (start house published group failed importers analysts)
         → HasRun V.view house (start house published group failed importers analysts) (take (length result.1.items) events.items) result.1.items result.0 }
+    ensures shown { IsTrue V.tells → (published : History) (group : List EntryValue) (failed : Bool)
+        → Stands V.view house (start house published group failed importers analysts)
+        → (i j place : ℕ) (receipt : Receipt History) (list : History) → i < j → receipt_at (slice_get result.1.items i) place ≡ Some receipt → shown_in (slice_get result.1.items j) ≡ Some list
+        → IsShown receipt list }
     ensures whole { result.2 ≡ None → length result.1.items ≡ length events.items }
 {
     let mut house = house;

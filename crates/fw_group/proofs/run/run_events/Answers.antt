@@ -8,6 +8,7 @@ use Rattle.fw_group.specs.Limits.{Fits}
 use Rattle.fw_group.specs.Runs.{empty_desk, start, HasRun}
 use Rattle.fw_group.proofs.Desks.{none_fit, desk_acts, next_event, on_ok, on_err}
 use Rattle.fw_group.proofs.Turned.{SoFar, begun, one_more, has_run, has_run_out}
+use Rattle.fw_group.proofs.Grown.{accepted_shown}
 use Rattle.fw_group.proofs.run.run_events.Goals as goal
 
 pub loop-event-init : goal.loop-event-init
@@ -85,3 +86,17 @@ returns-clause-whole g c = λ all.
       length-reverse c.loop-event.left.items,
       c.in_default.ensures.cases,
     )
+
+pub returns-in-Err-clause-shown : goal.returns-in-Err-clause-shown
+returns-in-Err-clause-shown g c = λ told published group failed stands i j place receipt list later is shown.
+    let answers = c.step-next.new.answers.items in
+    let first = start c.args.house published group failed c.args.importers c.args.analysts in
+    let has = returns-in-Err-clause-run g c told published group failed stands in
+    accepted_shown g.V.Volume.view (take (length answers) c.args.events.items) c.args.house first [] has.last has.state answers has.run i j place receipt list (omega arith) later is shown
+
+pub returns-clause-shown : goal.returns-clause-shown
+returns-clause-shown g c = λ told published group failed stands i j place receipt list later is shown.
+    let answers = c.loop-event.answers.items in
+    let first = start c.args.house published group failed c.args.importers c.args.analysts in
+    let has = returns-clause-run g c told published group failed stands in
+    accepted_shown g.V.Volume.view (take (length answers) c.args.events.items) c.args.house first [] has.last has.state answers has.run i j place receipt list (omega arith) later is shown
