@@ -171,7 +171,7 @@ class Commands(unittest.TestCase):
             self.assertEqual((run.stderr.read(), run.wait()), (b"", 0))
 
     def test_help_and_version(self):
-        for words in ((), ("run",), ("report",), ("lines",), ("status",), ("verify",), ("checkpoint",), ("explain",)):
+        for words in ((), ("report",), ("lines",), ("status",), ("verify",), ("checkpoint",), ("explain",)):
             status, printed, said = focusd(*words, "--help")
             self.assertEqual((status, said), (0, ""), words)
             self.assertIn("Example", printed, words)
