@@ -1,0 +1,52 @@
+//! The fields of a record by column.
+use csv::{ByteRecord, ReaderBuilder};
+use fw_rows::Column;
+use std::alloc::{AllocError, Global};
+
+/// The first record of a text.
+pub(crate) fn first_record(alloc: Global, text: &[u8]) -> Result<ByteRecord, AllocError> {
+    let mut reader = ReaderBuilder::new()
+        .has_headers(false)
+        .flexible(true)
+        .from_reader(alloc, text);
+    let mut fields = ByteRecord::new(alloc);
+    match reader.read_byte_record(&mut fields) {
+        Ok(_) => Ok(fields),
+        Err(_) => Err(AllocError),
+    }
+}
+
+/// Where a column stands in a header.
+pub(crate) fn place_of(header: &ByteRecord, column: Column) -> Option<usize> {
+    for place in 0..header.len() {
+        if is_named(header, place, column) {
+            return Some(place);
+        }
+    }
+    None
+}
+
+// Whether the field of a header at a place is the name of a column.
+fn is_named(header: &ByteRecord, place: usize, column: Column) -> bool {
+    match header.get(place) {
+        Some(name) => name == column.name().as_bytes(),
+        None => false,
+    }
+}
+
+/// The bytes of a record in a column: none where the header doesn't have the column, or the record no such field.
+pub(crate) fn bytes_in<'r>(
+    header: &ByteRecord,
+    record: &'r ByteRecord,
+    column: Column,
+) -> &'r [u8] {
+    match place_of(header, column) {
+        Some(place) => record.get(place).unwrap_or(b""),
+        None => b"",
+    }
+}
+
+/// The text of a record in a column; the empty text where it isn't UTF-8.
+pub(crate) fn text_in<'r>(header: &ByteRecord, record: &'r ByteRecord, column: Column) -> &'r str {
+    str::from_utf8(bytes_in(header, record, column)).unwrap_or("")
+}

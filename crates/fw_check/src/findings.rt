@@ -1,0 +1,190 @@
+//! What is wrong with a record: the code, the column and what was expected.
+use crate::fields::{bytes_in, text_in};
+use csv::ByteRecord;
+use fw_charge::LONGEST_SHORT_TEXT;
+use fw_instants::second_of;
+use fw_rows::{Column, RecordFault};
+use std::alloc::AllocError;
+
+/// A place of a fault.
+#[derive(Debug, Drop)]
+pub struct Place {
+    /// The line of the text in which the record begins, counted from 1.
+    pub line: u64,
+    /// The record, counted from 1; the header isn't counted.
+    pub record: u64,
+    /// The first 60 characters of the value.
+    pub value: String,
+}
+
+/// Faults of one code in one column.
+#[derive(Debug, Drop)]
+pub struct Finding {
+    /// The code and the name, as `V5 Cost`.
+    pub code: &'static str,
+    /// The name of the column, or the empty text where the fault is of the whole record.
+    pub column: &'static str,
+    /// What was expected.
+    pub expected: &'static str,
+    /// How many there are.
+    pub count: u64,
+    /// The first places.
+    pub places: Vec<Place>,
+}
+
+/// The longest part of a value that is shown, in characters.
+const SHOWN: usize = 60;
+
+/// The columns of texts of at most 256 bytes.
+const SHORT: [Column; 4] = [
+    Column::CommitmentDiscountId,
+    Column::ConsumedUnit,
+    Column::SkuId,
+    Column::SubAccountId,
+];
+
+/// All columns that are read, in their order.
+pub(crate) const ALL: [Column; 15] = [
+    Column::BilledCost,
+    Column::EffectiveCost,
+    Column::BillingCurrency,
+    Column::ChargeCategory,
+    Column::ChargePeriodStart,
+    Column::ChargePeriodEnd,
+    Column::ChargeClass,
+    Column::CommitmentDiscountId,
+    Column::CommitmentDiscountCategory,
+    Column::CommitmentDiscountStatus,
+    Column::ConsumedQuantity,
+    Column::ConsumedUnit,
+    Column::SkuId,
+    Column::SubAccountId,
+    Column::Tags,
+];
+
+/// The code and the name of a fault.
+pub(crate) fn code_of(fault: RecordFault) -> &'static str {
+    match fault {
+        RecordFault::Fields => "V1 Fields",
+        RecordFault::NotUtf8 => "V2 NotUtf8",
+        RecordFault::Category => "V3 Category",
+        RecordFault::Class => "V4 Class",
+        RecordFault::Cost => "V5 Cost",
+        RecordFault::Currency => "V6 Currency",
+        RecordFault::Time => "V7 Time",
+        RecordFault::PeriodOrder => "V8 PeriodOrder",
+        RecordFault::Commitment => "V9 Commitment",
+        RecordFault::Status => "V10 Status",
+        RecordFault::Quantity => "V11 Quantity",
+        RecordFault::BadTags => "V12 BadTags",
+        RecordFault::TooLong => "V13 TooLong",
+    }
+}
+
+/// What a record must have where it has this fault.
+pub(crate) fn expected_of(fault: RecordFault) -> &'static str {
+    match fault {
+        RecordFault::Fields => "as many fields as the header",
+        RecordFault::NotUtf8 => "UTF-8 text",
+        RecordFault::Category => "Usage, Purchase, Tax, Credit or Adjustment",
+        RecordFault::Class => "nothing or Correction",
+        RecordFault::Cost => {
+            "a number: digits with at most one point, as 1000.00, at most 100,000,000"
+        }
+        RecordFault::Currency => "the currency of the warehouse",
+        RecordFault::Time => "a time on a whole second from 1970 on, as 2024-01-01T00:00:00Z",
+        RecordFault::PeriodOrder => "a time that is not before ChargePeriodStart",
+        RecordFault::Commitment => "Usage or Spend, exactly where CommitmentDiscountId is set",
+        RecordFault::Status => {
+            "Used or Unused where CommitmentDiscountId is set; it may be empty where the charge isn't Usage"
+        }
+        RecordFault::Quantity => "nothing or a number, as 0.5",
+        RecordFault::BadTags => "nothing or a JSON object of texts, true, false and null",
+        RecordFault::TooLong => {
+            "at most 256 bytes; at most 256 tags with keys and values of at most 1,024 bytes"
+        }
+    }
+}
+
+/// The column in which a record has a fault; none where the fault is of the whole record.
+pub(crate) fn column_of(
+    header: &ByteRecord,
+    record: &ByteRecord,
+    fault: RecordFault,
+) -> Option<Column> {
+    match fault {
+        RecordFault::Fields => None,
+        RecordFault::NotUtf8 => first_not_utf8(header, record),
+        RecordFault::Category => Some(Column::ChargeCategory),
+        RecordFault::Class => Some(Column::ChargeClass),
+        RecordFault::Cost => Some(bad_cost(header, record)),
+        RecordFault::Currency => Some(Column::BillingCurrency),
+        RecordFault::Time => Some(bad_time(header, record)),
+        RecordFault::PeriodOrder => Some(Column::ChargePeriodEnd),
+        RecordFault::Commitment => Some(Column::CommitmentDiscountCategory),
+        RecordFault::Status => Some(Column::CommitmentDiscountStatus),
+        RecordFault::Quantity => Some(Column::ConsumedQuantity),
+        RecordFault::BadTags => Some(Column::Tags),
+        RecordFault::TooLong => Some(too_long(header, record)),
+    }
+}
+
+// The first column whose field isn't UTF-8.
+fn first_not_utf8(header: &ByteRecord, record: &ByteRecord) -> Option<Column> {
+    for column in ALL.iter() {
+        if str::from_utf8(bytes_in(header, record, *column)).is_err() {
+            return Some(*column);
+        }
+    }
+    None
+}
+
+// The first of the two costs that is no amount.
+fn bad_cost(header: &ByteRecord, record: &ByteRecord) -> Column {
+    if fw_money::parse(bytes_in(header, record, Column::BilledCost)).is_err() {
+        Column::BilledCost
+    } else {
+        Column::EffectiveCost
+    }
+}
+
+// The first of the two times that can't be read.
+fn bad_time(header: &ByteRecord, record: &ByteRecord) -> Column {
+    if second_of(text_in(header, record, Column::ChargePeriodStart)).is_none() {
+        Column::ChargePeriodStart
+    } else {
+        Column::ChargePeriodEnd
+    }
+}
+
+// The first text that is too long, or else the tags.
+fn too_long(header: &ByteRecord, record: &ByteRecord) -> Column {
+    for column in SHORT.iter() {
+        if bytes_in(header, record, *column).len() > LONGEST_SHORT_TEXT {
+            return *column;
+        }
+    }
+    Column::Tags
+}
+
+/// The first 60 characters of a value. A byte that isn't printable ASCII, in a value that isn't UTF-8, is shown as `?`.
+pub(crate) fn shown_value(alloc: std::alloc::Global, value: &[u8]) -> Result<String, AllocError> {
+    let mut shown = String::new(alloc);
+    match str::from_utf8(value) {
+        Ok(text) => {
+            for letter in text.chars().take(SHOWN) {
+                shown.push(letter)?;
+            }
+        }
+        Err(_) => {
+            for byte in value.iter().take(SHOWN) {
+                if byte.is_ascii_graphic() {
+                    shown.push(char::from(*byte))?;
+                } else {
+                    shown.push('?')?;
+                }
+            }
+        }
+    }
+    Ok(shown)
+}
