@@ -1,5 +1,5 @@
 //! The command line, and what its help says.
-use crate::commands::{report, run};
+use crate::commands::{check, import, report, run};
 use clap::{Arg, Command};
 use std::alloc::{AllocError, Global};
 
@@ -38,5 +38,7 @@ pub(crate) fn command_line<'a>(alloc: Global) -> Result<Command<'a>, AllocError>
         .subcommand_required(true)
         .arg_required_else_help(true)
         .subcommand(run::command(alloc)?)?
+        .subcommand(import::command(alloc)?)?
+        .subcommand(check::command(alloc)?)?
         .subcommand(report::command(alloc)?)
 }

@@ -10,11 +10,12 @@ mod command_line;
 mod commands;
 mod fault;
 mod output;
+mod progress;
 
 use clap::ArgMatches;
 use clap::error::ErrorKind;
 use command_line::command_line;
-use commands::{report, run};
+use commands::{check, import, report, run};
 use fault::Fault;
 use fw_serve::ServeFault;
 use std::process::ExitCode;
@@ -56,6 +57,8 @@ fn start(rt: &HostRuntime) -> Result<ExitCode, Fault> {
 fn run_command(rt: &HostRuntime, matches: &ArgMatches<'_>) -> Result<ExitCode, Fault> {
     match matches.subcommand() {
         Some(("run", options)) => run::run(rt, options),
+        Some(("import", options)) => import::run(rt, options),
+        Some(("check", options)) => check::run(rt, options),
         Some(("report", options)) => report::run(rt, options),
         _ => Ok(wrong_use(rt, "no command")),
     }
