@@ -1,5 +1,5 @@
 //! The command line, and what its help says.
-use crate::commands::{checkpoint, explain, lines, report, run, status, verify};
+use crate::commands::{check, checkpoint, explain, import, lines, report, run, status, verify};
 use clap::{Arg, Command};
 use std::alloc::{AllocError, Global};
 
@@ -64,6 +64,8 @@ pub(crate) fn command_line<'a>(alloc: Global) -> Result<Command<'a>, AllocError>
 fn commands<'a>(alloc: Global) -> Result<Vec<Command<'a>>, AllocError> {
     let mut commands = Vec::new(alloc);
     commands.push(run::command(alloc)?)?;
+    commands.push(import::command(alloc)?)?;
+    commands.push(check::command(alloc)?)?;
     commands.push(report::command(alloc)?)?;
     commands.push(lines::command(alloc)?)?;
     commands.push(status::command(alloc)?)?;

@@ -11,12 +11,13 @@ mod command_line;
 mod commands;
 mod fault;
 mod output;
+mod progress;
 mod range;
 
 use clap::ArgMatches;
 use clap::error::ErrorKind;
 use command_line::command_line;
-use commands::{checkpoint, explain, lines, report, run, status, verify};
+use commands::{check, checkpoint, explain, import, lines, report, run, status, verify};
 use fault::Fault;
 use fw_serve::ServeFault;
 use std::process::ExitCode;
@@ -58,6 +59,8 @@ fn start(rt: &HostRuntime) -> Result<ExitCode, Fault> {
 fn run_command(rt: &HostRuntime, matches: &ArgMatches<'_>) -> Result<ExitCode, Fault> {
     match matches.subcommand() {
         Some(("run", options)) => run::run(rt, options),
+        Some(("import", options)) => import::run(rt, options),
+        Some(("check", options)) => check::run(rt, options),
         Some(("report", options)) => report::run(rt, options),
         Some(("lines", options)) => lines::run(rt, options),
         Some(("status", options)) => Ok(status::run(rt, options)),

@@ -1,0 +1,145 @@
+//! `focusd check`: all faults of CSV exports, and what is in them.
+use crate::fault::Fault;
+use crate::output::print_answer;
+use crate::wrong_use;
+use clap::{Arg, ArgAction, ArgMatches, Command};
+use fw_check::{Checker, as_json, as_text};
+use fw_cut::{CutFault, Cutter};
+use fw_rows::{Currency, RowFault};
+use std::alloc::{AllocError, Global};
+use std::fs;
+use std::io::Read;
+use std::process::ExitCode;
+
+const FILES: &str = "files";
+
+const FORMAT: &str = "format";
+
+const CURRENCY: &str = "currency";
+
+/// The formats of the answer.
+const FORMATS: [&str; 2] = ["text", "json"];
+
+const HELP: &str =
+    "Each record is checked as a post's record is. Of a record with several faults each one is found: a field at fault is taken
+for a harmless one, and the record is checked again. Faults are grouped by code and column, each group with its first three
+places. Rows, hours, sums and tags are those of the records without a fault. `-` is standard input.
+
+Example:
+  focusd check january.csv
+
+Exit status: 0 where no file has a fault, 1 where one has or can't be read, 2 where the command line is wrong.";
+
+/// The command's part of the command line.
+pub(crate) fn command<'a>(alloc: Global) -> Result<Command<'a>, AllocError> {
+    let files = Arg::new(alloc, FILES)
+        .value_name("FILE")
+        .required(true)
+        .num_args(1..)
+        .action(ArgAction::Append)
+        .help("A CSV with the columns of FOCUS 1.0, or `-` for standard input");
+    let format = Arg::new(alloc, FORMAT)
+        .long("format")
+        .value_name("FORMAT")
+        .default_value("text")
+        .value_parser(FORMATS.as_slice())
+        .help("How the answer is written");
+    let currency = Arg::new(alloc, CURRENCY)
+        .long("currency")
+        .value_name("CUR")
+        .default_value("USD")
+        .help("The currency that all costs must have: three capital letters");
+    Command::new(alloc, "check")
+        .about("Lists all faults of CSV exports, and what is in them")
+        .after_help(HELP)
+        .arg(format)?
+        .arg(currency)?
+        .arg(files)
+}
+
+/// Checks the files that the options name.
+pub(crate) fn run(rt: &HostRuntime, options: &ArgMatches<'_>) -> Result<ExitCode, Fault> {
+    let text = options.get_str(CURRENCY).unwrap_or("USD");
+    let Some(currency) = Currency::new(text.as_bytes()) else {
+        return Ok(wrong_use(rt, "--currency: it must be three capital letters, e.g. USD"));
+    };
+    let is_json = options.get_str(FORMAT) == Some("json");
+    let mut is_clean = true;
+    for file in options.get_strs(FILES).unwrap_or(&[]) {
+        is_clean = check_named(rt, file, currency, is_json)? && is_clean;
+    }
+    Ok(if is_clean {
+        ExitCode::SUCCESS
+    } else {
+        ExitCode::FAILURE
+    })
+}
+
+// Checks a file, or standard input; whether it has no fault.
+fn check_named(
+    rt: &HostRuntime,
+    file: &str,
+    currency: Currency,
+    is_json: bool,
+) -> Result<bool, Fault> {
+    if file == "-" {
+        return check_file(rt, "standard input", rt.stdin(), currency, is_json);
+    }
+    match fs::open(rt, file) {
+        Ok(opened) => check_file(rt, file, opened, currency, is_json),
+        Err(error) => {
+            let _ = eprintln!(rt; "focusd: {file}: {error}");
+            Ok(false)
+        }
+    }
+}
+
+// Checks a file, and prints what was found.
+fn check_file<R: Read + Drop>(
+    rt: &HostRuntime,
+    name: &str,
+    reader: R,
+    currency: Currency,
+    is_json: bool,
+) -> Result<bool, Fault> {
+    let alloc = rt.alloc();
+    let mut checker = Checker::new(alloc, currency);
+    let mut cutter = match Cutter::open(alloc, reader) {
+        Ok(cutter) => cutter,
+        Err(fault) => return refused(rt, name, fault),
+    };
+    checker.pass_header(cutter.header());
+    for _ in 0..u64::MAX {
+        let part = match cutter.next_part(alloc) {
+            Ok(part) => part,
+            Err(fault) => return refused(rt, name, fault),
+        };
+        match checker.check(alloc, &part) {
+            Ok(()) => {}
+            Err(RowFault::NoMemory) => return Err(Fault::NoMemory),
+            Err(fault) => {
+                let _ = eprintln!(rt; "focusd: {name}: {fault}");
+                return Ok(false);
+            }
+        }
+        if part.is_last {
+            break;
+        }
+    }
+    let answer = if is_json {
+        as_json(alloc, name, &checker)?
+    } else {
+        as_text(alloc, name, &checker)?
+    };
+    print_answer(rt, answer.as_bytes())?;
+    Ok(checker.faults == 0 && checker.records > 0)
+}
+
+// Says why a file can't be cut.
+fn refused(rt: &HostRuntime, name: &str, fault: CutFault) -> Result<bool, Fault> {
+    if let CutFault::NoMemory = fault {
+        return Err(Fault::NoMemory);
+    }
+    let _ = eprintln!(rt; "focusd: {name}: {fault}");
+    Ok(false)
+}

@@ -1,0 +1,309 @@
+//! `focusd import`: CSV exports of any length are taken into a warehouse.
+use crate::advice::advised;
+use crate::command_line::{DIR, dir_option};
+use crate::fault::Fault;
+use crate::progress::Progress;
+use clap::{Arg, ArgAction, ArgMatches, Command};
+use fw_check::{line_feeds, locate};
+use fw_cut::{CutFault, Cutter, Part};
+use fw_disk::{FileVolume, Volume};
+use fw_entry::EntryFault;
+use fw_import::{ImportFault, Outcome, import_part};
+use fw_recover::{Store, StoreFault};
+use fw_rows::RowFault;
+use fw_snapshot::Conflict;
+use std::alloc::{AllocError, Global};
+use std::fs;
+use std::io::Read;
+use std::process::ExitCode;
+
+const ORIGIN: &str = "origin";
+
+const FILES: &str = "files";
+
+const QUIET: &str = "quiet";
+
+const HELP: &str =
+    "The records of each FILE are posted in order, as many as a post can have: 4,096 rows, and 2 MiB of the file. `-` is
+standard input. A file's first record is its header, which may be another one in each file.
+
+ORIGIN names the sender: 1 to 64 ASCII letters, digits, `-`, `_` and `.`. The posts of its files are its entries 1, 2, 3 ..
+in the order of the files. So give each export an origin of its own, or list all files of an origin, from the first one on.
+
+An import that was stopped goes on where it stopped: run it again with the same files. Each post that is there already is
+compared with the file; where they differ, as when a file has changed, the import stops and says so. A post is taken whole
+or not at all, and it is on the disk, by the word of the system, before the next one is read.
+
+Example: an export, and one that is compressed
+  focusd import --dir costs --origin aws-2024-01 january.csv
+  zcat february.csv.gz | focusd import --dir costs --origin aws-2024-02 -
+
+Exit status: 0 where all rows are in the warehouse, 1 where a file or the warehouse was refused or failed, 2 where the command
+line is wrong.";
+
+/// The command's part of the command line.
+pub(crate) fn command<'a>(alloc: Global) -> Result<Command<'a>, AllocError> {
+    let origin = Arg::new(alloc, ORIGIN)
+        .long("origin")
+        .value_name("NAME")
+        .required(true)
+        .help("Who sends the rows");
+    let files = Arg::new(alloc, FILES)
+        .value_name("FILE")
+        .required(true)
+        .num_args(1..)
+        .action(ArgAction::Append)
+        .help("A CSV with the columns of FOCUS 1.0, or `-` for standard input");
+    let quiet = Arg::new(alloc, QUIET)
+        .long("quiet")
+        .action(ArgAction::SetTrue)
+        .help("Prints no progress");
+    Command::new(alloc, "import")
+        .about("Takes CSV exports of any length into a warehouse")
+        .after_help(HELP)
+        .arg(
+            dir_option(alloc)
+                .required(true)
+                .help("The folder of the warehouse"),
+        )?
+        .arg(origin)?
+        .arg(quiet)?
+        .arg(files)
+}
+
+/// Where an import stands.
+#[derive(Drop)]
+struct Standing<'a> {
+    origin: &'a str,
+    /// The number of the next post.
+    number: u64,
+    /// Rows that were added.
+    added: u64,
+    /// Rows that were there already.
+    same: u64,
+}
+
+/// Imports the files that the options name.
+pub(crate) fn run(rt: &HostRuntime, options: &ArgMatches<'_>) -> Result<ExitCode, Fault> {
+    let folder = options.get_str(DIR).unwrap_or("");
+    let done = import_files(rt, folder, options);
+    Ok(advised(rt, folder, done))
+}
+
+// Imports the files into the warehouse of a folder.
+fn import_files(
+    rt: &HostRuntime,
+    folder: &str,
+    options: &ArgMatches<'_>,
+) -> Result<ExitCode, Fault> {
+    let alloc = rt.alloc();
+    let volume = FileVolume::open(rt, folder)?;
+    let mut store = match Store::open(alloc, volume) {
+        Ok(store) => store,
+        Err((_, fault)) => return Err(Fault::Store(fault)),
+    };
+    let mut standing = Standing {
+        origin: options.get_str(ORIGIN).unwrap_or(""),
+        number: 1,
+        added: 0,
+        same: 0,
+    };
+    let mut progress = Progress::new(rt, options.get_flag(QUIET));
+    for file in options.get_strs(FILES).unwrap_or(&[]) {
+        if !import_named(rt, &mut store, &mut standing, &mut progress, file)? {
+            return Ok(ExitCode::FAILURE);
+        }
+    }
+    progress.end(rt);
+    let added = standing.added;
+    let same = standing.same;
+    let posts = standing.number.saturating_sub(1);
+    let _ = println!(rt; "imported {added} rows, {same} were there already; {posts} posts");
+    Ok(ExitCode::SUCCESS)
+}
+
+// Imports a file, or standard input; false where it was refused, which was said.
+fn import_named<V: Volume>(
+    rt: &HostRuntime,
+    store: &mut Store<V>,
+    standing: &mut Standing<'_>,
+    progress: &mut Progress,
+    file: &str,
+) -> Result<bool, Fault> {
+    if file == "-" {
+        return import_file(rt, store, standing, progress, "standard input", rt.stdin());
+    }
+    match fs::open(rt, file) {
+        Ok(opened) => import_file(rt, store, standing, progress, file, opened),
+        Err(error) => {
+            let _ = eprintln!(rt; "focusd: {file}: {error}");
+            Ok(false)
+        }
+    }
+}
+
+// Imports the parts of a file in order.
+fn import_file<R: Read + Drop, V: Volume>(
+    rt: &HostRuntime,
+    store: &mut Store<V>,
+    standing: &mut Standing<'_>,
+    progress: &mut Progress,
+    name: &str,
+    reader: R,
+) -> Result<bool, Fault> {
+    let alloc = rt.alloc();
+    let mut cutter = match Cutter::open(alloc, reader) {
+        Ok(cutter) => cutter,
+        Err(fault) => return cut_refused(rt, name, 1, fault),
+    };
+    let mut line = line_feeds(cutter.header()).saturating_add(1);
+    let mut record: u64 = 1;
+    for _ in 0..u64::MAX {
+        let part = match cutter.next_part(alloc) {
+            Ok(part) => part,
+            Err(fault) => return cut_refused(rt, name, line, fault),
+        };
+        match import_part(alloc, store, standing.origin, standing.number, &part.text) {
+            Ok(taken) => {
+                match taken.outcome {
+                    Outcome::Added => standing.added = standing.added.saturating_add(taken.rows),
+                    Outcome::Same => standing.same = standing.same.saturating_add(taken.rows),
+                }
+                record = record.saturating_add(taken.rows);
+                standing.number = standing.number.saturating_add(1);
+                progress.took(rt, taken.rows, part.text.len());
+            }
+            // What follows the last record, as a line feed, is no post.
+            Err(ImportFault::Rows(RowFault::NoRows)) if record > 1 => {}
+            Err(fault) => {
+                progress.end(rt);
+                explain(rt, name, &part, line, record, standing, fault)?;
+                return Ok(false);
+            }
+        }
+        line = line.saturating_add(line_feeds(body_of(&part)));
+        if store.log_len() > store.body_len() {
+            store.checkpoint(alloc)?;
+        }
+        if part.is_last {
+            return Ok(true);
+        }
+    }
+    Ok(true)
+}
+
+// The bytes of a part behind its header.
+fn body_of(part: &Part) -> &[u8] {
+    let text = part.text.as_slice();
+    let (_, body) = text.split_at(part.header.min(text.len()));
+    body
+}
+
+// Says why a file can't be cut.
+fn cut_refused(rt: &HostRuntime, name: &str, line: u64, fault: CutFault) -> Result<bool, Fault> {
+    match fault {
+        CutFault::NoMemory => Err(Fault::NoMemory),
+        CutFault::Read => {
+            let _ = eprintln!(rt; "focusd: {name}: it can't be read on behind line {line}");
+            Ok(false)
+        }
+        CutFault::NoRecord => {
+            let _ = eprintln!(rt; "focusd: {name}: no record follows the header");
+            Ok(false)
+        }
+        CutFault::TooLong => {
+            let _ = eprintln!(rt;
+                "focusd: {name}: a record behind line {line} is longer than 4 MiB; is a quote not closed?"
+            );
+            Ok(false)
+        }
+    }
+}
+
+// Says why a part was not imported, and how to go on.
+fn explain(
+    rt: &HostRuntime,
+    name: &str,
+    part: &Part,
+    line: u64,
+    record: u64,
+    standing: &Standing<'_>,
+    fault: ImportFault,
+) -> Result<(), Fault> {
+    let number = standing.number;
+    let origin = standing.origin;
+    match fault {
+        ImportFault::NoMemory
+        | ImportFault::Rows(RowFault::NoMemory)
+        | ImportFault::Store(StoreFault::NoMemory) => return Err(Fault::NoMemory),
+        ImportFault::Store(fault) => return Err(Fault::Store(fault)),
+        ImportFault::Rows(fault) => return explain_rows(rt, name, part, line, record, fault),
+        ImportFault::Entry(EntryFault::Origin) => {
+            let _ = eprintln!(rt;
+                "focusd: --origin: {origin:?} is not 1 to 64 ASCII letters, digits, `-`, `_` and `.`, e.g. aws-2024-01"
+            );
+        }
+        ImportFault::Entry(fault) => {
+            let _ = eprintln!(rt;
+                "focusd: {name}:{line}: the post from record {record} on: {fault}"
+            );
+        }
+        ImportFault::Differs => {
+            let _ = eprintln!(rt;
+                "focusd: {name}:{line}: entry {number} of {origin} is in the warehouse already and has other rows than the file from record {record} on."
+            );
+            let _ = eprintln!(rt;
+                "The file has changed or grown since, or the files are in another order, or another export was imported as {origin}. Nothing more was imported. Give each export an --origin of its own."
+            );
+        }
+        ImportFault::Gap { expected } => {
+            let _ = eprintln!(rt; "focusd: {name}:{line}: entry {expected} of {origin} is missing");
+        }
+        ImportFault::Conflict(Conflict::Full) => {
+            let _ = eprintln!(rt;
+                "focusd: {name}:{line}: the warehouse would have more than 4,194,304 rows"
+            );
+        }
+        ImportFault::Conflict(_) => {
+            let _ = eprintln!(rt;
+                "focusd: {name}:{line}: a row from record {record} on carries the id of a commitment of the warehouse as its CommitmentDiscountId"
+            );
+        }
+    }
+    Ok(())
+}
+
+// Says which value of a file is wrong.
+fn explain_rows(
+    rt: &HostRuntime,
+    name: &str,
+    part: &Part,
+    line: u64,
+    record: u64,
+    fault: RowFault,
+) -> Result<(), Fault> {
+    if let RowFault::Record { number, fault } = fault {
+        let at = locate(rt.alloc(), part, number, fault)?;
+        let line = line.saturating_add(at.lines_before);
+        let record = record.saturating_add(u64::from(number).saturating_sub(1));
+        let column = at.column;
+        let value = at.value.as_str();
+        let expected = at.expected;
+        let code = at.code;
+        if column.is_empty() {
+            let _ = eprintln!(rt;
+                "focusd: {name}:{line}: record {record}: {code}: expected {expected}"
+            );
+        } else {
+            let _ = eprintln!(rt;
+                "focusd: {name}:{line}: record {record}, {column}: {value:?}: {code}: expected {expected}"
+            );
+        }
+        let _ = eprintln!(rt;
+            "No row of its post was imported; those before it stay. Correct the file and run the command again: it goes on from there. `focusd check` lists all faults."
+        );
+    } else {
+        let _ = eprintln!(rt; "focusd: {name}: {fault}");
+    }
+    Ok(())
+}

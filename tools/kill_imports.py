@@ -1,0 +1,95 @@
+#!/usr/bin/env python3
+"""Kills imports at random, and compares the warehouses that they leave with one that was imported at once.
+
+  tools/kill_imports.py PROGRAM [--runs N] [--rows N] [--seed N]
+
+Each run starts `PROGRAM import` again and again, and kills each (SIGKILL) after a random time, until one ends by itself. Then what a
+script asks of the warehouse has to be answered as by the warehouse that was imported without a kill.
+"""
+import argparse
+import os
+import random
+import subprocess
+import sys
+import tempfile
+import time
+
+HEADER = "BilledCost,EffectiveCost,BillingCurrency,ChargeCategory,ChargePeriodStart,ChargePeriodEnd,SkuId,Note,Tags\n"
+QUESTIONS = "state\nreport team 2024-01-01T00:00Z 2024-02-01T00:00Z\nlines 2024-01-01T00:00Z 2024-01-02T00:00Z\n"
+
+
+def write_export(path, rows, dice):
+    """An export of so many rows, with line feeds within quotes and lines without a record."""
+    with open(path, "w", newline="") as out:
+        out.write(HEADER)
+        for row in range(rows):
+            hour = dice.randrange(24 * 31)
+            start = f"2024-01-{hour // 24 + 1:02}T{hour % 24:02}:00:00Z"
+            tags = '"{""team"":""' + dice.choice(["web", "data", "api"]) + '""}"'
+            note = dice.choice(["", "plain", '"two\nlines"', '"a ""quote"""'])
+            cost = f"{dice.randrange(10**6)}.{dice.randrange(10**9):09}"
+            out.write(f"{cost},{cost},USD,Usage,{start},{start},sku-{row % 97},{note},{tags}\n")
+            if dice.randrange(50) == 0:
+                out.write("\n")
+
+
+def create(program, folder):
+    os.mkdir(folder)
+    subprocess.run([program, "run", "--dir", folder, "--create"], input=b"", check=True)
+
+
+def answers(program, folder):
+    return subprocess.run([program, "run", "--dir", folder], input=QUESTIONS.encode(), capture_output=True, check=True).stdout
+
+
+def importing(program, folder, export):
+    return [program, "import", "--dir", folder, "--origin", "export", "--quiet", export]
+
+
+def import_with_kills(program, folder, export, longest, dice):
+    """How many imports were killed before one ended by itself."""
+    kills = 0
+    while True:
+        child = subprocess.Popen(importing(program, folder, export), stdout=subprocess.PIPE, stderr=subprocess.PIPE)
+        try:
+            out, err = child.communicate(timeout=dice.uniform(0, longest))
+        except subprocess.TimeoutExpired:
+            child.kill()
+            child.communicate()
+            kills += 1
+            continue
+        if child.returncode != 0:
+            sys.exit(f"status {child.returncode} after {kills} kills: {err.decode()}")
+        return kills
+
+
+def main():
+    options = argparse.ArgumentParser(description=__doc__, formatter_class=argparse.RawDescriptionHelpFormatter)
+    options.add_argument("program")
+    options.add_argument("--runs", type=int, default=100)
+    options.add_argument("--rows", type=int, default=20000)
+    options.add_argument("--seed", type=int, default=1)
+    given = options.parse_args()
+    dice = random.Random(given.seed)
+    program = os.path.abspath(given.program)
+    with tempfile.TemporaryDirectory() as top:
+        export = f"{top}/export.csv"
+        write_export(export, given.rows, dice)
+        create(program, f"{top}/whole")
+        started = time.time()
+        subprocess.run(importing(program, f"{top}/whole", export), check=True)
+        seconds = time.time() - started
+        wanted = answers(program, f"{top}/whole")
+        if f"state {-(-given.rows // 4096)} {given.rows} 0 0\n".encode() not in wanted:
+            sys.exit(f"not all rows were imported: {wanted[:60]!r}")
+        kills = 0
+        for run in range(given.runs):
+            folder = f"{top}/run-{run}"
+            create(program, folder)
+            kills += import_with_kills(program, folder, export, 1.5 * seconds, dice)
+            if answers(program, folder) != wanted:
+                sys.exit(f"run {run}: the warehouse differs")
+        print(f"{given.runs} imports of {given.rows} rows, killed {kills} times: the same warehouse each time")
+
+
+main()
