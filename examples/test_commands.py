@@ -7,6 +7,7 @@ The warehouse is made from a script by `focusd run --dir`. What reports and line
 made of that here, by Python's decimal.
 """
 import decimal
+import json
 import pathlib
 import subprocess
 import sys
@@ -176,6 +177,70 @@ class Commands(unittest.TestCase):
             self.assertEqual((status, said), (0, ""), words)
             self.assertIn("Example", printed, words)
         self.assertEqual(focusd("--version")[0], 0)
+
+
+class Files(unittest.TestCase):
+    """Import and check, over the shipped export."""
+
+    EXPORT = HERE / "focus-export.csv"
+    SEPTEMBER = ("--tag", "team", "--from", "2024-09", "--to", "2024-10", "--format", "csv")
+
+    def setUp(self):
+        made = tempfile.TemporaryDirectory()
+        self.addCleanup(made.cleanup)
+        self.folder = made.name
+        status, _, said = focusd("run", "--dir", self.folder, "--create")
+        self.assertEqual((status, said), (0, ""))
+
+    def imported(self, file):
+        return focusd("import", "--quiet", "--dir", self.folder, "--origin", "aws", str(file))
+
+    def report(self):
+        return focusd("report", "--dir", self.folder, *self.SEPTEMBER)[1]
+
+    def test_an_import_is_taken_once(self):
+        export = self.EXPORT.read_bytes()
+        lines = export.count(b"\n")
+        kept = warehouse_of(b"post aws 1 %d\n" % lines + export)
+        wanted = kept.report("team", "2024-09-01T00:00Z", "2024-10-01T00:00Z").split("\n", 1)[1]
+        for _ in range(2):
+            self.assertEqual(self.imported(self.EXPORT)[0], 0)
+            self.assertEqual(self.report(), wanted)
+
+    def test_a_file_that_changed_is_refused(self):
+        self.assertEqual(self.imported(self.EXPORT)[0], 0)
+        before = self.report()
+        changed = pathlib.Path(self.folder).parent / (pathlib.Path(self.folder).name + ".csv")
+        self.addCleanup(changed.unlink)
+        records = list(expected.csv.reader(self.EXPORT.read_text(encoding="utf-8-sig").splitlines(keepends=True)))
+        cost = records[0].index("BilledCost")
+        records[7][cost] = "1" + records[7][cost].lstrip("-")
+        with open(changed, "w", newline="", encoding="utf-8") as out:
+            expected.csv.writer(out).writerows(records)
+        status, _, said = self.imported(changed)
+        self.assertEqual(status, 1)
+        self.assertIn("has other rows", said)
+        self.assertEqual(self.report(), before)
+
+    def test_check_finds_what_was_planted(self):
+        records = list(expected.csv.reader(self.EXPORT.read_text(encoding="utf-8-sig").splitlines(keepends=True)))
+        planted = {}
+        plants = (("ChargeCategory", "Rent", "V3"), ("BilledCost", "1.2.3", "V5"), ("ChargePeriodStart", "soon", "V7"), ("Tags", "[1]", "V12"))
+        for number, record in enumerate(records[1:]):
+            for place, (column, text, code) in enumerate(plants):
+                if number % (place + 5) == 0:
+                    record[records[0].index(column)] = text
+                    planted[code, column] = planted.get((code, column), 0) + 1
+        file = pathlib.Path(self.folder).parent / (pathlib.Path(self.folder).name + ".csv")
+        self.addCleanup(file.unlink)
+        with open(file, "w", newline="", encoding="utf-8") as out:
+            expected.csv.writer(out).writerows(records)
+        status, printed, _ = focusd("check", "--format", "json", str(file))
+        self.assertEqual(status, 1)
+        found = json.loads(printed)
+        self.assertEqual({(it["code"].split()[0], it["column"]): it["count"] for it in found["findings"]}, planted)
+        self.assertEqual(found["records"], len(records) - 1)
+        self.assertEqual(focusd("check", str(self.EXPORT))[0], 0)
 
 
 if __name__ == "__main__":
