@@ -29,7 +29,7 @@ pub enum Event {
     View {
         analyst: usize,
     },
-    /// An analyst is told of a receipt: the one at a place, counted from 0, of what an earlier event answered. The events are
+    /// An analyst learns of a receipt: the one at a place, counted from 0, of what an earlier event answered. The events are
     /// counted from 0 too.
     Learn {
         analyst: usize,

@@ -307,7 +307,7 @@ fn what_is_appended_is_replayed(rt: HostRuntime) -> Result<(), Fail> {
 /// The calls until an empty log is open: a write, a sync, and the read of its gate.
 const OPENING: u64 = 3;
 
-/// Whether an append on a device that fails from then on is told so, and each later one that an append has failed.
+/// Whether an append on a device that fails from then on returns `Device`, and each later one `Failed`.
 fn is_failure_told(alloc: Global, volume: &mut FaultVolume<MemVolume>) -> Result<bool, LogFault> {
     let mut log = opened(volume, &EMPTY_LOG, 44)?;
     let sound = !log.has_failed();
