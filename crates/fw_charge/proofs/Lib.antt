@@ -1,3 +1,4 @@
 pub mod TagFacts
 pub mod Fitting
 pub mod CodeFacts
+pub mod ChargeFacts

@@ -6,5 +6,4 @@ mod RowFacts
 mod JoinFacts
 mod GroupFacts
 mod AddFacts
-mod ChargeFacts
 pub mod LendingFacts

@@ -4,7 +4,7 @@ use Rattle.std.specs.Prelude.{option_map, option_to_list, is_some, ℤ, pos, nat
 use Rattle.std.proofs.lemmas.List.{get_or-map, length-map}
 use Rattle.std.proofs.lemmas.List.FromFn.{fill_by_all}
 use Rattle.fw_charge.specs.Tags.{TagText}
-use Rattle.fw_columns.proofs.ChargeFacts.{equal_fields}
+use Rattle.fw_charge.proofs.ChargeFacts.{equal_fields}
 use Rattle.fw_charge.specs.Charge.{Charge, DiscountText}
 use Rattle.fw_charge.specs.declared.category.Category.{Category}
 use Rattle.fw_charge.specs.declared.discount.DiscountStatus.{DiscountStatus}

@@ -10,4 +10,3 @@ mod CellFacts
 pub mod MakingFacts
 mod RowFacts
 pub mod OneReading
-mod ChargeFacts

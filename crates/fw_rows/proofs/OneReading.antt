@@ -2,7 +2,7 @@
 use Rattle.std.proofs.Common.{◌≡◌, ◌≢◌, ℕ, ℤ, suc, ◌<◌, List, [], ◌∷◌, ◌++◌, length, Option, Some, None, Result, Ok, Err, refl, sym, ap, ◌∙◌, arith, length-append, subst, Bool, inl, inr}
 use Rattle.std.specs.Prelude.{MatchOption}
 use Rattle.std.specs.List.{AllZip, All}
-use Rattle.fw_rows.proofs.ChargeFacts.{equal_fields}
+use Rattle.fw_charge.proofs.ChargeFacts.{equal_fields}
 use Rattle.fw_charge.specs.Charge.{Charge, DiscountText}
 use Rattle.fw_charge.specs.Codes.{category_word, class_word, status_word}
 use Rattle.fw_charge.proofs.CodeFacts.{category_word-one, class_word-one, kind_word-one, status_word-one}

@@ -3,7 +3,7 @@ use Rattle.std.specs.Prelude.{ℤ, pos, nat_abs}
 use Rattle.std.proofs.lemmas.List.{get_or_read}
 use Rattle.std.proofs.lemmas.List.Elements.{All-same}
 use Rattle.std.proofs.lemmas.Option.{get_or_from_slice_get}
-use Rattle.fw_columns.proofs.ChargeFacts.{equal_fields}
+use Rattle.fw_charge.proofs.ChargeFacts.{equal_fields}
 use Rattle.fw_charge.specs.Tags.{IsTags}
 use Rattle.fw_columns.specs.Table.{charge_at, category_at, class_at, text_of, discount_of, quantity_of, tags_of, list_at}
 use Rattle.fw_columns.proofs.reading.fields_at.Goals as goal
