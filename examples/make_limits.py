@@ -6,9 +6,13 @@
 A post that is written in 4,194,304 bytes, which is the most, and one of a byte more; one of 4,096 rows, and one of a row more, which
 is looked at no further, and one whose third row is wrong; 256 commitments, and one more; and entries that are sent twice or out of turn.
 
+Two posts have rows of 256 tags, which is the most: one as many rows as may be, which are read and then too many bytes for an entry,
+and one as many as an entry has room for.
+
 Two of the commitments have all that one may have: 26,304 hours, 256 SKUs or rates, 256 tags and 64 purchases. Rows of 256 tags
-use them. Reports and lines are over 26,304 hours, which is the most, under policies of 64 rules: each with weights for 256 groups,
-and then each in proportion; and one report is asked for over an hour more.
+use them. All others run in one hour, and rows of that hour are enough for each of them. Reports and lines are over 26,304 hours, which
+is the most, under policies of 64 rules: each with weights for 256 groups, and then each in proportion; and one report is asked for over
+an hour more. The last questions come after a checkpoint, so that they can be asked once more of a warehouse that is opened again.
 """
 import sys
 
@@ -50,6 +54,26 @@ def posts_of_many_rows():
     """As many rows as may be; one more, of too few fields; and a wrong third row before as many as may be."""
     most, wrong = [row(1)] * MOST_ROWS, row(1).replace("Tax", "Taxes")
     return [post_of_rows(1, most), post_of_rows(2, [*most, "x"]), post_of_rows(2, [row(1), row(1), wrong, *most])]
+
+
+def wide_row():
+    """A row of as many tags as there may be."""
+    tags = ",".join(f'""{tag:x}"":""""' for tag in range(MOST_TAGS))
+    return row(1).rsplit(",", 1)[0] + f',"{{{tags}}}"'
+
+
+def posts_of_wide_rows():
+    """As many rows as may be, of as many tags each: more bytes than an entry has room for; and as many as it has room for."""
+    tags = sum(8 + len(f"{tag:x}") for tag in range(MOST_TAGS))
+    room = (MOST_BYTES - ENTRY - len("rows")) // (ROW - 8 - len("k") + tags)
+    return [post_of_rows(2, [wide_row()] * MOST_ROWS), post_of_rows(2, [wide_row()] * (room + 1)), post_of_rows(2, [wide_row()] * room)]
+
+
+def rows_for_all(number):
+    """A post of rows that are enough for every commitment of one hour, with something left."""
+    lines = [f"{HEADER.replace('Tags', 'ConsumedQuantity,ConsumedUnit,SkuId')}"]
+    lines += [f"{place}.75,{place}.5,USD,Usage,2024-01-01T00:00Z,2024-01-01T01:00Z,2.51,Hours,vm" for place in range(102)]
+    return f"post all {number} {len(lines)}\n" + "\n".join(lines) + "\n"
 
 
 def commitment(number):
@@ -111,7 +135,8 @@ def at_most_hours():
     """What can be asked at most, and a report over an hour more."""
     longest = "2024-01-01T00:00Z 2027-01-01T00:00Z\n"
     ask = [f"report team {longest}", policy(1, weights), f"report team {longest}", policy(2, lambda _: "proportional = true")]
-    return [rows_of_teams(1), *ask, f"report team {longest}", f"lines {longest}", "report team 2024-01-01T00:00Z 2027-01-01T01:00Z\n"]
+    last = [f"report team {longest}", f"lines {longest}", "report team 2024-01-01T00:00Z 2027-01-01T01:00Z\n"]
+    return [rows_of_teams(1), rows_for_all(1), *ask, "checkpoint\n", *last]
 
 
 def main():
@@ -119,7 +144,7 @@ def main():
         print(__doc__)
         return 0 if sys.argv[1] in ("-h", "--help") else 2
     script = [post(1, MOST_BYTES), post(2, MOST_BYTES + 1), post(1, MOST_BYTES), post(3, MOST_BYTES)]
-    script += posts_of_many_rows()
+    script += [*posts_of_many_rows(), *posts_of_wide_rows()]
     script += [widest(1), widest(2)]
     script += [commitment(number) for number in range(3, MOST_COMMITMENTS + 2)]
     script += [commitment(MOST_COMMITMENTS), commitment(MOST_COMMITMENTS + 2), "state\n"]

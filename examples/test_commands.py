@@ -134,7 +134,7 @@ class Commands(unittest.TestCase):
             damaged = file.read_bytes()
             status, printed, said = focusd("verify", "--dir", folder)
             self.assertEqual((status, printed), (1, ""))
-            self.assertTrue(said.startswith("focusd: S2 Corrupt\n"), said)
+            self.assertEqual(said, f"focusd: S2 Corrupt\n{folder}/left: damaged at byte 1\n")
             self.assertEqual(file.read_bytes(), damaged)
 
     def test_explain(self):
@@ -157,6 +157,9 @@ class Commands(unittest.TestCase):
             (("report", "--dir", self.folder, "--tag", "t", "--from", "2024-02", "--to", "2024-01"), 2, "--from"),
             (("report", "--dir", self.folder, "--from", "2024-01", "--to", "2024-02"), 2, "--tag"),
             (("report", "--dir", self.folder + "/none", "--tag", "t", *MONTH), 1, "K1 Io"),
+            # A range without an hour is refused before the folder is looked at.
+            (("report", "--dir", self.folder + "/none", "--tag", "t", "--from", "2024-02", "--to", "2024-01"), 2, "Q1 Range"),
+            (("lines", "--dir", self.folder + "/none", "--from", "2024-01", "--to", "2024-01"), 2, "Q1 Range"),
             (("status",), 2, "--dir"),
             (("lines", "--dir", self.folder, "--from", "2000-01", "--to", "2024-01"), 2, "26,304"),
         ):
@@ -172,7 +175,7 @@ class Commands(unittest.TestCase):
             self.assertEqual((run.stderr.read(), run.wait()), (b"", 0))
 
     def test_help_and_version(self):
-        for words in ((), ("report",), ("lines",), ("status",), ("verify",), ("checkpoint",), ("explain",)):
+        for words in ((), ("run",), ("import",), ("check",), ("report",), ("lines",), ("status",), ("verify",), ("checkpoint",), ("explain",)):
             status, printed, said = focusd(*words, "--help")
             self.assertEqual((status, said), (0, ""), words)
             self.assertIn("Example", printed, words)
@@ -206,6 +209,25 @@ class Files(unittest.TestCase):
         for _ in range(2):
             self.assertEqual(self.imported(self.EXPORT)[0], 0)
             self.assertEqual(self.report(), wanted)
+
+    def test_an_import_creates_a_warehouse_where_none_is(self):
+        with tempfile.TemporaryDirectory() as folder:
+            words = ("import", "--quiet", "--dir", folder, "--origin", "aws", str(self.EXPORT))
+            status, printed, said = focusd(*words)
+            self.assertEqual((status, printed, said), (1, "", "focusd: S1 NoHouse\n"))
+            for said in ("imported 300 rows, 0 were there already; 1 post\n", "imported 0 rows, 300 were there already; 1 post\n"):
+                self.assertEqual(focusd(*words, "--create"), (0, said, ""))
+            self.assertEqual(focusd(*words, "--create", "--currency", "dollars")[0], 2)
+            self.assertEqual(self.imported(self.EXPORT)[0], 0)
+            self.assertEqual(focusd("report", "--dir", folder, *self.SEPTEMBER)[1], self.report())
+
+    def test_a_new_warehouse_has_the_currency_that_was_named(self):
+        with tempfile.TemporaryDirectory() as folder:
+            words = ("import", "--quiet", "--dir", folder, "--origin", "aws", "--create", "--currency", "EUR", str(self.EXPORT))
+            status, _, said = focusd(*words)
+            self.assertEqual(status, 1)
+            self.assertIn("BillingCurrency", said)
+            self.assertIn(["Currency", "EUR"], [line.split() for line in focusd("status", "--dir", folder)[1].splitlines()])
 
     def test_a_file_that_changed_is_refused(self):
         self.assertEqual(self.imported(self.EXPORT)[0], 0)

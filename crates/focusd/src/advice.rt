@@ -1,4 +1,4 @@
-//! What a person can do about a fault: a further line on standard error, where that is a terminal.
+//! What a person can do about a fault: a further line on standard error.
 use crate::failed;
 use crate::fault::Fault;
 use fw_disk::{FolderFault, Side};
@@ -8,11 +8,30 @@ use std::process::ExitCode;
 
 /// The status of what was done with a folder. A fault is printed, and what helps where standard error is a terminal.
 pub(crate) fn advised(rt: &HostRuntime, folder: &str, done: Result<ExitCode, Fault>) -> ExitCode {
+    status_of(rt, folder, done, rt.stderr().is_terminal())
+}
+
+/// The status of what was done with a folder. A fault is printed, and what helps.
+pub(crate) fn always_advised(
+    rt: &HostRuntime,
+    folder: &str,
+    done: Result<ExitCode, Fault>,
+) -> ExitCode {
+    status_of(rt, folder, done, true)
+}
+
+// The status of what was done with a folder. A fault is printed, and also what helps, where that is wanted.
+fn status_of(
+    rt: &HostRuntime,
+    folder: &str,
+    done: Result<ExitCode, Fault>,
+    advises: bool,
+) -> ExitCode {
     match done {
         Ok(status) => status,
         Err(fault) => {
             let status = failed(rt, &fault);
-            if rt.stderr().is_terminal() {
+            if advises {
                 let _ = print_advice(rt, folder, &fault);
             }
             status

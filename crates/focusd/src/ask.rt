@@ -1,5 +1,5 @@
 //! Questions to the warehouse of a folder.
-use crate::advice::advised;
+use crate::advice::{advised, always_advised};
 use crate::command_line::DIR;
 use crate::fault::Fault;
 use crate::output::print_answer;
@@ -9,11 +9,15 @@ use fw_recover::Store;
 use fw_views::{Question, answer};
 use std::process::ExitCode;
 
-/// Opens the warehouse of the folder that the options name, and prints its answer to a question.
+/// Opens the warehouse of the folder that the options name, and prints its answer to a question. What `verify` finds is printed whole
+/// also where nobody looks at a terminal.
 pub(crate) fn ask(rt: &HostRuntime, options: &ArgMatches<'_>, question: &Question<'_>) -> ExitCode {
     let folder = options.get_str(DIR).unwrap_or("");
     let asked = answer_in(rt, folder, question).and_then(|text| print_answer(rt, text.as_slice()));
-    advised(rt, folder, asked)
+    match question {
+        Question::Verify => always_advised(rt, folder, asked),
+        _ => advised(rt, folder, asked),
+    }
 }
 
 // The answer of the warehouse of a folder.

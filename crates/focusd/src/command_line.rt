@@ -1,10 +1,17 @@
 //! The command line, and what its help says.
 use crate::commands::{check, checkpoint, explain, import, lines, report, run, status, verify};
-use clap::{Arg, Command};
+use clap::{Arg, ArgAction, ArgMatches, Command};
+use fw_rows::Currency;
 use std::alloc::{AllocError, Global};
 
 /// The id of the option that names the folder of the warehouse.
 pub(crate) const DIR: &str = "dir";
+
+/// The id of the option that names the currency.
+const CURRENCY: &str = "currency";
+
+/// The id of the option that creates the warehouse.
+pub(crate) const CREATE: &str = "create";
 
 /// The version, which `--version` prints: the first number changes with what the program reads or writes.
 const VERSION: &str = "0.1.0";
@@ -31,6 +38,29 @@ const EXAMPLE: &str = "Example:
 /// The option that names the folder of the warehouse.
 pub(crate) fn dir_option<'a>(alloc: Global) -> Arg<'a> {
     Arg::new(alloc, DIR).long("dir").value_name("DIR")
+}
+
+/// The option that names the currency of a warehouse that is created.
+pub(crate) fn currency_option<'a>(alloc: Global) -> Arg<'a> {
+    Arg::new(alloc, CURRENCY)
+        .long("currency")
+        .value_name("CUR")
+        .default_value("USD")
+        .help("The currency of all costs, where a warehouse is created: three capital letters")
+}
+
+/// The option that creates the warehouse.
+pub(crate) fn create_option<'a>(alloc: Global, help: &'a str) -> Arg<'a> {
+    Arg::new(alloc, CREATE)
+        .long("create")
+        .action(ArgAction::SetTrue)
+        .help(help)
+}
+
+/// The currency that the options name.
+pub(crate) fn read_currency(options: &ArgMatches<'_>) -> Option<Currency> {
+    let text = options.get_str(CURRENCY).unwrap_or("USD");
+    Currency::new(text.as_bytes())
 }
 
 /// A command that takes a folder alone.

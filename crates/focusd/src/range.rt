@@ -1,7 +1,8 @@
 //! The range of time of a question: the options `--from` and `--to`.
+use crate::fault::Fault;
 use clap::{Arg, ArgMatches};
 use fw_calendar::read_time;
-use std::alloc::{AllocError, Global};
+use std::alloc::Global;
 use std::process::ExitCode;
 
 /// The id of the option that says when the range begins.
@@ -20,13 +21,15 @@ pub(crate) fn time_option<'a>(alloc: Global, id: &'a str, help: &'a str) -> Arg<
 }
 
 /// The first hour of the range and the hour after the last, counted from 1970, or the id of the option that is no time.
+/// `Range` where the range has no hour, which is said before a warehouse is opened.
 pub(crate) fn read_range(
     alloc: Global,
     options: &ArgMatches<'_>,
-) -> Result<Result<(u64, u64), &'static str>, AllocError> {
+) -> Result<Result<(u64, u64), &'static str>, Fault> {
     let from = read_time(alloc, options.get_str(FROM).unwrap_or(""))?;
     let to = read_time(alloc, options.get_str(TO).unwrap_or(""))?;
     match (from, to) {
+        (Some(from), Some(to)) if to <= from => Err(Fault::Range),
         (Some(from), Some(to)) => Ok(Ok((from, to))),
         (None, _) => Ok(Err(FROM)),
         (_, None) => Ok(Err(TO)),

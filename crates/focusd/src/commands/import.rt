@@ -1,8 +1,9 @@
 //! `focusd import`: CSV exports of any length are taken into a warehouse.
 use crate::advice::advised;
-use crate::command_line::{DIR, dir_option};
+use crate::command_line::{CREATE, DIR, create_option, currency_option, dir_option, read_currency};
 use crate::fault::Fault;
 use crate::progress::Progress;
+use crate::wrong_use;
 use clap::{Arg, ArgAction, ArgMatches, Command};
 use fw_check::{line_feeds, locate};
 use fw_cut::{CutFault, Cutter, Part};
@@ -10,7 +11,7 @@ use fw_disk::{FileVolume, Volume};
 use fw_entry::EntryFault;
 use fw_import::{ImportFault, Outcome, import_part};
 use fw_recover::{Store, StoreFault};
-use fw_rows::RowFault;
+use fw_rows::{Currency, RowFault};
 use fw_snapshot::Conflict;
 use std::alloc::{AllocError, Global};
 use std::fs;
@@ -34,8 +35,8 @@ An import that was stopped goes on where it stopped: run it again with the same 
 compared with the file; where they differ, as when a file has changed, the import stops and says so. A post is taken whole
 or not at all, and it is on the disk, by the word of the system, before the next one is read.
 
-Example: an export, and one that is compressed
-  focusd import --dir costs --origin aws-2024-01 january.csv
+Example: an export into a new warehouse, and one that is compressed
+  focusd import --dir costs --create --origin aws-2024-01 january.csv
   zcat february.csv.gz | focusd import --dir costs --origin aws-2024-02 -
 
 Exit status: 0 where all rows are in the warehouse, 1 where a file or the warehouse was refused or failed, 2 where the command
@@ -66,6 +67,11 @@ pub(crate) fn command<'a>(alloc: Global) -> Result<Command<'a>, AllocError> {
                 .required(true)
                 .help("The folder of the warehouse"),
         )?
+        .arg(create_option(
+            alloc,
+            "Creates a warehouse where the folder, which has to be there, holds none",
+        ))?
+        .arg(currency_option(alloc))?
         .arg(origin)?
         .arg(quiet)?
         .arg(files)
@@ -85,23 +91,44 @@ struct Standing<'a> {
 
 /// Imports the files that the options name.
 pub(crate) fn run(rt: &HostRuntime, options: &ArgMatches<'_>) -> Result<ExitCode, Fault> {
+    let Some(currency) = read_currency(options) else {
+        return Ok(wrong_use(rt, "currency"));
+    };
     let folder = options.get_str(DIR).unwrap_or("");
-    let done = import_files(rt, folder, options);
+    let done = import_files(rt, folder, currency, options);
     Ok(advised(rt, folder, done))
+}
+
+// Opens the warehouse of a folder. Where there is none, and one may be created, it creates it.
+fn open_or_create(
+    rt: &HostRuntime,
+    folder: &str,
+    creates: bool,
+    currency: Currency,
+) -> Result<Store<FileVolume>, Fault> {
+    let alloc = rt.alloc();
+    match Store::open(alloc, FileVolume::open(rt, folder)?) {
+        Ok(store) => Ok(store),
+        Err((volume, fault)) => {
+            if !creates || fault != StoreFault::NoHouse {
+                return Err(Fault::Store(fault));
+            }
+            match Store::create(alloc, volume, currency) {
+                Ok(store) => Ok(store),
+                Err((_, fault)) => Err(Fault::Store(fault)),
+            }
+        }
+    }
 }
 
 // Imports the files into the warehouse of a folder.
 fn import_files(
     rt: &HostRuntime,
     folder: &str,
+    currency: Currency,
     options: &ArgMatches<'_>,
 ) -> Result<ExitCode, Fault> {
-    let alloc = rt.alloc();
-    let volume = FileVolume::open(rt, folder)?;
-    let mut store = match Store::open(alloc, volume) {
-        Ok(store) => store,
-        Err((_, fault)) => return Err(Fault::Store(fault)),
-    };
+    let mut store = open_or_create(rt, folder, options.get_flag(CREATE), currency)?;
     let mut standing = Standing {
         origin: options.get_str(ORIGIN).unwrap_or(""),
         number: 1,
@@ -118,7 +145,10 @@ fn import_files(
     let added = standing.added;
     let same = standing.same;
     let posts = standing.number.saturating_sub(1);
-    let _ = println!(rt; "imported {added} rows, {same} were there already; {posts} posts");
+    let rows = if added == 1 { "row" } else { "rows" };
+    let were = if same == 1 { "was" } else { "were" };
+    let entries = if posts == 1 { "post" } else { "posts" };
+    let _ = println!(rt; "imported {added} {rows}, {same} {were} there already; {posts} {entries}");
     Ok(ExitCode::SUCCESS)
 }
 

@@ -1,9 +1,9 @@
 //! `focusd run`: a script is read from standard input and answered.
 use crate::advice::advised;
-use crate::command_line::{DIR, dir_option};
+use crate::command_line::{CREATE, DIR, create_option, currency_option, dir_option, read_currency};
 use crate::fault::Fault;
 use crate::wrong_use;
-use clap::{Arg, ArgAction, ArgMatches, Command};
+use clap::{ArgMatches, Command};
 use fw_disk::{Choice, FileVolume, MemVolume, Volume};
 use fw_recover::{Store, StoreFault};
 use fw_rows::Currency;
@@ -11,12 +11,6 @@ use fw_serve::serve;
 use std::alloc::{AllocError, Global};
 use std::io::{BufWriter, LineWriter, Write};
 use std::process::ExitCode;
-
-/// The id of the option that names the currency.
-const CURRENCY: &str = "currency";
-
-/// The id of the option that creates the warehouse.
-const CREATE: &str = "create";
 
 /// How many bytes of answers are written at once.
 const OUTPUT_BUFFER: usize = 64 * 1024;
@@ -51,34 +45,31 @@ With --dir the warehouse is kept in two files of the folder, `left` and `right`.
 on the disk, by the word of the system. Only one program at a time can have the folder open.
 
 Exit status: 0 where the script was served, 1 where the folder, reading, writing or memory failed (with one line `focusd: CODE
-NAME` on standard error), 2 where the command line is wrong.";
+NAME` on standard error), 2 where the command line is wrong.
+
+Example: what a script has is kept in a folder, and the answers in a file
+  focusd run --dir costs --create < october.script > october.answers";
 
 /// The command's part of the command line.
 pub(crate) fn command<'a>(alloc: Global) -> Result<Command<'a>, AllocError> {
-    let currency = Arg::new(alloc, CURRENCY)
-        .long("currency")
-        .value_name("CUR")
-        .default_value("USD")
-        .help("The currency of all costs, where a warehouse is created: three capital letters");
     let folder = dir_option(alloc).help(
         "The folder of the warehouse, which has to be there; without it the warehouse is in memory",
     );
-    let create = Arg::new(alloc, CREATE)
-        .long("create")
-        .action(ArgAction::SetTrue)
-        .help("Creates the warehouse in the folder; without --dir it changes nothing");
+    let create = create_option(
+        alloc,
+        "Creates the warehouse in the folder; without --dir it changes nothing",
+    );
     Command::new(alloc, "run")
         .about("Reads a script from standard input and prints the answers")
         .after_help(SCRIPT)
-        .arg(currency)?
+        .arg(currency_option(alloc))?
         .arg(folder)?
         .arg(create)
 }
 
 /// Opens or creates the warehouse that the options name, and serves the script on standard input from it.
 pub(crate) fn run(rt: &HostRuntime, options: &ArgMatches<'_>) -> Result<ExitCode, Fault> {
-    let text = options.get_str(CURRENCY).unwrap_or("USD");
-    let Some(currency) = Currency::new(text.as_bytes()) else {
+    let Some(currency) = read_currency(options) else {
         return Ok(wrong_use(rt, "currency"));
     };
     match options.get_str(DIR) {
