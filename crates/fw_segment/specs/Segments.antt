@@ -1,7 +1,8 @@
 -- Segments: rows that are stored together.
-use Rattle.std.specs.Prelude.{◌<◌, ◌≤◌, ℕ, zero, suc, List, [], ◌∷◌, length, All, Err}
+use Rattle.std.specs.Prelude.{◌<◌, ◌≤◌, ℕ, zero, suc, List, [], ◌∷◌, length, nat_lt, if◌then◌else◌, All, Ok, Err}
+use Rattle.std.specs.Int.{w32}
 use Rattle.fw_bytes.specs.Spelling.{listed}
-use Rattle.fw_bytes.specs.Reading.{Reading, list_at}
+use Rattle.fw_bytes.specs.Reading.{Reading, ◌>>=◌, list_at, number_at}
 use Rattle.fw_charge.specs.Charge.{Charge}
 use Rattle.fw_charge.specs.Spelling.{row, IsRow}
 use Rattle.fw_row_bytes.specs.Reading.{row_at}
@@ -27,3 +28,16 @@ segment_at [] = Err 0
 segment_at (zero ∷ rest) = Err (suc (length rest))
 segment_at (suc zero ∷ rest) = list_at 1 most_segment_rows row_at rest
 segment_at (suc (suc layout) ∷ rest) = Err (suc (length rest))
+
+-- how many rows there are: 1 to 65,536
+unfoldable pub count_at : Reading ℕ
+count_at bytes = do
+  n ← number_at w32 bytes
+  if nat_lt n.0 1 then Err (length bytes) else (if nat_lt most_segment_rows n.0 then Err (length bytes) else Ok n)
+
+-- the same behind the layout: where the rows of a segment begin
+unfoldable pub row_count_at : Reading ℕ
+row_count_at [] = Err 0
+row_count_at (zero ∷ rest) = Err (suc (length rest))
+row_count_at (suc zero ∷ rest) = count_at rest
+row_count_at (suc (suc layout) ∷ rest) = Err (suc (length rest))

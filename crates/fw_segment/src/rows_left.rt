@@ -1,59 +1,81 @@
 //! The rows of segments, read and taken from the front.
-ghost use Rattle.std.specs.Prelude.{◌≡◌, ◌+◌, ◌<◌, length, IfOk, IfErr, OnOk};
+ghost use Rattle.std.specs.Prelude.{◌≡◌, ◌≤◌, ◌+◌, ◌<◌, ◌∷◌, [], false, nat_lt, IfOk, IfErr, OnOk};
 ghost use Rattle.fw_bytes.specs.Reading.{Fails};
-ghost use Rattle.fw_segment.specs.RowsLeft.{behind, rows_left, segments_at, AreReadOut, AreTaken};
+ghost use Rattle.fw_segment.specs.RowsLeft.{behind, most_left, rows_left, segments_at, AreReadOut, AreTaken};
 
-use crate::segments::rows_of_segment;
+use crate::segments::row_count_of;
 use fw_bytes::ReadError;
 use fw_charge::Row;
+use fw_row_bytes::row_of;
 use std::alloc::Global;
-use std::collections::VecDeque;
 
-/// The rows of segments that aren't taken yet, in order. A segment is read once a row of it is asked for, so no more rows are held than those of
-/// one segment.
+/// The rows of segments that aren't taken yet, in order. A row is read once it is asked for: none is held here.
 #[derive(Drop)]
 pub struct RowsLeft<'a> {
-    // the rows that aren't taken of the segment that was read last
-    ready: VecDeque<Row>,
-    // how many segments aren't read yet
+    // how many rows of the segment that was begun last aren't read yet
+    rows: u32,
+    // how many segments aren't begun yet
     segments: u32,
-    // these segments, and what is behind them
+    // these rows, these segments, and what is behind them
     bytes: &'a [u8],
 }
 
 impl<'a> RowsLeft<'a> {
-    /// The rows of so many segments, which stand in front of the bytes: none is read yet. Takes no memory.
-    pub fn of(alloc: Global, segments: u32, bytes: &'a [u8]) -> RowsLeft<'a>
+    /// The rows of so many segments, which stand in front of the bytes: none is read yet.
+    pub fn of(segments: u32, bytes: &'a [u8]) -> RowsLeft<'a>
         ensures { rows_left result ≡ segments_at segments bytes.now }
     {
         RowsLeft {
-            ready: VecDeque::new(alloc),
+            rows: 0,
             segments,
             bytes,
         }
     }
 
-    /// The bytes behind the segments that were read.
+    /// The bytes behind what was read.
     pub fn bytes(&self) -> &'a [u8]
         ensures { result.now ≡ self.now.bytes.now }
     {
         self.bytes
     }
 
-    /// Reads the next segment. What was ready of the last one is let go.
-    fn read_next(&mut self, alloc: Global) -> Result<(), ReadError>
-        requires { 0 < self.old.segments }
-        ensures next { OnOk result (rows_left self.old ≡ behind self.old.ready.items (rows_left self.new)) }
-        ensures one_less { OnOk result (self.new.segments + 1 ≡ self.old.segments) }
-        ensures some { OnOk result (0 < length self.new.ready.items) }
+    /// Whether a row is left. Where the segment that was begun last has none, the next one is begun.
+    fn has_next(&mut self) -> Result<bool, ReadError>
+        ensures same { OnOk result (rows_left self.old ≡ rows_left self.new) }
+        ensures some { IfOk result (λ some. some ≡ nat_lt 0 self.new.rows) }
+        ensures none { IfOk result (λ some. some ≡ false → self.new.segments ≡ 0) }
+        ensures no_more { OnOk result (most_left self.new ≤ most_left self.old) }
         ensures fault { IfErr result (λ e. Fails e (rows_left self.old)) }
     {
-        match rows_of_segment(alloc, self.bytes) {
-            Ok((rows, rest)) => {
-                self.ready = VecDeque::from_vec(rows);
+        if self.rows > 0 {
+            return Ok(true);
+        }
+        if self.segments == 0 {
+            return Ok(false);
+        }
+        match row_count_of(self.bytes) {
+            Ok((count, rest)) => {
+                self.rows = count;
                 self.segments -= 1;
                 self.bytes = rest;
-                Ok(())
+                Ok(true)
+            }
+            Err(e) => Err(e),
+        }
+    }
+
+    /// Reads the next row.
+    fn next_row(&mut self, alloc: Global) -> Result<Row, ReadError>
+        requires { 0 < self.old.rows }
+        ensures row { IfOk result (λ row. rows_left self.old ≡ behind (row ∷ []) (rows_left self.new)) }
+        ensures one_less { OnOk result (most_left self.new + 1 ≡ most_left self.old) }
+        ensures fault { IfErr result (λ e. Fails e (rows_left self.old)) }
+    {
+        match row_of(alloc, self.bytes) {
+            Ok((row, rest)) => {
+                self.rows -= 1;
+                self.bytes = rest;
+                Ok(row)
             }
             Err(e) => Err(e),
         }
@@ -66,27 +88,23 @@ impl<'a> RowsLeft<'a> {
     {
         let mut front = Vec::new(alloc);
         while front.len() < count {
-            match self.ready.pop_front() {
-                Some(row) => front.push(row)?,
-                None => {
-                    if self.segments == 0 {
-                        return Ok(front);
-                    }
-                    self.read_next(alloc)?;
-                }
+            if !self.has_next()? {
+                return Ok(front);
             }
+            let row = self.next_row(alloc)?;
+            front.push(row)?;
         }
         Ok(front)
     }
 
-    /// Reads all segments that are left, and answers whether a row was.
+    /// Reads all rows that are left, and answers whether one was.
     pub fn read_out(&mut self, alloc: Global) -> Result<bool, ReadError>
         ensures out { IfOk result (λ some. AreReadOut some self.old self.new) }
         ensures fault { IfErr result (λ e. Fails e (rows_left self.old)) }
     {
-        let mut some = !self.ready.is_empty();
-        while self.segments > 0 {
-            self.read_next(alloc)?;
+        let mut some = false;
+        while self.has_next()? {
+            self.next_row(alloc)?;
             some = true;
         }
         Ok(some)

@@ -1,12 +1,12 @@
 //! The readers and the writer of segments.
-ghost use Rattle.std.specs.Prelude.{◌≡◌, ◌++◌, OnOk};
+ghost use Rattle.std.specs.Prelude.{◌≡◌, ◌<◌, ◌≤◌, ◌++◌, IfOk, OnOk};
 ghost use Rattle.fw_bytes.specs.Reading.{Gives};
 ghost use Rattle.fw_bytes.specs.Spelling.{listed};
 ghost use Rattle.fw_charge.specs.Spelling.{row};
-ghost use Rattle.fw_segment.specs.Segments.{segment, segment_at, IsSegment};
+ghost use Rattle.fw_segment.specs.Segments.{count_at, most_segment_rows, row_count_at, segment, segment_at, IsSegment};
 
 use crate::kind::Kind;
-use fw_bytes::{ReadError, put_byte, put_u32};
+use fw_bytes::{ReadError, put_byte, put_u32, u32_at};
 use fw_charge::{Row, row_has_spelling};
 use fw_columns::Columns;
 use fw_row_bytes::{put_row, rows_of};
@@ -14,6 +14,33 @@ use std::alloc::{AllocError, Global};
 
 /// The most rows of a segment.
 const MOST_ROWS: u32 = 65_536;
+
+/// How many rows a segment has, and the bytes from its first row on.
+#[tactic(auto, unfolding(crate::specs::Segments::row_count_at))]
+pub fn row_count_of(bytes: &[u8]) -> Result<(u32, &[u8]), ReadError>
+    ensures read { Gives (λ x. (x.0, x.1.now)) result (row_count_at bytes.now) }
+    ensures some { IfOk result (λ x. 0 < x.0) }
+    ensures few { IfOk result (λ x. x.0 ≤ most_segment_rows) }
+{
+    match bytes {
+        [1, rest @ ..] => count_of(rest),
+        _ => Err(ReadError::Corrupt(bytes.len())),
+    }
+}
+
+/// A number of rows that a segment may have, and the bytes after it.
+#[tactic(auto, unfolding(crate::specs::Segments::count_at))]
+fn count_of(bytes: &[u8]) -> Result<(u32, &[u8]), ReadError>
+    ensures read { Gives (λ x. (x.0, x.1.now)) result (count_at bytes.now) }
+    ensures some { IfOk result (λ x. 0 < x.0) }
+    ensures few { IfOk result (λ x. x.0 ≤ most_segment_rows) }
+{
+    let (count, rest) = u32_at(bytes)?;
+    if count < 1 || count > MOST_ROWS {
+        return Err(ReadError::Corrupt(bytes.len()));
+    }
+    Ok((count, rest))
+}
 
 /// The rows of a segment, and the bytes after it.
 #[tactic(auto, unfolding(crate::specs::Segments::segment_at))]

@@ -53,12 +53,12 @@ struct Parts<'a> {
 
 /// The rows of segments behind their number. None is read yet.
 #[tactic(auto, unfolding(crate::specs::States::rows_at, crate::specs::RowsLeft::segments_at, fw_bytes::specs::Reading::list_at, fw_bytes::specs::Reading::seen))]
-fn rows_of(alloc: Global, bytes: &[u8]) -> Result<RowsLeft<'_>, ReadError>
+fn rows_of(bytes: &[u8]) -> Result<RowsLeft<'_>, ReadError>
     ensures rows { IfOk result (λ rows. rows_at bytes.now ≡ rows_left rows) }
     ensures fault { IfErr result (λ e. Fails e (rows_at bytes.now)) }
 {
     let (segments, rest) = u32_at(bytes)?;
-    Ok(RowsLeft::of(alloc, segments, rest))
+    Ok(RowsLeft::of(segments, rest))
 }
 
 /// The parts of a state, in order. No row is read yet.
@@ -71,7 +71,7 @@ fn parts_of(alloc: Global, form: Form, bytes: &[u8]) -> Result<Parts<'_>, ReadEr
     match currency_of(bytes) {
         Ok((currency, rest)) => {
             let (heads, rest) = heads_of(alloc, form, rest)?;
-            match rows_of(alloc, rest) {
+            match rows_of(rest) {
                 Ok(rows) => Ok(Parts {
                     currency,
                     heads,

@@ -1,4 +1,4 @@
-use Rattle.std.proofs.Common.{◌≡◌, ◌≤◌, ◌+◌, ◌-◌, length}
+use Rattle.std.proofs.Common.{◌≡◌, ◌≤◌, ◌-◌, length}
 use Rattle.fw_segment.specs.RowsLeft.{behind, rows_left}
 use Rattle.fw_segment.proofs.rows_left.RowsLeft.take_front.Given as goal
 
@@ -6,6 +6,6 @@ use Rattle.fw_segment.proofs.rows_left.RowsLeft.take_front.Given as goal
 abbrev pub invariant-loop-alloc : goal.invariant-loop-alloc
 invariant-loop-alloc l = (rows_left l.fn.self ≡ behind l.front.items (rows_left l.self)) × (length l.front.items ≤ l.count)
 
--- each turn takes a row, or reads a segment
+-- each turn takes a row
 abbrev pub decreases-loop-alloc : goal.decreases-loop-alloc
-decreases-loop-alloc l = (l.count - length l.front.items) + l.self.segments
+decreases-loop-alloc l = l.count - length l.front.items
