@@ -11,7 +11,7 @@ Every run proves every crate and its tests from nothing, runs them, and prints w
 sampled: they show that contracts have teeth, and what they show changes only with their own crate or with the toolchain.
 So after a change of toolchain every edit is due, and so it is where the commit of the last full run isn't in this clone.
 
-It leaves the built program in out/focusd, the built tests in out/tests/, and all that `rt ci` printed in out/gate.log.
+It leaves the built programs in out/focusd and out/fw_simulate, the built tests in out/tests/, and all that `rt ci` printed in out/gate.log.
 
 Exit status: that of `rt ci`; 2 where nothing could be run.
 """
@@ -33,6 +33,8 @@ from meter import Meter, table
 TOP = os.path.dirname(os.path.dirname(os.path.abspath(__file__)))
 # The record of the last full run: three lines, `commit`, `date` and `kit`.
 RECORD = "tools/last-full-run"
+# The crates that are programs: what is built of them is kept.
+PROGRAMS = ("focusd", "fw_simulate")
 # The crates that did not change are tried in so many parts, one a run.
 PARTS = 4
 # A line of `rt ci` that says no more than that all is well with one item.
@@ -222,13 +224,13 @@ def run_gate(room, log_path, of_program, number):
 
 
 def keep(room, out):
-    """Keeps the built program and the built tests."""
+    """Keeps the built programs and the built tests."""
     for name in sorted(os.listdir(os.path.join(room, "crates"))):
         made = os.path.join(room, "crates", name, "out")
         tests = os.path.join(made, f"{name}_tests")
         if os.path.isfile(tests):
             shutil.copy2(tests, os.path.join(out, "tests", name))
-        if name == "focusd" and os.path.isfile(os.path.join(made, name)):
+        if name in PROGRAMS and os.path.isfile(os.path.join(made, name)):
             shutil.copy2(os.path.join(made, name), os.path.join(out, name))
 
 
@@ -266,8 +268,9 @@ def main():
     out = os.path.join(top, "out")
     shutil.rmtree(os.path.join(out, "tests"), ignore_errors=True)
     os.makedirs(os.path.join(out, "tests"))
-    if os.path.exists(os.path.join(out, "focusd")):
-        os.remove(os.path.join(out, "focusd"))
+    for program in PROGRAMS:
+        if os.path.exists(os.path.join(out, program)):
+            os.remove(os.path.join(out, program))
     with tempfile.TemporaryDirectory(prefix="focusd-gate-") as room:
         copy_tree(top, room, crates, reasons)
         if options.program:

@@ -1,0 +1,93 @@
+//! Entries by what a script says of them.
+ghost use Rattle.std.specs.Prelude.{IfOk};
+ghost use Rattle.fw_entry.specs.Spelling.{HasRowCount};
+ghost use Rattle.fw_entry.specs.View.{command_view};
+
+use crate::script::Fault;
+use fw_commitment::read_commitment;
+use fw_entry::Command;
+use fw_policy::read_policy;
+use fw_rows::{Currency, read_rows};
+use std::alloc::Global;
+
+/// The currency of all costs.
+pub(crate) const CURRENCY: &[u8] = b"USD";
+
+/// The most rows of a post.
+const MOST_ROWS: usize = 4_096;
+
+const HEADER: &str =
+    "BilledCost,EffectiveCost,BillingCurrency,ChargeCategory,ChargePeriodStart,ChargePeriodEnd,\
+CommitmentDiscountId,CommitmentDiscountCategory,CommitmentDiscountStatus\n";
+
+/// What a commitment has behind its id.
+const TERMS: &str = "category = \"Usage\"
+start = \"2024-01-01T00:00Z\"
+hours = 1
+capacity = \"1\"
+unit = \"Hours\"
+skus = [\"vm\"]
+[[purchase]]
+at = \"2024-01-01T00:00Z\"
+billed = \"1\"
+";
+
+/// So many rows, each of this cost and none of a commitment.
+pub(crate) fn rows_of_cost(alloc: Global, rows: usize, cost: &str) -> Result<Command, Fault>
+    ensures { IfOk result (λ command. HasRowCount (command_view command)) }
+{
+    let mut text = String::from_str(alloc, HEADER)?;
+    for _ in 0..rows {
+        text.push_str(cost)?;
+        text.push_str(",0,USD,Usage,2024-01-01T00:00Z,2024-01-01T01:00Z,,,\n")?;
+    }
+    post_of(alloc, text.as_bytes())
+}
+
+/// A row that names a commitment.
+pub(crate) fn row_of_commitment(alloc: Global, id: &str) -> Result<Command, Fault>
+    ensures { IfOk result (λ command. HasRowCount (command_view command)) }
+{
+    let row = "1,1,USD,Usage,2024-01-01T00:00Z,2024-01-01T01:00Z";
+    let text = format!(in alloc; "{HEADER}{row},{id},Usage,Used\n")?;
+    post_of(alloc, text.as_bytes())
+}
+
+// The post of the rows that a text has.
+fn post_of(alloc: Global, text: &[u8]) -> Result<Command, Fault>
+    ensures { IfOk result (λ command. HasRowCount (command_view command)) }
+{
+    let Some(currency) = Currency::new(CURRENCY) else {
+        return Err(Fault::Script);
+    };
+    let rows = match read_rows(alloc, text, currency) {
+        Ok(rows) => rows,
+        Err(_) => return Err(Fault::Script),
+    };
+    if rows.is_empty() || rows.len() > MOST_ROWS {
+        return Err(Fault::Script);
+    }
+    Ok(Command::Post(rows))
+}
+
+/// A commitment of this id.
+pub(crate) fn commitment_of(alloc: Global, id: &str) -> Result<Command, Fault>
+    ensures { IfOk result (λ command. HasRowCount (command_view command)) }
+{
+    let text = format!(in alloc; "id = \"{id}\"\n{TERMS}")?;
+    match read_commitment(alloc, text.as_bytes()) {
+        Ok(commitment) => Ok(Command::Commit(commitment)),
+        Err(_) => Err(Fault::Script),
+    }
+}
+
+/// A policy by this key, without rules.
+pub(crate) fn policy_of(alloc: Global, key: &str) -> Result<Command, Fault>
+    ensures { IfOk result (λ command. HasRowCount (command_view command)) }
+{
+    let text = format!(in alloc; "key = \"{key}\"\n")?;
+    match read_policy(alloc, text.as_bytes()) {
+        Ok(policy) => Ok(Command::SetPolicy(policy)),
+        Err(_) => Err(Fault::Script),
+    }
+}
