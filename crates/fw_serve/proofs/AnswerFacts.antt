@@ -99,7 +99,7 @@ made_is e keeps =
 pub Takes-submitted : (before : Standing) (e : EntryValue) (text : List ℕ) (after : Standing) → IsEntry e → Submits before e text after ⊎ RanOut before text after
     → Takes before e.origin e.seq (Ok e.command) text after ⊎ RanOut before text after
 unfolding Takes Makes
-Takes-submitted before e text after keeps (inl given) = inl (rw (made_is e keeps) given)
+Takes-submitted before e text after keeps (inl given) = inl (rw (made_is e keeps) (keeps, given))
 Takes-submitted before e text after keeps (inr given) = inr given
 
 -- there is no entry for a reason

@@ -179,7 +179,7 @@ submits_loses before e text after (inr works) = judges_loses before e (judged be
 
 makes_loses : (before : Standing) (made : Result EntryValue EntryFault) (text : List ℕ) (after : Standing) → Makes before made text after → Loses text after
 unfolding Makes
-makes_loses before (Ok e) text after given = submits_loses before e text after given
+makes_loses before (Ok e) text after given = submits_loses before e text after given.1
 makes_loses before (Err why) text after given = other_text text _ after given.0 (entry_silent why)
 
 takes_loses : (before : Standing) (k : EntryKind) (origin content : List ℕ) (number : ℕ) (reading : Result CommandValue (List ℕ)) (text : List ℕ) (after : Standing)
@@ -219,8 +219,8 @@ lost_by_answer before after command given = (
 -- ---- then nothing changes
 makes_stays : (before : Standing) (made : Result EntryValue EntryFault) (text : List ℕ) (after : Standing) → before.failed ≡ true → Makes before made text after → after ≡ before
 unfolding Makes Submits
-makes_stays before (Ok e) text after fails (inl failed) = failed.1.1
-makes_stays before (Ok e) text after fails (inr works) = absurd (not_both before.failed fails works.0)
+makes_stays before (Ok e) text after fails (keeps, inl failed) = failed.1.1
+makes_stays before (Ok e) text after fails (keeps, inr works) = absurd (not_both before.failed fails works.0)
 makes_stays before (Err why) text after fails given = given.1
 
 takes_stays : (before : Standing) (origin : List ℕ) (number : ℕ) (reading : Result CommandValue (List ℕ)) (text : List ℕ) (after : Standing) → before.failed ≡ true
@@ -264,8 +264,8 @@ as_read word (suc n) is = is
 
 made_closed : (before : Standing) (e : EntryValue) (text : List ℕ) (after : Standing) (made : Result EntryValue EntryFault) → before.failed ≡ true → made ≡ Ok e → Makes before made text after → IsClosed text
 unfolding Makes Submits
-made_closed before e text after (Ok d) fails is (inl failed) = inl failed.1.0
-made_closed before e text after (Ok d) fails is (inr works) = absurd (not_both before.failed fails works.0)
+made_closed before e text after (Ok d) fails is (keeps, inl failed) = inl failed.1.0
+made_closed before e text after (Ok d) fails is (keeps, inr works) = absurd (not_both before.failed fails works.0)
 made_closed before e text after (Err why) fails is given = absurd (cc)
 
 read_closed : (before : Standing) (e : EntryValue) (text : List ℕ) (after : Standing) (number : ℕ) (reading : Result CommandValue (List ℕ)) → before.failed ≡ true

@@ -10,3 +10,5 @@ pub mod OneAnswerFacts
 pub mod WrittenFacts
 pub mod FailedFacts
 pub mod QuestionFacts
+pub mod WholeFacts
+pub mod LeftFacts

@@ -181,7 +181,7 @@ submits_one a b c d e s t same (inr p) (inr q) =
 
 makes_one : (a b c d : Standing) (made : Result EntryValue EntryFault) (s t : List ℕ) → a.history ≡ b.history → Makes a made s c → Makes b made t d → AreOne s t c d
 unfolding Makes
-makes_one a b c d (Ok e) s t same p q = submits_one a b c d e s t same p q
+makes_one a b c d (Ok e) s t same p q = submits_one a b c d e s t same p.1 q.1
 makes_one a b c d (Err why) s t same p q = both_stay a b c d s t _ same p q
 
 takes_one : (a b c d : Standing) (origin : List ℕ) (number : ℕ) (reading : Result CommandValue (List ℕ)) (s t : List ℕ) → a.history ≡ b.history

@@ -128,7 +128,7 @@ make_step : (before : Standing) (k : EntryKind) (origin sequence content text : 
     → OneStep before (entry k origin sequence content) text after
 unfolding Makes SendsNone
 make_step before k origin sequence content text after number command (Ok e) is reads numbers given =
-    submit_step before (entry k origin sequence content) e text after (sends_made before.history.currency k origin sequence content number command e reads numbers is) given
+    submit_step before (entry k origin sequence content) e text after (sends_made before.history.currency k origin sequence content number command e reads numbers is) given.1
 make_step before k origin sequence content text after number command (Err why) is reads numbers given =
     inl (inl (inr (number, command, why, numbers, reads, is, given.0)), ap speaks given.0 ∙ entry_silent why, same_history after before given.1)
 

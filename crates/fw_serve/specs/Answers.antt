@@ -1,7 +1,7 @@
 -- How single commands and lists of commands are answered, and what they change.
 use Rattle.std.specs.Prelude.{◌≡◌, ◌⊎◌, ◌+◌, ◌-◌, ◌^◌, ◌<◌, ◌≤◌, ◌==◌, ℕ, zero, suc, true, false, List, [], ◌∷◌, ◌++◌, length, nat_lt, Result, Ok, Err, if◌then◌else◌}
 use Rattle.fw_entry.specs.Entry.{CommandValue, EntryValue, is_origin}
-use Rattle.fw_entry.specs.Spelling.{most_entry_bytes}
+use Rattle.fw_entry.specs.Spelling.{IsEntry, most_entry_bytes}
 use Rattle.fw_entry.specs.Spelling as spelling
 use Rattle.fw_entry.specs.declared.fault.EntryFault.{EntryFault}
 use Rattle.fw_entry.specs.declared.fault.EntryFault.TheVariants as fault
@@ -77,9 +77,9 @@ Submits before e text after =
     ((before.failed ≡ true) × Stays before (store_fault_line store_fault.Failed) text after)
     ⊎ ((before.failed ≡ false) × Judges before e (judged before.history.entries e) text after)
 
--- what there is no entry of changes nothing
+-- an entry that was made keeps its limits, and is judged. What there is no entry of changes nothing
 unfoldable pub Makes : Standing → Result EntryValue EntryFault → List ℕ → Standing → Type 0
-Makes before (Ok e) text after = Submits before e text after
+Makes before (Ok e) text after = IsEntry e × Submits before e text after
 Makes before (Err why) text after = Stays before (entry_fault_line why) text after
 
 -- what can't be read changes nothing

@@ -7,3 +7,4 @@ pub mod Answers
 pub mod Writing
 pub mod Served
 pub mod Runs
+pub mod Whole

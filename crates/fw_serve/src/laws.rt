@@ -1,8 +1,9 @@
 //! What holds of every run of commands: laws over the relation that [`serve`](crate::serve) promises between a script and what was written, each the
 //! contract of a function that does nothing.
-ghost use Rattle.std.specs.Prelude.{◌≡◌, ◌⊎◌, ◌+◌, ◌<◌, ◌^◌, List, Some, length, slice_get, true, ℕ};
+ghost use Rattle.std.specs.Prelude.{◌≡◌, ◌⊎◌, ◌+◌, ◌<◌, ◌≤◌, ◌^◌, ◌∷◌, [], List, Some, length, slice_get, take, true, ℕ};
 ghost use Rattle.std.specs.List.{concat};
 ghost use Rattle.fw_amortise.specs.LineValue.{LineValue};
+ghost use Rattle.fw_disk.specs.Volume.{Image};
 ghost use Rattle.fw_entry.specs.Entry.{EntryValue};
 ghost use Rattle.fw_query.specs.Limits.{IsRange};
 ghost use Rattle.fw_query.specs.OfHistory.{AreLinesOf, IsReportOn};
@@ -10,15 +11,18 @@ ghost use Rattle.fw_query.specs.Refusals.{AreRefused, IsRefused};
 ghost use Rattle.fw_query.specs.Reports as reports;
 ghost use Rattle.fw_query.specs.Texts.{lines_text, report_text};
 ghost use Rattle.fw_query.specs.declared.fault.QueryFault.{QueryFault};
+ghost use Rattle.fw_recover.specs.Committing.{HasAnswered, StandsForFirst, with_first};
+ghost use Rattle.fw_recover.specs.Stands.{StandsFor, StandsForEither};
 ghost use Rattle.fw_recover.specs.declared.fault.StoreFault.TheVariants as store_fault;
 ghost use Rattle.fw_script.specs.Plain.{PlainCommand, checkpoint, lines, report, state};
 ghost use Rattle.fw_serve.specs.Answers.{Answer, Answers};
 ghost use Rattle.fw_serve.specs.Replies.{accepted_line, already_line, conflict_line, counted, gap_line, no_memory_line, query_fault_line, state_line, store_fault_line};
 ghost use Rattle.fw_serve.specs.Runs.{AnswersEach, AreOne, AreTold, AreUnhindered, IsHindered, NoneHindered, Sends, StandsAt};
-ghost use Rattle.fw_serve.specs.Standings.{Standing};
-ghost use Rattle.fw_snapshot.specs.History.{commitments_of, entries_from, rows_of};
+ghost use Rattle.fw_serve.specs.Standings.{IsBetween, Standing};
+ghost use Rattle.fw_serve.specs.Whole.{IsWhole, ReportsAddUp};
+ghost use Rattle.fw_snapshot.specs.History.{History, commitments_of, entries_from, rows_of};
 ghost use Rattle.fw_snapshot.specs.Judging.{IsLegal, judged};
-ghost use Rattle.fw_snapshot.specs.Verdicts.{IsRepeat};
+ghost use Rattle.fw_snapshot.specs.Verdicts.{IsRepeat, taken, with_more};
 ghost use Rattle.fw_snapshot.specs.declared.verdict.Conflict.{Conflict};
 ghost use Rattle.fw_snapshot.specs.declared.verdict.Verdict.TheVariants as verdict;
 
@@ -92,4 +96,40 @@ pub fn a_store_that_failed_takes_nothing_more()
         → (answer ≡ store_fault_line store_fault.Failed) ⊎ (answer ≡ no_memory_line) }
     ensures checkpoints { (before after : Standing) (commands : List PlainCommand) (answers : List (List ℕ)) (place later : ℕ) (answer : List ℕ) → AnswersEach before commands answers after
         → slice_get answers place ≡ Some (store_fault_line store_fault.Device) → place < later → slice_get commands later ≡ Some checkpoint → slice_get answers later ≡ Some answer → answer ≡ store_fault_line store_fault.Failed }
+{}
+
+/// A warehouse stays whole: where each of its entries was accepted after those before it and keeps its limits, as it is of every state, the same is
+/// so after each command (`command`), and after a script (`script`). Wherever a command stands in a script, it is answered from the warehouse that
+/// the commands before it left, which is whole and whose reports add up (`moment`). So the laws of `fw_query` on costs hold of each report that is printed.
+pub fn a_warehouse_stays_whole()
+    ensures command { (before after : Standing) (command : PlainCommand) (answer : List ℕ) → IsWhole before.history.entries → Answer before command answer after → IsWhole after.history.entries }
+    ensures script { (before after : Standing) (commands : List PlainCommand) (answers : List (List ℕ)) → IsWhole before.history.entries → AnswersEach before commands answers after → IsWhole after.history.entries }
+    ensures moment { (before after : Standing) (commands : List PlainCommand) (answers : List (List ℕ)) (place : ℕ) (command : PlainCommand) (answer : List ℕ) → IsWhole before.history.entries
+        → AnswersEach before commands answers after → slice_get commands place ≡ Some command → slice_get answers place ≡ Some answer
+        → (middle : Standing) × (next : Standing) × AnswersEach before (take place commands) (take place answers) middle × Answer middle command answer next
+        × IsWhole middle.history.entries × ReportsAddUp middle.history.entries }
+{}
+
+/// What a crash leaves is reported whole: the warehouse that is opened from it is whole, its reports add up, and it has each entry that was acknowledged.
+///
+/// Entries are committed one by one, the first `answered` were answered, and a crash leaves an image: between two calls (`between`), at any moment of
+/// the next call (`within`), or after [`Store::run`](fw_recover::Store::run) ended early. The warehouse that is opened from it has the accepted ones of
+/// the first n entries, where n is `answered` or one more (`run`). After a crash within `Store::run`, which answers all at its end, it has those of some
+/// first entries (`first`). After a crash at any moment of a call that adds a group it is as it was, or has the whole group (`group`). After a crash at
+/// any moment of a script it has what was there before and a front of what the script added, or, only where the device failed, all of this and one
+/// entry more (`script`). After a script it is as the script left it, or, only where the device failed, has what was being written as well (`group`).
+pub fn what_a_crash_leaves_is_reported_whole()
+    ensures between { (before now : History) (entries : List EntryValue) (answered : ℕ) (image : Image) → now ≡ with_first before answered entries → StandsFor now image → HasAnswered before entries answered image }
+    ensures within { (before now : History) (entries : List EntryValue) (answered : ℕ) (e : EntryValue) (image : Image) → now ≡ with_first before answered entries → slice_get entries answered ≡ Some e
+        → StandsForEither now (taken now.entries e) image → HasAnswered before entries answered image }
+    ensures run { (before found : History) (entries : List EntryValue) (answered : ℕ) (image : Image) → HasAnswered before entries answered image → StandsFor found image
+        → (n : ℕ) × (answered ≤ n) × (n ≤ answered + 1) × (found ≡ with_first before n entries) × IsWhole found.entries × ReportsAddUp found.entries }
+    ensures first { (before found : History) (entries : List EntryValue) (image : Image) → StandsForFirst before entries image → StandsFor found image
+        → (n : ℕ) × (found ≡ with_first before n entries) × IsWhole found.entries × ReportsAddUp found.entries }
+    ensures group { (before found : History) (more : List EntryValue) (image : Image) → StandsForEither before more image → StandsFor found image
+        → ((found ≡ before) ⊎ (found ≡ with_more before more)) × IsWhole found.entries × ReportsAddUp found.entries }
+    ensures script { (before found : History) (after : Standing) (image : Image) → IsBetween before after image → StandsFor found image
+        → (more : List EntryValue) × (found ≡ with_more before more)
+        × (((rest : List EntryValue) × (after.history ≡ with_more found rest)) ⊎ ((after.failed ≡ true) × ((last : EntryValue) × (found ≡ with_more after.history (last ∷ [])))))
+        × IsWhole found.entries × ReportsAddUp found.entries }
 {}

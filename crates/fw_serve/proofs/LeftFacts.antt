@@ -1,0 +1,106 @@
+-- What a crash leaves: the warehouse that is opened from it.
+use Rattle.std.proofs.Common.{◌≡◌, ◌⊎◌, ◌∙◌, ◌+◌, ◌<◌, ◌≤◌, ◌∷◌, [], ℕ, zero, suc, List, All, Some, true, arith, refl, sym, ap, subst, inl, inr, get_or, length, slice_get}
+use Rattle.std.proofs.lemmas.List.Elements.{All-append, All-head, All-nil, All-tail}
+use Rattle.fw_disk.specs.Volume.{Image}
+use Rattle.fw_entry.specs.Entry.{EntryValue}
+use Rattle.fw_entry.specs.Spelling.{IsEntry}
+use Rattle.fw_recover.proofs.Places.{stands_one}
+use Rattle.fw_recover.proofs.Running.{answered, answered_all}
+use Rattle.fw_recover.specs.Committing.{HasAnswered, StandsForFirst, with_first}
+use Rattle.fw_recover.specs.Stands.{SideTells, StandsFor, StandsForEither, joined}
+use Rattle.fw_segment.specs.Groups.{IsGroup}
+use Rattle.fw_snapshot.specs.History.{History}
+use Rattle.fw_snapshot.specs.Verdicts.{taken, with_more}
+use Rattle.fw_serve.specs.Standings.{IsBetween, Leads, Standing}
+use Rattle.fw_serve.specs.Whole.{IsWhole, ReportsAddUp}
+use Rattle.fw_serve.proofs.MoveFacts.{more_twice}
+use Rattle.fw_serve.proofs.WholeFacts.{whole_adds_up}
+
+-- ---- files that stand for a warehouse
+joined_each : (groups : List (List EntryValue)) → All IsGroup groups → All IsEntry (joined groups)
+joined_each [] each = All-nil IsEntry
+joined_each (g ∷ groups) each = All-append IsEntry g (joined groups) (All-head IsGroup g groups each).each (joined_each groups (All-tail IsGroup g groups each))
+
+told_each : (generation : ℕ) (h : History) (file : List ℕ) → SideTells generation h file → All IsEntry h.entries
+told_each generation h file tells =
+    subst (λ (k : History). All IsEntry k.entries) (sym tells.is_history)
+    (All-append IsEntry tells.state.entries (joined tells.groups) tells.spells.history.each (joined_each tells.groups tells.each))
+
+stands_whole : (found : History) (image : Image) → StandsFor found image → IsWhole found.entries
+stands_whole found image stands = record { legal = stands.tells.legal; each = told_each _ found (image stands.side) stands.tells }
+
+-- the warehouse that is opened is whole, and its reports add up
+opened : (found : History) (image : Image) → StandsFor found image → IsWhole found.entries × ReportsAddUp found.entries
+opened found image stands =
+    let whole = stands_whole found image stands in
+    (whole, whole_adds_up found.entries whole)
+
+-- ---- between two calls, and in the middle of one
+pub left_between : (before now : History) (entries : List EntryValue) (count : ℕ) (image : Image) → now ≡ with_first before count entries → StandsFor now image → HasAnswered before entries count image
+left_between before now entries count image is stands = answered_all before now entries count image is stands
+
+at_place : (entries : List EntryValue) (place : ℕ) (e : EntryValue) → slice_get entries place ≡ Some e → (place < length entries) × (e ≡ get_or entries place e)
+at_place [] place e there = absurd (cc)
+at_place (d ∷ entries) zero e there = (omega arith, cc)
+at_place (d ∷ entries) (suc place) e there =
+    let rest = at_place entries place e there in
+    let below = rest.0 in
+    (omega arith, rest.1)
+
+pub left_within : (before now : History) (entries : List EntryValue) (count : ℕ) (e : EntryValue) (image : Image) → now ≡ with_first before count entries → slice_get entries count ≡ Some e
+    → StandsForEither now (taken now.entries e) image → HasAnswered before entries count image
+left_within before now entries count e image is there either =
+    let stands = at_place entries count e there in
+    answered before now entries count e stands.0 stands.1 is image either
+
+-- ---- entries that are committed one by one
+pub left_run : (before found : History) (entries : List EntryValue) (count : ℕ) (image : Image) → HasAnswered before entries count image → StandsFor found image
+    → (n : ℕ) × (count ≤ n) × (n ≤ count + 1) × (found ≡ with_first before n entries) × IsWhole found.entries × ReportsAddUp found.entries
+left_run before found entries count image left stands =
+    let same = stands_one image found (with_first before left.first entries) stands left.stands in
+    let whole = opened found image stands in
+    (left.first, left.all, left.one_more, same, whole.0, whole.1)
+
+pub left_first : (before found : History) (entries : List EntryValue) (image : Image) → StandsForFirst before entries image → StandsFor found image
+    → (n : ℕ) × (found ≡ with_first before n entries) × IsWhole found.entries × ReportsAddUp found.entries
+left_first before found entries image left stands =
+    let whole = opened found image stands in
+    (left.0, stands_one image found (with_first before left.0 entries) stands left.1, whole.0, whole.1)
+
+-- ---- entries that are committed as one group
+either_found : (before found : History) (more : List EntryValue) (image : Image) → StandsForEither before more image → StandsFor found image → (found ≡ before) ⊎ (found ≡ with_more before more)
+either_found before found more image (inl was) stands = inl (stands_one image found before stands was)
+either_found before found more image (inr added) stands = inr (stands_one image found (with_more before more) stands added)
+
+pub left_group : (before found : History) (more : List EntryValue) (image : Image) → StandsForEither before more image → StandsFor found image
+    → ((found ≡ before) ⊎ (found ≡ with_more before more)) × IsWhole found.entries × ReportsAddUp found.entries
+left_group before found more image left stands =
+    let whole = opened found image stands in
+    (either_found before found more image left stands, whole.0, whole.1)
+
+-- ---- a script
+-- the store has what was found and perhaps more; or its device failed, and one entry more than it has was found
+abbrev IsFrontOf : History → Standing → Type 0
+IsFrontOf found after =
+    ((rest : List EntryValue) × (after.history ≡ with_more found rest))
+    ⊎ ((after.failed ≡ true) × ((last : EntryValue) × (found ≡ with_more after.history (last ∷ []))))
+
+front : (before found : History) (more : List EntryValue) (after : Standing) → found ≡ with_more before more → Leads before more after → IsFrontOf found after
+front before found more after same (inl given) =
+    inl (given.0, given.1 ∙ sym (more_twice before more given.0) ∙ ap (λ (h : History). with_more h given.0) (sym same))
+front before found more after same (inr given) =
+    let (fails, (done, last, is, grows)) = given in
+    inr (
+      fails,
+      (
+        last,
+        same ∙ ap (λ (l : List EntryValue). with_more before l) is ∙ sym (more_twice before done (last ∷ [])) ∙ ap (λ (h : History). with_more h (last ∷ [])) (sym grows),
+      ),
+    )
+
+pub left_script : (before found : History) (after : Standing) (image : Image) → IsBetween before after image → StandsFor found image
+    → (more : List EntryValue) × (found ≡ with_more before more) × IsFrontOf found after × IsWhole found.entries × ReportsAddUp found.entries
+left_script before found after image left stands =
+    let same = stands_one image found (with_more before left.more) stands left.stands in
+    let whole = opened found image stands in
+    (left.more, same, front before found left.more after same left.leads, whole.0, whole.1)

@@ -1,0 +1,20 @@
+use Rattle.fw_serve.proofs.LeftFacts.{left_between, left_first, left_group, left_run, left_script, left_within}
+use Rattle.fw_serve.proofs.laws.what_a_crash_leaves_is_reported_whole.Goals as goal
+
+pub returns-clause-between : goal.returns-clause-between
+returns-clause-between c = left_between
+
+pub returns-clause-within : goal.returns-clause-within
+returns-clause-within c = left_within
+
+pub returns-clause-run : goal.returns-clause-run
+returns-clause-run c = left_run
+
+pub returns-clause-first : goal.returns-clause-first
+returns-clause-first c = left_first
+
+pub returns-clause-group : goal.returns-clause-group
+returns-clause-group c = left_group
+
+pub returns-clause-script : goal.returns-clause-script
+returns-clause-script c = left_script

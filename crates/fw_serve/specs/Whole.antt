@@ -1,0 +1,32 @@
+-- What each state keeps, and what follows of each report on its entries and of the lines that the report sums.
+use Rattle.std.specs.Prelude.{◌≡◌, ◌+◌, ◌≤◌, ℕ, All, List, Some, codes, filter, map, pos, slice_get}
+use Rattle.fw_allocate.specs.Costs.{total}
+use Rattle.fw_amortise.specs.Carrying.{cost_of_all}
+use Rattle.fw_amortise.specs.LineValue.{LineValue}
+use Rattle.fw_charge.specs.Codes.{category_word}
+use Rattle.fw_entry.specs.Entry.{EntryValue}
+use Rattle.fw_entry.specs.Spelling.{IsEntry}
+use Rattle.fw_query.specs.Carried.{shows_share_of}
+use Rattle.fw_query.specs.OfHistory.{AreLinesOf, IsReportOn}
+use Rattle.fw_query.specs.Reports as reports
+use Rattle.fw_query.specs.Texts.{id_text}
+use Rattle.fw_snapshot.specs.History.{commitments_of}
+use Rattle.fw_snapshot.specs.Judging.{IsLegal}
+use Rattle.fw_terms.specs.Commitment.{CommitmentValue, cost_of}
+
+-- each entry was accepted after those before it, and keeps its limits
+pub record IsWhole (entries : List EntryValue) : Type 0 where
+  pub legal : IsLegal entries
+  pub each : All IsEntry entries
+
+-- Reports on these entries add up, and so do their lines. What the groups of a report are charged sums to their direct costs, and these to the
+-- EffectiveCost of its lines. Over its term the lines of a commitment carry what its purchases cost, to the last nano, and the lines of these have
+-- an EffectiveCost of 0.
+pub record ReportsAddUp (entries : List EntryValue) : Type 0 where
+  pub charged : (key : List ℕ) (from to : ℕ) (report : List reports.EntryValue) → IsReportOn entries key from to report → total (map (λ e. e.charged) report) ≡ total (map (λ e. e.direct) report)
+  pub direct : (key : List ℕ) (from to : ℕ) (lines : List LineValue) (report : List reports.EntryValue) → AreLinesOf entries from to lines → IsReportOn entries key from to report
+      → total (map (λ e. e.direct) report) ≡ total (map (λ l. l.effective) lines)
+  pub term : (from to : ℕ) (lines : List LineValue) (place : ℕ) (c : CommitmentValue) → AreLinesOf entries from to lines → slice_get (commitments_of entries) place ≡ Some c
+      → from ≤ c.start → c.start + c.hours ≤ to → cost_of_all (filter (shows_share_of c.id) lines) ≡ pos (cost_of c.purchases)
+  pub purchases : (from to : ℕ) (lines : List LineValue) (place : ℕ) (c : CommitmentValue) → AreLinesOf entries from to lines → slice_get (commitments_of entries) place ≡ Some c
+      → All (λ line. category_word line.category ≡ codes "Purchase" → id_text line.commitment ≡ c.id → line.effective ≡ pos 0) lines
