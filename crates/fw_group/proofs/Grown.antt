@@ -458,7 +458,7 @@ module _ {V : Type 0} (view : V → View) where
       → (more : List EventAnswer) × (after ≡ before ++ more)
   answers_behind [] h s before k t after run = ([], run.2 ∙ sym (append-nil before))
   answers_behind (e ∷ es) h s before k t after run =
-      let rest = answers_behind es run.0 run.1 (before ++ run.2 ∷ []) k t after run.6 in
+      let rest = answers_behind es run.0 run.1 (before ++ run.2 ∷ []) k t after run.7 in
       (run.2 ∷ rest.0, rest.1 ∙ append_assoc before (run.2 ∷ []) rest.0)
 
   here_is : (es : List Event) (m : House V) (u : State) (before : List EventAnswer) (a : EventAnswer) (k : House V) (t : State) (after : List EventAnswer) → Runs view m u (before ++ a ∷ []) es k t after
@@ -472,9 +472,9 @@ module _ {V : Type 0} (view : V → View) where
       → (j : ℕ) (list : History) → length before ≤ j → shown_in (slice_get after j) ≡ Some list → Begins s.published list
   shown_later [] h s before k t after run j list from is = absurd (none_behind before after j list run.2 from is)
   shown_later (e ∷ es) h s before k t after run j list from is = elim (cases_eq j (length before)) [
-    | inl same ↦ shows s before e run.2 run.1 list run.3 (sym (ap (λ (o : Option EventAnswer). shown_in o) (ap (λ (n : ℕ). slice_get after n) same ∙ here_is es run.0 run.1 before run.2 k t after run.6)) ∙ is)
+    | inl same ↦ shows s before e run.2 run.1 list run.3 (sym (ap (λ (o : Option EventAnswer). shown_in o) (ap (λ (n : ℕ). slice_get after n) same ∙ here_is es run.0 run.1 before run.2 k t after run.7)) ∙ is)
     | inr other ↦ begins_both s.published run.1.published list (grows s before e run.2 run.1 run.3)
-        (shown_later es run.0 run.1 (before ++ run.2 ∷ []) k t after run.6 j list (omega (arith, from, other, length-append before (run.2 ∷ []))) is)
+        (shown_later es run.0 run.1 (before ++ run.2 ∷ []) k t after run.7 j list (omega (arith, from, other, length-append before (run.2 ∷ []))) is)
   ]
 
   -- an entry that was answered as accepted stands at its number in the front of its receipt, with which each list begins that is shown later
@@ -484,9 +484,9 @@ module _ {V : Type 0} (view : V → View) where
   accepted_shown [] h s before k t after run i j place r list from later is shown = absurd (no_receipt_behind before after i place r run.2 from is)
   accepted_shown (e ∷ es) h s before k t after run i j place r list from later is shown = elim (cases_eq i (length before)) [
     | inl same ↦
-        let at : receipt_at (Some run.2) place ≡ Some r = sym (ap (λ (o : Option EventAnswer). receipt_at o place) (ap (λ (n : ℕ). slice_get after n) same ∙ here_is es run.0 run.1 before run.2 k t after run.6)) ∙ is in
+        let at : receipt_at (Some run.2) place ≡ Some r = sym (ap (λ (o : Option EventAnswer). receipt_at o place) (ap (λ (n : ℕ). slice_get after n) same ∙ here_is es run.0 run.1 before run.2 k t after run.7)) ∙ is in
         let there = accepts s before e run.2 run.1 place r run.3 at in
-        let begins = shown_later es run.0 run.1 (before ++ run.2 ∷ []) k t after run.6 j list (omega (arith, from, later, same, length-append before (run.2 ∷ []))) shown in
+        let begins = shown_later es run.0 run.1 (before ++ run.2 ∷ []) k t after run.7 j list (omega (arith, from, later, same, length-append before (run.2 ∷ []))) shown in
         (subst (λ (x : History). Begins x list) (sym there.0) begins, (there.1.0, there.1.2))
-    | inr other ↦ accepted_shown es run.0 run.1 (before ++ run.2 ∷ []) k t after run.6 i j place r list (omega (arith, from, other, length-append before (run.2 ∷ []))) later is shown
+    | inr other ↦ accepted_shown es run.0 run.1 (before ++ run.2 ∷ []) k t after run.7 i j place r list (omega (arith, from, other, length-append before (run.2 ∷ []))) later is shown
   ]

@@ -12,6 +12,8 @@ use Rattle.fw_recover.specs.declared.fault.StoreFault.TheVariants as fault
 use Rattle.fw_recover.specs.Stands.{StandsFor, StandsForNone, StandsForEither, EachStandsFor}
 use Rattle.fw_recover.specs.Corrupt.{CorruptAt}
 use Rattle.fw_recover.specs.Store.{StoreState}
+use Rattle.fw_recover.specs.Committing.{Committed}
+use Rattle.fw_recover.specs.Checkpoints.{IsCheckpointed}
 use Rattle.fw_recover.proofs.Places.{stands_one, stands_not_none, stands_not_corrupt}
 use Rattle.fw_group.specs.declared.answer.Answer.{Answer}
 use Rattle.fw_group.specs.declared.answer.Receipt.{Receipt}
@@ -29,7 +31,7 @@ use Rattle.fw_group.specs.Answers.{answers_on}
 use Rattle.fw_group.specs.Steps.{State, Does, in_hand, longer, receipt_at}
 use Rattle.fw_group.specs.Turns as turn
 use Rattle.fw_group.specs.Turns.{IsDesk, Acts}
-use Rattle.fw_group.specs.Runs.{state_of, volume_of, empty_desk, start, MayStand, Stands, Between, Runs, HasRun}
+use Rattle.fw_group.specs.Runs.{state_of, volume_of, empty_desk, start, MayStand, Stands, Between, Led, Runs, HasRun}
 
 stopped_not_open : true ≡ false → ⊥
 stopped_not_open same = cc
@@ -48,6 +50,7 @@ module _ {V : Type 0} (view : V → View) where
     pub does : Does s answers event a (state_of k e published group failed seen)
     pub stands : Stands view k (state_of k e published group failed seen)
     pub between : Between view h s event k
+    pub cause : Led view h s event a k (state_of k e published group failed seen)
     pub analysts : e.analysts ≡ length seen
 
   -- a run so far, with all that isn't in the house
@@ -82,8 +85,9 @@ module _ {V : Type 0} (tells : Bool) (told : IsTrue tells) (view : V → View)
     still t P same each = subst (λ (x : StoreState V). LeavesOnly (view s.volume) (view x.volume) P) (sym same) (started (view s.volume) P (λ c left. each c (only_now s.volume c left)))
 
     same_turn : (event : Event) (a : EventAnswer) (t : StoreState V) (e : Desk) (more : List (List EntryValue)) → Does old_state answers event a (state_of (house.Open t) e p g f more)
-        → t ≡ s → Between view (house.Open s) old_state event (house.Open t) → e.analysts ≡ length more → Turned view (house.Open s) old_state answers event a (house.Open t) e
-    same_turn event a t e more does same between fits = record {
+        → t ≡ s → Between view (house.Open s) old_state event (house.Open t) → Led view (house.Open s) old_state event a (house.Open t) (state_of (house.Open t) e p g f more)
+        → e.analysts ≡ length more → Turned view (house.Open s) old_state answers event a (house.Open t) e
+    same_turn event a t e more does same between cause fits = record {
       published = p;
       group = g;
       failed = f;
@@ -91,6 +95,7 @@ module _ {V : Type 0} (tells : Bool) (told : IsTrue tells) (view : V → View)
       does = does;
       stands = same_stands t e more same;
       between = between;
+      cause = cause;
       analysts = fits;
     }
 
@@ -106,9 +111,9 @@ module _ {V : Type 0} (tells : Bool) (told : IsTrue tells) (view : V → View)
     post_turn importer entry said.Posted t e h same =
         same_turn (on.Post importer entry) said.Posted t e seen
         (record { runs = refl; one_of_them = h.0.0; none_waits = h.0.1; none_in_hand = h.0.2 }, (λ j. state_of (house.Open (same j)) (h.1 j) p g f seen))
-        same (still t _ same was.each) (ap (λ (x : Desk). x.analysts) h.1 ∙ many)
+        same (still t _ same was.each) (ap (λ (x : StoreState V). house.Open x) same) (ap (λ (x : Desk). x.analysts) h.1 ∙ many)
     post_turn importer entry said.Ignored t e h same =
-        same_turn (on.Post importer entry) said.Ignored t e seen ((λ may. h.0 (may.one_of_them, may.none_waits, may.none_in_hand)), leaves t e same h.1) same (still t _ same was.each) (as_many e h.1)
+        same_turn (on.Post importer entry) said.Ignored t e seen ((λ may. h.0 (may.one_of_them, may.none_waits, may.none_in_hand)), leaves t e same h.1) same (still t _ same was.each) (ap (λ (x : StoreState V). house.Open x) same) (as_many e h.1)
     post_turn importer entry (said.Took n) t e h same = absurd h
     post_turn importer entry (said.Committed answered) t e h same = absurd h
     post_turn importer entry said.Checkpointed t e h same = absurd h
@@ -120,9 +125,9 @@ module _ {V : Type 0} (tells : Bool) (told : IsTrue tells) (view : V → View)
 
     take_turn : (a : EventAnswer) (t : StoreState V) (e : Desk) → turn.Takes d a e → t ≡ s → Turned view (house.Open s) old_state answers on.Take a (house.Open t) e
     take_turn (said.Took n) t e (inl h) same =
-        same_turn on.Take (said.Took n) t e seen (refl, inl (h.0, h.1, (λ j. state_of (house.Open (same j)) (h.2 j) p g f seen))) same (still t _ same was.each) (ap (λ (x : Desk). x.analysts) h.2 ∙ many)
+        same_turn on.Take (said.Took n) t e seen (refl, inl (h.0, h.1, (λ j. state_of (house.Open (same j)) (h.2 j) p g f seen))) same (still t _ same was.each) (ap (λ (x : StoreState V). house.Open x) same) (ap (λ (x : Desk). x.analysts) h.2 ∙ many)
     take_turn (said.Took n) t e (inr h) same =
-        same_turn on.Take (said.Took n) t e seen (refl, inr (h.0, h.1, leaves t e same h.2)) same (still t _ same was.each) (as_many e h.2)
+        same_turn on.Take (said.Took n) t e seen (refl, inr (h.0, h.1, leaves t e same h.2)) same (still t _ same was.each) (ap (λ (x : StoreState V). house.Open x) same) (as_many e h.2)
     take_turn said.Posted t e h same = absurd h
     take_turn (said.Committed answered) t e h same = absurd h
     take_turn said.Checkpointed t e h same = absurd h
@@ -137,10 +142,10 @@ module _ {V : Type 0} (tells : Bool) (told : IsTrue tells) (view : V → View)
         → Turned view (house.Open s) old_state answers (on.View analyst) a (house.Open t) e
     view_turn analyst (said.Viewed found) t e h same desk =
         let more = slice_set seen analyst s.history.entries in
-        same_turn (on.View analyst) (said.Viewed found) t e more ((refl, omega (arith, h.0, many)), h.1, (λ j. state_of (house.Open (same j)) (desk j) p g f more)) same (still t _ same was.each)
+        same_turn (on.View analyst) (said.Viewed found) t e more ((refl, omega (arith, h.0, many)), h.1, (λ j. state_of (house.Open (same j)) (desk j) p g f more)) same (still t _ same was.each) (ap (λ (x : StoreState V). house.Open x) same)
         (as_many e desk ∙ sym (length-set seen analyst s.history.entries))
     view_turn analyst said.Ignored t e h same desk =
-        same_turn (on.View analyst) said.Ignored t e seen ((λ may. h (omega (arith, may.1, many))), leaves t e same desk) same (still t _ same was.each) (as_many e desk)
+        same_turn (on.View analyst) said.Ignored t e seen ((λ may. h (omega (arith, may.1, many))), leaves t e same desk) same (still t _ same was.each) (ap (λ (x : StoreState V). house.Open x) same) (as_many e desk)
     view_turn analyst said.Posted t e h same desk = absurd h
     view_turn analyst (said.Took n) t e h same desk = absurd h
     view_turn analyst (said.Committed answered) t e h same desk = absurd h
@@ -156,11 +161,11 @@ module _ {V : Type 0} (tells : Bool) (told : IsTrue tells) (view : V → View)
         let found = some_of (receipt_at (slice_get answers event) place) h.1 in
         let more = slice_set seen analyst (longer (get_or seen analyst []) found.0.front.entries) in
         same_turn (on.Learn analyst event place) said.Learned t e more
-        (record { may = (refl, omega (arith, h.0, many)); receipt = found.0; is = found.1 }, (λ j. state_of (house.Open (same j)) (desk j) p g f more)) same (still t _ same was.each)
+        (record { may = (refl, omega (arith, h.0, many)); receipt = found.0; is = found.1 }, (λ j. state_of (house.Open (same j)) (desk j) p g f more)) same (still t _ same was.each) (ap (λ (x : StoreState V). house.Open x) same)
         (as_many e desk ∙ sym (length-set seen analyst (longer (get_or seen analyst []) found.0.front.entries)))
     learn_turn analyst event place said.Ignored t e h same desk =
         same_turn (on.Learn analyst event place) said.Ignored t e seen
-        ((λ told_of. h (omega (arith, told_of.may.1, many), subst IsSome (sym told_of.is) refl)), leaves t e same desk) same (still t _ same was.each) (as_many e desk)
+        ((λ told_of. h (omega (arith, told_of.may.1, many), subst IsSome (sym told_of.is) refl)), leaves t e same desk) same (still t _ same was.each) (ap (λ (x : StoreState V). house.Open x) same) (as_many e desk)
     learn_turn analyst event place said.Posted t e h same desk = absurd h
     learn_turn analyst event place (said.Took n) t e h same desk = absurd h
     learn_turn analyst event place (said.Committed answered) t e h same desk = absurd h
@@ -175,6 +180,10 @@ module _ {V : Type 0} (tells : Bool) (told : IsTrue tells) (view : V → View)
     abbrev more_of : List EntryValue
     more_of = accepted_of s.history.entries (entries_of d.hand)
 
+    neither : (d.hand ≡ [] → ⊥) → s.failed ≡ false → (d.hand ≡ []) ⊎ (s.failed ≡ true) → ⊥
+    neither some goes_on (inl none) = some none
+    neither some goes_on (inr failed) = cc
+
     written : s.failed ≡ false → (c : Image) → StandsForEither s.history more_of c → MayStand old_state on.Commit c
     written goes_on c (inl stands) = inl (inl stands)
     written goes_on c (inr stands) = inr (goes_on, stands)
@@ -183,7 +192,13 @@ module _ {V : Type 0} (tells : Bool) (told : IsTrue tells) (view : V → View)
         → Turned view (house.Open s) old_state answers on.Commit a (house.Open t) e
     commit_turn (said.Committed answered) t e (none, inl h) desk =
         let stays_so : e ≡ d = desk ∙ (λ j. record d { hand = (none ∙ sym h.0) j }) in
-        same_turn on.Commit (said.Committed answered) t e seen (refl, inl (h.0, h.1, leaves t e h.2 stays_so)) h.2 (still t _ h.2 (λ c left. inl (was.each c left))) (as_many e stays_so)
+        same_turn on.Commit (said.Committed answered) t e seen (refl, inl (h.0, h.1, leaves t e h.2 stays_so)) h.2 (still t _ h.2 (λ c left. inl (was.each c left)))
+        (record {
+          nothing = λ either. h.2;
+          done = λ some. absurd (some h.0);
+          lost = λ goes_on fails. let same : t.failed ≡ s.failed = ap (λ (x : StoreState V). x.failed) h.2 in absurd (cc);
+        })
+        (as_many e stays_so)
     commit_turn (said.Committed answered) t e (none, inr (some, inl (inl h))) desk =
         let emptied : e ≡ record d { hand = [] } = desk ∙ (λ j. record d { hand = none j }) in
         let fails : t.failed ≡ s.failed = h.committed.failed ∙ sym h.committed.went_on in
@@ -214,6 +229,11 @@ module _ {V : Type 0} (tells : Bool) (told : IsTrue tells) (view : V → View)
           );
           stands = record { shows = (refl, refl, refl); each = λ c left. inl (h.committed.each told c left) };
           between = weakened (view s.volume) (view t.volume) _ (MayStand old_state on.Commit) (h.moment told) (written h.committed.went_on);
+          cause = record {
+            nothing = λ either. absurd (neither some h.committed.went_on either);
+            done = λ has goes_on went_on. subst (λ (b : Bool). Committed b view s t more_of) told h.committed;
+            lost = λ goes_on fails. let stored = h.committed.failed in absurd (cc);
+          };
           analysts = ap (λ (x : Desk). x.analysts) emptied ∙ many;
         }
     commit_turn (said.Committed answered) t e (none, inr (some, inl (inr h))) desk =
@@ -249,16 +269,26 @@ module _ {V : Type 0} (tells : Bool) (told : IsTrue tells) (view : V → View)
             each = λ c left. subst (λ (k : History). StandsForEither k more_of c) (sym h.lost.history) (moment.each c (counts_now t.volume (view s.volume).moment c moment.later left));
           };
           between = weakened (view s.volume) (view t.volume) _ (MayStand old_state on.Commit) moment (written h.went_on);
+          cause = record {
+            nothing = λ either. absurd (neither some h.went_on either);
+            done = λ has goes_on went_on. let lost = h.lost.failed in absurd (cc);
+            lost = λ goes_on fails. (h.some, h.cause, h.lost);
+          };
           analysts = ap (λ (x : Desk). x.analysts) emptied ∙ many;
         }
     commit_turn (said.Committed answered) t e (none, inr (some, inr h)) desk =
         let emptied : e ≡ record d { hand = [] } = desk ∙ (λ j. record d { hand = none j }) in
         same_turn on.Commit (said.Committed answered) t e seen
         (refl, inr (some, inr (inr (h.had_failed, h.answered, (λ j. state_of (house.Open (h.same j)) (emptied j) p g f seen))))) h.same (still t _ h.same (λ c left. inl (was.each c left)))
+        (record {
+          nothing = λ either. h.same;
+          done = λ has goes_on. let had = h.had_failed in absurd (cc);
+          lost = λ goes_on. let had = h.had_failed in absurd (cc);
+        })
         (ap (λ (x : Desk). x.analysts) emptied ∙ many)
     commit_turn (said.Failed fault.TooLarge) t e h desk =
         let stays_so : e ≡ d = desk ∙ (λ j. record d { hand = h.4 j }) in
-        same_turn on.Commit (said.Failed fault.TooLarge) t e seen (refl, h.0, h.1, leaves t e h.3 stays_so) h.3 (still t _ h.3 (λ c left. inl (was.each c left))) (as_many e stays_so)
+        same_turn on.Commit (said.Failed fault.TooLarge) t e seen (refl, h.0, h.1, leaves t e h.3 stays_so) h.3 (still t _ h.3 (λ c left. inl (was.each c left))) (h.2, h.3) (as_many e stays_so)
     commit_turn said.Posted t e h desk = absurd h
     commit_turn (said.Took n) t e h desk = absurd h
     commit_turn said.Checkpointed t e h desk = absurd h
@@ -301,6 +331,7 @@ module _ {V : Type 0} (tells : Bool) (told : IsTrue tells) (view : V → View)
           );
           stands = record { shows = (refl, refl, refl); each = λ c left. inl (subst (λ (k : History). StandsFor k c) (sym h.2) (h.3.each told c left)) };
           between = weakened (view s.volume) (view t.volume) _ _ (h.3.moment told) (λ c stands. inl stands);
+          cause = (h.4, subst (λ (b : Bool). IsCheckpointed b view s t) told h.1);
           analysts = as_many e desk;
         }
     checkpoint_turn (said.Failed fault.Device) t e h desk =
@@ -312,14 +343,15 @@ module _ {V : Type 0} (tells : Bool) (told : IsTrue tells) (view : V → View)
           does = (refl, h.0, (λ j. state_of (house.Open (h.1 j)) (desk j) p g f seen));
           stands = record { shows = (refl, refl, refl); each = λ c left. inl (subst (λ (x : StoreState V). StandsFor x.history c) (sym h.1) (h.3.each told c left)) };
           between = weakened (view s.volume) (view t.volume) _ _ (h.3.moment told) (λ c stands. inl stands);
+          cause = (h.4, h.2, h.1);
           analysts = as_many e desk;
         }
     checkpoint_turn (said.Failed fault.Failed) t e h desk =
-        same_turn on.Checkpoint (said.Failed fault.Failed) t e seen (refl, h.0, leaves t e h.1 desk) h.1 (still t _ h.1 was.each) (as_many e desk)
+        same_turn on.Checkpoint (said.Failed fault.Failed) t e seen (refl, h.0, leaves t e h.1 desk) h.1 (still t _ h.1 was.each) (ap (λ (x : StoreState V). house.Open x) h.1) (as_many e desk)
     checkpoint_turn (said.Failed fault.Generations) t e h desk =
-        same_turn on.Checkpoint (said.Failed fault.Generations) t e seen (refl, h.0, leaves t e h.2 desk) h.2 (still t _ h.2 was.each) (as_many e desk)
+        same_turn on.Checkpoint (said.Failed fault.Generations) t e seen (refl, h.0, leaves t e h.2 desk) h.2 (still t _ h.2 was.each) (h.1, h.2) (as_many e desk)
     checkpoint_turn (said.Failed fault.TooLarge) t e h desk =
-        same_turn on.Checkpoint (said.Failed fault.TooLarge) t e seen (refl, h.0, leaves t e h.2 desk) h.2 (still t _ h.2 was.each) (as_many e desk)
+        same_turn on.Checkpoint (said.Failed fault.TooLarge) t e seen (refl, h.0, leaves t e h.2 desk) h.2 (still t _ h.2 was.each) (h.3, h.1, h.2) (as_many e desk)
     checkpoint_turn said.Posted t e h desk = absurd h
     checkpoint_turn (said.Took n) t e h desk = absurd h
     checkpoint_turn (said.Committed answered) t e h desk = absurd h
@@ -348,6 +380,7 @@ module _ {V : Type 0} (tells : Bool) (told : IsTrue tells) (view : V → View)
         each = λ c left. subst (StandsForEither s.history g) (λ j side. sym (h.settled told c left side) j) (was.each (view w).seen (h.image told));
       };
       between = tt;
+      cause = subst (λ (b : Bool). turn.IsStopped b view s.volume w) told h;
       analysts = ap (λ (x : Desk). x.analysts) desk ∙ many;
     }
 
@@ -363,7 +396,7 @@ module _ {V : Type 0} (tells : Bool) (told : IsTrue tells) (view : V → View)
     open_turn on.Stop a (house.Open t) e h = absurd h
     open_turn on.Reopen a (house.Open t) e h =
         subst (λ (b : EventAnswer). Turned view (house.Open s) old_state answers on.Reopen b (house.Open t) e) (sym h.0)
-        (same_turn on.Reopen said.Ignored t e seen (refl, leaves t e h.1 h.2) h.1 (still t _ h.1 was.each) (as_many e h.2))
+        (same_turn on.Reopen said.Ignored t e seen (refl, leaves t e h.1 h.2) h.1 (still t _ h.1 was.each) (ap (λ (x : StoreState V). house.Open x) h.1) (as_many e h.2))
     open_turn (on.Post importer entry) a (house.Stopped w) e h = absurd h
     open_turn on.Take a (house.Stopped w) e h = absurd h
     open_turn on.Commit a (house.Stopped w) e h = absurd h
@@ -384,8 +417,9 @@ module _ {V : Type 0} (tells : Bool) (told : IsTrue tells) (view : V → View)
     stopped_still w P same each = subst (λ (x : V). LeavesOnly (view v) (view x) P) (sym same) (started (view v) P (λ c left. each c (only_now v c left)))
 
     ignored_turn : (event : Event) (w : V) (e : Desk) → ((u : State) → u ≡ stopped_state → Does stopped_state answers event said.Ignored u) → w ≡ v → e ≡ d
-        → Between view (house.Stopped v) stopped_state event (house.Stopped w) → Turned view (house.Stopped v) stopped_state answers event said.Ignored (house.Stopped w) e
-    ignored_turn event w e does same desk between = record {
+        → Between view (house.Stopped v) stopped_state event (house.Stopped w) → Led view (house.Stopped v) stopped_state event said.Ignored (house.Stopped w) (state_of (house.Stopped w) e p g f seen)
+        → Turned view (house.Stopped v) stopped_state answers event said.Ignored (house.Stopped w) e
+    ignored_turn event w e does same desk between cause = record {
       published = p;
       group = g;
       failed = f;
@@ -396,6 +430,7 @@ module _ {V : Type 0} (tells : Bool) (told : IsTrue tells) (view : V → View)
         each = subst (λ (x : V). (c : Image) → (view x).may_leave c → StandsForEither p g c) (sym same) was.each;
       };
       between = between;
+      cause = cause;
       analysts = ap (λ (x : Desk). x.analysts) desk ∙ many;
     }
 
@@ -443,6 +478,7 @@ module _ {V : Type 0} (tells : Bool) (told : IsTrue tells) (view : V → View)
       );
       stands = record { shows = (refl, refl, refl); each = λ c left. inl (h.4 told c left) };
       between = weakened (view v) (view t.volume) _ _ (h.3 told).run was.each;
+      cause = (subst (λ (k : History). StandsFor k (view v).seen) (sym h.1) (h.2 told), h.3 told);
       analysts = ap (λ (x : Desk). x.analysts) desk ∙ many;
     }
     reopen_turn (said.Reopened found) (house.Stopped w) e h desk = absurd h
@@ -458,6 +494,7 @@ module _ {V : Type 0} (tells : Bool) (told : IsTrue tells) (view : V → View)
       does = (refl, (λ j. state_of (house.Stopped w) (desk j) p g f seen));
       stands = record { shows = refl; each = λ c left. was.each c ((h.1 told).crash c left) };
       between = weakened (view v) (view w) _ _ (h.1 told).run was.each;
+      cause = (h.0, h.1 told);
       analysts = ap (λ (x : Desk). x.analysts) desk ∙ many;
     }
     reopen_turn (said.Failed fault.Device) (house.Open t) e h desk = absurd h
@@ -478,31 +515,31 @@ module _ {V : Type 0} (tells : Bool) (told : IsTrue tells) (view : V → View)
     pub stopped_turn : (event : Event) (a : EventAnswer) (k : House V) (e : Desk) → Acts tells view (house.Stopped v) d answers event a k e → Turned view (house.Stopped v) stopped_state answers event a k e
     stopped_turn (on.Post importer entry) a (house.Stopped w) e h =
         subst (λ (b : EventAnswer). Turned view (house.Stopped v) stopped_state answers (on.Post importer entry) b (house.Stopped w) e) (sym h.0)
-        (ignored_turn (on.Post importer entry) w e (λ u same. ((λ may. stopped_not_open may.runs), same)) h.1 h.2 (stopped_still w _ h.1 was.each))
+        (ignored_turn (on.Post importer entry) w e (λ u same. ((λ may. stopped_not_open may.runs), same)) h.1 h.2 (stopped_still w _ h.1 was.each) (ap (λ (x : V). house.Stopped x) h.1))
     stopped_turn (on.Post importer entry) a (house.Open t) e h = absurd h
     stopped_turn on.Take a (house.Stopped w) e h =
         subst (λ (b : EventAnswer). Turned view (house.Stopped v) stopped_state answers on.Take b (house.Stopped w) e) (sym h.0)
-        (ignored_turn on.Take w e (λ u same. (refl, same)) h.1 h.2 (stopped_still w _ h.1 was.each))
+        (ignored_turn on.Take w e (λ u same. (refl, same)) h.1 h.2 (stopped_still w _ h.1 was.each) (ap (λ (x : V). house.Stopped x) h.1))
     stopped_turn on.Take a (house.Open t) e h = absurd h
     stopped_turn on.Commit a (house.Stopped w) e h =
         subst (λ (b : EventAnswer). Turned view (house.Stopped v) stopped_state answers on.Commit b (house.Stopped w) e) (sym h.0)
-        (ignored_turn on.Commit w e (λ u same. (refl, same)) h.1 h.2 (stopped_still w _ h.1 (λ c left. inl (was.each c left))))
+        (ignored_turn on.Commit w e (λ u same. (refl, same)) h.1 h.2 (stopped_still w _ h.1 (λ c left. inl (was.each c left))) (ap (λ (x : V). house.Stopped x) h.1))
     stopped_turn on.Commit a (house.Open t) e h = absurd h
     stopped_turn on.Checkpoint a (house.Stopped w) e h =
         subst (λ (b : EventAnswer). Turned view (house.Stopped v) stopped_state answers on.Checkpoint b (house.Stopped w) e) (sym h.0)
-        (ignored_turn on.Checkpoint w e (λ u same. (refl, same)) h.1 h.2 (stopped_still w _ h.1 was.each))
+        (ignored_turn on.Checkpoint w e (λ u same. (refl, same)) h.1 h.2 (stopped_still w _ h.1 was.each) (ap (λ (x : V). house.Stopped x) h.1))
     stopped_turn on.Checkpoint a (house.Open t) e h = absurd h
     stopped_turn (on.View analyst) a (house.Stopped w) e h =
         subst (λ (b : EventAnswer). Turned view (house.Stopped v) stopped_state answers (on.View analyst) b (house.Stopped w) e) (sym h.0)
-        (ignored_turn (on.View analyst) w e (λ u same. ((λ may. stopped_not_open may.0), same)) h.1 h.2 (stopped_still w _ h.1 was.each))
+        (ignored_turn (on.View analyst) w e (λ u same. ((λ may. stopped_not_open may.0), same)) h.1 h.2 (stopped_still w _ h.1 was.each) (ap (λ (x : V). house.Stopped x) h.1))
     stopped_turn (on.View analyst) a (house.Open t) e h = absurd h
     stopped_turn (on.Learn analyst event place) a (house.Stopped w) e h =
         subst (λ (b : EventAnswer). Turned view (house.Stopped v) stopped_state answers (on.Learn analyst event place) b (house.Stopped w) e) (sym h.0)
-        (ignored_turn (on.Learn analyst event place) w e (λ u same. ((λ told_of. stopped_not_open told_of.may.0), same)) h.1 h.2 (stopped_still w _ h.1 was.each))
+        (ignored_turn (on.Learn analyst event place) w e (λ u same. ((λ told_of. stopped_not_open told_of.may.0), same)) h.1 h.2 (stopped_still w _ h.1 was.each) (ap (λ (x : V). house.Stopped x) h.1))
     stopped_turn (on.Learn analyst event place) a (house.Open t) e h = absurd h
     stopped_turn on.Stop a (house.Stopped w) e h =
         subst (λ (b : EventAnswer). Turned view (house.Stopped v) stopped_state answers on.Stop b (house.Stopped w) e) (sym h.0)
-        (ignored_turn on.Stop w e (λ u same. (refl, same)) h.1 h.2 tt)
+        (ignored_turn on.Stop w e (λ u same. (refl, same)) h.1 h.2 tt (ap (λ (x : V). house.Stopped x) h.1))
     stopped_turn on.Stop a (house.Open t) e h = absurd h
     stopped_turn on.Reopen a k e h = reopen_turn a k e h.0 h.1
 
@@ -514,18 +551,19 @@ module _ {V : Type 0} (tells : Bool) (told : IsTrue tells) (view : V → View)
   -- ---- runs
 
   runs_more : (es : List Event) (h : House V) (s : State) (before : List EventAnswer) (m : House V) (u : State) (after : List EventAnswer) (e : Event) (a : EventAnswer) (k : House V) (t : State)
-      → Runs view h s before es m u after → Does u after e a t → Stands view k t → Between view m u e k → Runs view h s before (es ++ e ∷ []) k t (after ++ a ∷ [])
-  runs_more [] h s before m u after e a k t run does stands between = (
+      → Runs view h s before es m u after → Does u after e a t → Stands view k t → Between view m u e k → Led view m u e a k t → Runs view h s before (es ++ e ∷ []) k t (after ++ a ∷ [])
+  runs_more [] h s before m u after e a k t run does stands between cause = (
     k,
     t,
     a,
     subst (λ (x : State). Does x before e a t) run.1 (subst (λ (x : List EventAnswer). Does u x e a t) run.2 does),
     stands,
     subst (λ (x : House V). Between view x s e k) run.0 (subst (λ (x : State). Between view m x e k) run.1 between),
+    subst (λ (x : House V). Led view x s e a k t) run.0 (subst (λ (x : State). Led view m x e a k t) run.1 cause),
     (refl, refl, ap (λ (x : List EventAnswer). x ++ a ∷ []) run.2),
   )
-  runs_more (f ∷ es) h s before m u after e a k t run does stands between =
-      (run.0, run.1, run.2, run.3, run.4, run.5, runs_more es run.0 run.1 (before ++ run.2 ∷ []) m u after e a k t run.6 does stands between)
+  runs_more (f ∷ es) h s before m u after e a k t run does stands between cause =
+      (run.0, run.1, run.2, run.3, run.4, run.5, run.6, runs_more es run.0 run.1 (before ++ run.2 ∷ []) m u after e a k t run.7 does stands between cause)
 
   begun_at : (h : House V) (p : History) (g : List EntryValue) (f : Bool) (importers analysts : ℕ) → Stands view h (start h p g f importers analysts)
       → SoFar view h (start h p g f importers analysts) [] [] h (empty_desk importers analysts)
@@ -561,7 +599,7 @@ module _ {V : Type 0} (tells : Bool) (told : IsTrue tells) (view : V → View)
         group = t.group;
         failed = t.failed;
         seen = t.seen;
-        run = runs_more es first s [] h (state_of h d so.published so.group so.failed so.seen) answers e a k (state_of k c t.published t.group t.failed t.seen) so.run t.does t.stands t.between;
+        run = runs_more es first s [] h (state_of h d so.published so.group so.failed so.seen) answers e a k (state_of k c t.published t.group t.failed t.seen) so.run t.does t.stands t.between t.cause;
         stands = t.stands;
         many = t.analysts;
       }

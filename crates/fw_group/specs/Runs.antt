@@ -1,18 +1,24 @@
--- Runs of events on a house: each step is one of the running system, and whatever a crash leaves at any moment stands for what was
--- published, or for it with the group that was in flight.
-use Rattle.std.specs.Prelude.{◌≡◌, ◌⊎◌, ⊤, ℕ, Bool, true, false, List, [], ◌∷◌, ◌++◌, length, take, replicate}
-use Rattle.fw_disk.specs.Volume.{Image, View, LeavesOnly}
+-- Runs of events on a house: each step is one of the running system, what it does to the store and its device is told and each fault has its
+-- cause, and whatever a crash leaves at any moment stands for what was published, or for it with the group that was in flight.
+use Rattle.std.specs.Prelude.{◌≡◌, ◌⊎◌, ⊤, ℕ, ◌-◌, ◌^◌, ◌<◌, Bool, true, false, List, [], ◌∷◌, ◌++◌, length, take, replicate}
+use Rattle.fw_disk.specs.Volume.{Image, View, LeavesOnly, Calm, Rose}
 use Rattle.fw_entry.specs.Entry.{EntryValue}
 use Rattle.fw_snapshot.specs.History.{History}
 use Rattle.fw_snapshot.specs.Verdicts.{with_more}
+use Rattle.fw_recover.specs.declared.fault.StoreFault.TheVariants as fault
 use Rattle.fw_recover.specs.Stands.{StandsFor, StandsForEither}
+use Rattle.fw_recover.specs.Store.{StoreState}
+use Rattle.fw_recover.specs.Committing.{HasNoRoom, Committed, Lost}
+use Rattle.fw_recover.specs.Checkpoints.{HasNoRoomFor, IsCheckpointed}
 use Rattle.fw_group.specs.declared.event.Event.{Event}
 use Rattle.fw_group.specs.declared.event.Event.TheVariants as on
 use Rattle.fw_group.specs.declared.event.EventAnswer.{EventAnswer}
+use Rattle.fw_group.specs.declared.event.EventAnswer.TheVariants as said
 use Rattle.fw_group.specs.declared.event.House.{House}
 use Rattle.fw_group.specs.declared.event.House.TheVariants as house
 use Rattle.fw_group.specs.declared.run.Desk.{Desk}
 use Rattle.fw_group.specs.Steps.{State, in_hand, Does}
+use Rattle.fw_group.specs.Turns.{IsStopped}
 
 -- The state of a house: of an open one its store's warehouse is what is published. What else is told is not in the house.
 abbrev pub state_of : {V : Type 0} → House V → Desk → History → List EntryValue → Bool → List (List EntryValue) → State
@@ -77,11 +83,39 @@ module _ {V : Type 0} (view : V → View) where
   Between h s on.Stop m = ⊤
   Between h s event m = LeavesOnly (view (volume_of h)) (view (volume_of m)) (MayStand s event)
 
+  -- the volume's count of failures rose between the two
+  abbrev pub DeviceFailed : House V → House V → Type 0
+  DeviceFailed h m = Rose (view (volume_of h)).failures (view (volume_of m)).failures
+
+  -- A commit whose items were answered. Nothing happened where nothing was in hand, or the device had failed before. Else the accepted ones are in
+  -- the log; or there were accepted ones, and the device failed while they were written.
+  pub record GroupLed (store : StoreState V) (s : State) (t : StoreState V) (u : State) : Type 0 where
+    pub nothing : (s.hand ≡ []) ⊎ (s.failed ≡ true) → t ≡ store
+    pub done : (s.hand ≡ [] → ⊥) → s.failed ≡ false → u.failed ≡ false → Committed true view store t (in_hand s)
+    pub lost : s.failed ≡ false → u.failed ≡ true → (0 < length (in_hand s)) × DeviceFailed (house.Open store) (house.Open t) × Lost store t
+
+  -- What an event did to the store and its device, and why it was answered so, where the states alone don't tell. A fault of the device comes only
+  -- where the count of failures rose, and the other faults only where the store has no room, or no greater generation. What isn't listed changes
+  -- nothing.
+  abbrev pub Led : House V → State → Event → EventAnswer → House V → State → Type 0
+  Led (house.Open store) s on.Commit (said.Committed answers) (house.Open t) u = GroupLed store s t u
+  Led (house.Open store) s on.Commit (said.Failed fault.TooLarge) (house.Open t) u = HasNoRoom (view store.volume).limit store (in_hand s) × (t ≡ store)
+  Led (house.Open store) s on.Checkpoint said.Checkpointed (house.Open t) u = (store.generation ≡ 2 ^ 64 - 1 → ⊥) × IsCheckpointed true view store t
+  Led (house.Open store) s on.Checkpoint (said.Failed fault.Generations) (house.Open t) u = (store.generation ≡ 2 ^ 64 - 1) × (t ≡ store)
+  Led (house.Open store) s on.Checkpoint (said.Failed fault.TooLarge) (house.Open t) u =
+      (store.generation ≡ 2 ^ 64 - 1 → ⊥) × HasNoRoomFor (view store.volume).limit store.history × (t ≡ store)
+  Led (house.Open store) s on.Checkpoint (said.Failed fault.Device) (house.Open t) u =
+      (store.generation ≡ 2 ^ 64 - 1 → ⊥) × DeviceFailed (house.Open store) (house.Open t) × (t ≡ record store { volume = t.volume; failed = true })
+  Led (house.Open store) s on.Stop said.Stopped (house.Stopped w) u = IsStopped true view store.volume w
+  Led (house.Stopped v) s on.Reopen (said.Reopened found) (house.Open t) u = StandsFor found (view v).seen × Calm (view v) (view t.volume)
+  Led (house.Stopped v) s on.Reopen (said.Failed fault.Device) (house.Stopped w) u = DeviceFailed (house.Stopped v) (house.Stopped w) × Calm (view v) (view w)
+  Led h s e a m u = m ≡ h
+
   -- The events lead from one house and state to others, and the answers from `before` to `after`, one for each event.
   abbrev pub Runs : House V → State → List EventAnswer → List Event → House V → State → List EventAnswer → Type 0
   Runs h s before [] k t after = (k ≡ h) × (t ≡ s) × (after ≡ before)
   Runs h s before (e ∷ es) k t after =
-      (m : House V) × (u : State) × (a : EventAnswer) × Does s before e a u × Stands m u × Between h s e m × Runs m u (before ++ a ∷ []) es k t after
+      (m : House V) × (u : State) × (a : EventAnswer) × Does s before e a u × Stands m u × Between h s e m × Led h s e a m u × Runs m u (before ++ a ∷ []) es k t after
 
   -- the events ran, and left this house: the one after the last event, or one whose volume was read and synced since
   pub record HasRun (h : House V) (s : State) (es : List Event) (answers : List EventAnswer) (left : House V) : Type 0 where

@@ -127,11 +127,11 @@ module _ {V : Type 0} (tells : Bool) (view : V → View) where
     pub each : IsTrue tells → EachStandsFor s.history (view t.volume)
 
   abbrev pub Checkpoints : StoreState V → EventAnswer → StoreState V → Type 0
-  Checkpoints s said.Checkpointed t = (s.failed ≡ false) × IsCheckpointed tells view s t × (t.history ≡ s.history) × IsCalledOn s t
-  Checkpoints s (said.Failed fault.Device) t = (s.failed ≡ false) × (t ≡ record s { volume = t.volume; failed = true }) × Rose (view s.volume).failures (view t.volume).failures × IsCalledOn s t
+  Checkpoints s said.Checkpointed t = (s.failed ≡ false) × IsCheckpointed tells view s t × (t.history ≡ s.history) × IsCalledOn s t × (s.generation ≡ 2 ^ 64 - 1 → ⊥)
+  Checkpoints s (said.Failed fault.Device) t = (s.failed ≡ false) × (t ≡ record s { volume = t.volume; failed = true }) × Rose (view s.volume).failures (view t.volume).failures × IsCalledOn s t × (s.generation ≡ 2 ^ 64 - 1 → ⊥)
   Checkpoints s (said.Failed fault.Failed) t = (s.failed ≡ true) × (t ≡ s)
   Checkpoints s (said.Failed fault.Generations) t = (s.failed ≡ false) × (s.generation ≡ 2 ^ 64 - 1) × (t ≡ s)
-  Checkpoints s (said.Failed fault.TooLarge) t = (s.failed ≡ false) × HasNoRoomFor (view s.volume).limit s.history × (t ≡ s)
+  Checkpoints s (said.Failed fault.TooLarge) t = (s.failed ≡ false) × HasNoRoomFor (view s.volume).limit s.history × (t ≡ s) × (s.generation ≡ 2 ^ 64 - 1 → ⊥)
   Checkpoints s a t = ⊥
 
   -- ---- stops, and the way back
