@@ -8,7 +8,7 @@ PART is one of:
     odd       a folder that isn't there, a file in its place, a folder or a pipe in place of a file, one file as both, a file past 2^40
               bytes, a folder that may not be written, one that is empty, one that has a warehouse already where --create is given, and
               standard streams that are closed
-    in-use    a second process over a folder while a first one has it open
+    in-use    a second process over a folder while a first one has it open, also where its standard error is a terminal, a pseudo terminal here
     full      a disk that is full at each moment of a run: a limit on the length of files, and, for the superuser, a small file system
     cut       the files of a warehouse cut at each byte, and made longer
     bytes     each of the first N bytes (2,000) of the files changed
@@ -24,6 +24,7 @@ It needs a built program. Exit status: 0 where all was right, 1 where it wasn't,
 
 import argparse
 import os
+import pty
 import random
 import resource
 import shutil
@@ -36,7 +37,7 @@ import time
 from concurrent.futures import ThreadPoolExecutor
 from dataclasses import dataclass
 
-from store_runs import PROGRAM, QUESTIONS, SIDES, CannotRun, Case, acknowledged, commands, contents_of, lay, room_of, run, shown
+from store_runs import PROGRAM, QUESTIONS, SIDES, CannotRun, Case, Ended, acknowledged, commands, contents_of, lay, room_of, run, shown
 
 ASKED = b"".join(QUESTIONS)
 # About how many limits on the length of files are tried.
@@ -46,6 +47,8 @@ PARTS = ["odd", "in-use", "full", "cut", "bytes"]
 LEAST_SIDE = 26
 MOST_PAYLOAD = 8_388_608
 ONE_FAULT = "focusd: {}\n"
+# What stands behind the fault of a folder in use, where standard error is a terminal.
+HELD = "{}: another process has this folder open\n"
 
 
 class Report:
@@ -213,9 +216,44 @@ def in_use(program, room, report, case):
     # The file is opened before the side is made; what a second process changed would be seen in the first one's answers.
     for options in ([], ["--create"]):
         report.judge(f"a folder in use {options}", fault_unless(run(program, folder, ASKED, *options), "K1 Io"))
+        report.judge(f"a folder in use {options}, on a terminal", held_fault(folder, run_on_terminal(program, folder, ASKED, *options)))
     said, error = first.communicate(b"".join(case.commands))
     report.judge("the process that has it open", "" if said == b"".join(case.answers) and not error else shown(said + error))
     report.judge("the folder afterwards", answers_fault(run(program, folder, ASKED), case.histories[-1]))
+
+
+def run_on_terminal(program, folder, script, *options):
+    """Runs a script over a folder with a pseudo terminal as standard error."""
+    ours, theirs = pty.openpty()
+    try:
+        ended = run(program, folder, script, *options, capture_output=False, stdout=subprocess.PIPE, stderr=theirs)
+    finally:
+        os.close(theirs)
+    try:
+        return Ended(ended.status, ended.said or b"", shown_on(ours))
+    finally:
+        os.close(ours)
+
+
+def shown_on(terminal):
+    """What a terminal was given, once nobody else has it open. It ends each line with a carriage return, which is left out."""
+    given = []
+    while True:
+        try:
+            piece = os.read(terminal, 4_096)
+        except OSError:
+            # Linux answers so, once nobody has the other end.
+            piece = b""
+        if not piece:
+            return b"".join(given).replace(b"\r\n", b"\n")
+        given.append(piece)
+
+
+def held_fault(folder, ended):
+    """What is wrong with a run on a terminal over a folder that another process has open."""
+    wanted = ONE_FAULT.format("K1 Io") + HELD.format(folder)
+    right = ended.status == 1 and not ended.said and ended.error.decode() == wanted
+    return "" if right else f"it should show\n{wanted}and it shows\n{ended}"
 
 
 def is_open(process, path):

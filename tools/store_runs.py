@@ -183,10 +183,10 @@ class Ended:
 
 
 def run(program, folder, script, *options, before=(), **more):
-    """Runs a script over a folder."""
+    """Runs a script over a folder. What it writes is kept, unless `more` says where it goes."""
     words = [*before, program, "run", "--dir", folder, *options]
     try:
-        done = subprocess.run(words, input=script, capture_output=True, timeout=LIMIT, check=False, **more)
+        done = subprocess.run(words, input=script, timeout=LIMIT, check=False, **{"capture_output": True, **more})
     except subprocess.TimeoutExpired as why:
         return Ended(None, why.stdout or b"", f"it had not ended after {LIMIT} seconds\n".encode())
     return Ended(done.returncode, done.stdout, done.stderr)
