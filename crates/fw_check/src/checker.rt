@@ -1,16 +1,23 @@
 //! A text that is checked part by part.
-use crate::fields::{bytes_in, first_record, text_in};
-use crate::findings::{Finding, Place, code_of, column_of, expected_of, shown_value};
+ghost use Rattle.std.specs.Prelude.{◌≡◌, ◌≢◌, ◌+◌, ℕ, List, OnOk, Ok, Err};
+ghost use Rattle.fw_charge.specs.Charge.{Charge};
+ghost use Rattle.fw_rows.specs.Rows.{RowsRead};
+ghost use Rattle.fw_rows.specs.declared.fault.RowFault.TheVariants.{NoRows};
+ghost use Rattle.fw_check.specs.Checks.{checked, nothing_checked, with_currency, with_fault, with_lines, with_read, records_in};
+ghost use Rattle.fw_check.specs.Counts.{kept};
+ghost use Rattle.fw_check.specs.Faults.{column_text, fault_name};
+
+use crate::fields::{first_record, text_in};
+use crate::findings::{
+    Finding, Place, add_fault, code_of, column_name, column_of, expected_of, shown_value, value_at,
+};
 use crate::located::{blank, line_feeds};
 use crate::repair::repaired;
 use crate::statistics::{Statistics, count_text};
 use csv::ByteRecord;
 use fw_cut::{Part, cut_off};
-use fw_rows::{Column, Currency, RecordFault, RowFault, read_rows};
+use fw_rows::{Column, Currency, RecordFault, Row, RowFault, read_rows, rows_read_as_one};
 use std::alloc::{AllocError, Global};
-
-/// How many places of a finding are kept.
-const PLACES: usize = 3;
 
 /// How many faults of one record are looked for.
 const MOST_FAULTS: usize = 32;
@@ -35,7 +42,9 @@ pub struct Checker {
 
 impl Checker {
     /// A checker of texts in this currency that has seen nothing.
-    pub fn new(alloc: Global, currency: Currency) -> Checker {
+    pub fn new(alloc: Global, currency: Currency) -> Checker
+        ensures { checked result ≡ nothing_checked currency }
+    {
         Checker {
             currency,
             records: 0,
@@ -48,25 +57,26 @@ impl Checker {
     }
 
     /// Counts the lines of a header, before the first part.
-    pub fn pass_header(&mut self, header: &[u8]) {
+    pub fn pass_header(&mut self, header: &[u8])
+        ensures { checked self.new ≡ with_lines header.now (checked self.old) }
+    {
         self.lines = self.lines.saturating_add(line_feeds(header));
     }
 
     /// Checks the records of a part. The answer is the header's fault, if it has one, or `NoMemory`.
-    pub fn check(&mut self, alloc: Global, part: &Part) -> Result<(), RowFault> {
+    pub fn check(&mut self, alloc: Global, part: &Part) -> Result<(), RowFault>
+        // Where the part reads as rows, these are counted, and no fault is.
+        ensures rows { OnOk result ((rows : List Charge) → RowsRead self.old.currency part.now.text.items (Ok rows) → checked self.new ≡ with_read (records_in part.now) rows (checked self.old)) }
+        // Where it has no record, nothing is.
+        ensures none { OnOk result (RowsRead self.old.currency part.now.text.items (Err NoRows) → checked self.new ≡ checked self.old) }
+    {
         let text = part.text.as_slice();
+        rows_read_as_one(text, self.currency);
         let (head, body) = text.split_at(part.header.min(text.len()));
         let header = first_record(alloc, head)?;
         match read_rows(alloc, text, self.currency) {
             Ok(rows) => {
-                let mut count: u64 = 0;
-                for row in rows.as_slice() {
-                    self.statistics.add(alloc, row)?;
-                    count = count.saturating_add(1);
-                }
-                self.records = self.records.saturating_add(count);
-                self.lines = self.lines.saturating_add(line_feeds(body));
-                self.count_currency(alloc, count)?;
+                self.add_rows(alloc, rows.as_slice(), body)?;
                 Ok(())
             }
             Err(RowFault::NoRows) => Ok(()),
@@ -77,15 +87,27 @@ impl Checker {
         }
     }
 
+    // Counts the rows of records without a fault.
+    fn add_rows(&mut self, alloc: Global, rows: &[Row], text: &[u8]) -> Result<(), AllocError>
+        ensures { OnOk result (checked self.new ≡ with_read text.now rows.now (checked self.old)) }
+    {
+        let count = rows.len() as u64;
+        self.statistics.add_all(alloc, rows)?;
+        self.records = self.records.saturating_add(count);
+        self.lines = self.lines.saturating_add(line_feeds(text));
+        self.count_currency(alloc, count)?;
+        Ok(())
+    }
+
     // Records of the currency of the checker.
-    fn count_currency(&mut self, alloc: Global, count: u64) -> Result<(), AllocError> {
+    fn count_currency(&mut self, alloc: Global, count: u64) -> Result<(), AllocError>
+        ensures { OnOk result (checked self.new ≡ with_currency count (checked self.old)) }
+    {
         let code = self.currency;
-        let text = str::from_utf8(code.code()).unwrap_or("");
-        let before = self.statistics.currencies.get(text).copied().unwrap_or(0);
-        let key = String::from_str(alloc, text)?;
-        self.statistics
-            .currencies
-            .insert(key, before.saturating_add(count))?;
+        let Ok(text) = str::from_utf8(code.code()) else {
+            return Ok(());
+        };
+        count_text(alloc, &mut self.statistics.currencies, text, count)?;
         Ok(())
     }
 
@@ -134,6 +156,7 @@ impl Checker {
             alloc,
             &mut self.statistics.currencies,
             text_in(header, &first, Column::BillingCurrency),
+            1,
         )?;
         for turn in 0..MOST_FAULTS {
             let record = first_record(alloc, &text)?;
@@ -167,9 +190,7 @@ impl Checker {
         match read_rows(alloc, &text, self.currency) {
             Ok(rows) => {
                 if counts {
-                    for row in rows.as_slice() {
-                        self.statistics.add(alloc, row)?;
-                    }
+                    self.statistics.add_all(alloc, rows.as_slice())?;
                 }
                 Ok(None)
             }
@@ -178,7 +199,7 @@ impl Checker {
         }
     }
 
-    // Counts a fault, and keeps its place if it is one of the first.
+    // Counts a fault of the record that is checked, and keeps its place if it is one of the first.
     fn note(
         &mut self,
         alloc: Global,
@@ -186,40 +207,25 @@ impl Checker {
         record: &ByteRecord,
         fault: RecordFault,
         column: Option<Column>,
-    ) -> Result<(), AllocError> {
-        self.faults = self.faults.saturating_add(1);
-        let code = code_of(fault);
-        let name = match column {
-            Some(column) => column.name(),
-            None => "",
-        };
-        let value: &[u8] = match column {
-            Some(column) => bytes_in(header, record, column),
-            None => &[],
-        };
+    ) -> Result<(), AllocError>
+        ensures { OnOk result ((expected value : List ℕ) × (checked self.new ≡ with_fault (fault_name fault) (column_text column) expected
+            (record { line = kept (self.old.lines + 1); number = self.old.records; value = value }) (checked self.old))) }
+    {
+        let value = shown_value(alloc, value_at(header, record, column))?;
         let place = Place {
             line: self.lines.saturating_add(1),
             record: self.records,
-            value: shown_value(alloc, value)?,
+            value,
         };
-        for finding in self.findings.iter_mut() {
-            if finding.code == code && finding.column == name {
-                finding.count = finding.count.saturating_add(1);
-                if finding.places.len() < PLACES {
-                    finding.places.push(place)?;
-                }
-                return Ok(());
-            }
-        }
-        let mut places = Vec::new(alloc);
-        places.push(place)?;
-        self.findings.push(Finding {
-            code,
-            column: name,
-            expected: expected_of(fault),
-            count: 1,
-            places,
-        })?;
+        self.faults = self.faults.saturating_add(1);
+        add_fault(
+            alloc,
+            &mut self.findings,
+            code_of(fault),
+            column_name(column),
+            expected_of(fault),
+            place,
+        )?;
         Ok(())
     }
 }

@@ -1,10 +1,16 @@
 //! What is wrong with a record: the code, the column and what was expected.
+ghost use Rattle.std.specs.Prelude.{◌≡◌, ◌⊎◌, ◌<◌, ◌≤◌, length, map, IsSome, OnOk};
+ghost use Rattle.std.specs.List.{position_or_len};
+ghost use Rattle.csv.specs.Records.{fields_of};
+ghost use Rattle.fw_rows.specs.Columns.{name_of};
+ghost use Rattle.fw_check.specs.Faults.{CanStandIn, column_text, fault_name, finding_value, is_of, noted, one_more, place_value};
+
 use crate::fields::{bytes_in, text_in};
 use csv::ByteRecord;
 use fw_charge::LONGEST_SHORT_TEXT;
 use fw_instants::second_of;
 use fw_rows::{Column, RecordFault};
-use std::alloc::AllocError;
+use std::alloc::{AllocError, Global};
 
 /// A place of a fault.
 #[derive(Debug, Drop)]
@@ -30,6 +36,63 @@ pub struct Finding {
     pub count: u64,
     /// The first places.
     pub places: Vec<Place>,
+}
+
+/// How many places of a finding are kept.
+const PLACES: usize = 3;
+
+impl Finding {
+    // One more fault, at this place, which is kept if it is one of the first.
+    fn add(&mut self, place: Place) -> Result<(), AllocError>
+        ensures { OnOk result (finding_value self.new ≡ one_more (place_value place) (finding_value self.old)) }
+    {
+        self.count = self.count.saturating_add(1);
+        if self.places.len() < PLACES {
+            self.places.push(place)?;
+        }
+        Ok(())
+    }
+}
+
+// Where the finding of a code and a column stands, or how many findings there are where there is none.
+fn finding_of(findings: &[Finding], code: &str, column: &str) -> usize
+    ensures value { result ≡ position_or_len (λ f. is_of code.now column.now (finding_value f)) findings.now }
+    ensures within { result ≤ length findings.now }
+{
+    for (place, finding) in findings.iter().enumerate() {
+        if finding.code == code && finding.column == column {
+            return place;
+        }
+    }
+    findings.len()
+}
+
+/// Counts a fault among the findings, and keeps its place if it is one of the first of its code and column.
+pub(crate) fn add_fault(
+    alloc: Global,
+    findings: &mut Vec<Finding>,
+    code: &'static str,
+    column: &'static str,
+    expected: &'static str,
+    place: Place,
+) -> Result<(), AllocError>
+    ensures { OnOk result (map finding_value findings.new.items ≡ noted code.now column.now expected.now (place_value place) (map finding_value findings.old.items)) }
+{
+    let at = finding_of(findings.as_slice(), code, column);
+    if at < findings.len() {
+        findings[at].add(place)?;
+        return Ok(());
+    }
+    let mut places = Vec::new(alloc);
+    places.push(place)?;
+    findings.push(Finding {
+        code,
+        column,
+        expected,
+        count: 1,
+        places,
+    })?;
+    Ok(())
 }
 
 /// The longest part of a value that is shown, in characters.
@@ -63,7 +126,10 @@ pub(crate) const ALL: [Column; 15] = [
 ];
 
 /// The code and the name of a fault.
-pub(crate) fn code_of(fault: RecordFault) -> &'static str {
+#[tactic(auto, unfolding(crate::specs::Faults::fault_name))]
+pub(crate) fn code_of(fault: RecordFault) -> &'static str
+    ensures { result.now ≡ fault_name fault }
+{
     match fault {
         RecordFault::Fields => "V1 Fields",
         RecordFault::NotUtf8 => "V2 NotUtf8",
@@ -106,12 +172,36 @@ pub(crate) fn expected_of(fault: RecordFault) -> &'static str {
     }
 }
 
+/// The name of the column of a fault, or the empty text where the fault is of the whole record.
+pub(crate) fn column_name(column: Option<Column>) -> &'static str
+    ensures { result.now ≡ column_text column }
+{
+    match column {
+        Some(column) => column.name(),
+        None => "",
+    }
+}
+
+/// The value of a record that has a fault in a column; none where the fault is of the whole record.
+pub(crate) fn value_at<'r>(
+    header: &ByteRecord,
+    record: &'r ByteRecord,
+    column: Option<Column>,
+) -> &'r [u8] {
+    match column {
+        Some(column) => bytes_in(header, record, column),
+        None => b"",
+    }
+}
+
 /// The column in which a record has a fault; none where the fault is of the whole record.
 pub(crate) fn column_of(
     header: &ByteRecord,
     record: &ByteRecord,
     fault: RecordFault,
-) -> Option<Column> {
+) -> Option<Column>
+    ensures { CanStandIn fault result }
+{
     match fault {
         RecordFault::Fields => None,
         RecordFault::NotUtf8 => first_not_utf8(header, record),
@@ -140,7 +230,9 @@ fn first_not_utf8(header: &ByteRecord, record: &ByteRecord) -> Option<Column> {
 }
 
 // The first of the two costs that is no amount.
-fn bad_cost(header: &ByteRecord, record: &ByteRecord) -> Column {
+fn bad_cost(header: &ByteRecord, record: &ByteRecord) -> Column
+    ensures { (result ≡ Column.BilledCost) ⊎ (result ≡ Column.EffectiveCost) }
+{
     if fw_money::parse(bytes_in(header, record, Column::BilledCost)).is_err() {
         Column::BilledCost
     } else {
@@ -149,7 +241,9 @@ fn bad_cost(header: &ByteRecord, record: &ByteRecord) -> Column {
 }
 
 // The first of the two times that can't be read.
-fn bad_time(header: &ByteRecord, record: &ByteRecord) -> Column {
+fn bad_time(header: &ByteRecord, record: &ByteRecord) -> Column
+    ensures { (result ≡ Column.ChargePeriodStart) ⊎ (result ≡ Column.ChargePeriodEnd) }
+{
     if second_of(text_in(header, record, Column::ChargePeriodStart)).is_none() {
         Column::ChargePeriodStart
     } else {
@@ -168,7 +262,7 @@ fn too_long(header: &ByteRecord, record: &ByteRecord) -> Column {
 }
 
 /// The first 60 characters of a value. A byte that isn't printable ASCII, in a value that isn't UTF-8, is shown as `?`.
-pub(crate) fn shown_value(alloc: std::alloc::Global, value: &[u8]) -> Result<String, AllocError> {
+pub(crate) fn shown_value(alloc: Global, value: &[u8]) -> Result<String, AllocError> {
     let mut shown = String::new(alloc);
     match str::from_utf8(value) {
         Ok(text) => {

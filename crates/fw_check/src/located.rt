@@ -1,8 +1,14 @@
 //! Where a fault of a part stands.
-ghost use Rattle.std.specs.Prelude.{◌≤◌, length};
+ghost use Rattle.std.specs.Prelude.{◌≡◌, ◌≤◌, ◌<◌, ◌-◌, length, Option, IfOk};
+ghost use Rattle.fw_check.specs.Checks.{records_in};
+ghost use Rattle.fw_check.specs.Faults.{CanStandIn, column_text, fault_name};
+ghost use Rattle.fw_check.specs.Lines.{blank_len, is_content, line_feeds_in, before_record};
+ghost use Rattle.fw_cut.specs.Cutting.{Cuts};
+ghost use Rattle.fw_cut.specs.declared.cutting.Cut.{Cut};
+ghost use Rattle.fw_rows.specs.declared.column.Column.{Column as ColumnValue};
 
-use crate::fields::{bytes_in, first_record};
-use crate::findings::{code_of, column_of, expected_of, shown_value};
+use crate::fields::first_record;
+use crate::findings::{code_of, column_name, column_of, expected_of, shown_value, value_at};
 use fw_cut::{Part, cut_off};
 use fw_rows::RecordFault;
 use std::alloc::{AllocError, Global};
@@ -23,22 +29,26 @@ pub struct Located {
 }
 
 /// How many line feeds there are.
-pub fn line_feeds(text: &[u8]) -> u64 {
-    let mut count: u64 = 0;
-    for byte in text {
-        if *byte == b'\n' {
-            count = count.saturating_add(1);
-        }
-    }
-    count
+pub fn line_feeds(text: &[u8]) -> u64
+    ensures { result ≡ line_feeds_in text.now }
+{
+    text.iter().filter(|byte| **byte == b'\n').count() as u64
+}
+
+// Whether a byte ends no line.
+fn is_content(byte: u8) -> bool
+    ensures { result ≡ is_content byte }
+{
+    byte != b'\n' && byte != b'\r'
 }
 
 /// How many empty lines come first, in bytes.
 pub(crate) fn blank(text: &[u8]) -> usize
-    ensures { result ≤ length text.now }
+    ensures value { result ≡ blank_len text.now }
+    ensures within { result ≤ length text.now }
 {
     for (index, byte) in text.iter().enumerate() {
-        if *byte != b'\n' && *byte != b'\r' {
+        if is_content(*byte) {
             return index;
         }
     }
@@ -51,7 +61,14 @@ pub fn locate(
     part: &Part,
     number: u32,
     fault: RecordFault,
-) -> Result<Located, AllocError> {
+) -> Result<Located, AllocError>
+    ensures code { IfOk result (λ l. l.code.now ≡ fault_name fault) }
+    ensures column { IfOk result (λ l. (c : Option ColumnValue) × CanStandIn fault c × (l.column.now ≡ column_text c)) }
+    // The first record stands behind the empty lines.
+    ensures first { IfOk result (λ l. number ≤ 1 → l.lines_before ≡ line_feeds_in (before_record (records_in part.now) 0)) }
+    // Each other one stands behind as many whole records as its number says.
+    ensures later { IfOk result (λ l. 1 < number → (cut : Cut) × Cuts (records_in part.now) (number - 1) cut × (l.lines_before ≡ line_feeds_in (before_record (records_in part.now) cut.end))) }
+{
     let text = part.text.as_slice();
     let (head, body) = text.split_at(part.header.min(text.len()));
     let end = if number > 1 {
@@ -59,23 +76,16 @@ pub fn locate(
     } else {
         0
     };
-    let (before, rest) = body.split_at(end);
-    let (empty, rest) = rest.split_at(blank(rest));
+    let (_, rest) = body.split_at(end);
+    let (before, rest) = body.split_at(end + blank(rest));
     let header = first_record(alloc, head)?;
     let record = first_record(alloc, rest)?;
-    let lines_before = line_feeds(before).saturating_add(line_feeds(empty));
-    let (column, value) = match column_of(&header, &record, fault) {
-        Some(column) => (
-            column.name(),
-            shown_value(alloc, bytes_in(&header, &record, column))?,
-        ),
-        None => ("", String::new(alloc)),
-    };
+    let column = column_of(&header, &record, fault);
     Ok(Located {
-        lines_before,
+        lines_before: line_feeds(before),
         code: code_of(fault),
-        column,
-        value,
+        column: column_name(column),
+        value: shown_value(alloc, value_at(&header, &record, column))?,
         expected: expected_of(fault),
     })
 }

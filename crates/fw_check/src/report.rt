@@ -1,26 +1,50 @@
 //! What was found, as text and as JSON.
+ghost use Rattle.std.specs.Prelude.{◌≡◌, [], length, string_bytes, IfOk};
+ghost use Rattle.fw_check.specs.Answers.{IsAnswer, IsJsonAnswer, json_head, sums_text, summary_text};
+
 use crate::checker::Checker;
 use crate::findings::Finding;
+use crate::statistics::Statistics;
 use std::alloc::{AllocError, Global};
 
 /// The words of the categories, in the order of their counts.
 const CATEGORIES: [&str; 5] = ["Usage", "Purchase", "Tax", "Credit", "Adjustment"];
 
 /// What was found in a text, for people.
-pub fn as_text(alloc: Global, name: &str, checker: &Checker) -> Result<String, AllocError> {
-    let mut text = String::new(alloc);
+pub fn as_text(alloc: Global, name: &str, checker: &Checker) -> Result<String, AllocError>
+    ensures { IfOk result (λ text. IsAnswer name.now checker.now (string_bytes text)) }
+{
+    let findings = findings_text(alloc, name, checker.findings.as_slice())?;
+    let sums = sums_text(alloc, &checker.statistics)?;
+    let counts = counts_text(alloc, &checker.statistics)?;
+    let mut text = summary_text(alloc, name, checker)?;
+    text.push_str(findings.as_str())?;
+    text.push_str(sums.as_str())?;
+    text.push_str(counts.as_str())?;
+    Ok(text)
+}
+
+// How many records a text has, how many of them have faults, and how many faults there are.
+fn summary_text(alloc: Global, name: &str, checker: &Checker) -> Result<String, AllocError>
+    ensures { IfOk result (λ text. string_bytes text ≡ summary_text name.now checker.now) }
+{
     let records = checker.records;
     let bad = checker.bad_records;
     let faults = checker.faults;
-    write!(
-        text,
-        "{name}: {records} records, {bad} of them with faults; {faults} faults\n"
-    )?;
-    for finding in checker.findings.as_slice() {
+    format!(in alloc; "{name}: {records} records, {bad} of them with faults; {faults} faults\n")
+}
+
+// The groups of faults; nothing where there is none.
+fn findings_text(alloc: Global, name: &str, findings: &[Finding]) -> Result<String, AllocError>
+    ensures { IfOk result (λ text. findings.now ≡ [] → string_bytes text ≡ []) }
+{
+    let mut text = String::new(alloc);
+    if findings.is_empty() {
+        return Ok(text);
+    }
+    for finding in findings {
         put_finding(&mut text, name, finding)?;
     }
-    put_sums(alloc, &mut text, checker)?;
-    put_counts(&mut text, checker)?;
     Ok(text)
 }
 
@@ -41,22 +65,19 @@ fn put_finding(text: &mut String, name: &str, finding: &Finding) -> Result<(), A
 }
 
 // The sums over the rows without a fault.
-fn put_sums(alloc: Global, text: &mut String, checker: &Checker) -> Result<(), AllocError> {
-    let statistics = &checker.statistics;
+fn sums_text(alloc: Global, statistics: &Statistics) -> Result<String, AllocError>
+    ensures { IfOk result (λ text. string_bytes text ≡ sums_text statistics.now) }
+{
     let rows = statistics.rows;
     let hours = statistics.hours.len();
     let billed = fw_money::text(alloc, statistics.billed)?;
     let effective = fw_money::text(alloc, statistics.effective)?;
-    write!(
-        text,
-        "\nrows {rows}\nhours {hours}\nbilled {billed}\neffective {effective}\n"
-    )?;
-    Ok(())
+    format!(in alloc; "\nrows {rows}\nhours {hours}\nbilled {billed}\neffective {effective}\n")
 }
 
 // The counts by category, currency and tag.
-fn put_counts(text: &mut String, checker: &Checker) -> Result<(), AllocError> {
-    let statistics = &checker.statistics;
+fn counts_text(alloc: Global, statistics: &Statistics) -> Result<String, AllocError> {
+    let mut text = String::new(alloc);
     for place in 0..CATEGORIES.len() {
         let word = CATEGORIES[place];
         let count = statistics.categories[place];
@@ -68,32 +89,54 @@ fn put_counts(text: &mut String, checker: &Checker) -> Result<(), AllocError> {
     for (key, count) in statistics.tags.keys.iter() {
         write!(text, "tag {key:?} {count}\n")?;
     }
-    Ok(())
+    Ok(text)
 }
 
 /// What was found in a text, as one line of JSON.
-pub fn as_json(alloc: Global, name: &str, checker: &Checker) -> Result<String, AllocError> {
-    let mut text = String::new(alloc);
-    text.push_str("{\"file\":")?;
-    put_json(&mut text, name)?;
+pub fn as_json(alloc: Global, name: &str, checker: &Checker) -> Result<String, AllocError>
+    ensures { IfOk result (λ text. IsJsonAnswer checker.now (string_bytes text)) }
+{
+    let mut file = String::new(alloc);
+    put_json(&mut file, name)?;
+    let findings = json_findings(alloc, checker.findings.as_slice())?;
+    let mut statistics = String::new(alloc);
+    put_json_statistics(alloc, &mut statistics, checker)?;
+    let mut text = json_head(alloc, file.as_str(), checker)?;
+    text.push_str(findings.as_str())?;
+    text.push_str("],")?;
+    text.push_str(statistics.as_str())?;
+    text.push_str("}\n")?;
+    Ok(text)
+}
+
+// The name of the file, which is a JSON string already, and how many records and faults there are.
+fn json_head(alloc: Global, file: &str, checker: &Checker) -> Result<String, AllocError>
+    ensures { IfOk result (λ text. string_bytes text ≡ json_head file.now checker.now) }
+{
     let records = checker.records;
     let bad = checker.bad_records;
     let faults = checker.faults;
-    write!(
-        text,
-        ",\"records\":{records},\"badRecords\":{bad},\"faults\":{faults},\"findings\":["
-    )?;
+    format!(in alloc;
+        "{{\"file\":{file},\"records\":{records},\"badRecords\":{bad},\"faults\":{faults},\"findings\":["
+    )
+}
+
+// The groups of faults as JSON objects; nothing where there is none.
+fn json_findings(alloc: Global, findings: &[Finding]) -> Result<String, AllocError>
+    ensures { IfOk result (λ text. findings.now ≡ [] → string_bytes text ≡ []) }
+{
+    let mut text = String::new(alloc);
+    if findings.is_empty() {
+        return Ok(text);
+    }
     let mut is_first = true;
-    for finding in checker.findings.as_slice() {
+    for finding in findings {
         if !is_first {
             text.push(',')?;
         }
         is_first = false;
         put_json_finding(&mut text, finding)?;
     }
-    text.push_str("],")?;
-    put_json_statistics(alloc, &mut text, checker)?;
-    text.push_str("}\n")?;
     Ok(text)
 }
 

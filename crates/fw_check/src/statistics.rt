@@ -1,7 +1,11 @@
 //! What is in a text.
-ghost use Rattle.std.specs.Prelude.{◌<◌};
+ghost use Rattle.std.specs.Prelude.{◌≡◌, ◌-◌, ◌<◌, map, nat_eq, OnOk};
+ghost use Rattle.fw_charge.specs.Codes.{category_code};
+ghost use Rattle.fw_check.specs.Counts.{counted, counted_all, text_counts};
+ghost use Rattle.fw_check.specs.Seen.{seen_in, nothing_seen, with_row, with_rows};
+ghost use Rattle.std.specs.Str.{bytes_eq};
 
-use fw_charge::{Category, Row};
+use fw_charge::{Category, Row, Tag};
 use indexmap::IndexMap;
 use std::alloc::{AllocError, Global};
 
@@ -31,21 +35,49 @@ pub struct Statistics {
     pub tags: Coverage,
 }
 
-/// One more under a key.
+/// So many more under a key.
 pub(crate) fn count_text(
     alloc: Global,
     counts: &mut IndexMap<String, u64>,
     key: &str,
-) -> Result<(), AllocError> {
+    times: u64,
+) -> Result<(), AllocError>
+    ensures { OnOk result (text_counts counts.new.entries ≡ counted bytes_eq key.now times (text_counts counts.old.entries)) }
+{
     let before = counts.get(key).copied().unwrap_or(0);
     let key = String::from_str(alloc, key)?;
-    counts.insert(key, before.saturating_add(1))?;
+    counts.insert(key, before.saturating_add(times))?;
+    Ok(())
+}
+
+// One more in an hour.
+fn count_hour(counts: &mut IndexMap<u32, u64>, hour: u32) -> Result<(), AllocError>
+    ensures { OnOk result (counts.new.entries ≡ counted nat_eq hour 1 counts.old.entries) }
+{
+    let before = counts.get(&hour).copied().unwrap_or(0);
+    counts.insert(hour, before.saturating_add(1))?;
+    Ok(())
+}
+
+// One more under the key of each tag.
+fn count_tags(
+    alloc: Global,
+    counts: &mut IndexMap<String, u64>,
+    tags: &[Tag],
+) -> Result<(), AllocError>
+    ensures { OnOk result (text_counts counts.new.entries ≡ counted_all (map (λ t. t.key) tags.now) (text_counts counts.old.entries)) }
+{
+    for tag in tags {
+        count_text(alloc, counts, tag.key(), 1)?;
+    }
     Ok(())
 }
 
 impl Statistics {
     /// Nothing was seen.
-    pub(crate) fn new(alloc: Global) -> Statistics {
+    pub(crate) fn new(alloc: Global) -> Statistics
+        ensures { seen_in result ≡ nothing_seen }
+    {
         Statistics {
             rows: 0,
             billed: 0,
@@ -60,7 +92,9 @@ impl Statistics {
     }
 
     /// Counts a row.
-    pub(crate) fn add(&mut self, alloc: Global, row: &Row) -> Result<(), AllocError> {
+    pub(crate) fn add(&mut self, alloc: Global, row: &Row) -> Result<(), AllocError>
+        ensures { OnOk result (seen_in self.new ≡ with_row row.now (seen_in self.old)) }
+    {
         self.rows = self.rows.saturating_add(1);
         self.billed = self.billed.saturating_add(i128::from(row.billed().count()));
         self.effective = self
@@ -68,19 +102,27 @@ impl Statistics {
             .saturating_add(i128::from(row.effective().count()));
         let category = place_of(row.category());
         self.categories[category] = self.categories[category].saturating_add(1);
-        let hour = row.hour();
-        let before = self.hours.get(&hour).copied().unwrap_or(0);
-        self.hours.insert(hour, before.saturating_add(1))?;
-        for tag in row.tags().as_slice() {
-            count_text(alloc, &mut self.tags.keys, tag.key())?;
+        count_hour(&mut self.hours, row.hour())?;
+        count_tags(alloc, &mut self.tags.keys, row.tags().as_slice())?;
+        Ok(())
+    }
+
+    /// Counts rows.
+    pub(crate) fn add_all(&mut self, alloc: Global, rows: &[Row]) -> Result<(), AllocError>
+        ensures { OnOk result (seen_in self.new ≡ with_rows rows.now (seen_in self.old)) }
+    {
+        for row in rows {
+            self.add(alloc, row)?;
         }
         Ok(())
     }
 }
 
 // The place of a category among all.
+#[tactic(auto, unfolding(fw_charge::specs::Codes::category_code))]
 fn place_of(category: Category) -> usize
-    ensures { result < 5 }
+    ensures place { result ≡ category_code category - 1 }
+    ensures within { result < 5 }
 {
     match category {
         Category::Usage => 0,

@@ -1,0 +1,4 @@
+pub mod CountFacts
+pub mod HeaderFacts
+pub mod FaultFacts
+pub mod AnswerFacts

@@ -1,0 +1,55 @@
+-- What a checker has seen and found, as plain values.
+use Rattle.std.specs.Prelude.{◌≡◌, ℕ, ◌+◌, List, [], ◌∷◌, length, map, min, take, drop}
+use Rattle.std.specs.Str.{bytes_eq}
+use Rattle.fw_charge.specs.Charge.{Charge}
+use Rattle.fw_check.specs.Counts.{kept, counted}
+use Rattle.fw_check.specs.Faults.{FindingValue, finding_value, PlaceValue, noted}
+use Rattle.fw_check.specs.Lines.{line_feeds_in}
+use Rattle.fw_check.specs.Seen.{Seen, seen_in, nothing_seen, with_rows}
+use Rattle.fw_check.specs.declared.checker.Checker.{Checker}
+use Rattle.fw_cut.specs.declared.cutter.Part.{Part}
+
+pub record CheckValue : Type 0 where
+  pub currency : List ℕ
+  pub records : ℕ
+  pub lines : ℕ
+  pub bad_records : ℕ
+  pub faults : ℕ
+  pub findings : List FindingValue
+  pub seen : Seen
+
+abbrev pub checked : Checker → CheckValue
+checked c = record {
+  currency = c.currency;
+  records = c.records;
+  lines = c.lines;
+  bad_records = c.bad_records;
+  faults = c.faults;
+  findings = map finding_value c.findings.items;
+  seen = seen_in c.statistics;
+}
+
+-- a checker that has seen nothing
+abbrev pub nothing_checked : List ℕ → CheckValue
+nothing_checked currency = record { currency = currency; records = 0; lines = 0; bad_records = 0; faults = 0; findings = []; seen = nothing_seen }
+
+-- with the lines of a text
+abbrev pub with_lines : List ℕ → CheckValue → CheckValue
+with_lines text c = record c { lines = kept (c.lines + line_feeds_in text) }
+
+-- with one more fault, of this code and column
+abbrev pub with_fault : List ℕ → List ℕ → List ℕ → PlaceValue → CheckValue → CheckValue
+with_fault code column expected place c = record c { faults = kept (c.faults + 1); findings = noted code column expected place c.findings }
+
+-- with so many records of the checker's currency
+abbrev pub with_currency : ℕ → CheckValue → CheckValue
+with_currency count c = record c { seen = record c.seen { currencies = counted bytes_eq c.currency count c.seen.currencies } }
+
+-- the records of a part
+abbrev pub records_in : Part → List ℕ
+records_in part = drop (min part.header (length part.text.items)) part.text.items
+
+-- with records that are rows: the rows and the lines are counted, and each record under the checker's currency
+abbrev pub with_read : List ℕ → List Charge → CheckValue → CheckValue
+with_read text rows c =
+    with_currency (length rows) (with_lines text (record c { records = kept (c.records + length rows); seen = with_rows rows c.seen }))

@@ -1,0 +1,61 @@
+-- What is in the rows that were seen.
+use Rattle.std.specs.Prelude.{ℕ, ℤ, pos, ◌+◌, ◌-◌, ◌+ℤ◌, List, [], ◌∷◌, map, nat_eq, slice_index, slice_set}
+use Rattle.std.specs.Int.{saturate_signed, w128}
+use Rattle.fw_charge.specs.Charge.{Charge, hour_of}
+use Rattle.fw_charge.specs.Codes.{category_code}
+use Rattle.fw_check.specs.Counts.{kept, counted, counted_all, text_counts}
+use Rattle.fw_check.specs.declared.statistics.Statistics.{Statistics}
+
+-- Statistics as plain values. The counts by hour, currency and tag are in the order in which these first came.
+pub record Seen : Type 0 where
+  pub rows : ℕ
+  pub billed : ℤ
+  pub effective : ℤ
+  pub categories : List ℕ
+  pub hours : List (ℕ × ℕ)
+  pub currencies : List (List ℕ × ℕ)
+  pub tags : List (List ℕ × ℕ)
+
+abbrev pub seen_in : Statistics → Seen
+seen_in s = record {
+  rows = s.rows;
+  billed = s.billed;
+  effective = s.effective;
+  categories = s.categories;
+  hours = s.hours.entries;
+  currencies = text_counts s.currencies.entries;
+  tags = text_counts s.tags.keys.entries;
+}
+
+-- no row was seen
+abbrev pub nothing_seen : Seen
+nothing_seen = record {
+  rows = 0;
+  billed = pos 0;
+  effective = pos 0;
+  categories = 0 ∷ 0 ∷ 0 ∷ 0 ∷ 0 ∷ [];
+  hours = [];
+  currencies = [];
+  tags = [];
+}
+
+-- one more at a place
+abbrev pub one_more_at : ℕ → List ℕ → List ℕ
+one_more_at place counts = slice_set counts place (kept (slice_index counts place + 1))
+
+-- with one more row: its costs are added, and its category, its hour and each of its tags are counted once more. The currencies stay
+abbrev pub with_row : Charge → Seen → Seen
+with_row row seen = record {
+  rows = kept (seen.rows + 1);
+  billed = saturate_signed w128 (seen.billed +ℤ row.billed);
+  effective = saturate_signed w128 (seen.effective +ℤ row.effective);
+  categories = one_more_at (category_code row.category - 1) seen.categories;
+  hours = counted nat_eq (hour_of row.start) 1 seen.hours;
+  currencies = seen.currencies;
+  tags = counted_all (map (λ t. t.key) row.tags) seen.tags;
+}
+
+-- with these rows, one after the other
+abbrev pub with_rows : List Charge → Seen → Seen
+with_rows [] seen = seen
+with_rows (row ∷ rows) seen = with_rows rows (with_row row seen)
