@@ -1,5 +1,5 @@
 -- What a crash leaves: the warehouse that is opened from it.
-use Rattle.std.proofs.Common.{◌≡◌, ◌⊎◌, ◌∙◌, ◌+◌, ◌<◌, ◌≤◌, ◌∷◌, [], ℕ, zero, suc, List, All, Some, true, arith, refl, sym, ap, subst, inl, inr, get_or, length, slice_get}
+use Rattle.std.proofs.Common.{◌≡◌, ◌⊎◌, ◌∙◌, ◌+◌, ◌<◌, ◌≤◌, ◌∷◌, [], ℕ, zero, suc, List, All, Some, true, arith, sym, ap, subst, inl, inr, get_or, length, slice_get}
 use Rattle.std.proofs.lemmas.List.Elements.{All-append, All-head, All-nil, All-tail}
 use Rattle.fw_disk.specs.Volume.{Image}
 use Rattle.fw_entry.specs.Entry.{EntryValue}

@@ -1,5 +1,5 @@
 -- A warehouse stays whole, command by command, and its reports add up.
-use Rattle.std.proofs.Common.{◌≡◌, ◌⊎◌, ◌∙◌, ◌++◌, ◌∷◌, [], ℕ, zero, suc, List, All, Ok, Err, Some, refl, sym, ap, subst, inl, inr, slice_get, take}
+use Rattle.std.proofs.Common.{◌≡◌, ◌⊎◌, ◌++◌, ◌∷◌, [], ℕ, zero, suc, List, Ok, Err, Some, refl, sym, ap, subst, inl, inr, slice_get, take}
 use Rattle.std.specs.Prelude.{Result}
 use Rattle.std.proofs.lemmas.List.Elements.{All-append, All-cons, All-nil}
 use Rattle.fw_entry.specs.Entry.{CommandValue, EntryValue}
