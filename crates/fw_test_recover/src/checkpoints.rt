@@ -1,7 +1,9 @@
 //! Creating a warehouse, and checkpoints: what they leave in the files, byte for byte.
+use crate::entries::entries_of;
 use fw_charge::Currency;
-use fw_disk::{Choice, MemVolume, Side, Volume};
+use fw_disk::{Choice, FaultVolume, MemVolume, Mode, Side, Stoppable, Volume, write_synced};
 use fw_recover::*;
+use fw_snapshot::Verdict;
 use std::alloc::Global;
 use std::process::Abort;
 use std::test::Fail;
@@ -24,10 +26,7 @@ fn created(alloc: Global, limit: u64) -> Result<Store<MemVolume>, StoreFault> {
 }
 
 /// Creates a warehouse in dollars.
-fn create_on(
-    alloc: Global,
-    volume: MemVolume,
-) -> Result<Store<MemVolume>, (MemVolume, StoreFault)> {
+fn create_on<V: Volume>(alloc: Global, volume: V) -> Result<Store<V>, (V, StoreFault)> {
     match Currency::new(b"USD") {
         Some(currency) => Store::create(alloc, volume, currency),
         None => Err((volume, StoreFault::NoMemory)),
@@ -97,5 +96,178 @@ fn a_checkpoint_makes_the_other_side(rt: HostRuntime) -> Result<(), Fail> {
     let mut volume = store.close();
     assert!(rt; has_file(alloc, &mut volume, Side::Left, &empty_side(3))?);
     assert!(rt; has_file(alloc, &mut volume, Side::Right, &empty_side(2))?);
+    Ok(())
+}
+
+/// A volume in memory with this Left.
+fn with_left(alloc: Global, left: &[u8]) -> Result<MemVolume, StoreFault> {
+    let mut volume = MemVolume::new(alloc, 100, Choice::Old);
+    if left.len() as u64 > volume.limit() {
+        return Err(StoreFault::TooLarge);
+    }
+    match write_synced(&mut volume, Side::Left, 0, left) {
+        Ok(()) => Ok(volume),
+        Err(_) => Err(StoreFault::Device),
+    }
+}
+
+// Such a file is left by a stop while Left is closed for the first time.
+#[test]
+fn a_left_of_one_byte_is_no_warehouse_and_is_created_over(rt: HostRuntime) -> Result<(), Fail> {
+    let alloc = rt.alloc();
+    let Err((volume, fault)) = Store::open(alloc, with_left(alloc, &[1])?) else {
+        return Err(Fail::from(StoreFault::Exists));
+    };
+    assert_eq!(rt; fault, StoreFault::NoHouse);
+    let mut volume = match create_on(alloc, volume) {
+        Ok(store) => store.close(),
+        Err((_, fault)) => return Err(Fail::from(fault)),
+    };
+    assert!(rt; has_file(alloc, &mut volume, Side::Left, &empty_side(1))?);
+    Ok(())
+}
+
+/// Left of an empty warehouse whose generation is the greatest.
+fn last_side() -> [u8; 45] {
+    let mut file = empty_side(1);
+    file[9..17].copy_from_slice(&[255; 8]);
+    file
+}
+
+/// Whether a store answers that there is no greater generation, writes nothing, and then adds an entry.
+fn is_last(alloc: Global, store: &mut Store<MemVolume>) -> Result<bool, StoreFault> {
+    let answer = store.checkpoint(alloc);
+    if answer != Err(StoreFault::Generations) || store.body_len() != 19 || store.log_len() != 0 {
+        answer?;
+        return Ok(false);
+    }
+    let verdicts = store.commit_group(alloc, &entries_of(alloc, &[1])?)?;
+    Ok(verdicts.as_slice() == [Verdict::Accept].as_slice())
+}
+
+#[test]
+fn the_last_generation_has_no_checkpoint(rt: HostRuntime) -> Result<(), Fail> {
+    let alloc = rt.alloc();
+    let mut store = match Store::open(alloc, with_left(alloc, &last_side())?) {
+        Ok(store) => store,
+        Err((_, fault)) => return Err(Fail::from(fault)),
+    };
+    let is_last = is_last(alloc, &mut store)?;
+    assert!(rt; is_last);
+    let mut volume = store.close();
+    assert_eq!(rt; (volume.len(Side::Left), volume.len(Side::Right)), (77, 0));
+    Ok(())
+}
+
+/// The checkpoints of a new warehouse: how many calls pass before each, how many it makes, and the generation before.
+type Round = (u64, u64, u64);
+
+/// The first one makes a Right that isn't there. Each further one reads the gate of a side that is open, and closes it.
+const ROUNDS: &[Round] = &[(8, 6, 1), (14, 7, 2), (21, 7, 3), (28, 7, 4)];
+
+/// What two files say: the side in use, its generation, and whether both sides are open.
+type Sides = (Side, u64, bool);
+
+/// What a stop leaves of a checkpoint that ends at the call after `pass` of its calls: the side that it makes is in use
+/// once the write that opens its gate is kept, and was open before until the write that closes it is kept.
+fn sides_left(choice: Choice, round: &Round, pass: u64) -> Sides {
+    let (_, calls, generation) = *round;
+    let (opens, closes) = match choice {
+        Choice::Old => (calls, 3),
+        Choice::New => (calls.saturating_sub(2), 1),
+        Choice::Torn(1) => (calls.saturating_sub(2), 3),
+        Choice::Torn(_) => (calls, 1),
+    };
+    let is_made = pass >= opens;
+    let generation = generation.saturating_add(u64::from(is_made));
+    let side = if generation % 2 == 1 {
+        Side::Left
+    } else {
+        Side::Right
+    };
+    (
+        side,
+        generation,
+        is_made || (generation > 1 && pass < closes),
+    )
+}
+
+/// Whether a side is open.
+fn is_open<V: Volume>(volume: &mut V, side: Side) -> Result<bool, StoreFault> {
+    if volume.len(side) < 26 {
+        return Ok(false);
+    }
+    let mut gate = [0];
+    match volume.read(side, 0, &mut gate) {
+        Ok(()) => Ok(gate == [1]),
+        Err(_) => Err(StoreFault::Device),
+    }
+}
+
+/// What the files of a volume say.
+fn sides_of<V: Volume>(volume: &mut V) -> Result<Sides, StoreFault> {
+    let (side, header) = side_in_use(volume)?;
+    let both = is_open(volume, Side::Left)? && is_open(volume, Side::Right)?;
+    Ok((side, header.generation, both))
+}
+
+/// Makes so many checkpoints, whatever the device does.
+fn checkpoints<V: Volume>(
+    alloc: Global,
+    store: &mut Store<V>,
+    count: u64,
+) -> Result<(), StoreFault> {
+    for _ in 0..count {
+        match store.checkpoint(alloc) {
+            Ok(()) | Err(StoreFault::Device | StoreFault::Failed) => {}
+            Err(fault) => return Err(fault),
+        }
+    }
+    Ok(())
+}
+
+/// What a stop leaves of a new warehouse and so many checkpoints, on a device that fails from the call after `pass` on.
+fn sides_after(alloc: Global, choice: Choice, count: u64, pass: u64) -> Result<Sides, StoreFault> {
+    let volume = FaultVolume::new(MemVolume::new(alloc, 64, choice), pass, Mode::After);
+    let mut store = match create_on(alloc, volume) {
+        Ok(store) => store,
+        Err((_, fault)) => return Err(fault),
+    };
+    let made = checkpoints(alloc, &mut store, count);
+    let mut volume = store.close().stop();
+    made?;
+    sides_of(&mut volume)
+}
+
+/// Stops a checkpoint at each of its calls, and behind the last: how many cases these are. Where a stop leaves anything
+/// else, memory may be out.
+fn stop_within(alloc: Global, choice: Choice, round: &Round) -> Result<u64, StoreFault> {
+    let (before, calls, generation) = *round;
+    let cases = calls.saturating_add(1);
+    for pass in 0..cases {
+        let left = sides_after(alloc, choice, generation, before.saturating_add(pass))?;
+        if left != sides_left(choice, round, pass) {
+            return Err(StoreFault::Device);
+        }
+    }
+    Ok(cases)
+}
+
+#[test]
+fn a_stop_within_a_checkpoint_leaves_a_side_in_use(rt: HostRuntime) -> Result<(), Fail> {
+    let choices = [
+        Choice::Old,
+        Choice::New,
+        Choice::Torn(0),
+        Choice::Torn(1),
+        Choice::Torn(7),
+    ];
+    let mut cases = 0_u64;
+    for choice in choices {
+        for round in ROUNDS {
+            cases = cases.saturating_add(stop_within(rt.alloc(), choice, round)?);
+        }
+    }
+    println!(rt; "{cases} stops within a checkpoint")?;
     Ok(())
 }

@@ -1,11 +1,12 @@
 //! Adding entries to a warehouse: what is written, what is answered, and what stands when it is opened again.
+use crate::entries::are_numbered;
 use fw_disk::{
     Choice, FaultVolume, MemVolume, Mode, Side, Stoppable, Volume, VolumeFault, write_synced,
 };
 use fw_entry_bytes::Form;
 use fw_recover::*;
 use fw_segment::decode_entry;
-use fw_snapshot::{Entry, State, Verdict};
+use fw_snapshot::{Entry, Verdict};
 use std::alloc::Global;
 use std::test::Fail;
 
@@ -233,17 +234,6 @@ fn a_stop_leaves_the_entry_or_not(rt: HostRuntime) -> Result<(), Fail> {
     let wrong = wrong_row(rt.alloc())?;
     assert!(rt; wrong.is_none(), "row {wrong:?}");
     Ok(())
-}
-
-/// Whether these are the entries 1, 2, 3 and so on of the origin `a`.
-fn are_numbered(state: &State, entries: usize) -> bool {
-    for place in 0..entries.min(state.entries()) {
-        let head = state.head(place);
-        if head.origin() != "a" || head.seq() != place as u64 + 1 {
-            return false;
-        }
-    }
-    state.entries() == entries
 }
 
 /// Whether the warehouse of a volume has these entries of the origin `a`.

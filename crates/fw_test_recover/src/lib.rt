@@ -8,6 +8,10 @@ mod checkpoints;
 #[cfg(test)]
 mod committing;
 #[cfg(test)]
+mod entries;
+#[cfg(test)]
+mod groups;
+#[cfg(test)]
 mod limits;
 #[cfg(test)]
 mod open;

@@ -46,33 +46,63 @@ fn a_warehouse_opens_with_the_entries_of_its_log(rt: HostRuntime) -> Result<(), 
     Ok(())
 }
 
-// How many bytes of Left are there, which byte is changed to what, and what is answered.
+/// How many bytes of Left are there, and which bytes from an offset on are changed to what; and where Left is corrupt, or
+/// nowhere where it isn't open.
+type Change = (usize, usize, &'static [u8], Option<u64>);
+
+const CHANGES: &[Change] = &[
+    (1, 0, &[1], None),
+    (25, 0, &[1], None),
+    (44, 0, &[1], Some(17)),
+    (45, 8, b"9", Some(1)),
+    (45, 9, &[0], Some(9)),
+    (45, 17, &[255; 8], Some(17)),
+    (45, 17, &[18], Some(40)),
+    (45, 29, b"usd", Some(25)),
+    (45, 44, &[1], Some(44)),
+    (77, 24, &[255], Some(17)),
+    (77, 45, &[0], Some(44)),
+    (77, 58, &[2], Some(44)),
+    (77, 45, &[28], Some(44)),
+    (77, 45, &[26], Some(44)),
+    (77, 76, &[1], Some(76)),
+];
+
+/// Left with these bytes from an offset on. An entry stands behind its body only where all 77 bytes are there.
+fn changed(len: usize, at: usize, bytes: &[u8]) -> [u8; 77] {
+    let mut file = SIDE;
+    if len < 77 {
+        file[44] = 0;
+    }
+    for (place, byte) in bytes.iter().enumerate() {
+        if let Some(there) = file.get_mut(at.saturating_add(place)) {
+            *there = *byte;
+        }
+    }
+    file
+}
+
+/// The fault of a Left that is corrupt at this place.
+fn fault_at(place: Option<u64>) -> StoreFault {
+    match place {
+        Some(at) => StoreFault::Corrupt {
+            side: Side::Left,
+            at,
+        },
+        None => StoreFault::NoHouse,
+    }
+}
+
 #[test]
 fn each_corrupt_file_has_its_place(rt: HostRuntime) -> Result<(), Fail> {
-    let left = |at| StoreFault::Corrupt {
-        side: Side::Left,
-        at,
-    };
-    let cases: [(usize, usize, u8, StoreFault); 13] = [
-        (25, 0, 1, StoreFault::NoHouse),
-        (44, 0, 1, left(17)),
-        (77, 8, b'9', left(1)),
-        (77, 9, 0, left(9)),
-        (77, 24, 255, left(17)),
-        (77, 17, 18, left(40)),
-        (77, 29, b'u', left(25)),
-        (45, 44, 1, left(44)),
-        (77, 45, 0, left(44)),
-        (77, 58, 2, left(44)),
-        (77, 45, 28, left(44)),
-        (77, 45, 26, left(44)),
-        (77, 76, 1, left(76)),
-    ];
-    for (len, at, byte, fault) in cases {
-        assert!(rt; len <= 77 && at < 77);
-        let mut file = SIDE;
-        file[at] = byte;
-        assert_eq!(rt; opened(rt.alloc(), &file[..len], &[])?, Err(fault));
+    for (len, at, bytes, place) in CHANGES {
+        let file = changed(*len, *at, bytes);
+        let answer = opened(rt.alloc(), file.get(..*len).unwrap_or(&[]), &[])?;
+        assert_eq!(rt;
+            answer,
+            Err(fault_at(*place)),
+            "{len} bytes, changed at {at}"
+        );
     }
     Ok(())
 }

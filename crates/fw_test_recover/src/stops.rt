@@ -1,12 +1,14 @@
 //! Stores that are stopped at each of their device calls: each entry that was answered is there when the warehouse is
-//! opened again, and at most the one that was being written.
+//! opened again, and at most the group that was being written.
+ghost use Rattle.std.specs.Prelude.{◌≤◌, length};
+ghost use Rattle.fw_segment.specs.Groups.{group, IsGroup};
+
+use crate::entries::{are_numbered, entries_of};
 use fw_charge::Currency;
-use fw_disk::{Choice, FaultVolume, MemVolume, Mode, Stoppable};
-use fw_entry_bytes::Form;
+use fw_disk::{Choice, FaultVolume, MemVolume, Mode, Side, Stoppable, Volume, write_synced};
 use fw_recover::*;
-use fw_segment::decode_entry;
-use fw_snapshot::{Entry, Verdict};
-use std::alloc::Global;
+use fw_snapshot::Verdict;
+use std::alloc::{AllocError, Global};
 use std::process::Abort;
 use std::test::Fail;
 
@@ -18,9 +20,34 @@ type Faulty = FaultVolume<MemVolume>;
 enum Plan {
     /// One, or each.
     First(Mode),
-    /// One, and another after so many more that pass, by then perhaps while the warehouse is opened.
-    Two(u64),
+    /// One, and one more after each of these numbers that pass, by then perhaps while the warehouse is opened. They are
+    /// four at most.
+    Series(&'static [u64]),
 }
+
+/// What a store is asked to do.
+#[derive(Clone, Copy, Debug)]
+enum Step {
+    /// To add the entry of this number.
+    Entry(&'static [u8; 1]),
+    /// To add a group of the entries of these numbers.
+    Group(&'static [u8]),
+    /// The same, by `prepare` and `write`.
+    Prepared(&'static [u8]),
+    Checkpoint,
+}
+
+/// The first checkpoint makes Right, the second one Left again, the third one Right again: each of the last two closes
+/// a side that is open.
+const STEPS: &[Step] = &[
+    Step::Entry(&[1]),
+    Step::Checkpoint,
+    Step::Group(&[2, 3]),
+    Step::Checkpoint,
+    Step::Prepared(&[4, 5, 6]),
+    Step::Checkpoint,
+    Step::Entry(&[7]),
+];
 
 /// What was answered before the stop.
 #[derive(Clone, Copy, Debug)]
@@ -35,23 +62,41 @@ struct Answers {
     wrong: bool,
 }
 
-/// The entry of a number of the origin `a`, which sets a policy.
-fn entry(alloc: Global, seq: u8) -> Result<Entry, StoreFault> {
-    let bytes = [
-        1, 0, 0, 0, 0x61, seq, 0, 0, 0, 0, 0, 0, 0, 3, 1, 0, 0, 0, 0x74, 0, 0, 0, 0,
-    ];
-    match decode_entry(alloc, Form::One, &bytes) {
-        Ok(entry) => Ok(entry),
-        Err(_) => Err(StoreFault::NoMemory),
+/// Writes Left of a volume, where there is room for it.
+fn fill(volume: &mut MemVolume, left: &[u8]) -> Result<(), StoreFault> {
+    if left.len() as u64 > volume.limit() {
+        return Err(StoreFault::TooLarge);
+    }
+    match write_synced(volume, Side::Left, 0, left) {
+        Ok(()) => Ok(()),
+        Err(_) => Err(StoreFault::Device),
     }
 }
 
-/// A volume in memory that fails by a plan.
-fn planned(alloc: Global, choice: Choice, plan: Plan, pass: u64) -> Result<Faulty, StoreFault> {
-    let inner = MemVolume::new(alloc, 4096, choice);
+/// A volume in memory with this Left.
+fn memory(alloc: Global, choice: Choice, left: &[u8]) -> Result<MemVolume, StoreFault> {
+    let mut volume = MemVolume::new(alloc, 4096, choice);
+    if left.is_empty() {
+        return Ok(volume);
+    }
+    match fill(&mut volume, left) {
+        Ok(()) => Ok(volume),
+        Err(fault) => Err(fault),
+    }
+}
+
+/// The numbers of a series.
+fn series(alloc: Global, pass: u64, more: &[u64]) -> Result<Vec<u64>, AllocError> {
+    let mut passes = vec![in alloc; pass]?;
+    passes.extend_from_slice(more)?;
+    Ok(passes)
+}
+
+/// A volume that fails by a plan.
+fn planned(alloc: Global, inner: MemVolume, plan: Plan, pass: u64) -> Result<Faulty, StoreFault> {
     match plan {
         Plan::First(mode) => Ok(FaultVolume::new(inner, pass, mode)),
-        Plan::Two(more) => match vec![in alloc; pass, more] {
+        Plan::Series(more) => match series(alloc, pass, more) {
             Ok(passes) => Ok(FaultVolume::series(inner, passes)),
             Err(_) => Err(StoreFault::NoMemory),
         },
@@ -80,21 +125,80 @@ impl Answers {
     }
 }
 
-/// Whether an entry is accepted.
-fn committed(alloc: Global, store: &mut Store<Faulty>, seq: u8) -> Result<bool, StoreFault> {
-    let entry = entry(alloc, seq)?;
-    Ok(store.commit(alloc, &entry)? == Verdict::Accept)
+/// Whether each of so many entries was accepted.
+fn are_accepted(verdicts: &[Verdict], count: usize) -> bool {
+    for verdict in verdicts {
+        if !verdict.is_accept() {
+            return false;
+        }
+    }
+    verdicts.len() == count
 }
 
-/// An entry, a checkpoint, and another entry.
+/// Whether an entry is accepted.
+fn is_committed(
+    alloc: Global,
+    store: &mut Store<Faulty>,
+    seq: &[u8; 1],
+) -> Result<bool, StoreFault> {
+    let entries = entries_of(alloc, seq)?;
+    match entries.first() {
+        Some(entry) => Ok(store.commit(alloc, entry)?.is_accept()),
+        None => Ok(false),
+    }
+}
+
+/// Whether a group is accepted.
+fn are_committed(
+    alloc: Global,
+    store: &mut Store<Faulty>,
+    seqs: &[u8],
+) -> Result<bool, StoreFault> {
+    let entries = entries_of(alloc, seqs)?;
+    let verdicts = store.commit_group(alloc, &entries)?;
+    Ok(are_accepted(&verdicts, seqs.len()))
+}
+
+/// Whether a group that is prepared, and then written, is accepted.
+fn are_written(alloc: Global, store: &mut Store<Faulty>, seqs: &[u8]) -> Result<bool, StoreFault> {
+    let entries = entries_of(alloc, seqs)?;
+    let prepared = store.prepare(alloc, &entries)?;
+    let verdicts = store.write(alloc, prepared)?;
+    Ok(are_accepted(&verdicts, seqs.len()))
+}
+
+impl Step {
+    /// How many entries it is to add.
+    fn entries(self) -> usize {
+        match self {
+            Step::Entry(_) => 1,
+            Step::Group(seqs) | Step::Prepared(seqs) => seqs.len(),
+            Step::Checkpoint => 0,
+        }
+    }
+
+    /// Whether the store does all of it.
+    fn is_done(self, alloc: Global, store: &mut Store<Faulty>) -> Result<bool, StoreFault> {
+        match self {
+            Step::Entry(seq) => is_committed(alloc, store, seq),
+            Step::Group(seqs) => are_committed(alloc, store, seqs),
+            Step::Prepared(seqs) => are_written(alloc, store, seqs),
+            Step::Checkpoint => store.checkpoint(alloc).map(|_| true),
+        }
+    }
+}
+
+/// All steps in turn.
 fn worked(
     alloc: Global,
     store: &mut Store<Faulty>,
     answers: &mut Answers,
 ) -> Result<(), StoreFault> {
-    answers.note(1, committed(alloc, store, 1))?;
-    answers.note(0, store.checkpoint(alloc).map(|_| true))?;
-    answers.note(1, committed(alloc, store, 2))
+    for step in STEPS {
+        let answer = step.is_done(alloc, store);
+        answers.note(step.entries(), answer)?;
+    }
+    Ok(())
 }
 
 /// Creates a warehouse in dollars.
@@ -132,24 +236,51 @@ fn again(
     }
 }
 
-/// How many entries the warehouse of a volume has, and none where there is no warehouse. A plan fails at most twice here.
-fn entries_in(alloc: Global, volume: Faulty) -> Result<Option<usize>, StoreFault> {
+/// What stands after a stop.
+#[derive(Clone, Copy, Debug)]
+struct Found {
+    entries: usize,
+    /// Whether they are the entries 1, 2, 3 and so on.
+    are_numbered: bool,
+}
+
+/// What the warehouse of a volume has, and none where there is no warehouse. A plan fails at most four times here.
+fn found_in(alloc: Global, volume: Faulty) -> Result<Option<Found>, StoreFault> {
     let first = Store::open(alloc, volume);
     let second = again(alloc, first);
-    match again(alloc, second) {
-        Ok(store) => Ok(Some(store.state().state().entries())),
+    let third = again(alloc, second);
+    let fourth = again(alloc, third);
+    match again(alloc, fourth) {
+        Ok(store) => Ok(Some(Found::of(&store))),
         Err((_, StoreFault::NoHouse)) => Ok(None),
         Err((_, fault)) => Err(fault),
     }
 }
 
-/// The answers before a stop, and how many entries there are after it.
-fn case(
-    alloc: Global,
+impl Found {
+    fn of(store: &Store<Faulty>) -> Found {
+        let state = store.state().state();
+        let entries = state.entries();
+        Found {
+            entries,
+            are_numbered: are_numbered(state, entries),
+        }
+    }
+}
+
+/// The answers before a stop, and what stands after it.
+type Outcome = (Answers, Option<Found>);
+
+/// How a stop is made: what Left is at first, what the stop leaves, and which calls fail.
+#[derive(Clone, Copy, Debug)]
+struct Course {
+    left: &'static [u8],
     choice: Choice,
     plan: Plan,
-    pass: u64,
-) -> Result<(Answers, Option<usize>), StoreFault> {
+}
+
+/// What comes of a course whose first failing call comes after so many.
+fn outcome(alloc: Global, course: &Course, pass: u64) -> Result<Outcome, StoreFault> {
     let mut answers = Answers {
         created: false,
         accepted: 0,
@@ -157,32 +288,32 @@ fn case(
         failed: false,
         wrong: false,
     };
-    let volume = planned(alloc, choice, plan, pass)?;
+    let memory = memory(alloc, course.choice, course.left)?;
+    let volume = planned(alloc, memory, course.plan, pass)?;
     let volume = stopped(alloc, volume, &mut answers)?;
-    let entries = entries_in(alloc, volume)?;
-    Ok((answers, entries))
+    let found = found_in(alloc, volume)?;
+    Ok((answers, found))
 }
 
-/// Whether each accepted entry is there, and at most the one that was being written.
-fn is_right(answers: &Answers, entries: Option<usize>) -> bool {
-    match entries {
+/// Whether each accepted entry is there, and of the group that was being written all or none.
+fn is_right(answers: &Answers, found: Option<Found>) -> bool {
+    match found {
         _ if answers.wrong => false,
         None => !answers.created,
-        Some(entries) => answers.accepted <= entries && entries <= answers.most,
+        Some(found) => {
+            found.are_numbered
+                && (found.entries == answers.accepted || found.entries == answers.most)
+        }
     }
 }
 
-/// A plan that fails after each number of calls in turn, up to the first with which no call fails: how many cases these
-/// are, and the first that is wrong.
-fn sweep(
-    alloc: Global,
-    choice: Choice,
-    plan: Plan,
-) -> Result<(u64, Option<(Answers, Option<usize>)>), StoreFault> {
+/// A course whose first failing call comes after each number of calls in turn, up to the first with which none fails:
+/// how many cases these are, and the first that is wrong.
+fn sweep(alloc: Global, course: &Course) -> Result<(u64, Option<Outcome>), StoreFault> {
     for pass in 0..99 {
-        let (answers, entries) = case(alloc, choice, plan, pass)?;
-        if !is_right(&answers, entries) {
-            return Ok((pass, Some((answers, entries))));
+        let (answers, found) = outcome(alloc, course, pass)?;
+        if !is_right(&answers, found) {
+            return Ok((pass, Some((answers, found))));
         }
         if !answers.failed {
             return Ok((pass + 1, None));
@@ -191,32 +322,61 @@ fn sweep(
     Ok((0, None))
 }
 
-// The calls are 8 to create the warehouse, 4 for an entry, and 6 for a checkpoint.
+const CHOICES: &[Choice] = &[
+    Choice::Old,
+    Choice::New,
+    Choice::Torn(0),
+    Choice::Torn(1),
+    Choice::Torn(7),
+];
+
+const PLANS: &[Plan] = &[
+    Plan::First(Mode::After),
+    Plan::First(Mode::Once),
+    Plan::Series(&[0]),
+    Plan::Series(&[1]),
+    Plan::Series(&[2]),
+    Plan::Series(&[0, 1]),
+    Plan::Series(&[0, 1, 2]),
+];
+
+// Creating the warehouse takes 8 calls, or 9 where Left has an open gate; an entry or a group 4; the first checkpoint 6;
+// and each further one 7.
 #[test]
 fn a_stop_leaves_each_entry_that_was_answered(rt: HostRuntime) -> Result<(), Fail> {
-    let choices = [
-        Choice::Old,
-        Choice::New,
-        Choice::Torn(0),
-        Choice::Torn(1),
-        Choice::Torn(7),
-    ];
-    let plans = [
-        Plan::First(Mode::After),
-        Plan::First(Mode::Once),
-        Plan::Two(0),
-        Plan::Two(1),
-        Plan::Two(2),
-    ];
     let mut cases = 0_u64;
-    for choice in choices {
-        for plan in plans {
-            let (more, wrong) = sweep(rt.alloc(), choice, plan)?;
-            assert!(rt; wrong.is_none(), "{choice:?} {plan:?} {more}: {wrong:?}");
-            assert!(rt; more > 22, "{choice:?} {plan:?}: {more}");
+    for choice in CHOICES {
+        for plan in PLANS {
+            let course = Course {
+                left: &[],
+                choice: *choice,
+                plan: *plan,
+            };
+            let (more, wrong) = sweep(rt.alloc(), &course)?;
+            assert!(rt; wrong.is_none(), "{course:?} {more}: {wrong:?}");
+            assert!(rt; more > 44, "{course:?}: {more}");
             cases = cases.saturating_add(more);
         }
     }
     println!(rt; "{cases} stops")?;
+    Ok(())
+}
+
+// A stop while a warehouse was created can leave a Left of the one byte 1.
+#[test]
+fn a_stop_over_a_left_of_one_byte_leaves_each_entry(rt: HostRuntime) -> Result<(), Fail> {
+    let mut cases = 0_u64;
+    for choice in CHOICES {
+        let course = Course {
+            left: &[1],
+            choice: *choice,
+            plan: Plan::First(Mode::After),
+        };
+        let (more, wrong) = sweep(rt.alloc(), &course)?;
+        assert!(rt; wrong.is_none(), "{course:?} {more}: {wrong:?}");
+        assert!(rt; more > 45, "{course:?}: {more}");
+        cases = cases.saturating_add(more);
+    }
+    println!(rt; "{cases} stops over a Left of one byte")?;
     Ok(())
 }
