@@ -1,8 +1,9 @@
 //! A text that is checked part by part.
-ghost use Rattle.std.specs.Prelude.{◌≡◌, ◌≢◌, ◌+◌, ℕ, List, OnOk, Ok, Err};
+ghost use Rattle.std.specs.Prelude.{◌≡◌, ◌≤◌, ◌+◌, ℕ, List, OnOk, Ok, Err};
 ghost use Rattle.fw_charge.specs.Charge.{Charge};
 ghost use Rattle.fw_rows.specs.Rows.{RowsRead};
-ghost use Rattle.fw_rows.specs.declared.fault.RowFault.TheVariants.{NoRows};
+ghost use Rattle.fw_rows.specs.declared.fault.RecordFault.{RecordFault};
+ghost use Rattle.fw_rows.specs.declared.fault.RowFault.TheVariants.{NoRows, Record};
 ghost use Rattle.fw_check.specs.Checks.{checked, nothing_checked, with_currency, with_fault, with_lines, with_read, records_in};
 ghost use Rattle.fw_check.specs.Counts.{kept};
 ghost use Rattle.fw_check.specs.Faults.{column_text, fault_name};
@@ -69,6 +70,10 @@ impl Checker {
         ensures rows { OnOk result ((rows : List Charge) → RowsRead self.old.currency part.now.text.items (Ok rows) → checked self.new ≡ with_read (records_in part.now) rows (checked self.old)) }
         // Where it has no record, nothing is.
         ensures none { OnOk result (RowsRead self.old.currency part.now.text.items (Err NoRows) → checked self.new ≡ checked self.old) }
+        // Where one of its records breaks a rule, at least one fault is counted.
+        ensures bad { OnOk result ((number : ℕ) (fault : RecordFault) → RowsRead self.old.currency part.now.text.items (Err (Record number fault)) → kept (self.old.faults + 1) ≤ self.new.faults) }
+        // Faults that were counted stay.
+        ensures stays { OnOk result (self.old.faults ≤ self.new.faults) }
     {
         let text = part.text.as_slice();
         rows_read_as_one(text, self.currency);
@@ -80,9 +85,10 @@ impl Checker {
                 Ok(())
             }
             Err(RowFault::NoRows) => Ok(()),
-            Err(RowFault::Record { .. }) | Err(RowFault::TooManyRows) => {
-                self.check_each(alloc, head, &header, body)
+            Err(RowFault::Record { fault, .. }) => {
+                self.check_faulty(alloc, head, &header, body, fault)
             }
+            Err(RowFault::TooManyRows) => self.check_each(alloc, head, &header, body),
             Err(fault) => Err(fault),
         }
     }
@@ -111,6 +117,26 @@ impl Checker {
         Ok(())
     }
 
+    // Checks record by record a part that has this fault. It is counted also where each record for itself has none.
+    fn check_faulty(
+        &mut self,
+        alloc: Global,
+        head: &[u8],
+        header: &ByteRecord,
+        body: &[u8],
+        fault: RecordFault,
+    ) -> Result<(), RowFault>
+        ensures counted { OnOk result (kept (self.old.faults + 1) ≤ self.new.faults) }
+        ensures stays { OnOk result (self.old.faults ≤ self.new.faults) }
+    {
+        let before = self.faults;
+        self.check_each(alloc, head, header, body)?;
+        if self.faults == before {
+            self.note(alloc, header, header, fault, None)?;
+        }
+        Ok(())
+    }
+
     // Checks record by record.
     fn check_each(
         &mut self,
@@ -118,7 +144,9 @@ impl Checker {
         head: &[u8],
         header: &ByteRecord,
         body: &[u8],
-    ) -> Result<(), RowFault> {
+    ) -> Result<(), RowFault>
+        ensures { OnOk result (self.old.faults ≤ self.new.faults) }
+    {
         let mut rest = body;
         for _ in 0..body.len() {
             let (empty, from) = rest.split_at(blank(rest));
@@ -148,7 +176,9 @@ impl Checker {
         head: &[u8],
         header: &ByteRecord,
         bytes: &[u8],
-    ) -> Result<(), RowFault> {
+    ) -> Result<(), RowFault>
+        ensures { OnOk result (self.old.faults ≤ self.new.faults) }
+    {
         let mut text = Vec::new(alloc);
         text.extend_from_slice(bytes)?;
         let first = first_record(alloc, bytes)?;
@@ -183,7 +213,9 @@ impl Checker {
         head: &[u8],
         bytes: &[u8],
         counts: bool,
-    ) -> Result<Option<RecordFault>, RowFault> {
+    ) -> Result<Option<RecordFault>, RowFault>
+        ensures { self.new.faults ≡ self.old.faults }
+    {
         let mut text = Vec::new(alloc);
         text.extend_from_slice(head)?;
         text.extend_from_slice(bytes)?;
@@ -204,14 +236,14 @@ impl Checker {
         &mut self,
         alloc: Global,
         header: &ByteRecord,
-        record: &ByteRecord,
+        fields: &ByteRecord,
         fault: RecordFault,
         column: Option<Column>,
     ) -> Result<(), AllocError>
         ensures { OnOk result ((expected value : List ℕ) × (checked self.new ≡ with_fault (fault_name fault) (column_text column) expected
             (record { line = kept (self.old.lines + 1); number = self.old.records; value = value }) (checked self.old))) }
     {
-        let value = shown_value(alloc, value_at(header, record, column))?;
+        let value = shown_value(alloc, value_at(header, fields, column))?;
         let place = Place {
             line: self.lines.saturating_add(1),
             record: self.records,

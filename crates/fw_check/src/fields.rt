@@ -45,16 +45,16 @@ fn is_named(header: &ByteRecord, place: usize, column: Column) -> bool
 
 /// The bytes of a record in a column: none where the header doesn't have the column, or the record no such field.
 #[tactic(auto, using(crate::proofs::HeaderFacts::lent_field), unfolding(fw_rows::specs::Columns::text_in))]
-pub(crate) fn bytes_in<'r>(header: &ByteRecord, record: &'r ByteRecord, column: Column) -> &'r [u8]
-    ensures { result.now ≡ text_in (fields_of header.now) (fields_of record.now) column }
+pub(crate) fn bytes_in<'r>(header: &ByteRecord, fields: &'r ByteRecord, column: Column) -> &'r [u8]
+    ensures { result.now ≡ text_in (fields_of header.now) (fields_of fields.now) column }
 {
     match place_of(header, column) {
-        Some(place) => record.get(place).unwrap_or(b""),
+        Some(place) => fields.get(place).unwrap_or(b""),
         None => b"",
     }
 }
 
 /// The text of a record in a column; the empty text where it isn't UTF-8.
-pub(crate) fn text_in<'r>(header: &ByteRecord, record: &'r ByteRecord, column: Column) -> &'r str {
-    str::from_utf8(bytes_in(header, record, column)).unwrap_or("")
+pub(crate) fn text_in<'r>(header: &ByteRecord, fields: &'r ByteRecord, column: Column) -> &'r str {
+    str::from_utf8(bytes_in(header, fields, column)).unwrap_or("")
 }

@@ -1,0 +1,6 @@
+use Rattle.std.proofs.Common.{◌≤◌}
+use Rattle.fw_check.proofs.checker.Checker.check_record.Given as goal
+
+-- what was counted stays
+abbrev pub invariant-loop-turn : goal.invariant-loop-turn
+invariant-loop-turn l = l.fn.self.faults ≤ l.self.faults
