@@ -1,6 +1,7 @@
 mod FieldFacts
 mod RecordFacts
 mod HeaderFacts
+mod KnownFacts
 pub mod JudgedFacts
 pub mod WordFacts
 mod DiscountFacts

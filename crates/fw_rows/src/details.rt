@@ -10,6 +10,7 @@ ghost use Rattle.fw_rows.specs.declared.column.Column.TheVariants as column;
 use crate::cells::Cells;
 use crate::column::Column;
 use crate::fault::{RecordFault, Refusal};
+use crate::known::KnownTags;
 use crate::values::quantity_of;
 use fw_charge::{Category, DiscountKind, DiscountStatus, LONGEST_SHORT_TEXT, Tags};
 use fw_money::Nanos;
@@ -115,7 +116,7 @@ impl<'a> Cells<'a> {
     }
 
     /// The tags.
-    fn tags(&self, alloc: Global) -> Result<Tags, TagFault>
+    pub(crate) fn tags(&self, alloc: Global) -> Result<Tags, TagFault>
         ensures { TagsAnswer (texts_of self.now column.Tags) result }
     {
         if self.is_null(Column::Tags) {
@@ -145,7 +146,15 @@ impl<'a> Cells<'a> {
     pub fn short_tags(&self, alloc: Global) -> Result<Tags, Refusal>
         ensures { let at = texts_of self.now in JudgedWithin (length_rules at) (λ tags. (tags_stated (at column.Tags) ≡ Some tags) × AreShort at × IsTags tags) result }
     {
-        let tags = self.tags(alloc)?;
+        self.beside_short_texts(self.tags(alloc))
+    }
+
+    // What reading the tags answered, where all texts are short enough.
+    fn beside_short_texts(&self, tags: Result<Tags, TagFault>) -> Result<Tags, Refusal>
+        requires { TagsAnswer (texts_of self.now column.Tags) tags }
+        ensures { let at = texts_of self.now in JudgedWithin (length_rules at) (λ tags. (tags_stated (at column.Tags) ≡ Some tags) × AreShort at × IsTags tags) result }
+    {
+        let tags = tags?;
         prove!(tags.as_slice().len() <= Tags::MOST);
         if !self.are_short() {
             return Err(Refusal::Broken(RecordFault::TooLong));
@@ -154,12 +163,16 @@ impl<'a> Cells<'a> {
     }
 
     /// What it is charged for.
-    pub(crate) fn details(&self, alloc: Global) -> Result<Details<'a>, Refusal>
+    pub(crate) fn details(
+        &self,
+        alloc: Global,
+        known: &mut KnownTags,
+    ) -> Result<Details<'a>, Refusal>
         ensures { let at = texts_of self.now in JudgedWithin (detail_rules at) (DetailsStand at) result }
     {
         let discount = self.discount()?;
         let quantity = self.quantity()?;
-        let tags = self.short_tags(alloc)?;
+        let tags = self.beside_short_texts(known.tags(alloc, self))?;
         Ok(Details {
             discount,
             quantity,

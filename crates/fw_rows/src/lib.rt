@@ -10,6 +10,7 @@ mod column;
 mod details;
 mod fault;
 mod header;
+mod known;
 mod laws;
 mod reading;
 mod records;

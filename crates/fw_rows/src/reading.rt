@@ -14,7 +14,7 @@ use crate::column::Column;
 use crate::fault::{RecordFault, Refusal, RowFault};
 use crate::header::Places;
 use crate::records::{advance, open};
-use crate::sink::RowSink;
+use crate::sink::{RowSink, Rows};
 use csv::ByteRecord;
 use fw_charge::{Currency, Row};
 use std::alloc::Global;
@@ -31,9 +31,9 @@ const MOST_ROWS: usize = 4096;
 pub fn read_rows(alloc: Global, text: &[u8], currency: Currency) -> Result<Vec<Row>, RowFault>
     ensures { RowsRead currency text.now (rows_shown result) }
 {
-    let mut rows = Vec::new(alloc);
-    read_into(alloc, text, currency, &mut rows)?;
-    Ok(rows)
+    let mut read = Rows::new(alloc);
+    read_into(alloc, text, currency, &mut read)?;
+    Ok(read.rows)
 }
 
 /// Reads the rows of a CSV text into what takes them, which has none yet. What the rows are, and where there is a fault, is as of [`read_rows`].

@@ -9,6 +9,7 @@ use crate::charged::Charged;
 use crate::column::Column;
 use crate::details::{Details, NamedDiscount};
 use crate::fault::Refusal;
+use crate::known::KnownTags;
 use crate::values::copy_of;
 use fw_charge::{Currency, Discount, Row, RowFields};
 use std::alloc::{AllocError, Global};
@@ -55,11 +56,16 @@ impl<'a> Cells<'a> {
     }
 
     /// The row that the texts stand for, or the first rule that is broken.
-    pub(crate) fn row(&self, alloc: Global, currency: Currency) -> Result<Row, Refusal>
+    pub(crate) fn row(
+        &self,
+        alloc: Global,
+        known: &mut KnownTags,
+        currency: Currency,
+    ) -> Result<Row, Refusal>
         ensures { let at = texts_of self.now in JudgedWithin (text_rules currency at) (Stands at) result }
     {
         let charged = self.charged(currency)?;
-        let details = self.details(alloc)?;
+        let details = self.details(alloc, known)?;
         Ok(self.made(alloc, charged, details)?)
     }
 }

@@ -8,7 +8,9 @@ ghost use Rattle.fw_rows.specs.Sinks.{AddsRow};
 
 use crate::cells::Cells;
 use crate::fault::Refusal;
+use crate::known::KnownTags;
 use fw_charge::{Currency, Row};
+use std::alloc::Global;
 
 /// What the rows of a text go into, in order, as they are read. Once it has refused a record, nothing is known of it.
 pub trait RowSink {
@@ -26,14 +28,34 @@ pub trait RowSink {
         ensures ready { OnOk result (is_ready self.new) };
 }
 
-impl RowSink for Vec<Row> {
+/// Rows, and the tags of the texts that were read for them.
+#[derive(Drop)]
+pub(crate) struct Rows {
+    pub(crate) rows: Vec<Row>,
+    known: KnownTags,
+}
+
+impl Rows {
+    /// No rows. It takes no memory.
+    pub(crate) fn new(alloc: Global) -> Rows
+        ensures { result.rows.items ≡ [] }
+    {
+        Rows {
+            rows: Vec::new(alloc),
+            known: KnownTags::new(alloc),
+        }
+    }
+}
+
+impl RowSink for Rows {
     ghost is_ready = { λ _. Unit {0} };
 
-    ghost rows = { λ v. v.items };
+    ghost rows = { λ r. r.rows.items };
 
     fn add(&mut self, cells: &Cells<'_>, currency: Currency) -> Result<(), Refusal> {
-        let row = cells.row(*self.allocator(), currency)?;
-        self.push(row)?;
+        let alloc = *self.rows.allocator();
+        let row = cells.row(alloc, &mut self.known, currency)?;
+        self.rows.push(row)?;
         Ok(())
     }
 }

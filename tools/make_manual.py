@@ -1,0 +1,253 @@
+#!/usr/bin/env python3
+"""Makes the manual page and the shell completions of focusd from what its own help says.
+
+    tools/make_manual.py PROGRAM           writes the files below share/
+    tools/make_manual.py PROGRAM --check   says which of them are not what the program's help says, and writes none
+
+The program is asked for `--help` and for `COMMAND --help`: so a page or a completion can't name an option that the program doesn't
+take. Exit status: 0; 1 where --check found a difference; 2 where the help can't be read.
+"""
+
+import argparse
+import os
+import re
+import subprocess
+import sys
+from dataclasses import dataclass, field
+
+TOP = os.path.dirname(os.path.dirname(os.path.abspath(__file__)))
+# What is made, below the top of the repository.
+MANUAL = "share/man/man1/focusd.1"
+BASH = "share/bash-completion/completions/focusd"
+ZSH = "share/zsh/site-functions/_focusd"
+FISH = "share/fish/vendor_completions.d/focusd.fish"
+# Options whose value is a folder, and arguments that are files.
+FOLDERS = ("--dir",)
+FILES = ("FILE",)
+
+
+class HelpError(Exception):
+    """A help that can't be read."""
+
+
+@dataclass
+class Option:
+    """An option: its names, the name of its value if it takes one, and what it says."""
+
+    names: list
+    value: str
+    help: str
+
+    @property
+    def words(self):
+        """The values that the option takes, where the help lists them."""
+        listed = re.search(r"\[possible values: ([^\]]*)\]", self.help)
+        return listed[1].split(", ") if listed else []
+
+    @property
+    def summary(self):
+        """What it says, without the values and the default."""
+        return re.sub(r"\s*\[(possible values|default): [^\]]*\]", "", self.help)
+
+
+@dataclass
+class Help:
+    """What a help says."""
+
+    about: str
+    usage: str
+    commands: dict = field(default_factory=dict)
+    arguments: list = field(default_factory=list)
+    options: list = field(default_factory=list)
+    after: str = ""
+
+
+def asked(program, words):
+    """The help that the program prints."""
+    done = subprocess.run([program, *words, "--help"], stdout=subprocess.PIPE, stderr=subprocess.PIPE, text=True, check=False)
+    if done.returncode or not done.stdout.strip():
+        raise HelpError(f"{program} {' '.join(words)} --help printed no help: {done.stderr.strip()[:200]}")
+    return done.stdout
+
+
+def entries(lines):
+    """The entries of a section: a name at two spaces or more, and its text, which may go on further to the right."""
+    found = []
+    for line in lines:
+        entry = re.fullmatch(r" {2,6}(\S.*?)(?: {2,}(\S.*))?", line)
+        if entry and len(line) - len(line.lstrip()) <= 6:
+            found.append([entry[1], entry[2] or ""])
+        elif line.strip() and found:
+            found[-1][1] = f"{found[-1][1]} {line.strip()}".strip()
+    return found
+
+
+def option_of(name, text):
+    """An option of its entry, as `-h, --help` or `--dir <DIR>`."""
+    names = re.findall(r"(?<!\S)(--?[\w-]+)", name)
+    value = re.search(r"<([^>]*)>", name)
+    if not names:
+        raise HelpError(f"no option: {name}")
+    return Option(names, value[1] if value else "", text)
+
+
+def read_help(text):
+    """A help, read: the lines of about, usage, and the sections Commands, Arguments and Options, and what follows them."""
+    about, _, rest = text.partition("\n\n")
+    usage = re.match(r"Usage: (.*)\n", rest)
+    if not usage:
+        raise HelpError("no usage")
+    made = Help(" ".join(about.split()), usage[1])
+    blocks = rest[usage.end() :].strip("\n").split("\n\n")
+    while blocks and re.match(r"(Commands|Arguments|Options):\n", blocks[0]):
+        title, *lines = blocks.pop(0).split("\n")
+        listed = entries(lines)
+        if title == "Commands:":
+            made.commands = dict(listed)
+        elif title == "Arguments:":
+            made.arguments = [tuple(it) for it in listed]
+        else:
+            made.options = [option_of(name, said) for name, said in listed]
+    made.after = "\n\n".join(blocks).rstrip("\n")
+    if not made.options:
+        raise HelpError("no options")
+    return made
+
+
+def roff(text):
+    """A text as a manual page has it."""
+    escaped = text.replace("\\", "\\e").replace("-", "\\-")
+    return re.sub(r"(?m)^([.'])", r"\\&\1", escaped)
+
+
+def roff_option(option):
+    names = ", ".join(f"\\fB{roff(name)}\\fR" for name in option.names)
+    value = f" \\fI{roff(option.value)}\\fR" if option.value else ""
+    return f".TP\n{names}{value}\n{roff(option.help)}\n"
+
+
+def roff_after(text):
+    """What follows the options, laid out as the help has it."""
+    return f".PP\n.nf\n{roff(text)}\n.fi\n" if text else ""
+
+
+def manual(version, top, helps):
+    """The manual page."""
+    made = f'.TH FOCUSD 1 "" "{version}" "User Commands"\n'
+    made += f".SH NAME\nfocusd \\- {roff(top.about[0].lower() + top.about[1:])}\n"
+    made += f".SH SYNOPSIS\n.B focusd\n\\fICOMMAND\\fR [\\fIOPTIONS\\fR]\n.SH DESCRIPTION\n{roff(top.about)}.\n{roff_after(top.after)}.SH COMMANDS\n"
+    for name, said in helps.items():
+        made += f".SS {name}\n{roff(said.about)}.\n.PP\n\\fB{roff(said.usage)}\\fR\n"
+        made += "".join(f".TP\n\\fI{roff(argument)}\\fR\n{roff(text)}\n" for argument, text in said.arguments)
+        made += "".join(roff_option(option) for option in said.options)
+        made += roff_after(said.after)
+    return made
+
+
+def bash_completion(helps):
+    """The completion of bash."""
+    made = "# bash completion of focusd. Made by tools/make_manual.py from the program's help.\n_focusd() {\n"
+    made += '    local word="${COMP_WORDS[COMP_CWORD]}" before="${COMP_WORDS[COMP_CWORD-1]}" command="${COMP_WORDS[1]}"\n'
+    made += '    COMPREPLY=()\n    if [ "$COMP_CWORD" -eq 1 ]; then\n'
+    made += f'        COMPREPLY=($(compgen -W "{" ".join(helps)} --help --version" -- "$word"))\n        return\n    fi\n'
+    made += '    case "$command $before" in\n'
+    for name, said in helps.items():
+        for option in said.options:
+            if not option.value:
+                continue
+            reply = f'compgen -W "{" ".join(option.words)}" -- "$word"' if option.words else 'compgen -d -- "$word"' if option.names[-1] in FOLDERS else ""
+            made += f'        "{name} {option.names[-1]}") {f"COMPREPLY=($({reply})); " if reply else ""}return ;;\n'
+    made += "    esac\n    case \"$command\" in\n"
+    for name, said in helps.items():
+        words = " ".join(option.names[-1] for option in said.options)
+        files = any(kind in argument for kind in FILES for argument, _ in said.arguments)
+        more = ' $(compgen -f -- "$word")' if files else ""
+        made += f'        {name}) COMPREPLY=($(compgen -W "{words}" -- "$word"){more}) ;;\n'
+    return made + "    esac\n}\ncomplete -F _focusd focusd\n"
+
+
+def zsh_text(text):
+    return text.replace("'", "'\\''").replace("[", "\\[").replace("]", "\\]").replace(":", "\\:")
+
+
+def zsh_value(option):
+    if option.words:
+        return f":{option.value}:({' '.join(option.words)})"
+    return f":{option.value}:_files -/" if option.names[-1] in FOLDERS else f":{option.value}:"
+
+
+def zsh_completion(helps):
+    """The completion of zsh."""
+    made = "#compdef focusd\n# Made by tools/make_manual.py from the program's help.\n_focusd() {\n    local -a commands\n    commands=(\n"
+    made += "".join(f"        '{name}:{zsh_text(said.about)}'\n" for name, said in helps.items())
+    made += "    )\n    if (( CURRENT == 2 )); then\n        _describe command commands\n        return\n    fi\n    local command=$words[2]\n"
+    made += "    shift words\n    (( CURRENT-- ))\n    case $command in\n"
+    for name, said in helps.items():
+        made += f"        {name})\n            _arguments"
+        for option in said.options:
+            made += f" \\\n                '{option.names[-1]}[{zsh_text(option.summary)}]{zsh_value(option) if option.value else ''}'"
+        for argument, _ in said.arguments:
+            made += f" \\\n                '*:{re.sub(r'[^A-Z]', '', argument)}:{'_files' if any(kind in argument for kind in FILES) else ''}'"
+        made += "\n            ;;\n"
+    return made + "    esac\n}\n_focusd \"$@\"\n"
+
+
+def fish_text(text):
+    return text.replace("\\", "\\\\").replace("'", "\\'")
+
+
+def fish_completion(helps):
+    """The completion of fish."""
+    made = "# Made by tools/make_manual.py from the program's help.\ncomplete -c focusd -f\n"
+    for name, said in helps.items():
+        made += f"complete -c focusd -n __fish_use_subcommand -a {name} -d '{fish_text(said.about)}'\n"
+    for name, said in helps.items():
+        where = f"-n '__fish_seen_subcommand_from {name}'"
+        for option in said.options:
+            takes = f" -x -a '{' '.join(option.words)}'" if option.words else " -r -F" if option.names[-1] in FOLDERS else " -x" if option.value else ""
+            made += f"complete -c focusd {where} -l {option.names[-1].lstrip('-')}{takes} -d '{fish_text(option.summary)}'\n"
+        if any(kind in argument for kind in FILES for argument, _ in said.arguments):
+            made += f"complete -c focusd {where} -F\n"
+    return made
+
+
+def made_of(program):
+    """The files that the program's help makes, by their paths."""
+    top = read_help(asked(program, []))
+    helps = {name: read_help(asked(program, [name])) for name in top.commands if name != "help"}
+    version = subprocess.run([program, "--version"], stdout=subprocess.PIPE, text=True, check=False).stdout.strip()
+    return {MANUAL: manual(version, top, helps), BASH: bash_completion(helps), ZSH: zsh_completion(helps), FISH: fish_completion(helps)}
+
+
+def main():
+    parser = argparse.ArgumentParser(description=__doc__, formatter_class=argparse.RawDescriptionHelpFormatter)
+    parser.add_argument("program", help="the built program")
+    parser.add_argument("--check", action="store_true", help="write nothing, and say what differs")
+    options = parser.parse_args()
+    try:
+        files = made_of(options.program)
+    except (HelpError, OSError) as error:
+        print(f"tools/make_manual.py: {error}", file=sys.stderr)
+        return 2
+    stale = []
+    for path, text in files.items():
+        target = os.path.join(TOP, path)
+        if options.check:
+            try:
+                with open(target, encoding="utf-8") as file:
+                    is_same = file.read() == text
+            except OSError:
+                is_same = False
+            if not is_same:
+                stale.append(path)
+            continue
+        os.makedirs(os.path.dirname(target), exist_ok=True)
+        with open(target, "w", encoding="utf-8") as file:
+            file.write(text)
+    for path in stale:
+        print(f"{path} is not what {options.program} --help says: run tools/make_manual.py {options.program}")
+    return 1 if stale else 0
+
+
+if __name__ == "__main__":
+    sys.exit(main())
