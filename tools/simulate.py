@@ -4,6 +4,7 @@
     tools/simulate.py PROGRAM [--seeds N] [--from SEED]   runs the seeds from SEED on, and stops at the first difference
     tools/simulate.py PROGRAM --seed SEED                 runs one seed, and prints its script, its answers and what is wrong with them
     tools/simulate.py --script SEED                       prints the script of a seed
+    tools/simulate.py --self-test [CRATE/EDIT ..]         tries wrong bodies: some seed has to show each
 
 PROGRAM is a built `fw_simulate`. A seed makes a script of events: importers post entries, repeated, with gaps and against the rules; groups are
 taken and committed; checkpoints; analysts view and learn; the system stops and is opened again. The device fails at some calls, and a stop leaves
@@ -11,37 +12,119 @@ of what wasn't synced the old bytes, the new ones, or others. Each answer is com
 running system; when the device fails is its own choice, no more often than the script says. A script with a difference is made smaller before it
 is printed.
 
-Exit status: 0 no answer differs, 1 one does, 2 the program could not be run.
+The self-test takes must-fail edits, those of the list WRONG where none is named. It applies each to a copy of the sources and runs `fw_simulate` from
+there over the first 300 seeds, by `rt try`, which proves nothing. It begins with the sources as they are, by which no answer may differ. Each takes
+some three minutes, most of it to compile.
+
+Exit status: 0 no answer differs, 1 one does (self-test: a wrong body isn't found), 2 the program could not be run.
 """
 import argparse
+import os
 import random
+import re
+import shutil
 import subprocess
 import sys
+import tempfile
 import time
+
+TOP = os.path.dirname(os.path.dirname(os.path.abspath(__file__)))
 
 MOST_ITEMS = 64
 NANOS = 10**9
 BATCH = 250
 
+# How many calls of the device it takes to make a warehouse.
+CREATING = 8
+# The kinds of entries, as lines begin.
+POSTS = ("post", "use", "commitment", "policy")
+# The kinds of events, and how often each comes while the system runs, and while it is stopped.
+EVENTS = ("post", "take", "commit", "checkpoint", "view", "learn", "stop", "reopen")
+WHILE_OPEN = (40, 13, 14, 5, 8, 6, 6, 2)
+WHILE_STOPPED = (8, 2, 2, 2, 2, 2, 2, 40)
+
+# How many seeds the self-test runs in one process.
+TOGETHER = 25
+# Wrong bodies that the prover refuses, each a must-fail edit of a crate, which seeds have to show as well.
+WRONG = (
+    "fw_group/the_answer_of_the_first_item",
+    "fw_group/a_group_is_taken_while_one_is_in_hand",
+    "fw_group/a_group_stays_in_hand",
+    "fw_journal/acknowledged_before_the_last_sync",
+    "fw_recover/the_older_side_is_in_use",
+)
+
 
 # ---- scripts
 
 
-def number_for(chance, origin, sent):
-    """A number for an entry: most often the next one of its origin, else one that was used, or that leaves a gap."""
-    last = sent.get(origin, 0)
+class Sent:
+    """What a script has sent so far, as it stands where no call of the device fails. By it most events of a script apply."""
+
+    def __init__(self, importers):
+        self.importers = importers
+        self.waiting, self.hand = [], []
+        self.stored, self.ahead = [], []
+        self.commits = []
+        self.stopped = False
+
+    def free(self):
+        """The importers that may post."""
+        busy = {importer for importer, _ in self.waiting + self.hand}
+        return [importer for importer in range(self.importers) if importer not in busy]
+
+    def note(self, line, place):
+        """Takes the event at a place."""
+        words = line.split(" ")
+        if words[0] == "reopen":
+            self.stopped = False
+        elif self.stopped:
+            pass
+        elif words[0] == "stop":
+            self.stopped, self.waiting, self.hand, self.ahead = True, [], [], list(self.stored)
+        elif words[0] == "take" and not self.hand:
+            self.hand, self.waiting = self.waiting[:MOST_ITEMS], self.waiting[MOST_ITEMS:]
+        elif words[0] == "commit" and self.hand:
+            self.commits.append(place)
+            add_accepted(self.stored, [entry for _, entry in self.hand])
+            self.hand = []
+        elif words[0] in POSTS and int(words[1]) in self.free():
+            self.waiting.append((int(words[1]), entry_of(words)))
+            add_accepted(self.ahead, [entry_of(words)])
+
+
+def entry_of(words):
+    """The entry that the words of a post bring."""
+    return words[2], int(words[3]), words[0], *words[4:]
+
+
+def add_accepted(entries, more):
+    """Adds those of more entries that are accepted behind the entries, one after the other."""
+    for entry in more:
+        if judged(entries, entry) == "accepted":
+            entries.append(entry)
+
+
+def last_of(entries, origin):
+    """The last number of an origin, 0 where it has none."""
+    return max((number for other, number, *_ in entries if other == origin), default=0)
+
+
+def number_for(chance, last):
+    """A number for an entry of an origin whose last one is this: most often the next, else one that was used, or that leaves a gap."""
     kind = chance.random()
-    if kind < 0.75:
-        sent[origin] = last + 1
+    if kind < 0.8:
         return last + 1
-    return chance.randint(1, max(last, 1)) if kind < 0.9 else last + chance.randint(1, 3)
+    return chance.randint(1, max(last, 1)) if kind < 0.9 else last + chance.randint(2, 3)
 
 
-def post(chance, importers, sent):
+def post(chance, sent):
     """The line of a post."""
+    free = sent.free()
+    importer = chance.choice(free) if free and chance.random() < 0.9 else chance.randrange(sent.importers + 1)
     origin = chance.choice("aaabbc")
-    words = [str(chance.randrange(importers + 1) if chance.random() < 0.05 else chance.randrange(importers)), origin, str(number_for(chance, origin, sent))]
-    kind = chance.choices(["post", "use", "commitment", "policy"], [12, 2, 3, 1])[0]
+    words = [str(importer), origin, str(number_for(chance, last_of(sent.ahead, origin)))]
+    kind = chance.choices(POSTS, [12, 3, 3, 1])[0]
     if kind == "post":
         words += [str(chance.choice([1, 1, 2, 3])), str(chance.randint(-3, 9))]
     else:
@@ -49,16 +132,28 @@ def post(chance, importers, sent):
     return " ".join([kind, *words])
 
 
-def event(chance, importers, analysts, place, sent):
+def learn(chance, analysts, place, sent):
+    """The line by which an analyst learns of an item: most often of one that a commit answered."""
+    at = chance.choice(sent.commits) if sent.commits and chance.random() < 0.8 else chance.randrange(place + 2)
+    return f"learn {chance.randrange(analysts + 1)} {at} {chance.randrange(3)}"
+
+
+def event(chance, analysts, place, sent):
     """The line of an event at a place."""
-    kind = chance.choices(["post", "take", "commit", "checkpoint", "view", "learn", "stop", "reopen"], [40, 13, 14, 5, 8, 6, 5, 9])[0]
+    kind = chance.choices(EVENTS, WHILE_STOPPED if sent.stopped else WHILE_OPEN)[0]
     if kind == "post":
-        return post(chance, importers, sent)
+        return post(chance, sent)
     if kind == "view":
         return f"view {chance.randrange(analysts + 1)}"
-    if kind == "learn":
-        return f"learn {chance.randrange(analysts)} {chance.randrange(place + 2)} {chance.randrange(3)}"
-    return kind
+    return learn(chance, analysts, place, sent) if kind == "learn" else kind
+
+
+def plan(chance):
+    """How many calls of the device pass before each one that fails. Few fail while the warehouse is made."""
+    passes = [chance.choice([0, 1, 2, chance.randint(0, 12), chance.randint(6, 60)]) for _ in range(chance.choice([0, 1, 1, 2, 3]))]
+    if passes and chance.random() < 0.95:
+        passes[0] += CREATING
+    return [str(calls) for calls in passes]
 
 
 def script_of(seed):
@@ -66,14 +161,15 @@ def script_of(seed):
     chance = random.Random(seed)
     importers, analysts = chance.choice([1, 2, 3, 5, 8, 70]), chance.randint(1, 3)
     left = chance.choice(["old", "new", "0", "1", "7", str(chance.randrange(256))])
-    fails = chance.choice([0, 1, 1, 2, 3])
-    passes = [str(chance.choice([0, 1, 2, chance.randint(0, 12), chance.randint(6, 60)])) for _ in range(fails)]
-    lines, sent = [" ".join(["run", str(importers), str(analysts), left, *passes])], {}
-    for place in range(chance.randint(5, 60)):
-        lines.append(event(chance, importers, analysts, place, sent))
+    lines, sent = [], Sent(importers)
     if importers == 70:
-        lines[1:1] = [f"post {importer} {importer}x 1 1 {importer}" for importer in range(70)] + ["take", "commit", "take", "commit"]
-    return [*lines, "stop", "reopen", "view 0", "end"]
+        lines += [f"post {importer} {importer}x 1 1 {importer}" for importer in range(70)] + ["take", "commit", "take", "commit"]
+    for place, line in enumerate(lines):
+        sent.note(line, place)
+    for place in range(len(lines), len(lines) + chance.randint(5, 60)):
+        lines.append(event(chance, analysts, place, sent))
+        sent.note(lines[-1], place)
+    return [" ".join(["run", str(importers), str(analysts), left, *plan(chance)]), *lines, "stop", "reopen", "view 0", "end"]
 
 
 # ---- what must be answered
@@ -131,7 +227,7 @@ class System:
         elif words[0] == "learn":
             self.learn(answer, *map(int, words[1:]))
         else:
-            self.post(answer, int(words[1]), (words[2], int(words[3]), words[0], *words[4:]))
+            self.post(answer, int(words[1]), entry_of(words))
         self.receipts.append(receipts)
 
     def post(self, answer, importer, entry):
@@ -215,7 +311,7 @@ def expect(answer, expected):
 def judged(entries, entry):
     """The verdict on an entry behind others."""
     origin, number, kind, *content = entry
-    last = max((other[1] for other in entries if other[0] == origin), default=0)
+    last = last_of(entries, origin)
     if number <= last:
         return f"already {last}"
     if number > last + 1:
@@ -272,14 +368,20 @@ def answers_of(program, scripts):
     done = subprocess.run(program, input=given, capture_output=True, text=True, check=False)
     if done.returncode:
         raise OSError(f"{program[0]} ended with status {done.returncode}: {done.stderr.strip()[:300]}")
+    answers = split_answers(done.stdout)
+    if len(answers) != len(scripts):
+        raise OSError(f"{len(scripts)} scripts had {len(answers)} answers")
+    return answers
+
+
+def split_answers(text):
+    """The answers to each script, out of what the program printed."""
     answers, found = [], []
-    for line in done.stdout.split("\n"):
+    for line in text.split("\n"):
         found.append(line)
         if line == "end":
             answers.append(found)
             found = []
-    if len(answers) != len(scripts):
-        raise OSError(f"{len(scripts)} scripts had {len(answers)} answers")
     return answers
 
 
@@ -323,24 +425,117 @@ def run_seeds(program, first, count):
     return True
 
 
+# ---- wrong bodies
+
+
+def changes_of(edit):
+    """What a must-fail edit changes: for each text the file, the old text and the new one."""
+    crate, _, name = edit.partition("/")
+    file, old, changes = "", "", []
+    with open(os.path.join(TOP, "crates", crate, "must-fail", f"{name}.edit"), encoding="utf-8") as lines:
+        for line in lines.read().splitlines():
+            word, _, text = line.partition(": ")
+            if word == "file":
+                file = os.path.join("crates", crate, text)
+            elif word == "old":
+                old = text
+            elif word == "new":
+                changes.append((file, old, text))
+    return changes
+
+
+def copy_sources(folder):
+    """Copies what git knows of the crates."""
+    listed = subprocess.run(["git", "ls-files", "-z", "crates", "crates.txt", "HANDLES"], cwd=TOP, capture_output=True, text=True, check=False)
+    for path in listed.stdout.split("\0")[:-1]:
+        os.makedirs(os.path.join(folder, os.path.dirname(path)), exist_ok=True)
+        shutil.copy(os.path.join(TOP, path), os.path.join(folder, path))
+
+
+def apply(edit, folder):
+    """Applies a must-fail edit to a copy of the sources."""
+    for path, old, new in changes_of(edit):
+        with open(os.path.join(folder, path), "r+", encoding="utf-8") as file:
+            text = file.read()
+            if text.count(old) != 1:
+                raise OSError(f"{edit}: its old text stands {text.count(old)} times in {path}, not once")
+            file.seek(0)
+            file.write(text.replace(old, new))
+            file.truncate()
+
+
+def tried(folder, seeds):
+    """Each seed with its answers by `rt try` of a copy of the sources. A seed at which the program ended otherwise than by itself has none, nor
+    have those that it ran in one process with it."""
+    cases = os.path.join(folder, "cases")
+    os.mkdir(cases)
+    groups = {f"{some[0]:06}": some for some in (seeds[at : at + TOGETHER] for at in range(0, len(seeds), TOGETHER))}
+    for name, some in groups.items():
+        with open(os.path.join(cases, name), "w", encoding="utf-8") as file:
+            file.writelines(f"{line}\n" for seed in some for line in script_of(seed))
+    words = ["rt", "try", "fw_simulate", "--steps", "1", "--seconds", "600", "--cases", cases]
+    done = subprocess.run(words, cwd=os.path.join(folder, "crates", "fw_simulate"), capture_output=True, text=True, check=False)
+    ended = set(re.findall(r"(?m)^case=(\d+) run=ended status=0 ", done.stderr))
+    if not ended:
+        raise OSError(f"rt try gave no answer: {done.stderr.strip()[-500:]}")
+    printed = dict(re.findall(r"(?ms)^== (\d+)\n(.*?)(?=^== |\Z)", done.stdout))
+    for name, some in groups.items():
+        answers = split_answers(printed[name]) if name in ended else []
+        yield from zip(some, answers + [[]] * (len(some) - len(answers)))
+
+
+def first_shown(edit, count):
+    """The first of so many seeds whose answers are wrong where an edit was applied, and its script and answers; or None."""
+    with tempfile.TemporaryDirectory(prefix="simulate-") as folder:
+        copy_sources(folder)
+        if edit:
+            apply(edit, folder)
+        for seed, answers in tried(folder, range(1, count + 1)):
+            script = script_of(seed)
+            if fault_of(script, answers):
+                return seed, script, answers
+    return None
+
+
+def self_test(edits, count):
+    """Tries the sources as they are, and then each edit: whether no seed is answered wrongly by the first, and some seed by each other."""
+    passed = True
+    for edit in [None, *edits]:
+        shown = first_shown(edit, count)
+        if not shown:
+            print(f"{edit or 'no edit'}: shown by none of {count} seeds", flush=True)
+        elif shown[2]:
+            print(f"{edit or 'no edit'}: shown by seed {shown[0]}", flush=True)
+        else:
+            print(f"{edit or 'no edit'}: the program stopped by itself at a seed from {shown[0]} to {shown[0] + TOGETHER - 1}", flush=True)
+        if bool(shown) != bool(edit):
+            passed = False
+            if shown:
+                tell(*shown[1:])
+    return passed
+
+
 def main():
     parser = argparse.ArgumentParser(description=__doc__, formatter_class=argparse.RawDescriptionHelpFormatter)
-    parser.add_argument("program", nargs="*", help="a built fw_simulate, or a command that runs it")
-    parser.add_argument("--seeds", type=int, default=1_000, metavar="N", help="how many seeds (1,000)")
+    parser.add_argument("program", nargs="*", help="a built fw_simulate, or a command that runs it; with --self-test the edits to try")
+    parser.add_argument("--seeds", type=int, metavar="N", help="how many seeds (1,000; with --self-test 300)")
     parser.add_argument("--from", type=int, default=1, dest="first", metavar="SEED", help="the first seed (1)")
     parser.add_argument("--seed", type=int, metavar="SEED", help="run this one, and print it")
     parser.add_argument("--script", type=int, metavar="SEED", help="print the script of this seed")
+    parser.add_argument("--self-test", action="store_true", help="try wrong bodies, and see that a seed shows each")
     options = parser.parse_args()
     if options.script is not None:
         print("\n".join(script_of(options.script)))
         return 0
-    if not options.program:
+    if not options.program and not options.self_test:
         parser.error("name a built fw_simulate")
     try:
+        if options.self_test:
+            return 0 if self_test(options.program or WRONG, options.seeds or 300) else 1
         if options.seed is not None:
             script = script_of(options.seed)
             return 1 if tell(script, answers_of(options.program, [script])[0]) else 0
-        return 0 if run_seeds(options.program, options.first, options.seeds) else 1
+        return 0 if run_seeds(options.program, options.first, options.seeds or 1_000) else 1
     except OSError as fault:
         print(f"tools/simulate.py: {fault}", file=sys.stderr)
         return 2

@@ -6,7 +6,7 @@ import unittest
 
 TOP = os.path.dirname(os.path.dirname(os.path.abspath(__file__)))
 sys.path.insert(0, os.path.join(TOP, "tools"))
-from simulate import fault_of, script_of  # noqa: E402
+from simulate import WRONG, changes_of, fault_of, script_of, split_answers  # noqa: E402
 
 
 def lines_of(name):
@@ -63,6 +63,20 @@ class Simulate(unittest.TestCase):
         self.assertEqual(fault_of(script, ["created", "posted", "took 1", "committed; unknown", "end"])[0], 3)
         script[0] = "run 1 1 old 9"
         self.assertIsNone(fault_of(script, ["created", "posted", "took 1", "committed; unknown", "end"]))
+
+    def test_a_wrong_body_is_made_of_one_text_of_the_sources(self):
+        for edit in WRONG:
+            changes = changes_of(edit)
+            self.assertTrue(changes, edit)
+            for path, old, new in changes:
+                with open(os.path.join(TOP, path), encoding="utf-8") as file:
+                    self.assertEqual(file.read().count(old), 1, edit)
+                self.assertNotEqual(old, new)
+
+    def test_what_was_printed_is_parted_by_scripts(self):
+        parted = [answers for _, answers in scripts_and_answers()]
+        self.assertGreater(len(parted), 1)
+        self.assertEqual(split_answers("\n".join(lines_of("stdout")) + "\n"), parted)
 
     def test_a_seed_makes_one_script(self):
         self.assertEqual(script_of(7), script_of(7))
