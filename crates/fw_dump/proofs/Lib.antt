@@ -1,0 +1,4 @@
+pub mod Behind
+pub mod Left
+pub mod Sent
+pub mod Restored

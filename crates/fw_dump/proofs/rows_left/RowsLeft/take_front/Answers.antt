@@ -1,0 +1,38 @@
+use Rattle.std.proofs.Common.{rules, ◌≡◌, ◌∙◌, ◌≤◌, ◌<◌, ◌++◌, ◌∷◌, [], length, ap, arith}
+use Rattle.fw_dump.proofs.Left.{all_taken, fewer_rows, fewer_segments, none_left, one_more, one_taken, segment_taken}
+use Rattle.fw_dump.proofs.rows_left.RowsLeft.take_front.Goals as goal
+
+pub returns-then-self-len : goal.returns-then-self-len
+returns-then-self-len c =
+    let left = c.loop-front.self in
+    let past : length left.segments.now ≤ left.segment = omega (arith, c.len-in-loop-front.ensures, c.if-self-len.true) in
+    all_taken _ _ _ _ c.loop-front.invariant.0 (none_left left.taken left.segment left.segments.now past) c.loop-front.invariant.1
+
+pub loop-front-smaller-then-self-len-2 : goal.loop-front-smaller-then-self-len-2
+loop-front-smaller-then-self-len-2 c =
+    let left = c.loop-front.self in
+    fewer_rows _ _ c.in_ok-row.field-0 _ (one_taken left.taken left.segment left.segments.now _ _ c.get-columns.ensures c.in_ok-row.ensures)
+
+pub loop-front-preserved-then-self-len-2 : goal.loop-front-preserved-then-self-len-2
+loop-front-preserved-then-self-len-2 c =
+    let left = c.loop-front.self in
+    let row = c.in_ok-row.field-0 in
+    let items : c.push.new.self.items ≡ c.loop-front.front.items ++ row ∷ [] = search rules in
+    let few : length c.push.new.self.items ≤ c.args.count = search rules in
+    let taken = one_taken left.taken left.segment left.segments.now _ row c.get-columns.ensures c.in_ok-row.ensures in
+    (rw items (one_more _ c.loop-front.front.items _ _ row c.loop-front.invariant.0 taken), few)
+
+pub loop-front-smaller : goal.loop-front-smaller
+loop-front-smaller c =
+    let left = c.loop-front.self in
+    let within : left.segment < length left.segments.now = omega (arith, c.len-in-loop-front.ensures, c.if-self-len.false) in
+    let past : length c.get-columns.result.now ≤ left.taken = omega (arith, c.len-in-loop-front-2.ensures.count, c.if-self-len-2.false) in
+    fewer_segments _ _ left.segment _ (segment_taken left.taken left.segment left.segments.now _ c.get-columns.ensures past) within
+
+pub loop-front-preserved : goal.loop-front-preserved
+loop-front-preserved c =
+    let left = c.loop-front.self in
+    let past : length c.get-columns.result.now ≤ left.taken = omega (arith, c.len-in-loop-front-2.ensures.count, c.if-self-len-2.false) in (
+      c.loop-front.invariant.0 ∙ ap (λ rows. c.loop-front.front.items ++ rows) (segment_taken left.taken left.segment left.segments.now _ c.get-columns.ensures past),
+      c.loop-front.invariant.1,
+    )

@@ -1,0 +1,19 @@
+use Rattle.std.proofs.Common.{refl}
+use Rattle.fw_serve.specs.Contents.{ContentReads}
+use Rattle.fw_serve.proofs.AnswerFacts.{IsRowCount-read}
+use Rattle.fw_dump.proofs.sending.read_content.Goals as goal
+
+pub returns-in-Ok-clause-reads : goal.returns-in-Ok-clause-reads
+unfolding ContentReads
+returns-in-Ok-clause-reads c = rw c.in-Post.is (c.in-Ok.rows.items, refl, rw c.in-Ok.is at c.read_rows.ensures)
+
+pub returns-in-Ok-clause-sized : goal.returns-in-Ok-clause-sized
+returns-in-Ok-clause-sized c = IsRowCount-read _ _ c.in-Ok.rows.items (rw c.in-Ok.is at c.read_rows.ensures)
+
+pub returns-in-Ok-read_commitment-clause-reads : goal.returns-in-Ok-read_commitment-clause-reads
+unfolding ContentReads
+returns-in-Ok-read_commitment-clause-reads c = rw c.in-Commit.is (c.in-Ok-read_commitment.commitment, refl, rw c.in-Ok-read_commitment.is at c.read_commitment.ensures)
+
+pub returns-in-Ok-read_policy-clause-reads : goal.returns-in-Ok-read_policy-clause-reads
+unfolding ContentReads
+returns-in-Ok-read_policy-clause-reads c = rw c.in-Policy.is (c.in-Ok-read_policy.policy, refl, rw c.in-Ok-read_policy.is at c.read_policy.ensures)

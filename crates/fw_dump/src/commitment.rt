@@ -1,0 +1,100 @@
+//! A commitment, as TOML.
+use crate::values::{
+    push_amount, push_comma, push_number, push_quoted, push_second, push_tags, push_text,
+};
+use fw_charge::SECONDS_PER_HOUR;
+use fw_terms::{Commitment, Purchase, Rate, Terms};
+use std::alloc::{AllocError, Global};
+
+/// Appends the TOML of a commitment.
+pub(crate) fn push_commitment(
+    alloc: Global,
+    out: &mut Vec<u8>,
+    commitment: &Commitment,
+) -> Result<(), AllocError> {
+    push_text_field(out, "id", commitment.id())?;
+    push_text_field(out, "category", commitment.kind().word())?;
+    push_text(out, "start = \"")?;
+    push_second(alloc, out, u64::from(commitment.start()) * SECONDS_PER_HOUR)?;
+    push_text(out, "\"\nhours = ")?;
+    push_number(out, u64::from(commitment.hours()))?;
+    push_text(out, "\ncapacity = \"")?;
+    push_amount(alloc, out, commitment.capacity())?;
+    push_text(out, "\"\n")?;
+    push_terms(out, commitment.terms())?;
+    push_billing(alloc, out, commitment)
+}
+
+// Appends a field that is a text.
+fn push_text_field(out: &mut Vec<u8>, name: &str, text: &str) -> Result<(), AllocError> {
+    push_text(out, name)?;
+    push_text(out, " = ")?;
+    push_quoted(out, text)?;
+    push_text(out, "\n")
+}
+
+// Appends the fields that commitments of one kind alone have.
+fn push_terms(out: &mut Vec<u8>, terms: &Terms) -> Result<(), AllocError> {
+    match terms {
+        Terms::Usage { unit, skus } => {
+            push_text_field(out, "unit", unit.as_str())?;
+            push_skus(out, skus.as_slice())
+        }
+        Terms::Spend { rates } => push_rates(out, rates.as_slice()),
+    }
+}
+
+// Appends the SKUs as an array.
+fn push_skus(out: &mut Vec<u8>, skus: &[String]) -> Result<(), AllocError> {
+    push_text(out, "skus = [")?;
+    let mut is_first = true;
+    for sku in skus {
+        push_comma(out, is_first)?;
+        is_first = false;
+        push_quoted(out, sku.as_str())?;
+    }
+    push_text(out, "]\n")
+}
+
+// Appends the rates as a table.
+fn push_rates(out: &mut Vec<u8>, rates: &[Rate]) -> Result<(), AllocError> {
+    push_text(out, "rates = {")?;
+    let mut is_first = true;
+    for rate in rates {
+        push_comma(out, is_first)?;
+        is_first = false;
+        push_quoted(out, rate.sku())?;
+        push_text(out, "=")?;
+        push_number(out, u64::from(rate.ppm()))?;
+    }
+    push_text(out, "}\n")
+}
+
+// Appends the account and the tags, where there are any, and the purchases.
+fn push_billing(
+    alloc: Global,
+    out: &mut Vec<u8>,
+    commitment: &Commitment,
+) -> Result<(), AllocError> {
+    if let Some(account) = commitment.sub_account() {
+        push_text_field(out, "sub_account", account)?;
+    }
+    if !commitment.tags().as_slice().is_empty() {
+        push_text(out, "tags = ")?;
+        push_tags(out, commitment.tags(), b'=')?;
+        push_text(out, "\n")?;
+    }
+    for purchase in commitment.purchases() {
+        push_purchase(alloc, out, purchase)?;
+    }
+    Ok(())
+}
+
+// Appends a purchase.
+fn push_purchase(alloc: Global, out: &mut Vec<u8>, purchase: &Purchase) -> Result<(), AllocError> {
+    push_text(out, "[[purchase]]\nat = \"")?;
+    push_second(alloc, out, purchase.at())?;
+    push_text(out, "\"\nbilled = \"")?;
+    push_amount(alloc, out, purchase.billed())?;
+    push_text(out, "\"\n")
+}

@@ -1,0 +1,52 @@
+//! The rows of a warehouse, taken from the front.
+ghost use Rattle.std.specs.Prelude.{◌≡◌, IfOk, take, drop};
+ghost use Rattle.fw_snapshot.specs.Heads.{segment_rows};
+ghost use Rattle.fw_dump.specs.RowsLeft.{rows_left};
+
+use fw_charge::Row;
+use fw_columns::Columns;
+use fw_persistent::Sequence;
+use std::alloc::{AllocError, Global};
+
+/// The rows of segments that aren't taken yet, in order. A row is made once it is taken: none is held here.
+#[derive(Drop)]
+pub(crate) struct RowsLeft<'a> {
+    segments: &'a Sequence<Columns>,
+    // the segment whose rows are taken, and how many of these are
+    segment: usize,
+    taken: usize,
+}
+
+impl<'a> RowsLeft<'a> {
+    /// All rows of these segments.
+    pub(crate) fn of(segments: &'a Sequence<Columns>) -> RowsLeft<'a>
+        ensures { rows_left result ≡ segment_rows segments.now }
+    {
+        RowsLeft {
+            segments,
+            segment: 0,
+            taken: 0,
+        }
+    }
+
+    /// Takes so many rows from the front, or all where there are fewer.
+    pub(crate) fn take_front(&mut self, alloc: Global, count: usize) -> Result<Vec<Row>, AllocError>
+        ensures { IfOk result (λ front. (front.items ≡ take count (rows_left self.old)) × (rows_left self.new ≡ drop count (rows_left self.old))) }
+    {
+        let mut front = Vec::new(alloc);
+        while front.len() < count {
+            if self.segment >= self.segments.len() {
+                return Ok(front);
+            }
+            let columns = self.segments.get(self.segment);
+            if self.taken < columns.len() {
+                front.push(columns.row(self.taken)?)?;
+                self.taken += 1;
+            } else {
+                self.segment += 1;
+                self.taken = 0;
+            }
+        }
+        Ok(front)
+    }
+}
