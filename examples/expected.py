@@ -215,7 +215,8 @@ def shares(total, weights):
 class Line:
     """A line of an hour."""
 
-    def __init__(self, hour, category, owner, billed, effective, quantity, sku, account, tags):
+    def __init__(self, hour, category, owner, billed, effective, quantity, sku, account, tags, weight=0):
+        self.weight = weight  # of a used or unused line: its part of the commitment's capacity
         self.hour, self.category, self.owner = hour, category, owner
         self.billed, self.effective, self.quantity = billed, effective, quantity
         self.sku, self.account, self.tags = sku, account, tags
@@ -258,10 +259,10 @@ def lines_of_hour(commitments, rows, hour):
                 capacity -= weight
         weights = [weight for _, _, weight in taken] + [capacity] * (capacity > 0)
         parts = shares(c.amount(hour), weights)
-        for (row, quantity, _), part in zip(taken, parts):
-            yield Line(hour, "Usage", (c.id, c.kind, "Used"), 0, part, quantity, row.sku, row.account, row.tags)
+        for (row, quantity, weight), part in zip(taken, parts):
+            yield Line(hour, "Usage", (c.id, c.kind, "Used"), 0, part, quantity, row.sku, row.account, row.tags, weight)
         if capacity:
-            yield Line(hour, "Usage", (c.id, c.kind, "Unused"), 0, parts[-1], None, "", c.account, c.tags)
+            yield Line(hour, "Usage", (c.id, c.kind, "Unused"), 0, parts[-1], None, "", c.account, c.tags, capacity)
     for row, u in zip(rows, left):
         if u:
             billed, effective = row.billed * u // row.quantity, row.effective * u // row.quantity
@@ -411,6 +412,26 @@ class Warehouse:
         if lines is None:
             return "refused Q1 Range\n"
         return sized(record(LINES_HEADER) + "".join(record(line.fields()) for line in lines))
+
+    def coverage(self, low, high):
+        """Of each commitment that has a line in a range of hours its id, kind and unit, and, in nanos, its capacity there, what of it was used
+        and unused, what its Used and its Unused lines cost, and what was paid for it."""
+        kept = {c.id: [0] * 6 for c in self.commitments}
+        shown = set()
+        for line in self.lines_between(low, high):
+            if line.owner[0] in kept:
+                shown.add(line.owner[0])
+                sums = kept[line.owner[0]]
+                at = {"Used": 0, "Unused": 1}.get(line.owner[2])
+                if at is not None:
+                    sums[1 + at] += line.weight
+                    sums[3 + at] += line.effective
+                if line.category == "Purchase":
+                    sums[5] += line.billed
+        low, high = self.times.hour(low), self.times.hour(high)
+        for c in self.commitments:
+            kept[c.id][0] = c.capacity * sum(c.runs_in(hour) for hour in range(low, high))
+        return [(c.id, c.kind, c.unit or "", *kept[c.id]) for c in self.commitments if c.id in shown]
 
     def report(self, key, low, high):
         lines = self.lines_between(low, high)

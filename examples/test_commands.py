@@ -19,6 +19,9 @@ import expected
 HERE = pathlib.Path(__file__).resolve().parent
 PROGRAM = ""
 CENT = decimal.Decimal("0.01")
+COVERAGE_HEADER = [
+    "CommitmentDiscountId", "CommitmentDiscountCategory", "Unit", "Capacity", "Used", "Unused", "UsedCost", "UnusedCost", "BilledCost",
+]  # fmt: skip
 MONTH = ("--from", "2024-01", "--to", "2024-02")
 
 
@@ -115,6 +118,52 @@ class Commands(unittest.TestCase):
         text = text.split("\n", 1)[1]
         self.assertEqual(self.asked("lines", "--from", "2024-01-01", "--to", "2024-01-02"), text)
 
+    def coverage(self, low, high):
+        """The coverage that the program prints as CSV, its amounts in nanos."""
+        rows = list(expected.csv.reader(self.asked("coverage", "--from", low, "--to", high, "--format", "csv").splitlines()))
+        self.assertEqual(rows[0], COVERAGE_HEADER)
+        return [(*row[:3], *map(expected.nanos, row[3:])) for row in rows[1:]]
+
+    def test_coverage(self):
+        ranges = ("2024-01", "2024-02"), ("2024-01-01T05:00Z", "2024-01-01T06:00Z"), ("2024-01-02", "2024-01-04"), ("2023-01", "2023-02")
+        for low, high in ranges:
+            whole = [f"{it}-01T00:00Z" if len(it) == 7 else f"{it}T00:00Z" if len(it) == 10 else it for it in (low, high)]
+            found = self.coverage(low, high)
+            self.assertEqual(found, self.kept.coverage(*whole), (low, high))
+            self.check_against_lines(found, self.asked("lines", "--from", low, "--to", high))
+        self.assertEqual(found, [])
+        self.assertTrue(self.coverage("2024-01", "2024-02"))
+
+    def check_against_lines(self, found, text):
+        """The costs of a coverage are sums over the CSV of lines, and so is what was used of a commitment to a quantity."""
+        lines = list(expected.csv.DictReader(text.splitlines()))
+        for name, kind, _, capacity, used, unused, used_cost, unused_cost, paid in found:
+            own = [line for line in lines if line["CommitmentDiscountId"] == name]
+
+            def total(column, **wanted):
+                return sum(expected.nanos(line[column]) for line in own if line[column] and all(line[it] == text for it, text in wanted.items()))
+
+            self.assertEqual(used_cost, total("EffectiveCost", CommitmentDiscountStatus="Used"), name)
+            self.assertEqual(unused_cost, total("EffectiveCost", CommitmentDiscountStatus="Unused"), name)
+            self.assertEqual(paid, total("BilledCost", ChargeCategory="Purchase"), name)
+            self.assertEqual(capacity, used + unused, name)
+            if kind == "Usage":
+                self.assertEqual(used, total("ConsumedQuantity", CommitmentDiscountStatus="Used"), name)
+        shown = {line["CommitmentDiscountId"] for line in lines if line["ChargeCategory"] == "Purchase" or line["CommitmentDiscountStatus"]}
+        self.assertLessEqual({row[0] for row in found}, shown)
+
+    def test_coverage_table(self):
+        rows = self.kept.coverage("2024-01-01T00:00Z", "2024-02-01T00:00Z")
+        cells = [["Commitment", "Kind", "Unit", "Capacity", "Used", "Unused", "Share", "UsedCost", "UnusedCost", "BilledCost"]]
+        for name, kind, unit, capacity, used, unused, *costs in rows:
+            cells.append([name, kind, unit, *map(cents, (capacity, used, unused)), share(used, capacity), *map(cents, costs)])
+        cells.append(["Total", *[""] * 6, *(cents(sum(row[at] for row in rows)) for at in (6, 7, 8))])
+        widths = [max(len(row[at]) for row in cells) for at in range(10)]
+        rule = "  ".join("-" * width for width in widths)
+        lines = ["  ".join(it.ljust(w) if at < 3 else it.rjust(w) for at, (it, w) in enumerate(zip(row, widths))) for row in cells]
+        lines = [lines[0], rule, *lines[1:-1], rule, lines[-1]]
+        self.assertEqual(self.asked("coverage", *MONTH).splitlines(), lines)
+
     def test_status_verify_and_checkpoint(self):
         status = self.asked("status")
         entries, rows, commitments, _ = self.kept.state().split()[1:]
@@ -175,7 +224,7 @@ class Commands(unittest.TestCase):
             self.assertEqual((run.stderr.read(), run.wait()), (b"", 0))
 
     def test_help_and_version(self):
-        for words in ((), ("run",), ("import",), ("check",), ("report",), ("lines",), ("status",), ("verify",), ("checkpoint",), ("explain",)):
+        for words in ((), ("run",), ("import",), ("check",), ("report",), ("lines",), ("coverage",), ("status",), ("verify",), ("checkpoint",), ("explain",)):
             status, printed, said = focusd(*words, "--help")
             self.assertEqual((status, said), (0, ""), words)
             self.assertIn("Example", printed, words)

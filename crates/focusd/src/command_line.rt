@@ -1,5 +1,7 @@
 //! The command line, and what its help says.
-use crate::commands::{check, checkpoint, explain, import, lines, report, run, status, verify};
+use crate::commands::{
+    check, checkpoint, coverage, explain, import, lines, report, run, status, verify,
+};
 use clap::{Arg, ArgAction, ArgMatches, Command};
 use fw_rows::Currency;
 use std::alloc::{AllocError, Global};
@@ -98,6 +100,7 @@ fn commands<'a>(alloc: Global) -> Result<Vec<Command<'a>>, AllocError> {
     commands.push(check::command(alloc)?)?;
     commands.push(report::command(alloc)?)?;
     commands.push(lines::command(alloc)?)?;
+    commands.push(coverage::command(alloc)?)?;
     commands.push(status::command(alloc)?)?;
     commands.push(verify::command(alloc)?)?;
     commands.push(checkpoint::command(alloc)?)?;

@@ -17,7 +17,7 @@ mod range;
 use clap::ArgMatches;
 use clap::error::ErrorKind;
 use command_line::command_line;
-use commands::{check, checkpoint, explain, import, lines, report, run, status, verify};
+use commands::{check, checkpoint, coverage, explain, import, lines, report, run, status, verify};
 use fault::Fault;
 use fw_serve::ServeFault;
 use std::process::ExitCode;
@@ -63,6 +63,7 @@ fn run_command(rt: &HostRuntime, matches: &ArgMatches<'_>) -> Result<ExitCode, F
         Some(("check", options)) => check::run(rt, options),
         Some(("report", options)) => report::run(rt, options),
         Some(("lines", options)) => lines::run(rt, options),
+        Some(("coverage", options)) => coverage::run(rt, options),
         Some(("status", options)) => Ok(status::run(rt, options)),
         Some(("verify", options)) => Ok(verify::run(rt, options)),
         Some(("checkpoint", options)) => Ok(checkpoint::run(rt, options)),

@@ -38,7 +38,7 @@ use Rattle.fw_query.proofs.CarriedFacts.{and_false, commitment_keeps, rows_free}
 
 -- ---- which lines have the text
 -- a row that doesn't carry the id has another one, or none
-not_shown : (id : List ℕ) (discount : Option DiscountText) → 0 < length id → has_id id discount ≡ false → bytes_eq (id_text discount) id ≡ false
+pub not_shown : (id : List ℕ) (discount : Option DiscountText) → 0 < length id → has_id id discount ≡ false → bytes_eq (id_text discount) id ≡ false
 not_shown id None some free = two_ways (bytes_eq [] id)
     (λ same. let none : 0 ≡ length id = ap length ((bytes_eq-Decides [] id).0 same) in absurd (omega arith))
     (λ apart. apart)
@@ -108,7 +108,7 @@ hour_bought cs rows place c there alone some free hour lines are =
     ∙ by.purchases_are place c there
 
 -- ---- what they are billed
-billed_append : (xs ys : List LineValue) → billed_by_all (xs ++ ys) ≡ billed_by_all xs +ℤ billed_by_all ys
+pub billed_append : (xs ys : List LineValue) → billed_by_all (xs ++ ys) ≡ billed_by_all xs +ℤ billed_by_all ys
 unfolding billed_by_all
 billed_append [] ys = omega (arith, ints)
 billed_append (x ∷ xs) ys =

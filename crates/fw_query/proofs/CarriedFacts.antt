@@ -95,7 +95,7 @@ commitment_keeps history place c each at =
     subst IsCommitment (get_or_from_slice_get (commitments_of history) place c c at) (commitments_keep history each place c (slice_get_within (commitments_of history) place c at))
 
 -- ---- the shares of a range
-cost_append : (xs ys : List LineValue) → cost_of_all (xs ++ ys) ≡ cost_of_all xs +ℤ cost_of_all ys
+pub cost_append : (xs ys : List LineValue) → cost_of_all (xs ++ ys) ≡ cost_of_all xs +ℤ cost_of_all ys
 unfolding cost_of_all
 cost_append [] ys = omega (arith, ints)
 cost_append (x ∷ xs) ys =
@@ -132,7 +132,7 @@ carried_between history from to lines place c legal are at =
     ∙ hours_carry (commitments_of history) (rows_of history) c (alone history legal place c at) (rows_free history place c legal at) (range_with_len from (to - from)) are.hourly are.are_hourly
 
 -- ---- a range that holds the term
-range_append : (a m n : ℕ) → range_with_len a (m + n) ≡ range_with_len a m ++ range_with_len (a + m) n
+pub range_append : (a m n : ℕ) → range_with_len a (m + n) ≡ range_with_len a m ++ range_with_len (a + m) n
 range_append a zero n =
     let all : zero + n ≡ n = omega arith in
     let from : a + zero ≡ a = omega arith in

@@ -18,3 +18,6 @@ pub mod DirectFacts
 pub mod CarriedFacts
 pub mod AccountedFacts
 pub mod BoughtFacts
+mod LineSumFacts
+mod TallyFacts
+mod CoverageFacts

@@ -1,18 +1,23 @@
 //! Reports: what charge rows and commitments cost in some hours, by the groups of a tag key.
 //!
 //! [`report`] sums the lines of a range of hours by group, and [`report_csv`] writes what it found; [`lines_csv`] writes the lines. Costs are
-//! counted in nanos, which are 10^-9 of the currency unit, and hours from 1970.
+//! counted in nanos, which are 10^-9 of the currency unit, and hours from 1970. [`coverage`] says how well the commitments were used in such a
+//! range.
 //!
 //! What holds of every report and of its lines is said by laws: [`charged_is_direct`], [`commitments_are_carried`], [`rows_are_counted_once`],
-//! [`answers_are_one`].
+//! [`answers_are_one`]; and of every coverage by [`coverage_adds_up`].
 #![tactic(auto)]
 
 mod charges;
+mod coverage_laws;
+mod covered;
+mod covering;
 mod entries;
 mod fault;
 mod groups;
 mod hours;
 mod laws;
+mod line_sums;
 mod line_text;
 mod listing;
 mod marks;
@@ -20,9 +25,13 @@ mod query;
 mod reporting;
 mod segments;
 mod summing;
+mod tally;
 mod text;
 mod total;
 
+pub use coverage_laws::coverage_adds_up;
+pub use covered::Coverage;
+pub use covering::coverage;
 pub use entries::{Entry, Report};
 pub use fault::QueryFault;
 pub use laws::{

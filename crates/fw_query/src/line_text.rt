@@ -188,7 +188,7 @@ fn or_empty(text: Option<&str>) -> &str
 }
 
 // The id of a discount, which is empty where there is none.
-fn id_of(discount: Option<LineDiscount<'_>>) -> &str
+pub(crate) fn id_of(discount: Option<LineDiscount<'_>>) -> &str
     ensures { result.now ≡ id_text (option_map discount_of discount.entry) }
 {
     match discount {
@@ -208,7 +208,7 @@ fn kind_of(discount: Option<LineDiscount<'_>>) -> &'static str
 }
 
 // The status of a discount, which is empty where there is none.
-fn status_of(discount: Option<LineDiscount<'_>>) -> &'static str
+pub(crate) fn status_of(discount: Option<LineDiscount<'_>>) -> &'static str
     ensures { result.now ≡ status_text (option_map discount_of discount.entry) }
 {
     match discount {

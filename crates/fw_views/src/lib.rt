@@ -4,12 +4,14 @@
 //! shows.
 #![tactic(auto)]
 
+mod covered;
 mod questions;
 mod report;
 mod status;
 mod sums;
 mod tables;
 
+pub use covered::coverage_text;
 pub use questions::{Question, answer};
 pub use report::{Format, report_text};
 pub use sums::{Sums, sums_of};

@@ -9,6 +9,7 @@ ghost use Rattle.fw_snapshot.specs.History.{commitments_of, policy_of, rows_of};
 ghost use Rattle.fw_views.specs.declared.questions.Question.TheVariants.{Report, Lines};
 ghost use Rattle.fw_views.specs.declared.report.Format.TheVariants.{Csv};
 
+use crate::covered::coverage_text;
 use crate::report::{Format, report_text};
 use crate::status::{sound_text, status_text};
 use fw_disk::Volume;
@@ -23,6 +24,8 @@ pub enum Question<'q> {
     Report { query: Query<'q>, format: Format },
     /// Each line behind the costs of the hours from `from` up to, not including, `to`, counted from 1970.
     Lines { from: u64, to: u64 },
+    /// How well each commitment was used in the hours from `from` up to, not including, `to`, counted from 1970.
+    Coverage { from: u64, to: u64, format: Format },
     /// What the warehouse holds.
     Status,
     /// Whether its files are sound.
@@ -30,7 +33,7 @@ pub enum Question<'q> {
 }
 
 /// The answer to a question, as text. Nothing changes. The errors are those of the question: of a report `Range`, `TotalTooLarge` and
-/// `NoMemory`, of lines `Range` and `NoMemory`, of a status `NoMemory`.
+/// `NoMemory`, of lines and coverage `Range` and `NoMemory`, of a status `NoMemory`.
 pub fn answer<V: Volume>(
     alloc: Global,
     store: &Store<V>,
@@ -42,6 +45,9 @@ pub fn answer<V: Volume>(
     match question {
         Question::Report { query, format } => report_text(alloc, store.state(), query, *format),
         Question::Lines { from, to } => lines_csv(alloc, store.state(), *from, *to),
+        Question::Coverage { from, to, format } => {
+            coverage_text(alloc, store.state(), *from, *to, *format)
+        }
         Question::Status => Ok(status_text(alloc, store)?.into_bytes()),
         Question::Verify => Ok(sound_text(alloc, store)?.into_bytes()),
     }
