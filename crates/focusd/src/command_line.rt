@@ -1,5 +1,7 @@
 //! The command line, and what its help says.
-use crate::commands::{check, checkpoint, explain, import, lines, report, run, status, verify};
+use crate::commands::{
+    check, checkpoint, dump, explain, import, lines, report, run, status, verify,
+};
 use clap::{Arg, ArgAction, ArgMatches, Command};
 use fw_rows::Currency;
 use std::alloc::{AllocError, Global};
@@ -101,6 +103,7 @@ fn commands<'a>(alloc: Global) -> Result<Vec<Command<'a>>, AllocError> {
     commands.push(status::command(alloc)?)?;
     commands.push(verify::command(alloc)?)?;
     commands.push(checkpoint::command(alloc)?)?;
+    commands.push(dump::command(alloc)?)?;
     commands.push(explain::command(alloc)?)?;
     Ok(commands)
 }

@@ -1,6 +1,7 @@
 //! The commands, a module each: its part of the command line, and its run.
 pub(crate) mod check;
 pub(crate) mod checkpoint;
+pub(crate) mod dump;
 pub(crate) mod explain;
 pub(crate) mod import;
 pub(crate) mod lines;
