@@ -6,9 +6,12 @@
 The warehouse is made from a script by `focusd run --dir`. What reports and lines must be comes from expected.py; a table is
 made of that here, by Python's decimal.
 """
+import csv
 import decimal
+import io
 import json
 import pathlib
+import struct
 import subprocess
 import sys
 import tempfile
@@ -31,11 +34,11 @@ def focusd(*words, given=b""):
     return ran.returncode, ran.stdout.decode(), ran.stderr.decode()
 
 
-def warehouse_of(script):
+def warehouse_of(script, currency="USD"):
     """The warehouse that expected.py keeps of a script of entries."""
-    kept = expected.Warehouse()
+    kept = expected.Warehouse(currency)
     how = {"post": kept.post, "commit": kept.commit, "policy": kept.set_policy}
-    lines = iter(script.splitlines(keepends=True))
+    lines = io.BytesIO(script)
     for line in lines:
         words = line.decode().split()
         if words and words[0] in how:
@@ -224,7 +227,7 @@ class Commands(unittest.TestCase):
             self.assertEqual((run.stderr.read(), run.wait()), (b"", 0))
 
     def test_help_and_version(self):
-        for words in ((), ("run",), ("import",), ("check",), ("report",), ("lines",), ("coverage",), ("status",), ("verify",), ("checkpoint",), ("explain",)):
+        for words in ((), ("run",), ("import",), ("check",), ("report",), ("lines",), ("coverage",), ("status",), ("verify",), ("checkpoint",), ("dump",), ("explain",)):
             status, printed, said = focusd(*words, "--help")
             self.assertEqual((status, said), (0, ""), words)
             self.assertIn("Example", printed, words)
@@ -312,6 +315,189 @@ class Files(unittest.TestCase):
         self.assertEqual({(it["code"].split()[0], it["column"]): it["count"] for it in found["findings"]}, planted)
         self.assertEqual(found["records"], len(records) - 1)
         self.assertEqual(focusd("check", str(self.EXPORT))[0], 0)
+
+
+class Dumps(unittest.TestCase):
+    """A dump, served by a new warehouse, makes the same one again."""
+
+    COLUMNS = (
+        "BilledCost", "EffectiveCost", "BillingCurrency", "ChargeCategory", "ChargePeriodStart", "ChargePeriodEnd", "ChargeClass", "CommitmentDiscountId",
+        "CommitmentDiscountCategory", "CommitmentDiscountStatus", "ConsumedQuantity", "ConsumedUnit", "SkuId", "SubAccountId", "Tags",
+    )  # fmt: skip
+    PLAIN = ("1", "2.5", "USD", "Usage", "2024-01-01T00:00:00Z", "2024-01-01T01:00:00Z", "", "", "", "", "1", "Hours", "vm", "", "")
+    # Texts that CSV, JSON and TOML each have their own trouble with.
+    ODD = (
+        'say "hi", twice ""', "two\nlines", "carriage\rreturn and\r\nboth", ",", '"', "\n", " blanks around ", "back\\slash \\n \\u0041", "'", "#[=]{,}", "=1+1", "0012",
+        "facturación", "\u65e5\u672c\u8a9e", "\U0001f4b6\u200d", "e\u0301", "\u2028", "tab\t and \x01\x1f\x7f", "post a 1 1\nreport t 2024-01 2024-02", "x" * 256,
+    )  # fmt: skip
+
+    def folder(self):
+        made = tempfile.TemporaryDirectory()
+        self.addCleanup(made.cleanup)
+        return made.name
+
+    def done(self, *words, given=b""):
+        """What a run prints that has to go well."""
+        status, printed, said = focusd(*words, given=given)
+        self.assertEqual((status, said), (0, ""), words)
+        return printed
+
+    def made(self, script, *currency):
+        """The folder of a warehouse that is made of a script, each of whose commands is accepted."""
+        folder = self.folder()
+        answers = self.done("run", "--dir", folder, "--create", *currency, given=script).splitlines()
+        self.assertEqual(answers, [f"accepted {number + 1}" for number in range(len(answers))])
+        return folder
+
+    def dumped(self, folder, *currency):
+        """The dump of a warehouse. One that is made of it has the same dump, the same status but for its files, and the same lines and reports."""
+        files = [(pathlib.Path(folder) / side).read_bytes() for side in ("left", "right")]
+        script = self.done("dump", "--dir", folder)
+        self.assertEqual(files, [(pathlib.Path(folder) / side).read_bytes() for side in ("left", "right")])
+        copy = self.made(script.encode(), *currency)
+        self.assertEqual(self.done("dump", "--dir", copy), script)
+        for words in (("lines", "--from", "2024-01", "--to", "2025-01"), *(("report", "--tag", tag, "--from", "2024-01", "--to", "2025-01") for tag in ("team", "env", ""))):
+            self.assertEqual(self.done(words[0], "--dir", copy, *words[1:]), self.done(words[0], "--dir", folder, *words[1:]), words)
+        held = [[line for line in self.done("status", "--dir", it).splitlines() if line.split()[0] not in ("Body", "Log", "Checkpoint")] for it in (folder, copy)]
+        self.assertEqual(*held)
+        return script
+
+    def post(self, origin, number, *rows):
+        """A post of these rows."""
+        text = io.StringIO()
+        csv.writer(text, lineterminator="\n").writerows((self.COLUMNS, *rows))
+        content = text.getvalue().encode()
+        return b"post %s %d %d\n" % (origin, number, content.count(b"\n")) + content
+
+    def row(self, **values):
+        return [values.get(column, plain) for column, plain in zip(self.COLUMNS, self.PLAIN)]
+
+    def same(self, script, currency="USD"):
+        """A warehouse that is made of a script has a dump that expected.py reads as what it reads the script as."""
+        words = ("--currency", currency)
+        dumped = self.dumped(self.made(script, *words), *words).encode()
+        kept, again = warehouse_of(script, currency), warehouse_of(dumped, currency)
+        for one in (kept, again):
+            one.rows = {hour: [vars(row) for row in rows] for hour, rows in one.rows.items()}
+            one.commitments = [vars(it) for it in one.commitments]
+        self.assertEqual((again.entries, again.origins, again.rows), (kept.entries, kept.origins, kept.rows))
+        self.assertEqual((again.commitments, again.policy), (kept.commitments, kept.policy))
+        return dumped
+
+    def test_the_shipped_scripts(self):
+        entries = {b"post", b"commit", b"policy"}
+        for name in ("first-report", "commitments", "providers"):
+            script, lines = b"", io.BytesIO((HERE / (name + ".script")).read_bytes())
+            for line in lines:
+                if line.split()[0] in entries:
+                    script += line + b"".join(next(lines) for _ in range(int(line.split()[3])))
+            self.same(script)
+
+    def test_imported_exports(self):
+        folder = self.folder()
+        records = list(csv.reader(io.StringIO(Files.EXPORT.read_text(encoding="utf-8-sig"), newline="")))
+        long = pathlib.Path(folder) / "long.csv"
+        with open(long, "w", newline="", encoding="utf-8") as out:
+            csv.writer(out).writerows(records + records[1:] * 20)
+        for file in (Files.EXPORT, long, *sorted((HERE / "providers").glob("*.csv"))):
+            costs = self.folder()
+            self.done("import", "--quiet", "--dir", costs, "--create", "--origin", "aws-2024.09_x", str(file))
+            script = self.dumped(costs)
+            # The same file, imported into the copy, is there already.
+            copy = self.made(script.encode())
+            self.assertIn("imported 0 rows", self.done("import", "--quiet", "--dir", copy, "--origin", "aws-2024.09_x", str(file)))
+
+    def test_odd_texts(self):
+        tags = json.dumps({text: text[::-1] for text in self.ODD} | {"": "", "none": None, "yes": True})
+        rows = [self.row(SkuId=text, ConsumedUnit=text, SubAccountId=text, Tags=json.dumps({"team": text, text: ""}, ensure_ascii=len(text) > 9)) for text in self.ODD]
+        discounts = [self.row(CommitmentDiscountId=text, CommitmentDiscountCategory="Spend", CommitmentDiscountStatus="Used") for text in self.ODD]
+        self.same(self.post(b"a", 1, *rows, self.row(Tags=tags), self.row(Tags="{}"), self.row(Tags="")) + self.post(b"a", 2, *discounts))
+
+    def test_amounts_times_and_nulls(self):
+        amounts = ("100000000", "-100000000", "1e-9", "-.000000001", "0", "-0", "1.9999999995", "+12.5E3", "0.1234567891")
+        rows = [self.row(BilledCost=one, EffectiveCost=other, ConsumedQuantity=one) for one in amounts for other in amounts]
+        rows += [self.row(ConsumedQuantity=text) for text in ("", "1e12", "-1e30", "100000000.000000001")]
+        rows += [self.row(ChargeCategory=word, ChargeClass="Correction", ConsumedUnit="", SkuId="") for word in ("Usage", "Purchase", "Tax", "Credit", "Adjustment")]
+        rows += [self.row(ChargeCategory="Purchase", CommitmentDiscountId="c", CommitmentDiscountCategory=kind, CommitmentDiscountStatus=status) for kind in ("Usage", "Spend") for status in ("", "Used", "Unused")]
+        for start, end in (("1970-01-01T00:00Z", "1970-01-01T00:00:00Z"), ("2024-02-29T23:59:59Z", "2024-03-01T00:00:01Z"), ("2024-01-01T02:30:07Z", "9999-12-30T22:00:00Z")):
+            rows.append(self.row(ChargePeriodStart=start, ChargePeriodEnd=end))
+        dumped = self.same(self.post(b"a", 1, *rows))
+        self.assertIn(b"\n-100000000.000000000,", dumped)
+        self.assertIn(b",2024-02-29T23:59:59Z,2024-03-01T00:00:01Z,", dumped)
+
+    def test_commitments_and_policies(self):
+        def text(it):
+            return json.dumps(it, ensure_ascii=False).replace("\x7f", "\\u007f").encode()
+
+        script, number = b"", 0
+        for place, odd in enumerate(self.ODD):
+            wide = {"id": odd, "capacity": "0.000000001", "start": "2024-01-01T00:00Z", "hours": 26304, "sub_account": odd}
+            wide |= {"category": "Usage", "unit": odd} if place % 2 else {"category": "Spend"}
+            lines = [key.encode() + b" = " + (str(value).encode() if key == "hours" else text(value)) for key, value in wide.items()]
+            many = sorted({*self.ODD[:place], odd})
+            lines.append(b"skus = [" + b", ".join(map(text, reversed(many))) + b"]" if place % 2 else b"rates = { " + b", ".join(text(it) + b" = %d" % (n + 1) for n, it in enumerate(many)) + b" }")
+            if place % 3:
+                lines += [b"[tags]", *(text(it) + b" = " + text(it[::-1]) for it in many), b"owner = \"\""]
+            lines += [b"[[purchase]]\nat = \"2024-01-01T00:00:%02dZ\"\nbilled = \"%d.5\"" % (n, n) for n in range(1 + place)]
+            content = b"\n".join(lines) + b"\n"
+            script += b"commit c 000%d %d\n" % (place + 1, content.count(b"\n")) + content
+            number = place + 1
+        rules = b"".join(b"[[rule]]\nfrom = " + text(odd) + b"\n" + (b"proportional = true\n" if n % 2 else b"to = { a = 0, \"\" = 1_000_000_000, " + text("to " + odd) + b" = 3 }\n") for n, odd in enumerate(self.ODD))
+        for content in (b"key = \"t\"\n", b"key = " + text(self.ODD[0]) + b"\n" + rules):
+            number += 1
+            script += b"policy c %d %d\n" % (number, content.count(b"\n")) + content
+        self.same(script)
+
+    def test_origins_that_interleave_and_checkpoints(self):
+        script = b"".join(self.post(origin, number, self.row(BilledCost=str(number))) for number in range(1, 5) for origin in (b"b", b"a-1", b"a") if number < 4 or origin == b"a")
+        folder = self.made(script)
+        dumped = self.dumped(folder)
+        heads = [line.split()[1:3] for line in dumped.splitlines() if line.startswith("post ")]
+        self.assertEqual(heads, [[origin, str(number)] for number in range(1, 5) for origin in ("b", "a-1", "a") if number < 4 or origin == "a"])
+        self.done("checkpoint", "--dir", folder)
+        self.assertEqual(self.dumped(folder), dumped)
+        self.done("run", "--dir", folder, given=self.post(b"b", 4, self.row()))
+        self.assertTrue(self.dumped(folder).startswith(dumped))
+
+    def test_an_empty_warehouse_and_another_currency(self):
+        self.assertEqual(self.dumped(self.made(b"")), "")
+        script = self.same(self.post(b"a", 1, self.row(BillingCurrency="EUR")), "EUR")
+        answer = self.done("run", given=script)
+        self.assertEqual(answer, "refused V6 Currency 1\n")
+
+    def test_what_no_script_can_say(self):
+        folder = self.made(self.post(b"a", 1, self.row()))
+        first = self.done("dump", "--dir", folder)
+        export = pathlib.Path(folder) / "feeds.csv"
+        with open(export, "w", newline="", encoding="utf-8") as out:
+            csv.writer(out, lineterminator="\n").writerows([self.COLUMNS, *[self.row(SkuId="\n" * 256)] * 4096])
+        self.done("import", "--quiet", "--dir", folder, "--origin", "feeds", str(export))
+        status, printed, said = focusd("dump", "--dir", folder)
+        self.assertEqual((status, printed, said.splitlines()[0]), (1, first, "focusd: D1 TooManyLines"))
+        self.assertIn("entry 2 of the warehouse has more than 1,000,000 lines", said)
+
+    def test_a_time_that_no_text_reads_as(self):
+        """A warehouse made byte by byte, as FORMATS has it: a tax of one nano, up to the last second of the year 9999."""
+        row = struct.pack("<qqBBQQ", 1, 1, 3, 0, 0, 253402300799) + bytes(7) + struct.pack("<I", 0)
+        head = struct.pack("<I", 1) + b"a" + struct.pack("<QBI", 1, 1, 1)
+        body = struct.pack("<I", 3) + b"USD" + struct.pack("<Q", 1) + head + struct.pack("<I", 1) + struct.pack("<BI", 1, 1) + row
+        folder = self.folder()
+        (pathlib.Path(folder) / "left").write_bytes(b"\1FWHOUSE1" + struct.pack("<QQ", 1, len(body)) + body + b"\0")
+        (pathlib.Path(folder) / "right").write_bytes(b"")
+        self.assertTrue(self.done("verify", "--dir", folder).startswith("sound\n"))
+        status, printed, said = focusd("dump", "--dir", folder)
+        self.assertEqual((status, printed, said.splitlines()[0]), (1, "", "focusd: D2 Differs"))
+        self.assertIn("entry 1 of the warehouse", said)
+
+    def test_a_reader_that_stops_early_and_one_that_is_full(self):
+        folder = self.made(self.post(b"a", 1, *[self.row(Tags=json.dumps({"team": str(n)})) for n in range(3000)]))
+        with subprocess.Popen([PROGRAM, "dump", "--dir", folder], stdout=subprocess.PIPE, stderr=subprocess.PIPE) as run:
+            run.stdout.read(10)
+            run.stdout.close()
+            self.assertEqual((run.stderr.read(), run.wait()), (b"", 0))
+        with open("/dev/full", "wb") as full:
+            ran = subprocess.run([PROGRAM, "dump", "--dir", folder], stdout=full, stderr=subprocess.PIPE)
+            self.assertEqual((ran.returncode, ran.stderr), (1, b"focusd: F2 Write\n"))
 
 
 if __name__ == "__main__":

@@ -1,6 +1,6 @@
 //! The command line, and what its help says.
 use crate::commands::{
-    check, checkpoint, coverage, explain, import, lines, report, run, status, verify,
+    check, checkpoint, coverage, dump, explain, import, lines, report, run, status, verify,
 };
 use clap::{Arg, ArgAction, ArgMatches, Command};
 use fw_rows::Currency;
@@ -104,6 +104,7 @@ fn commands<'a>(alloc: Global) -> Result<Vec<Command<'a>>, AllocError> {
     commands.push(status::command(alloc)?)?;
     commands.push(verify::command(alloc)?)?;
     commands.push(checkpoint::command(alloc)?)?;
+    commands.push(dump::command(alloc)?)?;
     commands.push(explain::command(alloc)?)?;
     Ok(commands)
 }

@@ -1,5 +1,6 @@
 //! Why the program ended with a status that isn't 0.
 use fw_disk::FolderFault;
+use fw_dump::TextFault;
 use fw_query::QueryFault;
 use fw_recover::StoreFault;
 use fw_serve::ServeFault;
@@ -17,6 +18,9 @@ pub enum Fault {
     /// The script was not served to its end.
     #[error("{0}")]
     Serve(ServeFault),
+    /// An entry of the warehouse has no text in a script.
+    #[error("{0}")]
+    Text(TextFault),
     /// The range of a question has no hour, or more than 26,304.
     #[error("Q1 Range: --from and --to must be at least one hour and at most 26,304 hours apart; that of --to is not in the range")]
     Range,

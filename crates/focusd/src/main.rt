@@ -17,7 +17,9 @@ mod range;
 use clap::ArgMatches;
 use clap::error::ErrorKind;
 use command_line::command_line;
-use commands::{check, checkpoint, coverage, explain, import, lines, report, run, status, verify};
+use commands::{
+    check, checkpoint, coverage, dump, explain, import, lines, report, run, status, verify,
+};
 use fault::Fault;
 use fw_serve::ServeFault;
 use std::process::ExitCode;
@@ -67,6 +69,7 @@ fn run_command(rt: &HostRuntime, matches: &ArgMatches<'_>) -> Result<ExitCode, F
         Some(("status", options)) => Ok(status::run(rt, options)),
         Some(("verify", options)) => Ok(verify::run(rt, options)),
         Some(("checkpoint", options)) => Ok(checkpoint::run(rt, options)),
+        Some(("dump", options)) => Ok(dump::run(rt, options)),
         Some(("explain", options)) => explain::run(rt, options),
         _ => Ok(wrong_use(rt, "no command")),
     }

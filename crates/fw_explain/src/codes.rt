@@ -279,4 +279,16 @@ pub(crate) const CODES: &[Explanation] = &[
         meaning: "--create was given, and the folder holds a warehouse already",
         remedy: "Leave --create out to go on with it, or give another folder.",
     },
+    Explanation {
+        code: "D1",
+        name: "TooManyLines",
+        meaning: "an entry of the warehouse can't be dumped: its CSV would have more than 1,000,000 lines, the most of an entry in a script; its texts are full of line feeds, and it came by focusd import",
+        remedy: "Keep the export that it was imported from. The script that was printed ends before this entry; to go on without it, import its rows in smaller parts into another warehouse.",
+    },
+    Explanation {
+        code: "D2",
+        name: "Differs",
+        meaning: "an entry of the warehouse can't be dumped: what a script can say of it reads as another entry; it has a value that no text reads as, as a time after 9999-12-30T22:00:00Z, or focusd has a defect",
+        remedy: "The script that was printed ends before this entry. Files that no other program has written have no such value: then report the defect, with the entry's origin and number.",
+    },
 ];

@@ -2,6 +2,7 @@
 pub(crate) mod check;
 pub(crate) mod checkpoint;
 pub(crate) mod coverage;
+pub(crate) mod dump;
 pub(crate) mod explain;
 pub(crate) mod import;
 pub(crate) mod lines;
