@@ -95,16 +95,72 @@ fn write_commitment(
     let used_cost = fw_money::text(alloc, coverage.used_cost())?;
     let unused_cost = fw_money::text(alloc, coverage.unused_cost())?;
     let paid = fw_money::text(alloc, coverage.paid())?;
-    let fields: [&[u8]; 9] = [
-        commitment.id().as_bytes(),
-        commitment.kind().word().as_bytes(),
-        unit_of(coverage).as_bytes(),
-        capacity.as_bytes(),
-        used.as_bytes(),
-        unused.as_bytes(),
-        used_cost.as_bytes(),
-        unused_cost.as_bytes(),
-        paid.as_bytes(),
+    let amounts = Amounts::of(
+        capacity.as_str(),
+        used.as_str(),
+        unused.as_str(),
+        used_cost.as_str(),
+        unused_cost.as_str(),
+        paid.as_str(),
+    );
+    write_texts(
+        writer,
+        commitment.id(),
+        commitment.kind().word(),
+        unit_of(coverage),
+        amounts,
+    )
+}
+
+// The amounts of a record, as text.
+#[derive(Clone, Copy, Drop)]
+struct Amounts<'t> {
+    capacity: &'t str,
+    used: &'t str,
+    unused: &'t str,
+    used_cost: &'t str,
+    unused_cost: &'t str,
+    paid: &'t str,
+}
+
+impl<'t> Amounts<'t> {
+    fn of(
+        capacity: &'t str,
+        used: &'t str,
+        unused: &'t str,
+        used_cost: &'t str,
+        unused_cost: &'t str,
+        paid: &'t str,
+    ) -> Amounts<'t> {
+        Amounts {
+            capacity,
+            used,
+            unused,
+            used_cost,
+            unused_cost,
+            paid,
+        }
+    }
+}
+
+// Writes the record of a commitment with this id, of this kind, with this unit and these amounts.
+fn write_texts<'t>(
+    writer: &mut Writer<Vec<u8>>,
+    id: &'t str,
+    kind: &'t str,
+    unit: &'t str,
+    amounts: Amounts<'t>,
+) -> Result<(), AllocError> {
+    let fields: [&'t [u8]; 9] = [
+        id.as_bytes(),
+        kind.as_bytes(),
+        unit.as_bytes(),
+        amounts.capacity.as_bytes(),
+        amounts.used.as_bytes(),
+        amounts.unused.as_bytes(),
+        amounts.used_cost.as_bytes(),
+        amounts.unused_cost.as_bytes(),
+        amounts.paid.as_bytes(),
     ];
     write_fields(writer, &fields)
 }
