@@ -1,0 +1,28 @@
+-- A range of hours, cut where hours, days or months begin.
+use Rattle.std.specs.Prelude.{◌≡◌, ◌≢◌, ◌<◌, ◌≤◌, ◌/◌, ◌*◌, ◌+◌, ℕ, unsigned_abs, List, [], ◌∷◌}
+use Rattle.jiff_core.specs.declared.civil.date.Date.{Date}
+use Rattle.fw_calendar.specs.Shown.{IsDateOf}
+use Rattle.fw_calendar.specs.Times.{last_hour}
+use Rattle.fw_calendar.specs.declared.steps.Step.{Step}
+use Rattle.fw_calendar.specs.declared.steps.Step.TheVariants.{Hour, Day, Month}
+use Rattle.fw_calendar.specs.declared.steps.Period.{Period}
+
+-- the number of the hour, the day or the month in which an hour lies: hours and days are counted from 1970, months from the year 0
+abbrev pub IsPlace : Step → ℕ → ℕ → Type 0
+IsPlace Hour hour place = place ≡ hour
+IsPlace Day hour place = place ≡ hour / 24
+IsPlace Month hour place = hour ≤ last_hour → (date : Date) × IsDateOf hour date × (place ≡ unsigned_abs date.year * 12 + date.month)
+
+-- a period is the longest that begins here, lies in one hour, day or month, and ends no later than the range
+pub record IsPeriod (step : Step) (from to : ℕ) (period : Period) : Type 0 where
+  pub begins : period.from ≡ from
+  pub some : from < period.to
+  pub within : period.to ≤ to
+  pub place : ℕ
+  pub one : (hour : ℕ) → from ≤ hour → hour < period.to → IsPlace step hour place
+  pub longest : period.to < to → (other : ℕ) × IsPlace step period.to other × (other ≢ place)
+
+-- the periods of the range are in order and adjacent, and no hour of it is left
+abbrev pub ArePeriods : Step → ℕ → ℕ → List Period → Type 0
+ArePeriods step from to [] = from ≡ to
+ArePeriods step from to (period ∷ periods) = IsPeriod step from to period × ArePeriods step period.to to periods
