@@ -31,9 +31,6 @@ begins_none h k (e ∷ es) is le = absurd (omega (arith, le, ap (λ (x : History
 begins_back : (h k : History) → Begins h k → length k.entries ≤ length h.entries → Begins k h
 begins_back h k p le = let same = begins_none h k p.0 p.1 le in subst (λ (x : History). Begins x h) (sym same) (begins_self h)
 
-pub begins_length : (h k : History) → Begins h k → length h.entries ≤ length k.entries
-begins_length h k p = omega (arith, ap (λ (x : History). length x.entries) p.1, length-append h.entries p.0)
-
 one_at : (h : History) (i : ℕ) → i < 1 → get_or (h ∷ []) i no_front ≡ h
 one_at h zero lt = refl
 one_at h (suc i) lt = absurd (omega (arith, lt))

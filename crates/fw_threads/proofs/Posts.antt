@@ -1,35 +1,18 @@
--- Facts on places in the list of all posts.
-use Rattle.std.proofs.Common.{◌≡◌, ◌⊎◌, inl, inr, ℕ, suc, ◌<◌, ◌≤◌, List, [], ◌∷◌, ◌++◌, length, map, take, drop, get_or, refl, ap, sym, subst, ◌∙◌, arith}
-use Rattle.std.proofs.lemmas.Bool.{cases_lt}
+-- Facts on items and their tickets.
+use Rattle.std.proofs.Common.{◌≡◌, ℕ, ◌≤◌, List, [], ◌∷◌, length, map, take, drop, refl, ap, sym, subst, ◌∙◌, arith}
 use Rattle.std.proofs.lemmas.List.{take-map, drop-map}
-use mathlib.Core.List.{IsPrefix}
 use Rattle.fw_entry.specs.Entry.{EntryValue}
 use Rattle.fw_group.specs.declared.inbox.Item.{Item}
 use Rattle.fw_group.specs.Items.{entry_of, entries_of}
 use Rattle.fw_group.specs.Limits.{Fits}
 use Rattle.fw_group.proofs.Items.{group_none}
-use Rattle.fw_growing.proofs.Beginnings.{prefix_get}
-use Rattle.fw_threads.specs.Posts.{Posted, no_entry, posted_entry}
-
--- one place of two beginnings of one list
-pub same_place : (xs ys : List EntryValue) (k : ℕ) → (length xs ≤ length ys → IsPrefix xs ys) → (length ys ≤ length xs → IsPrefix ys xs) → k < length xs → k < length ys
-    → get_or xs k no_entry ≡ get_or ys k no_entry
-same_place xs ys k p q in_xs in_ys = by_length (cases_lt (length xs) (length ys)) where
-  by_length : (length xs < length ys) ⊎ (length ys ≤ length xs) → get_or xs k no_entry ≡ get_or ys k no_entry
-  by_length (inl a) = sym (prefix_get xs ys k no_entry (p (omega (arith, a))) in_xs)
-  by_length (inr b) = prefix_get ys xs k no_entry (q b) in_ys
+use Rattle.fw_threads.specs.Posts.{Posted, posted_entry}
 
 -- where nothing is in hand there is no ticket
 pub no_tickets : (tickets : List Posted) (items : List Item) → map posted_entry tickets ≡ entries_of items → items ≡ [] → tickets ≡ []
 no_tickets [] items same none = refl
 no_tickets (t ∷ tickets) [] same none = cc
 no_tickets (t ∷ tickets) (x ∷ items) same none = cc
-
-pub as_many_tickets : (tickets : List Posted) (items : List Item) → map posted_entry tickets ≡ entries_of items → length tickets ≡ length items
-as_many_tickets [] [] same = refl
-as_many_tickets [] (x ∷ items) same = cc
-as_many_tickets (t ∷ tickets) [] same = cc
-as_many_tickets (t ∷ tickets) (x ∷ items) same = ap (λ n. suc n) (as_many_tickets tickets items (cc same))
 
 pub nothing_kept : (tickets : List Posted) (items : List Item) → tickets ≡ [] → items ≡ [] → (map posted_entry tickets ≡ entries_of items) × Fits items
 nothing_kept tickets items t i =

@@ -7,10 +7,8 @@ use Rattle.fw_snapshot.specs.Judging.{judged}
 use Rattle.fw_snapshot.specs.Verdicts.{taken, kept_by, accepted_of}
 use Rattle.fw_snapshot.specs.declared.verdict.Verdict.{Verdict}
 use Rattle.fw_snapshot.specs.declared.verdict.Verdict.TheVariants as verdict
-use Rattle.fw_recover.specs.declared.fault.StoreFault.{StoreFault}
-use Rattle.fw_recover.specs.declared.fault.StoreFault.TheVariants as fault
 use Rattle.fw_group.specs.declared.answer.Answer.{Answer}
-use Rattle.fw_group.specs.Answers.{told, answers_on, refusal}
+use Rattle.fw_group.specs.Answers.{told, answers_on}
 use Rattle.fw_threads.specs.Posts.{no_entry}
 use Rattle.fw_threads.specs.Told.{IsRight, AreRight}
 
@@ -60,17 +58,7 @@ length_right front before (e ∷ es) = ap suc (length_right front (before ++ tak
 pub answers_right : (front : History) (before es : List EntryValue) → front.entries ≡ before ++ accepted_of before es → AreRight es (answers_on front before es)
 answers_right front before es has = (length_right front before es, each_right front before es has)
 
--- a fault's answer says nothing of the entry
-pub refusal_right : (e : EntryValue) (why : StoreFault) → IsRight e (refusal why)
-refusal_right e fault.NoHouse = tt
-refusal_right e (fault.Corrupt side at) = tt
-refusal_right e fault.Device = tt
-refusal_right e fault.Failed = tt
-refusal_right e fault.Generations = tt
-refusal_right e fault.TooLarge = tt
-refusal_right e fault.Exists = tt
-refusal_right e fault.NoMemory = tt
-
+-- what stands in a beginning stands there in the whole
 pub stands_on : {X : Type 0} (xs ys : List X) (k : ℕ) (a : X) → slice_get xs k ≡ Some a → slice_get (xs ++ ys) k ≡ Some a
 stands_on [] ys zero a at = cc
 stands_on [] ys (suc k) a at = cc

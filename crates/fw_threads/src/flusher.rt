@@ -1,6 +1,8 @@
 //! The flusher.
-ghost use Rattle.std.specs.Prelude.{◌≡◌, ◌⊎◌, [], false, length, IfOk, IfErr, OnErr, OnOk, IsErrOf};
+ghost use Rattle.std.specs.Prelude.{◌≡◌, true, ◌⊎◌, [], false, length, IfOk, IfErr, OnErr, OnOk, IsErrOf, IsTrue};
+ghost use Rattle.fw_disk.specs.Volume.{LeavesOnly, Rose};
 ghost use Rattle.fw_recover.specs.Checkpoints.{IsCheckpointed};
+ghost use Rattle.fw_recover.specs.Stands.{StandsFor};
 ghost use Rattle.fw_recover.specs.declared.fault.StoreFault.TheVariants.{Device, Failed};
 ghost use Rattle.fw_group.specs.Answers.{IsGroupFault};
 ghost use Rattle.fw_group.specs.Items.{entries_of};
@@ -140,6 +142,10 @@ impl<J: Naming, V: Volume> Flusher<J, V> {
         ensures done { OnOk result (IsCheckpointed V.tells V.view self.old.store self.new.store) }
         ensures history { self.new.store.history ≡ self.old.store.history }
         ensures unchanged { OnErr result (IsErrOf result Device ⊎ (self.new ≡ self.old)) }
+        ensures any_moment { IsTrue V.tells → self.old.store.failed ≡ false → self.old.unpublished ≡ false
+            → LeavesOnly (V.view self.old.store.volume) (V.view self.new.store.volume) (StandsFor self.old.store.history) }
+        ensures failed { IsErrOf result Failed → (self.old.store.failed ≡ true) ⊎ (self.old.unpublished ≡ true) }
+        ensures device { IsErrOf result Device → Rose (V.view self.old.store.volume).failures (V.view self.new.store.volume).failures }
     {
         let done = self.publisher.checkpoint();
         if let Err(StoreFault::Device) = done {

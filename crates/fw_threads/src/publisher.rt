@@ -1,11 +1,11 @@
 //! Storing a group and publishing it.
-ghost use Rattle.std.specs.Prelude.{◌≡◌, ◌⊎◌, ◌≤◌, [], drop, false, length, All, IfOk, IfErr, IfSome, OnOk, OnErr, IsErrOf, MatchBool, IsTrue, vec_len, vec_capacity};
-ghost use Rattle.fw_disk.specs.Volume.{LeavesOnly};
+ghost use Rattle.std.specs.Prelude.{◌≡◌, true, ◌⊎◌, ◌≤◌, [], drop, false, length, All, IfOk, IfErr, IfSome, OnOk, OnErr, IsErrOf, MatchBool, IsTrue, vec_len, vec_capacity};
+ghost use Rattle.fw_disk.specs.Volume.{LeavesOnly, Rose};
 ghost use Rattle.fw_snapshot.specs.Verdicts.{accepted_of, with_more};
-ghost use Rattle.fw_recover.specs.Stands.{StandsForEither};
+ghost use Rattle.fw_recover.specs.Stands.{StandsFor, StandsForEither};
 ghost use Rattle.fw_recover.specs.Committing.{Committed};
 ghost use Rattle.fw_recover.specs.Checkpoints.{IsCheckpointed};
-ghost use Rattle.fw_recover.specs.declared.fault.StoreFault.TheVariants.{Device};
+ghost use Rattle.fw_recover.specs.declared.fault.StoreFault.TheVariants.{Device, Failed};
 ghost use Rattle.fw_group.specs.Answers.{answers_on};
 ghost use Rattle.fw_group.specs.Items.{entries_of};
 ghost use Rattle.fw_group.specs.Laws.{Begins};
@@ -159,6 +159,10 @@ impl<J: Naming, V: Volume> Publisher<J, V> {
         ensures done { OnOk result (IsCheckpointed V.tells V.view self.old.store self.new.store) }
         ensures history { self.new.store.history ≡ self.old.store.history }
         ensures unchanged { OnErr result (IsErrOf result Device ⊎ (self.new ≡ self.old)) }
+        ensures any_moment { IsTrue V.tells → self.old.store.failed ≡ false → self.old.unpublished ≡ false
+            → LeavesOnly (V.view self.old.store.volume) (V.view self.new.store.volume) (StandsFor self.old.store.history) }
+        ensures failed { IsErrOf result Failed → (self.old.store.failed ≡ true) ⊎ (self.old.unpublished ≡ true) }
+        ensures device { IsErrOf result Device → Rose (V.view self.old.store.volume).failures (V.view self.new.store.volume).failures }
     {
         if self.unpublished {
             return Err(StoreFault::Failed);
