@@ -11,4 +11,4 @@ pub use answer::{Answer, Front, Receipt, Seen};
 pub use event::{Event, EventAnswer, House};
 pub use hand::{Hand, answer_all};
 pub use inbox::{Inbox, Item, PushFault};
-pub use run::run_events;
+pub use run::{Judged, judge_hand, run_events};

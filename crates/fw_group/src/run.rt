@@ -108,12 +108,12 @@ fn each_is_entry(entries: &[Entry])
     }
 }
 
-// A group that was judged, the snapshot with it, and a copy of this for each answer.
+/// A group that was judged, the snapshot with it, and a copy of this for each answer.
 #[derive(Drop)]
-struct Judged {
-    prepared: Prepared,
-    next: Snapshot,
-    fronts: Vec<Snapshot>,
+pub struct Judged {
+    pub prepared: Prepared,
+    pub next: Snapshot,
+    pub fronts: Vec<Snapshot>,
 }
 
 // Copies of a snapshot.
@@ -128,7 +128,15 @@ fn copies(alloc: Global, snapshot: &Snapshot, count: usize) -> Result<Vec<Snapsh
     Ok(copies)
 }
 
-fn judge_hand<V: Volume>(alloc: Global, store: &Store<V>, hand: &Hand) -> Result<Judged, StoreFault>
+/// Judges what is in hand, and makes all that its commit takes before anything is written. It changes nothing.
+///
+/// # Errors
+/// `Failed` where the device had failed before; then `TooLarge` where the volume has no room for the group, or `NoMemory`.
+pub fn judge_hand<V: Volume>(
+    alloc: Global,
+    store: &Store<V>,
+    hand: &Hand,
+) -> Result<Judged, StoreFault>
     requires some { hand.now ≡ [] → ⊥ }
     requires fits { Fits hand.now }
 

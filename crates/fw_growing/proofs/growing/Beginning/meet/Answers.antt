@@ -1,0 +1,10 @@
+use Rattle.std.proofs.Common.{◌≡◌, ◌≤◌, ap, subst, arith, length, List, rules}
+use mathlib.Core.List.{IsPrefix}
+use Rattle.fw_growing.proofs.Beginnings.{prefix_shorter}
+use Rattle.fw_growing.proofs.growing.Beginning.meet.Goals as goal
+
+pub returns : goal.returns
+returns g c =
+    let both = c.learn.new.self.log in
+    let this : IsPrefix c.self.inside.seen.log both = subst (λ l. IsPrefix l both) (ap (λ s. s.log) c.again-both.ensures) c.learn.ensures.2 in
+    rw (← c.self.view_is, ← c.other.view_is) (prefix_shorter c.self.inside.seen.log c.other.inside.seen.log both this c.learn.ensures.3)

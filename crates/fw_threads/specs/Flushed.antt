@@ -1,0 +1,104 @@
+-- What a flusher has, and what its commits do.
+use Rattle.std.specs.Prelude.{◌≡◌, ◌⊎◌, ⊤, ℕ, ◌≤◌, ◌<◌, Bool, true, false, IsTrue, List, [], length}
+use Rattle.std.specs.Vec.{vec_capacity}
+use Rattle.fw_disk.specs.Volume.{View, LeavesOnly, Rose}
+use Rattle.fw_entry.specs.Entry.{EntryValue}
+use Rattle.fw_snapshot.specs.History.{History}
+use Rattle.fw_snapshot.specs.Verdicts.{accepted_of, with_more}
+use Rattle.fw_recover.specs.Stands.{StandsForEither}
+use Rattle.fw_recover.specs.Store.{StoreState}
+use Rattle.fw_recover.specs.Committing.{HasNoRoom, Committed, Lost}
+use Rattle.fw_recover.specs.declared.fault.StoreFault.{StoreFault}
+use Rattle.fw_recover.specs.declared.fault.StoreFault.TheVariants as fault
+use Rattle.fw_group.specs.declared.inbox.Item.{Item}
+use Rattle.fw_group.specs.Items.{entries_of}
+use Rattle.fw_group.specs.Turns.{IsJudged}
+use Rattle.fw_threads.specs.declared.flusher.Taken.{Taken}
+use Rattle.fw_threads.specs.declared.flusher.Taken.TheVariants.{Took, Over}
+use Rattle.fw_threads.specs.declared.publisher.CommitFault.{CommitFault}
+use Rattle.fw_threads.specs.declared.publisher.CommitFault.TheVariants as commit
+use Rattle.fw_threads.specs.declared.publisher.Ready.{Ready}
+
+-- how many importers and analysts a store can be taken apart into
+abbrev pub AreCounts : ℕ → ℕ → Type 0
+AreCounts importers analysts = (0 < importers) × (importers ≤ 64) × (0 < analysts) × (analysts ≤ 64)
+
+-- a store, what readers take of it, and whether a group was stored and could not be published
+pub record PublisherState (V : Type 0) : Type 0 where
+  pub published : History
+  pub store : StoreState V
+  pub unpublished : Bool
+
+-- the same, and what is in hand
+pub record Flushed (V : Type 0) : Type 0 where
+  pub published : History
+  pub store : StoreState V
+  pub unpublished : Bool
+  pub hand : List Item
+
+abbrev pub state_of : {V : Type 0} → Flushed V → PublisherState V
+state_of f = record { published = f.published; store = f.store; unpublished = f.unpublished }
+
+-- what is added to a warehouse where these items are committed
+abbrev pub group_on : History → List Item → List EntryValue
+group_on h items = accepted_of h.entries (entries_of items)
+
+-- what a take moved into the hand
+abbrev pub IsTaken : List Item → Taken → List Item → Type 0
+IsTaken before (Took n) after = ((before ≡ []) × (length after ≡ n)) ⊎ ((before ≡ [] → ⊥) × (n ≡ 0) × (after ≡ before))
+IsTaken before Over after = (before ≡ []) × (after ≡ [])
+
+-- what is in hand after a commit that failed: where the store has no room the group stays, and else each item was answered
+abbrev pub StaysInHand : CommitFault → List Item → List Item → Type 0
+StaysInHand (commit.Store fault.TooLarge) before after = after ≡ before
+StaysInHand why before after = after ≡ []
+
+module _ {V : Type 0} (view : V → View) where
+  -- a group that was judged, with a snapshot to publish, and room for fronts and answers
+  pub record IsReady {J : Type 0} (s : StoreState V) (items : List Item) (r : Ready J) : Type 0 where
+    pub judged : IsJudged view s items r.group
+    pub page : r.page ≡ with_more s.history (group_on s.history items)
+    pub fronts : (r.fronts.items ≡ []) × (length items ≤ vec_capacity r.fronts)
+    pub answers : (r.answers.items ≡ []) × (length items ≤ vec_capacity r.answers)
+
+module _ {V : Type 0} (tells : Bool) (view : V → View) where
+  -- at each moment a crash leaves the warehouse as it was, or with the whole group
+  abbrev pub IsWhole : StoreState V → List Item → StoreState V → Type 0
+  IsWhole s items t = IsTrue tells → LeavesOnly (view s.volume) (view t.volume) (StandsForEither s.history (group_on s.history items))
+
+  -- what became of the store where a group that was judged wasn't published
+  abbrev pub FailsBetween : StoreState V → List Item → CommitFault → StoreState V → Type 0
+  FailsBetween s items (commit.Store fault.Device) t = Lost s t × Rose (view s.volume).failures (view t.volume).failures × (0 < length (group_on s.history items))
+  FailsBetween s items (commit.Store fault.NoMemory) t = t ≡ s
+  FailsBetween s items commit.Unpublished t = Committed tells view s t (group_on s.history items)
+  FailsBetween s items fault t = ⊥
+
+  -- the group is stored and published
+  pub record Publishes (p : PublisherState V) (items : List Item) (accepted : ℕ) (q : PublisherState V) : Type 0 where
+    pub went_on : p.unpublished ≡ false
+    pub committed : Committed tells view p.store q.store (group_on p.published items)
+    pub moment : IsTrue tells → LeavesOnly (view p.store.volume) (view q.store.volume) (StandsForEither p.published (group_on p.published items))
+    pub published : q.published ≡ with_more p.published (group_on p.published items)
+    pub count : accepted ≡ length (group_on p.published items)
+    pub goes_on : q.unpublished ≡ false
+
+  -- Nothing is published, and why: the store failed in the call, or before it; it has no room for the group; memory ran out; or the group is stored
+  -- and could not be published.
+  abbrev pub Fails : PublisherState V → List Item → CommitFault → PublisherState V → Type 0
+  Fails p items (commit.Store fault.Device) q =
+      (q ≡ record p { store = q.store }) × Lost p.store q.store × Rose (view p.store.volume).failures (view q.store.volume).failures
+      × (0 < length (group_on p.published items)) × IsWhole p.store items q.store
+  Fails p items (commit.Store fault.Failed) q = ((p.store.failed ≡ true) ⊎ (p.unpublished ≡ true)) × (q ≡ p)
+  Fails p items (commit.Store fault.TooLarge) q = (p.store.failed ≡ false) × HasNoRoom (view p.store.volume).limit p.store (group_on p.store.history items) × (q ≡ p)
+  Fails p items (commit.Store fault.NoMemory) q = q ≡ p
+  Fails p items commit.Unpublished q =
+      (q ≡ record p { store = q.store; unpublished = true }) × Committed tells view p.store q.store (group_on p.published items) × IsWhole p.store items q.store
+  Fails p items fault q = ⊥
+
+  -- A commit that was answered a number. Nothing happened where nothing was in hand.
+  abbrev pub Commits : Flushed V → ℕ → Flushed V → Type 0
+  Commits f n g = ((f.hand ≡ []) × (n ≡ 0) × (g ≡ f)) ⊎ ((f.hand ≡ [] → ⊥) × Publishes (state_of f) f.hand n (state_of g) × (g.hand ≡ []))
+
+  -- a commit that failed
+  abbrev pub CommitFails : Flushed V → CommitFault → Flushed V → Type 0
+  CommitFails f why g = (f.hand ≡ [] → ⊥) × Fails (state_of f) f.hand why (state_of g) × StaysInHand why f.hand g.hand

@@ -1,0 +1,4 @@
+pub mod Fronts
+pub mod Posts
+pub mod Told
+pub mod Flushed
