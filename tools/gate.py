@@ -1,8 +1,8 @@
 #!/usr/bin/env python3
 """Runs the toolchain's gate, `rt ci`, over a copy of the tree that has only the must-fail edits that are due.
 
-    tools/gate.py             tries the edits of each crate whose folder changed since the last full run, and of a
-                              quarter of the other crates, which the commit's hash picks
+    tools/gate.py             tries the edits of each crate that changed since the last landing, edits that are new, and
+                              those of a quarter of the other crates, which the commit's hash picks
     tools/gate.py --all       tries every edit
     tools/gate.py --program   tries none: proves and builds focusd and the crates that it stands on, and no more
     tools/gate.py --list      says which edits are due, and runs nothing
@@ -10,6 +10,8 @@
 Every run proves every crate and its tests from nothing, runs them, and prints what each crate cost. The edits alone are
 sampled: they show that contracts have teeth, and what they show changes only with their own crate or with the toolchain.
 So after a change of toolchain every edit is due, and so it is where the commit of the last full run isn't in this clone.
+A landing is a commit whose gate passed: it tried the edits of each crate that had changed since the landing before it, and the first
+landing those of each crate that had changed since the last full run. So each edit was tried on the code that its crate has there.
 
 It leaves the built programs in out/focusd and out/fw_simulate, the built tests in out/tests/, and all that `rt ci` printed in out/gate.log.
 
@@ -33,6 +35,8 @@ from meter import Meter, table
 TOP = os.path.dirname(os.path.dirname(os.path.abspath(__file__)))
 # The record of the last full run: three lines, `commit`, `date` and `kit`.
 RECORD = "tools/last-full-run"
+# The commit of the last landing: one line, `commit`. Where there is no such file, the last full run stands for it.
+LANDING = "tools/last-landing"
 # The crates that are programs: what is built of them is kept.
 PROGRAMS = ("focusd", "fw_simulate")
 # The crates that did not change are tried in so many parts, one a run.
@@ -113,14 +117,33 @@ def edit_counts(files):
     return counts
 
 
-def is_gone_edit(status, path):
-    """Whether a change is no more than that an edit was removed: what the other edits of its crate show stays as it is."""
-    return status == "D" and re.fullmatch(r"crates/[^/]+/must-fail/[^/]+\.edit", path) is not None
+@dataclass
+class Changes:
+    """What is another than in a commit: the crates whose code, or whose line in crates.txt, is; and of the other crates the edits that are new."""
+
+    crates: set
+    edits: set
 
 
-def changed_crates(top, commit):
-    """The crates whose folder, or whose line in crates.txt, is another than in this commit, but for edits that are gone; None where the
-    commit isn't here."""
+def is_edit(path):
+    """Whether a path is that of a must-fail edit."""
+    return re.fullmatch(r"crates/[^/]+/must-fail/[^/]+\.edit", path) is not None
+
+
+def crate_of(path):
+    """The crate in whose folder a path lies."""
+    return path.split("/")[1]
+
+
+def old_edits(top, commit):
+    """The edits of a commit, each as its crate and the hash of its text."""
+    listed = output_of(["git", "ls-tree", "-r", "-z", commit, "--", "crates"], top) or ""
+    entries = (line.split("\t", 1) for line in listed.split("\0") if line)
+    return {(crate_of(path), entry.split()[2]) for entry, path in entries if is_edit(path)}
+
+
+def changes_since(top, commit):
+    """What changed since a commit; None where the commit isn't here. An edit that is gone, or that has only another name, is no change."""
     then = output_of(["git", "show", f"{commit}:crates.txt"], top)
     named = output_of(["git", "diff", "--name-status", "--no-renames", "-z", commit, "--", "crates"], top)
     new = output_of(["git", "ls-files", "-z", "--others", "--exclude-standard", "crates"], top)
@@ -128,9 +151,14 @@ def changed_crates(top, commit):
         return None
     then, now = crate_lines(then), crates_of(top)
     words = named.split("\0")
-    paths = [path for status, path in zip(words[::2], words[1::2]) if not is_gone_edit(status, path)]
-    changed = {path.split("/")[1] for path in paths + new.split("\0") if path.count("/") > 1}
-    return changed | {crate for crate, line in now.items() if then.get(crate) != line}
+    paths = [(status, path) for status, path in zip(words[::2], words[1::2])] + [("A", path) for path in new.split("\0")]
+    paths = [(status, path) for status, path in paths if path.count("/") > 1]
+    crates = {crate_of(path) for _, path in paths if not is_edit(path)}
+    crates |= {crate for crate, line in now.items() if then.get(crate) != line}
+    added = sorted(path for status, path in paths if is_edit(path) and status != "D" and crate_of(path) not in crates)
+    hashes = (output_of(["git", "hash-object", "--", *added], top) or "").split() if added else []
+    known = old_edits(top, commit)
+    return Changes(crates, {path for path, text in zip(added, hashes) if (crate_of(path), text) not in known})
 
 
 def part_of(counts, commit):
@@ -152,39 +180,62 @@ def due(counts, changed, commit):
     return {crate: "changed" if crate in changed else reasons[crate] for crate in counts if crate in changed or crate in reasons}
 
 
-def choose(top, counts, kit, tries_all):
-    """Why each crate's edits are due, and a line that says what was gone by."""
+@dataclass
+class Choice:
+    """The edits that are tried: why each of their crates is, their paths, and a line that says what was gone by."""
+
+    reasons: dict
+    edits: set
+    why: str
+
+
+def landed(top):
+    """The commit of the last landing, or None where no file names one."""
+    try:
+        with open(os.path.join(top, LANDING), encoding="utf-8") as file:
+            return file.read().split()[1]
+    except (OSError, IndexError):
+        return None
+
+
+def choose(top, files, kit, tries_all):
+    """The edits that are due."""
+    edits, counts = {path for path in files if is_edit(path)}, edit_counts(files)
+    every = lambda why: Choice(due(counts, None, ""), edits, why)
     if tries_all:
-        return due(counts, None, ""), "every edit is due"
+        return every("every edit is due")
     record = Record.read(top)
     if record.kit != kit:
-        return due(counts, None, ""), f"every edit is due: the last full run was by {record.kit}, and this is {kit}"
-    changed = changed_crates(top, record.commit)
-    if changed is None:
-        return due(counts, None, ""), f"every edit is due: commit {record.commit} of the last full run isn't in this clone"
+        return every(f"every edit is due: the last full run was by {record.kit}, and this is {kit}")
+    base = landed(top) or record.commit
+    changes = changes_since(top, base)
+    if changes is None or changes_since(top, record.commit) is None:
+        return every(f"every edit is due: commit {record.commit} of the last full run, or {base} of the last landing, isn't in this clone")
     head = output_of(["git", "rev-parse", "HEAD"], top)
     if head is None:
         raise GateError("git names no commit")
-    return due(counts, changed, head), f"the last full run was of {record.commit[:12]}, on {record.date}"
+    reasons = due(counts, changes.crates, head)
+    chosen = {path for path in edits if crate_of(path) in reasons or path in changes.edits}
+    reasons = {crate: reasons.get(crate, "new edits") for crate in counts if crate in {crate_of(path) for path in chosen}}
+    return Choice(reasons, chosen, f"the last full run was of {record.commit[:12]}, on {record.date}, and the last landing of {base[:12]}")
 
 
-def show_choice(counts, reasons, why):
+def show_choice(counts, choice):
     names = lambda some: " ".join(some) or "none"
-    tried = [f"{crate} ({reasons[crate]}, {counts[crate]})" for crate in counts if crate in reasons]
-    left = [f"{crate} ({counts[crate]})" for crate in counts if crate not in reasons]
-    number = sum(counts[crate] for crate in reasons)
-    print(f"must-fail edits: {number} of {sum(counts.values())}, of {len(reasons)} of {len(counts)} crates; {why}")
-    print(f"  tried: {names(tried)}")
-    print(f"  left: {names(left)}", flush=True)
+    tried = edit_counts(choice.edits)
+    print(f"must-fail edits: {len(choice.edits)} of {sum(counts.values())}, of {len(tried)} of {len(counts)} crates; {choice.why}")
+    print(f"  tried: {names(f'{crate} ({choice.reasons[crate]}, {tried[crate]})' for crate in counts if crate in tried)}")
+    left = {crate: count - tried.get(crate, 0) for crate, count in counts.items()}
+    print(f"  left: {names(f'{crate} ({count})' for crate, count in left.items() if count)}", flush=True)
 
 
-def copy_tree(top, to, crates, has_edits):
-    """Copies the tree: of crates/ these crates, and the edits of those that have them in the copy."""
+def copy_tree(top, to, crates, edits):
+    """Copies the tree: of crates/ these crates, and of the edits these."""
     for path in files_of(top):
         parts = path.split("/")
         if parts[0] == "crates" and len(parts) > 1 and parts[1] not in crates:
             continue
-        if len(parts) > 2 and parts[0] == "crates" and parts[2] == "must-fail" and parts[1] not in has_edits:
+        if is_edit(path) and path not in edits:
             continue
         target = os.path.join(to, path)
         os.makedirs(os.path.dirname(target), exist_ok=True)
@@ -255,11 +306,12 @@ def main():
             raise GateError("the toolchain's command rt isn't there: install it first")
         lines = crates_of(top)
         crates = below("focusd", lines) if options.program else set(lines)
-        counts = edit_counts(files_of(top))
-        reasons = {}
+        files = files_of(top)
+        edits = set()
         if not options.program:
-            reasons, why = choose(top, counts, kit, options.all)
-            show_choice(counts, reasons, why)
+            choice = choose(top, files, kit, options.all)
+            edits = choice.edits
+            show_choice(edit_counts(files), choice)
         if options.list:
             return 0
     except (GateError, OSError) as error:
@@ -272,7 +324,7 @@ def main():
         if os.path.exists(os.path.join(out, program)):
             os.remove(os.path.join(out, program))
     with tempfile.TemporaryDirectory(prefix="focusd-gate-") as room:
-        copy_tree(top, room, crates, reasons)
+        copy_tree(top, room, crates, edits)
         if options.program:
             with open(os.path.join(room, "crates.txt"), "w", encoding="utf-8") as file:
                 file.writelines(f"{line}\n" for crate, line in lines.items() if crate in crates)

@@ -77,16 +77,41 @@ class Changes(unittest.TestCase):
             repository = Repository(top)
             repository.fill()
             commit = repository.commit("all that the last full run saw")
-            self.assertEqual(gate.changed_crates(top, commit), set())
+            self.assertEqual(gate.changes_since(top, commit), gate.Changes(set(), set()))
             os.remove(os.path.join(top, "crates/same/must-fail/adds_two.edit"))
             repository.commit("an edit goes")
-            self.assertEqual(gate.changed_crates(top, commit), set())
-            repository.write("crates/same/must-fail/adds_three.edit", REFUSED)
-            self.assertEqual(gate.changed_crates(top, commit), {"same"})
+            self.assertEqual(gate.changes_since(top, commit), gate.Changes(set(), set()))
+            repository.write("crates/same/must-fail/adds_2.edit", REFUSED)
+            self.assertEqual(gate.changes_since(top, commit), gate.Changes(set(), set()), "an edit with another name")
+            three = "crates/same/must-fail/adds_three.edit"
+            repository.write(three, REFUSED.replace("+ 2", "+ 3"))
+            self.assertEqual(gate.changes_since(top, commit), gate.Changes(set(), {three}))
             repository.write("crates/changed/src/lib.rt", SOURCE + "// a comment\n")
+            repository.write("crates/changed/must-fail/adds_three.edit", REFUSED.replace("+ 2", "+ 3"))
             repository.commit("another edit, and code")
-            self.assertEqual(gate.changed_crates(top, commit), {"same", "changed"})
-            self.assertIsNone(gate.changed_crates(top, "0" * 40))
+            self.assertEqual(gate.changes_since(top, commit), gate.Changes({"changed"}, {three}))
+            self.assertIsNone(gate.changes_since(top, "0" * 40))
+
+    def test_what_a_landing_tried_is_not_due_again(self):
+        with tempfile.TemporaryDirectory() as top:
+            repository = Repository(top)
+            repository.fill()
+            repository.write("crates/changed/src/lib.rt", SOURCE + "// a comment\n")
+            repository.leave_same()
+            kit = gate.Record.read(top).kit
+            chosen = gate.choose(top, gate.files_of(top), kit, False)
+            self.assertEqual((chosen.reasons, chosen.edits), ({"changed": "changed"}, {"crates/changed/must-fail/adds_two.edit"}))
+            repository.write(gate.LANDING, f"commit {repository.commit('landed')}\n")
+            new = "crates/same/must-fail/adds_three.edit"
+            repository.write(new, REFUSED.replace("+ 2", "+ 3"))
+            for number in range(1000):
+                commit = repository.commit(f"more {number}")
+                if not gate.part_of({"same": 3, "changed": 1}, commit):
+                    break
+            chosen = gate.choose(top, gate.files_of(top), kit, False)
+            self.assertEqual((chosen.reasons, chosen.edits), ({"same": "new edits"}, {new}))
+            self.assertEqual(gate.choose(top, gate.files_of(top), "another kit", False).edits, {path for path in gate.files_of(top) if gate.is_edit(path)})
+            self.assertEqual(len(gate.choose(top, gate.files_of(top), kit, True).edits), 4)
 
 
 class Refusals(unittest.TestCase):
@@ -163,6 +188,7 @@ class Gate(unittest.TestCase):
         with tempfile.TemporaryDirectory() as top:
             repository = Repository(top)
             repository.fill()
+            repository.write("crates/changed/src/lib.rt", SOURCE + "// a comment\n")
             repository.write("crates/changed/must-fail/adds_the_other_way.edit", ACCEPTED)
             repository.leave_same()
             ran = subprocess.run([sys.executable, TOOL, "--top", top], capture_output=True, text=True, check=False)
