@@ -4,6 +4,8 @@
 #![tactic(auto)]
 
 #[cfg(test)]
+mod generations;
+#[cfg(test)]
 mod groups;
 #[cfg(test)]
 mod model;

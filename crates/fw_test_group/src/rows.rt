@@ -10,7 +10,7 @@ use std::test::Fail;
 
 /// What becomes of an entry, and how many entries its front has.
 #[derive(Clone, Copy, Debug)]
-enum Item {
+pub(crate) enum Item {
     Accepted(usize, usize),
     /// The last number, after how many entries that is so, and how many the front has.
     Already(u64, usize, usize),
@@ -22,7 +22,7 @@ enum Item {
 
 /// What an event answers, with the number of entries of a list.
 #[derive(Clone, Copy, Debug)]
-enum Told {
+pub(crate) enum Told {
     Posted,
     Took(usize),
     Committed(&'static [Item]),
@@ -81,7 +81,8 @@ fn is_told(answer: &EventAnswer, told: &Told) -> bool {
     }
 }
 
-type Row = (Step, Told);
+/// A step, and what it answers.
+pub(crate) type Row = (Step, Told);
 
 /// One importer, one entry.
 const ONE: &[Row] = &[
@@ -290,7 +291,7 @@ const CASES: &[Case] = &[
 ];
 
 /// The steps of a run.
-fn steps_of(alloc: Global, rows: &[Row]) -> Result<Vec<Step>, StoreFault> {
+pub(crate) fn steps_of(alloc: Global, rows: &[Row]) -> Result<Vec<Step>, StoreFault> {
     let Ok(mut steps) = Vec::with_capacity(alloc, rows.len()) else {
         return Err(StoreFault::NoMemory);
     };
@@ -303,7 +304,7 @@ fn steps_of(alloc: Global, rows: &[Row]) -> Result<Vec<Step>, StoreFault> {
 }
 
 /// The first row that isn't answered so.
-fn first_untold(answers: &[EventAnswer], rows: &[Row]) -> Option<usize> {
+pub(crate) fn first_untold(answers: &[EventAnswer], rows: &[Row]) -> Option<usize> {
     for (place, (_, told)) in rows.iter().enumerate() {
         match answers.get(place) {
             Some(answer) if is_told(answer, told) => {}

@@ -84,7 +84,8 @@ fn add_all(alloc: Global, events: &mut Vec<Event>, steps: &[Step]) -> Result<(),
     Ok(())
 }
 
-fn events(alloc: Global, steps: &[Step]) -> Result<Vec<Event>, StoreFault> {
+/// The events of these steps.
+pub(crate) fn events(alloc: Global, steps: &[Step]) -> Result<Vec<Event>, StoreFault> {
     let mut events = Vec::new(alloc);
     match add_all(alloc, &mut events, steps) {
         Ok(()) => Ok(events),
@@ -145,7 +146,18 @@ pub(crate) fn answers(
     let events = events(alloc, steps)?;
     let volume = planned(alloc, place.limit, place.choice, place.plan, place.pass)?;
     let house = House::Open(created(alloc, volume)?);
-    match run_events(alloc, house, place.importers, place.analysts, events) {
+    answers_in(alloc, house, place.importers, place.analysts, events)
+}
+
+/// The answers of a run in a house. Out of memory is an error.
+pub(crate) fn answers_in(
+    alloc: Global,
+    house: House<Faulty>,
+    importers: usize,
+    analysts: usize,
+    events: Vec<Event>,
+) -> Result<Vec<EventAnswer>, StoreFault> {
+    match run_events(alloc, house, importers, analysts, events) {
         (_, answers, None) => Ok(answers),
         _ => Err(StoreFault::NoMemory),
     }
