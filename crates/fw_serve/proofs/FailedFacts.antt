@@ -1,9 +1,10 @@
--- What a store answers once its device has failed.
-use Rattle.std.proofs.Common.{◌≡◌, ◌⊎◌, ◌∙◌, ◌<◌, ◌&&◌, ◌∷◌, [], ℕ, zero, suc, List, Some, Bool, true, false, get_or, slice_get, Ok, Err, refl, sym, ap, subst, inl, inr, arith}
-use Rattle.std.specs.Prelude.{◌==◌, Result}
+-- Why a store doesn't do what a command asks for, and what it answers once its device has failed.
+use Rattle.std.proofs.Common.{◌≡◌, ◌⊎◌, ◌∙◌, ◌<◌, ◌∷◌, [], ℕ, zero, suc, List, Some, true, false, get_or, slice_get, Ok, Err, refl, sym, ap, subst, inl, inr, arith}
+use Rattle.std.specs.Prelude.{◌==◌, Result, if◌then◌else◌}
 use Rattle.fw_amortise.specs.LineValue.{LineValue}
 use Rattle.fw_commitment.specs.declared.fault.CommitmentFault.{CommitmentFault}
 use Rattle.fw_commitment.specs.declared.fault.CommitmentFault.TheVariants as commitment_fault
+use Rattle.fw_disk.specs.declared.volume.Side.{Side}
 use Rattle.fw_entry.specs.Entry.{CommandValue, EntryValue}
 use Rattle.fw_entry.specs.declared.fault.EntryFault.{EntryFault}
 use Rattle.fw_entry.specs.declared.fault.EntryFault.TheVariants as entry_fault
@@ -12,6 +13,7 @@ use Rattle.fw_policy.specs.declared.fault.PolicyFault.TheVariants as policy_faul
 use Rattle.fw_query.specs.Reports as reports
 use Rattle.fw_query.specs.declared.fault.QueryFault.{QueryFault}
 use Rattle.fw_query.specs.declared.fault.QueryFault.TheVariants as query_fault
+use Rattle.fw_recover.specs.declared.fault.StoreFault.{StoreFault}
 use Rattle.fw_recover.specs.declared.fault.StoreFault.TheVariants as store_fault
 use Rattle.fw_rows.specs.declared.fault.RowFault.{RowFault}
 use Rattle.fw_rows.specs.declared.fault.RowFault.TheVariants as row_fault
@@ -25,43 +27,56 @@ use Rattle.fw_snapshot.specs.declared.verdict.Conflict.{Conflict}
 use Rattle.fw_snapshot.specs.declared.verdict.Conflict.TheVariants as conflict
 use Rattle.fw_snapshot.specs.declared.verdict.Verdict.{Verdict}
 use Rattle.fw_snapshot.specs.declared.verdict.Verdict.TheVariants as verdict
-use Rattle.fw_serve.specs.Answers.{Answer, Checkpoints, Judges, Makes, RanOut, SequenceReads, Stays, Submits, Takes, entry_made}
+use Rattle.fw_serve.specs.Answers.{Answer, Checkpoints, Judges, Makes, RanOut, SequenceReads, Stays, Submits, Takes, entry_made, last_generation, lost}
 use Rattle.fw_serve.specs.Contents.{ContentReads}
 use Rattle.fw_serve.specs.Questions.{lines_answer, report_answer}
 use Rattle.fw_serve.specs.Replies.{accepted_line, already_line, bad_command_line, bad_end_line, checkpointed_line, commitment_fault_line, conflict_line, counted, counts_line, entry_fault_line, gap_line, no_memory_line, policy_fault_line, query_fault_line, row_fault_line, state_line, store_fault_line, store_line}
-use Rattle.fw_serve.specs.Runs.{AnswersEach, Sends}
+use Rattle.fw_serve.specs.Runs.{AnswersEach, LacksRoom, Sends}
 use Rattle.fw_serve.specs.Standings.{Standing}
 use Rattle.fw_serve.proofs.MoveFacts.{not_both}
 use Rattle.fw_serve.proofs.OneAnswerFacts.{content_one, number_one}
-use Rattle.fw_serve.proofs.RunFacts.{hindered_leaves, step}
+use Rattle.fw_serve.proofs.RunFacts.{hindered_leaves, sends_made, step}
 use Rattle.fw_serve.proofs.WrittenFacts.{same_currency}
 
--- ---- the line that says that the device has failed
--- whether a text has the `o` of `store` and the `3` of `S3` in their places
-abbrev tells : List ℕ → Bool
-tells text = (get_or text 2 0 == 111) && (get_or text 7 0 == 51)
+-- ---- the lines that say that the store didn't do it
+-- the digit of a line of the store, which has the `o` of `store` in its place, and 0 of any other text
+abbrev store_code : List ℕ → ℕ
+store_code text = if get_or text 2 0 == 111 then get_or text 7 0 else 0
 
-device_tells : tells (store_fault_line store_fault.Device) ≡ true
+house_code : store_code (store_fault_line store_fault.NoHouse) ≡ 49
 unfolding store_fault_line store_line
-device_tells = refl
+house_code = refl
 
-failed_silent : tells (store_fault_line store_fault.Failed) ≡ false
+corrupt_code : (side : Side) (place : ℕ) → store_code (store_fault_line (store_fault.Corrupt side place)) ≡ 50
 unfolding store_fault_line store_line
-failed_silent = refl
+corrupt_code side place = refl
 
-generations_silent : tells (store_fault_line store_fault.Generations) ≡ false
+device_code : store_code (store_fault_line store_fault.Device) ≡ 51
 unfolding store_fault_line store_line
-generations_silent = refl
+device_code = refl
 
-full_silent : tells (store_fault_line store_fault.TooLarge) ≡ false
+failed_code : store_code (store_fault_line store_fault.Failed) ≡ 52
 unfolding store_fault_line store_line
-full_silent = refl
+failed_code = refl
 
-memory_silent : tells no_memory_line ≡ false
+generations_code : store_code (store_fault_line store_fault.Generations) ≡ 53
+unfolding store_fault_line store_line
+generations_code = refl
+
+full_code : store_code (store_fault_line store_fault.TooLarge) ≡ 54
+unfolding store_fault_line store_line
+full_code = refl
+
+exists_code : store_code (store_fault_line store_fault.Exists) ≡ 55
+unfolding store_fault_line store_line
+exists_code = refl
+
+-- no other line is one of the store
+memory_silent : store_code no_memory_line ≡ 0
 unfolding no_memory_line
 memory_silent = refl
 
-row_silent : (f : RowFault) → tells (row_fault_line f) ≡ false
+row_silent : (f : RowFault) → store_code (row_fault_line f) ≡ 0
 unfolding row_fault_line no_memory_line
 row_silent (row_fault.MissingColumn column) = refl
 row_silent (row_fault.DoubleColumn column) = refl
@@ -70,14 +85,14 @@ row_silent row_fault.NoRows = refl
 row_silent row_fault.TooManyRows = refl
 row_silent row_fault.NoMemory = refl
 
-commitment_silent : (f : CommitmentFault) → tells (commitment_fault_line f) ≡ false
+commitment_silent : (f : CommitmentFault) → store_code (commitment_fault_line f) ≡ 0
 unfolding commitment_fault_line no_memory_line
 commitment_silent commitment_fault.Syntax = refl
 commitment_silent (commitment_fault.Field field) = refl
 commitment_silent (commitment_fault.Limit field) = refl
 commitment_silent commitment_fault.NoMemory = refl
 
-policy_silent : (f : PolicyFault) → tells (policy_fault_line f) ≡ false
+policy_silent : (f : PolicyFault) → store_code (policy_fault_line f) ≡ 0
 unfolding policy_fault_line no_memory_line
 policy_silent policy_fault.Syntax = refl
 policy_silent (policy_fault.Field field) = refl
@@ -86,20 +101,20 @@ policy_silent policy_fault.DoubleFrom = refl
 policy_silent policy_fault.TargetIsFrom = refl
 policy_silent policy_fault.NoMemory = refl
 
-content_silent : (k : EntryKind) (currency content line : List ℕ) → ContentReads k currency content (Err line) → tells line ≡ false
+content_silent : (k : EntryKind) (currency content line : List ℕ) → ContentReads k currency content (Err line) → store_code line ≡ 0
 unfolding ContentReads
-content_silent kind.Post currency content line reads = ap tells reads.1 ∙ row_silent reads.0
-content_silent kind.Commit currency content line reads = ap tells reads.1 ∙ commitment_silent reads.0
-content_silent kind.Policy currency content line reads = ap tells reads.1 ∙ policy_silent reads.0
+content_silent kind.Post currency content line reads = ap store_code reads.1 ∙ row_silent reads.0
+content_silent kind.Commit currency content line reads = ap store_code reads.1 ∙ commitment_silent reads.0
+content_silent kind.Policy currency content line reads = ap store_code reads.1 ∙ policy_silent reads.0
 
-entry_silent : (f : EntryFault) → tells (entry_fault_line f) ≡ false
+entry_silent : (f : EntryFault) → store_code (entry_fault_line f) ≡ 0
 unfolding entry_fault_line no_memory_line
 entry_silent entry_fault.Origin = refl
 entry_silent entry_fault.Seq = refl
 entry_silent entry_fault.TooLarge = refl
 entry_silent entry_fault.NoMemory = refl
 
-conflict_silent : (why : Conflict) → tells (conflict_line why) ≡ false
+conflict_silent : (why : Conflict) → store_code (conflict_line why) ≡ 0
 unfolding conflict_line
 conflict_silent conflict.Full = refl
 conflict_silent conflict.DoubleId = refl
@@ -107,114 +122,205 @@ conflict_silent conflict.IdInUse = refl
 conflict_silent conflict.OwnCommitment = refl
 conflict_silent conflict.TooManyCommitments = refl
 
-accepted_silent : (n : ℕ) → tells (accepted_line n) ≡ false
+accepted_silent : (n : ℕ) → store_code (accepted_line n) ≡ 0
 unfolding accepted_line
 accepted_silent n = refl
 
-already_silent : (n : ℕ) → tells (already_line n) ≡ false
+already_silent : (n : ℕ) → store_code (already_line n) ≡ 0
 unfolding already_line
 already_silent n = refl
 
-gap_silent : (n : ℕ) → tells (gap_line n) ≡ false
+gap_silent : (n : ℕ) → store_code (gap_line n) ≡ 0
 unfolding gap_line
 gap_silent n = refl
 
-query_silent : (f : QueryFault) → tells (query_fault_line f) ≡ false
+query_silent : (f : QueryFault) → store_code (query_fault_line f) ≡ 0
 unfolding query_fault_line no_memory_line
 query_silent query_fault.Range = refl
 query_silent (query_fault.TotalTooLarge group) = refl
 query_silent query_fault.NoMemory = refl
 
-counted_silent : (text : List ℕ) → tells (counted text) ≡ false
+counted_silent : (text : List ℕ) → store_code (counted text) ≡ 0
 unfolding counted
 counted_silent text = refl
 
-report_outcome : (r : Result (List reports.EntryValue) QueryFault) → tells (report_answer r) ≡ false
+report_outcome : (r : Result (List reports.EntryValue) QueryFault) → store_code (report_answer r) ≡ 0
 unfolding report_answer
 report_outcome (Ok entries) = counted_silent _
 report_outcome (Err f) = query_silent f
 
-lines_outcome : (r : Result (List LineValue) QueryFault) → tells (lines_answer r) ≡ false
+lines_outcome : (r : Result (List LineValue) QueryFault) → store_code (lines_answer r) ≡ 0
 unfolding lines_answer
 lines_outcome (Ok found) = counted_silent _
 lines_outcome (Err f) = query_silent f
 
-state_silent : (held : History) → tells (state_line held) ≡ false
+state_silent : (held : History) → store_code (state_line held) ≡ 0
 unfolding state_line counts_line
 state_silent held = refl
 
-checkpointed_silent : tells checkpointed_line ≡ false
+checkpointed_silent : store_code checkpointed_line ≡ 0
 unfolding checkpointed_line
 checkpointed_silent = refl
 
-bad_command_silent : tells bad_command_line ≡ false
+bad_command_silent : store_code bad_command_line ≡ 0
 unfolding bad_command_line
 bad_command_silent = refl
 
-bad_end_silent : tells bad_end_line ≡ false
+bad_end_silent : store_code bad_end_line ≡ 0
 unfolding bad_end_line
 bad_end_silent = refl
 
--- ---- a command that is answered so has left a store that has failed
--- the text says so only where the store has failed
-abbrev Loses : List ℕ → Standing → Type 0
-Loses text after = tells text ≡ true → after.failed ≡ true
+-- ---- why a command is answered so
+-- by its code: it is no line of the store; or the device failed; or it had failed before, or there is no further generation, or no room,
+-- which changes nothing
+abbrev IsCaused : Standing → PlainCommand → ℕ → Standing → Type 0
+IsCaused before command code after =
+    (code ≡ 0)
+    ⊎ (((code ≡ 51) × (after.failed ≡ true))
+    ⊎ (((code ≡ 52) × (before.failed ≡ true) × (after ≡ before))
+    ⊎ (((code ≡ 53) × (command ≡ checkpoint) × (before.generation ≡ last_generation) × (after ≡ before))
+    ⊎ ((code ≡ 54) × LacksRoom before command × (after ≡ before)))))
 
-other_text : (text line : List ℕ) (after : Standing) → text ≡ line → tells line ≡ false → Loses text after
-other_text text line after is silent told = absurd (not_both (tells text) told (ap tells is ∙ silent))
+abbrev Caused : Standing → PlainCommand → List ℕ → Standing → Type 0
+Caused before command text after = IsCaused before command (store_code text) after
 
-judges_loses : (before : Standing) (e : EntryValue) (v : Verdict) (text : List ℕ) (after : Standing) → Judges before e v text after → Loses text after
+by_other : (before : Standing) (command : PlainCommand) (text line : List ℕ) (after : Standing) → text ≡ line → store_code line ≡ 0 → Caused before command text after
+by_other before command text line after is silent = inl (ap store_code is ∙ silent)
+
+by_device : (before : Standing) (command : PlainCommand) (text : List ℕ) (after : Standing) → text ≡ store_fault_line store_fault.Device → after ≡ lost before → Caused before command text after
+by_device before command text after is gone = inr (inl (ap store_code is ∙ device_code, ap (λ (s : Standing). s.failed) gone))
+
+by_failure : (before : Standing) (command : PlainCommand) (text : List ℕ) (after : Standing) → before.failed ≡ true → Stays before (store_fault_line store_fault.Failed) text after → Caused before command text after
+by_failure before command text after fails stays = inr (inr (inl (ap store_code stays.0 ∙ failed_code, fails, stays.1)))
+
+by_limit : (before : Standing) (command : PlainCommand) (text : List ℕ) (after : Standing) → Stays before (store_fault_line store_fault.TooLarge) text after → LacksRoom before command → Caused before command text after
+by_limit before command text after stays full = inr (inr (inr (inr (ap store_code stays.0 ∙ full_code, full, stays.1))))
+
+judges_caused : (before : Standing) (command : PlainCommand) (e : EntryValue) (v : Verdict) (text : List ℕ) (after : Standing) → Sends before.history.currency command e
+    → judged before.history.entries e ≡ v → Judges before e v text after → Caused before command text after
 unfolding Judges
-judges_loses before e verdict.Accept text after (inl stored) = other_text text _ after stored.0 (accepted_silent _)
-judges_loses before e verdict.Accept text after (inr (inl full)) = other_text text _ after full.0.0 full_silent
-judges_loses before e verdict.Accept text after (inr (inr device)) = λ told. ap (λ (s : Standing). s.failed) device.1
-judges_loses before e (verdict.Already last) text after stays = other_text text _ after stays.0 (already_silent last)
-judges_loses before e (verdict.Gap expected) text after stays = other_text text _ after stays.0 (gap_silent expected)
-judges_loses before e (verdict.Refused why) text after stays = other_text text _ after stays.0 (conflict_silent why)
+judges_caused before command e verdict.Accept text after sends is (inl stored) = by_other before command text _ after stored.0 (accepted_silent _)
+judges_caused before command e verdict.Accept text after sends is (inr (inl full)) = by_limit before command text after full.0 (inl (e, sends, is, full.1))
+judges_caused before command e verdict.Accept text after sends is (inr (inr device)) = by_device before command text after device.0 device.1
+judges_caused before command e (verdict.Already last) text after sends is stays = by_other before command text _ after stays.0 (already_silent last)
+judges_caused before command e (verdict.Gap expected) text after sends is stays = by_other before command text _ after stays.0 (gap_silent expected)
+judges_caused before command e (verdict.Refused why) text after sends is stays = by_other before command text _ after stays.0 (conflict_silent why)
 
-submits_loses : (before : Standing) (e : EntryValue) (text : List ℕ) (after : Standing) → Submits before e text after → Loses text after
+submits_caused : (before : Standing) (command : PlainCommand) (e : EntryValue) (text : List ℕ) (after : Standing) → Sends before.history.currency command e → Submits before e text after
+    → Caused before command text after
 unfolding Submits
-submits_loses before e text after (inl failed) = other_text text _ after failed.1.0 failed_silent
-submits_loses before e text after (inr works) = judges_loses before e (judged before.history.entries e) text after works.1
+submits_caused before command e text after sends (inl failed) = by_failure before command text after failed.0 failed.1
+submits_caused before command e text after sends (inr works) = judges_caused before command e (judged before.history.entries e) text after sends refl works.1
 
-makes_loses : (before : Standing) (made : Result EntryValue EntryFault) (text : List ℕ) (after : Standing) → Makes before made text after → Loses text after
+makes_caused : (before : Standing) (k : EntryKind) (origin sequence content text : List ℕ) (after : Standing) (number : ℕ) (command : CommandValue) (made : Result EntryValue EntryFault)
+    → entry_made origin number command ≡ made → ContentReads k before.history.currency content (Ok command) → SequenceReads sequence number → Makes before made text after
+    → Caused before (entry k origin sequence content) text after
 unfolding Makes
-makes_loses before (Ok e) text after given = submits_loses before e text after given.1
-makes_loses before (Err why) text after given = other_text text _ after given.0 (entry_silent why)
+makes_caused before k origin sequence content text after number command (Ok e) is reads numbers given =
+    submits_caused before (entry k origin sequence content) e text after (sends_made before.history.currency k origin sequence content number command e reads numbers is) given.1
+makes_caused before k origin sequence content text after number command (Err why) is reads numbers given = by_other before _ text _ after given.0 (entry_silent why)
 
-takes_loses : (before : Standing) (k : EntryKind) (origin content : List ℕ) (number : ℕ) (reading : Result CommandValue (List ℕ)) (text : List ℕ) (after : Standing)
-    → ContentReads k before.history.currency content reading → Takes before origin number reading text after ⊎ RanOut before text after → Loses text after
+takes_caused : (before : Standing) (k : EntryKind) (origin sequence content text : List ℕ) (after : Standing) (number : ℕ) (reading : Result CommandValue (List ℕ))
+    → ContentReads k before.history.currency content reading → SequenceReads sequence number
+    → Takes before origin number reading text after ⊎ RanOut before text after → Caused before (entry k origin sequence content) text after
 unfolding Takes
-takes_loses before k origin content number (Ok command) text after reads (inl given) = makes_loses before (entry_made origin number command) text after given
-takes_loses before k origin content number (Err line) text after reads (inl given) =
-    other_text text line after given.0 (content_silent k before.history.currency content line reads)
-takes_loses before k origin content number reading text after reads (inr out) = other_text text _ after out.0 memory_silent
+takes_caused before k origin sequence content text after number (Ok command) reads numbers (inl given) =
+    makes_caused before k origin sequence content text after number command (entry_made origin number command) refl reads numbers given
+takes_caused before k origin sequence content text after number (Err line) reads numbers (inl given) =
+    by_other before _ text line after given.0 (content_silent k before.history.currency content line reads)
+takes_caused before k origin sequence content text after number reading reads numbers (inr out) = by_other before _ text _ after out.0 memory_silent
 
-checkpoint_loses : (before : Standing) (text : List ℕ) (after : Standing) → Checkpoints before text after → Loses text after
+checkpoint_caused : (before : Standing) (text : List ℕ) (after : Standing) → Checkpoints before text after → Caused before checkpoint text after
 unfolding Checkpoints
-checkpoint_loses before text after (inl failed) = other_text text _ after failed.1.0 failed_silent
-checkpoint_loses before text after (inr (inl last)) = other_text text _ after last.2.0 generations_silent
-checkpoint_loses before text after (inr (inr (works, inl made))) = other_text text _ after made.3 checkpointed_silent
-checkpoint_loses before text after (inr (inr (works, inr (inl full)))) = other_text text _ after full.0.0 full_silent
-checkpoint_loses before text after (inr (inr (works, inr (inr (inl device))))) = λ told. ap (λ (s : Standing). s.failed) device.1
-checkpoint_loses before text after (inr (inr (works, inr (inr (inr out))))) = other_text text _ after out.0 memory_silent
+checkpoint_caused before text after (inl failed) = by_failure before checkpoint text after failed.0 failed.1
+checkpoint_caused before text after (inr (inl last)) = inr (inr (inr (inl (ap store_code last.2.0 ∙ generations_code, refl, last.1, last.2.1))))
+checkpoint_caused before text after (inr (inr (works, inl made))) = by_other before checkpoint text _ after made.3 checkpointed_silent
+checkpoint_caused before text after (inr (inr (works, inr (inl full)))) = by_limit before checkpoint text after full.0 (inr (refl, full.1))
+checkpoint_caused before text after (inr (inr (works, inr (inr (inl device))))) = by_device before checkpoint text after device.0 device.1
+checkpoint_caused before text after (inr (inr (works, inr (inr (inr out))))) = by_other before checkpoint text _ after out.0 memory_silent
 
-answer_loses : (before : Standing) (command : PlainCommand) (text : List ℕ) (after : Standing) → Answer before command text after → Loses text after
+answer_caused : (before : Standing) (command : PlainCommand) (text : List ℕ) (after : Standing) → Answer before command text after → Caused before command text after
 unfolding Answer
-answer_loses before (entry k origin sequence content) text after given = takes_loses before k origin content given.number given.reading text after given.reads given.taken
-answer_loses before (report key from to) text after given = other_text text _ after given.0.says (report_outcome given.0.outcome)
-answer_loses before (lines from to) text after given = other_text text _ after given.0.says (lines_outcome given.0.outcome)
-answer_loses before state text after given = other_text text _ after given.0 (state_silent before.history)
-answer_loses before checkpoint text after given = checkpoint_loses before text after given
-answer_loses before bad_command text after given = other_text text _ after given.0 bad_command_silent
-answer_loses before bad_end text after given = other_text text _ after given.0 bad_end_silent
+answer_caused before (entry k origin sequence content) text after given =
+    takes_caused before k origin sequence content text after given.number given.reading given.reads given.numbers given.taken
+answer_caused before (report key from to) text after given = by_other before _ text _ after given.0.says (report_outcome given.0.outcome)
+answer_caused before (lines from to) text after given = by_other before _ text _ after given.0.says (lines_outcome given.0.outcome)
+answer_caused before state text after given = by_other before state text _ after given.0 (state_silent before.history)
+answer_caused before checkpoint text after given = checkpoint_caused before text after given
+answer_caused before bad_command text after given = by_other before bad_command text _ after given.0 bad_command_silent
+answer_caused before bad_end text after given = by_other before bad_end text _ after given.0 bad_end_silent
+
+-- what each code says
+device_says : (before : Standing) (command : PlainCommand) (code : ℕ) (after : Standing) → code ≡ 51 → IsCaused before command code after → after.failed ≡ true
+device_says before command code after is (inl other) = absurd (omega (arith, is, other))
+device_says before command code after is (inr (inl fails)) = fails.1
+device_says before command code after is (inr (inr (inl failed))) = absurd (omega (arith, is, failed.0))
+device_says before command code after is (inr (inr (inr (inl last)))) = absurd (omega (arith, is, last.0))
+device_says before command code after is (inr (inr (inr (inr full)))) = absurd (omega (arith, is, full.0))
+
+failed_says : (before : Standing) (command : PlainCommand) (code : ℕ) (after : Standing) → code ≡ 52 → IsCaused before command code after → (before.failed ≡ true) × (after ≡ before)
+failed_says before command code after is (inl other) = absurd (omega (arith, is, other))
+failed_says before command code after is (inr (inl fails)) = absurd (omega (arith, is, fails.0))
+failed_says before command code after is (inr (inr (inl failed))) = (failed.1, failed.2)
+failed_says before command code after is (inr (inr (inr (inl last)))) = absurd (omega (arith, is, last.0))
+failed_says before command code after is (inr (inr (inr (inr full)))) = absurd (omega (arith, is, full.0))
+
+last_says : (before : Standing) (command : PlainCommand) (code : ℕ) (after : Standing) → code ≡ 53 → IsCaused before command code after
+    → (command ≡ checkpoint) × (before.generation ≡ last_generation) × (after ≡ before)
+last_says before command code after is (inl other) = absurd (omega (arith, is, other))
+last_says before command code after is (inr (inl fails)) = absurd (omega (arith, is, fails.0))
+last_says before command code after is (inr (inr (inl failed))) = absurd (omega (arith, is, failed.0))
+last_says before command code after is (inr (inr (inr (inl last)))) = (last.1, last.2, last.3)
+last_says before command code after is (inr (inr (inr (inr full)))) = absurd (omega (arith, is, full.0))
+
+full_says : (before : Standing) (command : PlainCommand) (code : ℕ) (after : Standing) → code ≡ 54 → IsCaused before command code after → LacksRoom before command × (after ≡ before)
+full_says before command code after is (inl other) = absurd (omega (arith, is, other))
+full_says before command code after is (inr (inl fails)) = absurd (omega (arith, is, fails.0))
+full_says before command code after is (inr (inr (inl failed))) = absurd (omega (arith, is, failed.0))
+full_says before command code after is (inr (inr (inr (inl last)))) = absurd (omega (arith, is, last.0))
+full_says before command code after is (inr (inr (inr (inr full)))) = (full.1, full.2)
+
+-- no other code comes
+known_code : (before : Standing) (command : PlainCommand) (code : ℕ) (after : Standing) → IsCaused before command code after → 0 < code → (50 < code) × (code < 55)
+known_code before command code after (inl other) some = absurd (omega (arith, other, some))
+known_code before command code after (inr (inl fails)) some = (omega (arith, fails.0), omega (arith, fails.0))
+known_code before command code after (inr (inr (inl failed))) some = (omega (arith, failed.0), omega (arith, failed.0))
+known_code before command code after (inr (inr (inr (inl last)))) some = (omega (arith, last.0), omega (arith, last.0))
+known_code before command code after (inr (inr (inr (inr full)))) some = (omega (arith, full.0), omega (arith, full.0))
+
+never : (before : Standing) (command : PlainCommand) (text : List ℕ) (after : Standing) (code : ℕ) → store_code text ≡ code → 0 < code → (50 < code → code < 55 → ⊥) → Answer before command text after → ⊥
+never before command text after code is some none given =
+    let known = known_code before command code after (subst (λ (n : ℕ). IsCaused before command n after) is (answer_caused before command text after given)) some in
+    none known.0 known.1
+
+pub store_faults : (before after : Standing) (command : PlainCommand) (why : StoreFault) → Answer before command (store_fault_line why) after
+    → (why ≡ store_fault.Device) ⊎ ((why ≡ store_fault.Failed) ⊎ ((why ≡ store_fault.Generations) ⊎ ((why ≡ store_fault.TooLarge) ⊎ (why ≡ store_fault.NoMemory))))
+store_faults before after command store_fault.NoHouse given = absurd (never before command _ after 49 house_code (omega arith) (λ least most. omega (arith, least)) given)
+store_faults before after command (store_fault.Corrupt side place) given =
+    absurd (never before command _ after 50 (corrupt_code side place) (omega arith) (λ least most. omega (arith, least)) given)
+store_faults before after command store_fault.Device given = inl refl
+store_faults before after command store_fault.Failed given = inr (inl refl)
+store_faults before after command store_fault.Generations given = inr (inr (inl refl))
+store_faults before after command store_fault.TooLarge given = inr (inr (inr (inl refl)))
+store_faults before after command store_fault.Exists given = absurd (never before command _ after 55 exists_code (omega arith) (λ least most. omega (arith, most)) given)
+store_faults before after command store_fault.NoMemory given = inr (inr (inr (inr refl)))
 
 pub lost_by_answer : (before after : Standing) (command : PlainCommand) → Answer before command (store_fault_line store_fault.Device) after
     → (after.failed ≡ true) × (after.history ≡ before.history)
 lost_by_answer before after command given = (
-  answer_loses before command (store_fault_line store_fault.Device) after given device_tells,
+  device_says before command _ after device_code (answer_caused before command _ after given),
   hindered_leaves before command (store_fault_line store_fault.Device) after given (inr (store_fault.Device, refl)),
 )
+
+pub failed_by_answer : (before after : Standing) (command : PlainCommand) → Answer before command (store_fault_line store_fault.Failed) after → (before.failed ≡ true) × (after ≡ before)
+failed_by_answer before after command given = failed_says before command _ after failed_code (answer_caused before command _ after given)
+
+pub last_by_answer : (before after : Standing) (command : PlainCommand) → Answer before command (store_fault_line store_fault.Generations) after
+    → (command ≡ checkpoint) × (before.generation ≡ last_generation) × (after ≡ before)
+last_by_answer before after command given = last_says before command _ after generations_code (answer_caused before command _ after given)
+
+pub full_by_answer : (before after : Standing) (command : PlainCommand) → Answer before command (store_fault_line store_fault.TooLarge) after → LacksRoom before command × (after ≡ before)
+full_by_answer before after command given = full_says before command _ after full_code (answer_caused before command _ after given)
 
 -- ---- then nothing changes
 makes_stays : (before : Standing) (made : Result EntryValue EntryFault) (text : List ℕ) (after : Standing) → before.failed ≡ true → Makes before made text after → after ≡ before

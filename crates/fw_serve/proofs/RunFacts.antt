@@ -108,7 +108,7 @@ made_number : (word origin : List ℕ) (number : ℕ) (command : CommandValue) (
 made_number word origin zero command e reads made = absurd (never_made (is_origin origin) e entry_fault.Seq entry_fault.Origin _ (made_zero origin command) made)
 made_number word origin (suc n) command e reads made = reads
 
-sends_made : (currency : List ℕ) (k : EntryKind) (origin sequence content : List ℕ) (number : ℕ) (command : CommandValue) (e : EntryValue)
+pub sends_made : (currency : List ℕ) (k : EntryKind) (origin sequence content : List ℕ) (number : ℕ) (command : CommandValue) (e : EntryValue)
     → ContentReads k currency content (Ok command) → SequenceReads sequence number → entry_made origin number command ≡ Ok e → Sends currency (entry k origin sequence content) e
 sends_made currency k origin sequence content number command e reads numbers made =
     let parts = made_parts origin number command e made in

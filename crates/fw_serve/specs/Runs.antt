@@ -2,14 +2,17 @@
 use Rattle.std.specs.Prelude.{◌≡◌, ◌⊎◌, ◌+◌, ⊤, ℕ, All, List, [], ◌∷◌, Some, Ok, Err, length, slice_get, if◌then◌else◌}
 use Rattle.fw_entry.specs.Entry.{CommandValue, EntryValue}
 use Rattle.fw_entry.specs.declared.fault.EntryFault.{EntryFault}
+use Rattle.fw_recover.specs.Checkpoints.{HasNoRoomFor}
 use Rattle.fw_recover.specs.declared.fault.StoreFault.{StoreFault}
 use Rattle.fw_script.specs.Plain.{PlainCommand, entry, report, lines, state, checkpoint, bad_command, bad_end}
 use Rattle.fw_script.specs.Words.{IsSequence}
 use Rattle.fw_script.specs.declared.commands.EntryKind.{EntryKind}
 use Rattle.fw_snapshot.specs.History.{History}
+use Rattle.fw_snapshot.specs.Judging.{judged}
 use Rattle.fw_snapshot.specs.Verdicts.{accepted_of, is_accept, verdicts_on, with_more}
 use Rattle.fw_snapshot.specs.declared.verdict.Verdict.{Verdict}
-use Rattle.fw_serve.specs.Answers.{Answer, SequenceReads, entry_made}
+use Rattle.fw_snapshot.specs.declared.verdict.Verdict.TheVariants as verdict
+use Rattle.fw_serve.specs.Answers.{Answer, HasNoRoom, SequenceReads, entry_made}
 use Rattle.fw_serve.specs.Contents.{ContentReads}
 use Rattle.fw_serve.specs.Replies.{entry_fault_line, no_memory_line, store_fault_line, verdict_line}
 use Rattle.fw_serve.specs.Standings.{Standing}
@@ -43,6 +46,12 @@ SendsNone currency state answer = ⊤
 SendsNone currency checkpoint answer = ⊤
 SendsNone currency bad_command answer = ⊤
 SendsNone currency bad_end answer = ⊤
+
+-- what the command asks for has no room on the volume: the frame of an entry that is accepted, or a side that is made of the warehouse
+abbrev pub LacksRoom : Standing → PlainCommand → Type 0
+LacksRoom before command =
+    ((e : EntryValue) × Sends before.history.currency command e × (judged before.history.entries e ≡ verdict.Accept) × HasNoRoom before e)
+    ⊎ ((command ≡ checkpoint) × HasNoRoomFor before.limit before.history)
 
 -- the answer is `no memory`, or a line that says why the store didn't do what was asked for
 abbrev pub IsHindered : List ℕ → Type 0

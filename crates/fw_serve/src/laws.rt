@@ -13,11 +13,12 @@ ghost use Rattle.fw_query.specs.Texts.{lines_text, report_text};
 ghost use Rattle.fw_query.specs.declared.fault.QueryFault.{QueryFault};
 ghost use Rattle.fw_recover.specs.Committing.{HasAnswered, StandsForFirst, with_first};
 ghost use Rattle.fw_recover.specs.Stands.{StandsFor, StandsForEither};
+ghost use Rattle.fw_recover.specs.declared.fault.StoreFault.{StoreFault};
 ghost use Rattle.fw_recover.specs.declared.fault.StoreFault.TheVariants as store_fault;
 ghost use Rattle.fw_script.specs.Plain.{PlainCommand, checkpoint, lines, report, state};
-ghost use Rattle.fw_serve.specs.Answers.{Answer, Answers};
+ghost use Rattle.fw_serve.specs.Answers.{Answer, Answers, last_generation};
 ghost use Rattle.fw_serve.specs.Replies.{accepted_line, already_line, conflict_line, counted, gap_line, no_memory_line, query_fault_line, state_line, store_fault_line};
-ghost use Rattle.fw_serve.specs.Runs.{AnswersEach, AreOne, AreTold, AreUnhindered, IsHindered, NoneHindered, Sends, StandsAt};
+ghost use Rattle.fw_serve.specs.Runs.{AnswersEach, AreOne, AreTold, AreUnhindered, IsHindered, LacksRoom, NoneHindered, Sends, StandsAt};
 ghost use Rattle.fw_serve.specs.Standings.{IsBetween, Standing};
 ghost use Rattle.fw_serve.specs.Whole.{IsWhole, ReportsAddUp};
 ghost use Rattle.fw_snapshot.specs.History.{History, commitments_of, entries_from, rows_of};
@@ -96,6 +97,20 @@ pub fn a_store_that_failed_takes_nothing_more()
         → (answer ≡ store_fault_line store_fault.Failed) ⊎ (answer ≡ no_memory_line) }
     ensures checkpoints { (before after : Standing) (commands : List PlainCommand) (answers : List (List ℕ)) (place later : ℕ) (answer : List ℕ) → AnswersEach before commands answers after
         → slice_get answers place ≡ Some (store_fault_line store_fault.Device) → place < later → slice_get commands later ≡ Some checkpoint → slice_get answers later ≡ Some answer → answer ≡ store_fault_line store_fault.Failed }
+{}
+
+/// What the store doesn't do has its cause. `store S4 Failed` is answered only where the device had failed before (`failed`); `store S5 Generations` only to a
+/// checkpoint at the greatest generation (`generations`); `store S6 TooLarge` only where what is to be written would end past the limit of the volume: the
+/// frame of an entry that the command sends and that is accepted, or a side that is made of the warehouse (`too_large`). These three change nothing. Beside
+/// them there is `store S3 Device`, after which the device has failed ([`a_store_that_failed_takes_nothing_more`]), and `no memory`; no other
+/// fault of a store is an answer (`others`).
+pub fn what_the_store_refuses_has_its_cause()
+    ensures failed { (before after : Standing) (command : PlainCommand) → Answer before command (store_fault_line store_fault.Failed) after → (before.failed ≡ true) × (after ≡ before) }
+    ensures generations { (before after : Standing) (command : PlainCommand) → Answer before command (store_fault_line store_fault.Generations) after
+        → (command ≡ checkpoint) × (before.generation ≡ last_generation) × (after ≡ before) }
+    ensures too_large { (before after : Standing) (command : PlainCommand) → Answer before command (store_fault_line store_fault.TooLarge) after → LacksRoom before command × (after ≡ before) }
+    ensures others { (before after : Standing) (command : PlainCommand) (why : StoreFault) → Answer before command (store_fault_line why) after
+        → (why ≡ store_fault.Device) ⊎ ((why ≡ store_fault.Failed) ⊎ ((why ≡ store_fault.Generations) ⊎ ((why ≡ store_fault.TooLarge) ⊎ (why ≡ store_fault.NoMemory)))) }
 {}
 
 /// A warehouse stays whole: where each of its entries was accepted after those before it and keeps its limits, as it is of every state, the same is
