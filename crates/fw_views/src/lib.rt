@@ -6,10 +6,10 @@
 
 mod questions;
 mod report;
+mod series;
 mod status;
-mod sums;
 mod tables;
 
 pub use questions::{Question, answer};
 pub use report::{Format, report_text};
-pub use sums::{Sums, sums_of};
+pub use series::Layout;
