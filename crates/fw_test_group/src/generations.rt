@@ -5,7 +5,6 @@ use fw_disk::{Choice, FaultVolume, MemVolume, Mode, Side, Volume, write_synced};
 use fw_group::{EventAnswer, House};
 use fw_recover::StoreFault;
 use std::alloc::Global;
-use std::process::Abort;
 use std::test::Fail;
 
 /// Left of an empty warehouse of generation 2^64 - 1.
@@ -103,14 +102,16 @@ fn count_effects(alloc: Global) -> Result<Effects, StoreFault> {
     Ok((unopened, unknown, same, None))
 }
 
-// A checkpoint that made a call would be answered as a fault of the device where that call fails. An entry is four calls.
+// A checkpoint that made a call would be answered as a fault of the device where that call fails. An entry is four calls. A volume in memory
+// fails where memory runs out, and then answers differ.
 #[test]
 fn a_checkpoint_at_the_last_generation_changes_nothing(rt: HostRuntime) -> Result<(), Fail> {
     let (unopened, unknown, same, wrong) = count_effects(rt.alloc())?;
-    assert!(rt; wrong.is_none(), "{wrong:?}");
-    assert!(rt;
-        unopened > 0 && unknown == 4 && same > 0,
-        "{unopened} {unknown} {same}"
-    );
+    if wrong.is_some() || unopened == 0 || unknown != 4 || same == 0 {
+        println!(rt;
+            "unopened {unopened}, unknown {unknown}, unchanged {same}, first wrong {wrong:?}"
+        )?;
+        return Err(Fail::from(StoreFault::Device));
+    }
     Ok(())
 }
