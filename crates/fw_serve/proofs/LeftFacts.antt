@@ -1,13 +1,15 @@
 -- What a crash leaves: the warehouse that is opened from it.
 use Rattle.std.proofs.Common.{◌≡◌, ◌⊎◌, ◌∙◌, ◌+◌, ◌<◌, ◌≤◌, ◌∷◌, [], ℕ, zero, suc, List, All, Some, true, arith, sym, ap, subst, inl, inr, get_or, length, slice_get}
 use Rattle.std.proofs.lemmas.List.Elements.{All-append, All-head, All-nil, All-tail}
+use Rattle.fw_disk.specs.declared.volume.Side.{Side}
 use Rattle.fw_disk.specs.Volume.{Image}
 use Rattle.fw_entry.specs.Entry.{EntryValue}
 use Rattle.fw_entry.specs.Spelling.{IsEntry}
-use Rattle.fw_recover.proofs.Places.{stands_one}
+use Rattle.fw_recover.proofs.Places.{stands_one, stands_not_corrupt, stands_not_none}
 use Rattle.fw_recover.proofs.Running.{answered, answered_all}
 use Rattle.fw_recover.specs.Committing.{HasAnswered, StandsForFirst, with_first}
-use Rattle.fw_recover.specs.Stands.{SideTells, StandsFor, StandsForEither, joined}
+use Rattle.fw_recover.specs.Corrupt.{CorruptAt}
+use Rattle.fw_recover.specs.Stands.{SideTells, StandsFor, StandsForEither, StandsForNone, joined}
 use Rattle.fw_segment.specs.Groups.{IsGroup}
 use Rattle.fw_snapshot.specs.History.{History}
 use Rattle.fw_snapshot.specs.Verdicts.{taken, with_more}
@@ -26,7 +28,7 @@ told_each generation h file tells =
     subst (λ (k : History). All IsEntry k.entries) (sym tells.is_history)
     (All-append IsEntry tells.state.entries (joined tells.groups) tells.spells.history.each (joined_each tells.groups tells.each))
 
-stands_whole : (found : History) (image : Image) → StandsFor found image → IsWhole found.entries
+pub stands_whole : (found : History) (image : Image) → StandsFor found image → IsWhole found.entries
 stands_whole found image stands = record { legal = stands.tells.legal; each = told_each _ found (image stands.side) stands.tells }
 
 -- the warehouse that is opened is whole, and its reports add up
@@ -60,6 +62,13 @@ left_run before found entries count image left stands =
     let same = stands_one image found (with_first before left.first entries) stands left.stands in
     let whole = opened found image stands in
     (left.first, left.all, left.one_more, same, whole.0, whole.1)
+
+-- it opens as a warehouse, and as nothing else
+pub left_opens : (before : History) (entries : List EntryValue) (count : ℕ) (image : Image) → HasAnswered before entries count image
+    → (found : History) × StandsFor found image × (StandsForNone image → ⊥) × ((side : Side) (at : ℕ) → CorruptAt image side at → ⊥)
+left_opens before entries count image left =
+    let found = with_first before left.first entries in
+    (found, left.stands, stands_not_none image found left.stands, λ side at. stands_not_corrupt image found side at left.stands)
 
 pub left_first : (before found : History) (entries : List EntryValue) (image : Image) → StandsForFirst before entries image → StandsFor found image
     → (n : ℕ) × (found ≡ with_first before n entries) × IsWhole found.entries × ReportsAddUp found.entries

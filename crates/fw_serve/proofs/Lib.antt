@@ -12,3 +12,4 @@ pub mod FailedFacts
 pub mod QuestionFacts
 pub mod WholeFacts
 pub mod LeftFacts
+pub mod SessionFacts

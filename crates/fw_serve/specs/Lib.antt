@@ -8,3 +8,4 @@ pub mod Writing
 pub mod Served
 pub mod Runs
 pub mod Whole
+pub mod Sessions

@@ -1,8 +1,9 @@
 //! What holds of every run of commands: laws over the relation that [`serve`](crate::serve) promises between a script and what was written, each the
 //! contract of a function that does nothing.
-ghost use Rattle.std.specs.Prelude.{◌≡◌, ◌⊎◌, ◌+◌, ◌<◌, ◌≤◌, ◌^◌, ◌∷◌, [], List, Some, length, slice_get, take, true, ℕ};
+ghost use Rattle.std.specs.Prelude.{◌≡◌, ◌⊎◌, ◌+◌, ◌<◌, ◌≤◌, ◌^◌, ◌∷◌, ◌++◌, [], List, Some, length, slice_get, take, true, ℕ};
 ghost use Rattle.std.specs.List.{concat};
 ghost use Rattle.fw_amortise.specs.LineValue.{LineValue};
+ghost use Rattle.fw_disk.specs.declared.volume.Side.{Side};
 ghost use Rattle.fw_disk.specs.Volume.{Image};
 ghost use Rattle.fw_entry.specs.Entry.{EntryValue};
 ghost use Rattle.fw_query.specs.Limits.{IsRange};
@@ -12,18 +13,20 @@ ghost use Rattle.fw_query.specs.Reports as reports;
 ghost use Rattle.fw_query.specs.Texts.{lines_text, report_text};
 ghost use Rattle.fw_query.specs.declared.fault.QueryFault.{QueryFault};
 ghost use Rattle.fw_recover.specs.Committing.{HasAnswered, StandsForFirst, with_first};
-ghost use Rattle.fw_recover.specs.Stands.{StandsFor, StandsForEither};
+ghost use Rattle.fw_recover.specs.Corrupt.{CorruptAt};
+ghost use Rattle.fw_recover.specs.Stands.{StandsFor, StandsForEither, StandsForNone};
 ghost use Rattle.fw_recover.specs.declared.fault.StoreFault.{StoreFault};
 ghost use Rattle.fw_recover.specs.declared.fault.StoreFault.TheVariants as store_fault;
 ghost use Rattle.fw_script.specs.Plain.{PlainCommand, checkpoint, lines, report, state};
 ghost use Rattle.fw_serve.specs.Answers.{Answer, Answers, last_generation};
 ghost use Rattle.fw_serve.specs.Replies.{accepted_line, already_line, conflict_line, counted, gap_line, no_memory_line, query_fault_line, state_line, store_fault_line};
 ghost use Rattle.fw_serve.specs.Runs.{AnswersEach, AreOne, AreTold, AreUnhindered, IsHindered, LacksRoom, NoneHindered, Sends, StandsAt};
+ghost use Rattle.fw_serve.specs.Sessions.{PassesThrough, SessionValue};
 ghost use Rattle.fw_serve.specs.Standings.{IsBetween, Standing};
 ghost use Rattle.fw_serve.specs.Whole.{IsWhole, ReportsAddUp};
 ghost use Rattle.fw_snapshot.specs.History.{History, commitments_of, entries_from, rows_of};
 ghost use Rattle.fw_snapshot.specs.Judging.{IsLegal, judged};
-ghost use Rattle.fw_snapshot.specs.Verdicts.{IsRepeat, taken, with_more};
+ghost use Rattle.fw_snapshot.specs.Verdicts.{IsRepeat, accepted_of, taken, with_more};
 ghost use Rattle.fw_snapshot.specs.declared.verdict.Conflict.{Conflict};
 ghost use Rattle.fw_snapshot.specs.declared.verdict.Verdict.TheVariants as verdict;
 
@@ -128,8 +131,8 @@ pub fn a_warehouse_stays_whole()
 /// What a crash leaves is reported whole: the warehouse that is opened from it is whole, its reports add up, and it has each entry that was acknowledged.
 ///
 /// Entries are committed one by one, the first `answered` were answered, and a crash leaves an image: between two calls (`between`), at any moment of
-/// the next call (`within`), or after [`Store::run`](fw_recover::Store::run) ended early. The warehouse that is opened from it has the accepted ones of
-/// the first n entries, where n is `answered` or one more (`run`). After a crash within `Store::run`, which answers all at its end, it has those of some
+/// the next call (`within`), or after [`Store::run`](fw_recover::Store::run) ended early. A warehouse can be opened from it: it is never missing or
+/// corrupt (`opens`). What is opened has the accepted ones of the first n entries, where n is `answered` or one more (`run`). After a crash within `Store::run`, which answers all at its end, it has those of some
 /// first entries (`first`). After a crash at any moment of a call that adds a group it is as it was, or has the whole group (`group`). After a crash at
 /// any moment of a script it has what was there before and a front of what the script added, or, only where the device failed, all of this and one
 /// entry more (`script`). After a script it is as the script left it, or, only where the device failed, has what was being written as well (`group`).
@@ -137,6 +140,8 @@ pub fn what_a_crash_leaves_is_reported_whole()
     ensures between { (before now : History) (entries : List EntryValue) (answered : ℕ) (image : Image) → now ≡ with_first before answered entries → StandsFor now image → HasAnswered before entries answered image }
     ensures within { (before now : History) (entries : List EntryValue) (answered : ℕ) (e : EntryValue) (image : Image) → now ≡ with_first before answered entries → slice_get entries answered ≡ Some e
         → StandsForEither now (taken now.entries e) image → HasAnswered before entries answered image }
+    ensures opens { (before : History) (entries : List EntryValue) (answered : ℕ) (image : Image) → HasAnswered before entries answered image
+        → (found : History) × StandsFor found image × (StandsForNone image → ⊥) × ((side : Side) (at : ℕ) → CorruptAt image side at → ⊥) }
     ensures run { (before found : History) (entries : List EntryValue) (answered : ℕ) (image : Image) → HasAnswered before entries answered image → StandsFor found image
         → (n : ℕ) × (answered ≤ n) × (n ≤ answered + 1) × (found ≡ with_first before n entries) × IsWhole found.entries × ReportsAddUp found.entries }
     ensures first { (before found : History) (entries : List EntryValue) (image : Image) → StandsForFirst before entries image → StandsFor found image
@@ -147,4 +152,15 @@ pub fn what_a_crash_leaves_is_reported_whole()
         → (more : List EntryValue) × (found ≡ with_more before more)
         × (((rest : List EntryValue) × (after.history ≡ with_more found rest)) ⊎ ((after.failed ≡ true) × ((last : EntryValue) × (found ≡ with_more after.history (last ∷ [])))))
         × IsWhole found.entries × ReportsAddUp found.entries }
+{}
+
+/// A warehouse outlives its stops, however many. In each session, from an opening to the next stop, entries are committed one by one, the first of them
+/// are answered, and a crash leaves an image, from which the next session begins. What is opened at the end has all that was there when a session
+/// began, behind it the accepted ones of the session's first n entries, where n is how many were answered or one more, and behind these what came
+/// later (`kept`). So what was accepted keeps its place for good. It is whole, and its reports add up (`whole`).
+pub fn a_warehouse_outlives_its_stops()
+    ensures kept { (before after : History) (sessions : List SessionValue) (place : ℕ) (s : SessionValue) → PassesThrough before sessions after → slice_get sessions place ≡ Some s
+        → (middle : History) × (n : ℕ) × (more : List EntryValue) × PassesThrough before (take place sessions) middle × (s.answered ≤ n) × (n ≤ s.answered + 1)
+        × (after ≡ with_more middle (accepted_of middle.entries (take n s.entries) ++ more)) }
+    ensures whole { (before after : History) (sessions : List SessionValue) → IsWhole before.entries → PassesThrough before sessions after → IsWhole after.entries × ReportsAddUp after.entries }
 {}

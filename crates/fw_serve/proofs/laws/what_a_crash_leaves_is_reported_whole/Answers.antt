@@ -1,4 +1,4 @@
-use Rattle.fw_serve.proofs.LeftFacts.{left_between, left_first, left_group, left_run, left_script, left_within}
+use Rattle.fw_serve.proofs.LeftFacts.{left_between, left_first, left_group, left_opens, left_run, left_script, left_within}
 use Rattle.fw_serve.proofs.laws.what_a_crash_leaves_is_reported_whole.Goals as goal
 
 pub returns-clause-between : goal.returns-clause-between
@@ -6,6 +6,9 @@ returns-clause-between c = left_between
 
 pub returns-clause-within : goal.returns-clause-within
 returns-clause-within c = left_within
+
+pub returns-clause-opens : goal.returns-clause-opens
+returns-clause-opens c = left_opens
 
 pub returns-clause-run : goal.returns-clause-run
 returns-clause-run c = left_run

@@ -1,0 +1,8 @@
+use Rattle.fw_serve.proofs.SessionFacts.{adds_up_through, kept_through}
+use Rattle.fw_serve.proofs.laws.a_warehouse_outlives_its_stops.Goals as goal
+
+pub returns-clause-kept : goal.returns-clause-kept
+returns-clause-kept c = kept_through
+
+pub returns-clause-whole : goal.returns-clause-whole
+returns-clause-whole c = adds_up_through
