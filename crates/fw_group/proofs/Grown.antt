@@ -23,7 +23,7 @@ use Rattle.fw_group.specs.Items.{entries_of}
 use Rattle.fw_group.specs.Answers.{told, answers_on, for_each}
 use Rattle.fw_group.specs.Steps.{State, in_hand, receipt_in, receipt_at, Does, Posts, Takes, Commits, Checkpoints, Views, Learns, Stops, Reopens}
 use Rattle.fw_group.specs.Runs.{Runs}
-use Rattle.fw_group.specs.Laws.{Begins, shown_in}
+use Rattle.fw_group.specs.Laws.{Begins, IsAccepted, shown_in}
 
 begins_same : (h k : History) → k ≡ h → Begins h k
 begins_same h k same = ([], same ∙ (λ j. record { currency = h.currency; entries = sym (append-nil h.entries) j }))
@@ -313,10 +313,6 @@ no_receipt b [] place r none is = cc
 no_receipt b (x ∷ items) zero r none is = cc
 no_receipt b (x ∷ items) (suc place) r none is = no_receipt b items place r none is
 
--- the receipt's front is what is published then, and has the item's entry at its number
-abbrev pub IsAccepted : State → ℕ → Receipt History → State → Type 0
-IsAccepted s place r t = (r.front ≡ t.published) × ((e : EntryValue) × (slice_get (entries_of s.hand) place ≡ Some e) × (slice_get r.front.entries (r.number - 1) ≡ Some e))
-
 accepts_commits : (s : State) (a : EventAnswer) (t : State) (place : ℕ) (r : Receipt History) → Commits s a t → receipt_at (Some a) place ≡ Some r → IsAccepted s place r t
 accepts_commits s (said.Committed answers) t place r (runs, inl h) is =
     let none : receipt_in (slice_get answers.items place) ≡ None = ap (λ (l : List (Answer History)). receipt_in (slice_get l place)) h.1 in
@@ -422,7 +418,8 @@ accepts_reopens s said.Stopped t at r h is = absurd (cc)
 accepts_reopens s (said.Reopened found) t at r h is = absurd (cc)
 accepts_reopens s said.Ignored t at r h is = absurd (cc)
 
-accepts : (s : State) (answers : List EventAnswer) (event : Event) (a : EventAnswer) (t : State) (at : ℕ) (r : Receipt History) → Does s answers event a t → receipt_at (Some a) at ≡ Some r → IsAccepted s at r t
+-- whatever receipt an event answers is that of an item that was in hand
+pub accepts : (s : State) (answers : List EventAnswer) (event : Event) (a : EventAnswer) (t : State) (at : ℕ) (r : Receipt History) → Does s answers event a t → receipt_at (Some a) at ≡ Some r → IsAccepted s at r t
 accepts s answers (on.Post importer entry) a t at r h is = accepts_posts s (record { importer = importer; entry = entry }) a t at r h is
 accepts s answers on.Take a t at r h is = accepts_takes s a t at r h is
 accepts s answers on.Commit a t at r h is = accepts_commits s a t at r h is
@@ -448,7 +445,7 @@ none_behind before after j list same past is =
     let none : shown_in (slice_get after j) ≡ None = ap shown_in (ap (λ (l : List EventAnswer). slice_get l j) same ∙ beyond before j past) in
     cc
 
-no_receipt_behind : (before after : List EventAnswer) (i place : ℕ) (r : Receipt History) → after ≡ before → length before ≤ i → receipt_at (slice_get after i) place ≡ Some r → ⊥
+pub no_receipt_behind : (before after : List EventAnswer) (i place : ℕ) (r : Receipt History) → after ≡ before → length before ≤ i → receipt_at (slice_get after i) place ≡ Some r → ⊥
 no_receipt_behind before after i place r same past is =
     let none : receipt_at (slice_get after i) place ≡ None = ap (λ (o : Option EventAnswer). receipt_at o place) (ap (λ (l : List EventAnswer). slice_get l i) same ∙ beyond before i past) in
     cc
@@ -461,7 +458,7 @@ module _ {V : Type 0} (view : V → View) where
       let rest = answers_behind es run.0 run.1 (before ++ run.2 ∷ []) k t after run.7 in
       (run.2 ∷ rest.0, rest.1 ∙ append_assoc before (run.2 ∷ []) rest.0)
 
-  here_is : (es : List Event) (m : House V) (u : State) (before : List EventAnswer) (a : EventAnswer) (k : House V) (t : State) (after : List EventAnswer) → Runs view m u (before ++ a ∷ []) es k t after
+  pub here_is : (es : List Event) (m : House V) (u : State) (before : List EventAnswer) (a : EventAnswer) (k : House V) (t : State) (after : List EventAnswer) → Runs view m u (before ++ a ∷ []) es k t after
       → slice_get after (length before) ≡ Some a
   here_is es m u before a k t after run =
       let rest = answers_behind es m u (before ++ a ∷ []) k t after run in

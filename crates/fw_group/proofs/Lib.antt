@@ -3,3 +3,4 @@ pub mod Answering
 pub mod Desks
 pub mod Turned
 pub mod Grown
+pub mod Posted

@@ -354,7 +354,7 @@ pub fn run_events<V: Stoppable>(
     ensures shown { IsTrue V.tells → (published : History) (group : List EntryValue) (failed : Bool)
         → Stands V.view house (start house published group failed importers analysts)
         → (i j place : ℕ) (receipt : Receipt History) (list : History) → i < j → receipt_at (slice_get result.1.items i) place ≡ Some receipt → shown_in (slice_get result.1.items j) ≡ Some list
-        → IsShown receipt list }
+        → IsShown (take (length result.1.items) events.items) result.1.items i receipt list }
     ensures whole { result.2 ≡ None → length result.1.items ≡ length events.items }
 {
     let mut house = house;

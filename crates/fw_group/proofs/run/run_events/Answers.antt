@@ -1,15 +1,25 @@
-use Rattle.std.proofs.Common.{◌≡◌, ◌≤◌, ◌+◌, ◌++◌, ◌∷◌, [], ℕ, List, length, take, drop, reverse, ap, sym, subst, ◌∙◌, length-append, arith}
+use Rattle.std.proofs.Common.{◌≡◌, ◌≤◌, refl, Bool, ◌+◌, ◌++◌, ◌∷◌, [], ℕ, List, length, take, drop, reverse, ap, sym, subst, ◌∙◌, length-append, arith}
 use Rattle.std.proofs.lemmas.List.{length-drop, length-reverse, reverse-append, reverse-reverse}
+use Rattle.fw_entry.specs.Entry.{EntryValue}
+use Rattle.fw_snapshot.specs.History.{History}
 use Rattle.fw_group.specs.declared.event.Event.{Event}
 use Rattle.fw_group.specs.declared.event.EventAnswer.{EventAnswer}
+use Rattle.fw_group.specs.declared.event.House.{House}
+use Rattle.fw_group.specs.declared.event.House.TheVariants as house
 use Rattle.fw_group.specs.declared.run.Desk.{Desk}
 use Rattle.fw_group.specs.Items.{InboxState}
 use Rattle.fw_group.specs.Limits.{Fits}
 use Rattle.fw_group.specs.Runs.{empty_desk, start, HasRun}
 use Rattle.fw_group.proofs.Desks.{none_fit, desk_acts, next_event, on_ok, on_err}
 use Rattle.fw_group.proofs.Turned.{SoFar, begun, one_more, has_run, has_run_out}
-use Rattle.fw_group.proofs.Grown.{accepted_shown}
+use Rattle.fw_group.proofs.Posted.{posted_shown}
 use Rattle.fw_group.proofs.run.run_events.Goals as goal
+
+-- before the first event nothing waits, and nothing is in hand
+nothing_yet : {V : Type 0} (house : House V) (published : History) (group : List EntryValue) (failed : Bool) (importers analysts : ℕ)
+    → ((start house published group failed importers analysts).waiting ≡ []) × ((start house published group failed importers analysts).hand ≡ [])
+nothing_yet (house.Open store) published group failed importers analysts = (refl, refl)
+nothing_yet (house.Stopped volume) published group failed importers analysts = (refl, refl)
 
 pub loop-event-init : goal.loop-event-init
 loop-event-init g c =
@@ -92,11 +102,13 @@ returns-in-Err-clause-shown g c = λ told published group failed stands i j plac
     let answers = c.step-next.new.answers.items in
     let first = start c.args.house published group failed c.args.importers c.args.analysts in
     let has = returns-in-Err-clause-run g c told published group failed stands in
-    accepted_shown g.V.Volume.view (take (length answers) c.args.events.items) c.args.house first [] has.last has.state answers has.run i j place receipt list (omega arith) later is shown
+    let empty = nothing_yet c.args.house published group failed c.args.importers c.args.analysts in
+    posted_shown g.V.Volume.view (take (length answers) c.args.events.items) c.args.house first has.last has.state answers has.run empty.0 empty.1 i j place receipt list later is shown
 
 pub returns-clause-shown : goal.returns-clause-shown
 returns-clause-shown g c = λ told published group failed stands i j place receipt list later is shown.
     let answers = c.loop-event.answers.items in
     let first = start c.args.house published group failed c.args.importers c.args.analysts in
     let has = returns-clause-run g c told published group failed stands in
-    accepted_shown g.V.Volume.view (take (length answers) c.args.events.items) c.args.house first [] has.last has.state answers has.run i j place receipt list (omega arith) later is shown
+    let empty = nothing_yet c.args.house published group failed c.args.importers c.args.analysts in
+    posted_shown g.V.Volume.view (take (length answers) c.args.events.items) c.args.house first has.last has.state answers has.run empty.0 empty.1 i j place receipt list later is shown
