@@ -104,6 +104,11 @@ moved_at tells view old new kept only (inl same) told works =
     subst (λ (s : StoreState _). LeavesOnly (view old.volume) (view s.volume) (IsBetween old.history (standing_of view s))) (sym same) (stands_still tells view old kept only told works)
 moved_at tells view old new kept only (inr steps) told works = steps.any_moment told
 
+-- a store that had failed is as it was
+pub failed_stays : {V : Type 0} (tells : Bool) (view : V → View) (old new : StoreState V) → Moves tells view old new → old.failed ≡ true → new ≡ old
+failed_stays tells view old new (inl same) failed = same
+failed_stays tells view old new (inr steps) failed = absurd (not_both _ failed steps.works)
+
 -- why a store has failed
 pub moved_cause : {V : Type 0} (tells : Bool) (view : V → View) (old new : StoreState V) → Moves tells view old new → old.failed ≡ false → new.failed ≡ true
     → Rose (view old.volume).failures (view new.volume).failures

@@ -26,7 +26,7 @@ use std::io::{Read, Write};
 /// An entry is answered `accepted` only when it is on the volume, synced. What a crash leaves at any moment stands for the
 /// warehouse before the call with the entries that were accepted by then; where the device fails in the middle of an entry,
 /// it may have that one too, and every later entry is answered `store S4 Failed`. So after the call, whatever it returns, each image has all that
-/// was answered `accepted`.
+/// was answered `accepted`. A store that had failed before stays as it was, and so does its volume.
 ///
 /// There are 1 to 64 workers. Their number has no effect yet.
 pub fn serve<R: Read, W: Write, V: Volume>(
@@ -46,6 +46,7 @@ pub fn serve<R: Read, W: Write, V: Volume>(
     ensures each { IsTrue V.tells → store.new.failed ≡ false → EachStandsFor store.new.history (V.view store.new.volume) }
     ensures each_once_failed { IsTrue V.tells → store.new.failed ≡ true
         → (more : List EntryValue) × ((c : Image) → (V.view store.new.volume).may_leave c → StandsForEither store.new.history more c) }
+    ensures once_failed { store.old.failed ≡ true → store.new ≡ store.old }
     ensures cause { store.old.failed ≡ false → store.new.failed ≡ true → Rose (V.view store.old.volume).failures (V.view store.new.volume).failures }
 {
     store.keeps();

@@ -1,5 +1,5 @@
 use Rattle.fw_recover.proofs.Committing.{each_stands}
-use Rattle.fw_serve.proofs.MoveFacts.{stands_still, moved_at}
+use Rattle.fw_serve.proofs.MoveFacts.{failed_stays, stands_still, moved_at}
 use Rattle.fw_serve.proofs.server.serve.Goals as goal
 
 pub returns-in_err-text-clause-any_moment : goal.returns-in_err-text-clause-any_moment
@@ -22,3 +22,6 @@ returns-clause-each g c = λ told works. each_stands _ _ _ _ (c.keeps-2.ensures.
 
 pub returns-clause-each_once_failed : goal.returns-clause-each_once_failed
 returns-clause-each_once_failed g c = c.keeps-2.ensures.lost
+
+pub returns-clause-once_failed : goal.returns-clause-once_failed
+returns-clause-once_failed g c = failed_stays g.V.Volume.tells g.V.Volume.view c.args.store.now c.answer_all-served.new.store c.answer_all-served.ensures.moves
