@@ -24,9 +24,10 @@ use Rattle.fw_cover.proofs.Within.{all_flat_map}
 use Rattle.fw_amortise.specs.Amount.{amount_of}
 use Rattle.fw_amortise.specs.Carrying.{IsOnly, cost_of_all, has_id, names_share_of}
 use Rattle.fw_amortise.specs.LineValue.{LineValue}
-use Rattle.fw_amortise.specs.Lines.{AreLines, amount_in}
+use Rattle.fw_amortise.specs.Lines.{AreLines, amount_in, given_line, purchase_line, rest_line, unused_line, used_line}
 use Rattle.fw_amortise.proofs.Carried.{amounts_sum}
 use Rattle.fw_amortise.proofs.Carrying.{amount_at, carried_amount}
+use Rattle.fw_amortise.proofs.EachLine.{HoldsOfEach, lines_each}
 use Rattle.fw_amortise.proofs.Named.{CostsNothing, IsFree, named_carried, purchases_of_id}
 use Rattle.fw_entry.specs.Entry as entry
 use Rattle.fw_entry.specs.Entry.CommandValue.{post, commit, set_policy}
@@ -216,3 +217,36 @@ purchases_cost_nothing history from to lines place c legal each are at k d l pai
     let all : All (CostsNothing c.id) lines = rw are.lines_are
     (hours_cost_nothing (commitments_of history) (rows_of history) c.id (rows_free history place c legal at) (range_with_len from (to - from)) are.hourly are.are_hourly) in
     all k d l (purchase_shown (get_or lines k d).category paid) (id_shown c.id (get_or lines k d).commitment (commitment_keeps history place c each at).id.some named)
+
+-- ---- what is billed of shares
+-- a line that names the commitment and a status is billed nothing
+abbrev BillsNothing : List ℕ → LineValue → Type 0
+BillsNothing id line = names_share_of id line ≡ true → line.billed ≡ pos 0
+
+free_names_none : (id : List ℕ) (discount : Option DiscountText) → has_id id discount ≡ false → option_map_or (λ d. bytes_eq d.id id && is_some d.status) discount false ≡ false
+free_names_none id None free = refl
+free_names_none id (Some d) free = rw free refl
+
+each_bills_nothing : (id : List ℕ) (hour : ℕ) → HoldsOfEach (BillsNothing id) (IsFree id) hour
+unfolding names_share_of purchase_line given_line used_line unused_line rest_line
+each_bills_nothing id hour = record {
+  purchase = λ c p named. let clash : true ≡ false = sym named ∙ and_false (bytes_eq c.id id) in absurd (cc);
+  given = λ row free named. let clash : true ≡ false = sym named ∙ free_names_none id row.discount free in absurd (cc);
+  used = λ c rows t share named. refl;
+  unused = λ c share named. refl;
+  rest = λ row u free named. let clash : true ≡ false = sym named ∙ free_names_none id row.discount free in absurd (cc);
+}
+
+hours_bill_nothing : (cs : List CommitmentValue) (rows : List Charge) (id : List ℕ) → All (IsFree id) rows → (hours : List ℕ) (hourly : List (List LineValue)) → AllZip (AreLines cs rows) hours hourly → All (BillsNothing id) (joined hourly)
+hours_bill_nothing cs rows id free [] [] are = All-nil (BillsNothing id)
+hours_bill_nothing cs rows id free [] (lines ∷ hourly) are = absurd are
+hours_bill_nothing cs rows id free (hour ∷ hours) [] are = absurd are
+hours_bill_nothing cs rows id free (hour ∷ hours) (lines ∷ hourly) are =
+    All-append (BillsNothing id) lines (joined hourly) (lines_each (BillsNothing id) (IsFree id) cs rows hour lines (each_bills_nothing id hour) free are.0) (hours_bill_nothing cs rows id free hours hourly are.1)
+
+pub shares_bill_nothing : (history : List entry.EntryValue) (from to : ℕ) (lines : List LineValue) (place : ℕ) (c : CommitmentValue) → IsLegal history → AreLinesOf history from to lines → slice_get (commitments_of history) place ≡ Some c
+    → All (λ line. shows_share_of c.id line ≡ true → line.billed ≡ pos 0) lines
+shares_bill_nothing history from to lines place c legal are at k d l shown =
+    let all : All (BillsNothing c.id) lines = rw are.lines_are
+    (hours_bill_nothing (commitments_of history) (rows_of history) c.id (rows_free history place c legal at) (range_with_len from (to - from)) are.hourly are.are_hourly) in
+    all k d l (sym (shows_named c.id (get_or lines k d)) ∙ shown)

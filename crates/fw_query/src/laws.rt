@@ -1,5 +1,5 @@
 //! What holds of every report, and of the lines that it sums: laws, each the contract of a function that does nothing.
-ghost use Rattle.std.specs.Prelude.{◌≡◌, ◌≤◌, ◌+◌, All, IfSome, List, Option, Result, Some, codes, filter, map, pos, slice_get, ℕ};
+ghost use Rattle.std.specs.Prelude.{◌≡◌, ◌≤◌, ◌+◌, All, IfSome, List, Option, Result, Some, codes, filter, map, pos, slice_get, true, ℕ};
 ghost use Rattle.fw_allocate.specs.Costs.{total};
 ghost use Rattle.fw_amortise.specs.Carrying.{cost_of_all};
 ghost use Rattle.fw_amortise.specs.LineValue.{LineValue};
@@ -43,12 +43,14 @@ pub fn answers_are_one()
 
 /// Over the hours of its term a commitment's lines carry what its purchases cost, to the last nano: of the lines that a report sums, those whose text
 /// has its id and a status. In any range they carry the amounts of the hours there. And the lines of its purchases, those whose text has
-/// its id and the category `Purchase`, have an EffectiveCost of 0, and are billed what its purchases in the hours of the range cost.
+/// its id and the category `Purchase`, have an EffectiveCost of 0, and are billed what its purchases in the hours of the range cost; those that carry its
+/// amounts are billed nothing.
 pub fn commitments_are_carried()
     ensures hours { (history : List entry.EntryValue) (from to : ℕ) (lines : List LineValue) (place : ℕ) (c : CommitmentValue) → IsLegal history → AreLinesOf history from to lines → slice_get (commitments_of history) place ≡ Some c → cost_of_all (filter (shows_share_of c.id) lines) ≡ pos (amount_between c from to) }
     ensures term { (history : List entry.EntryValue) (from to : ℕ) (lines : List LineValue) (place : ℕ) (c : CommitmentValue) → IsLegal history → All IsEntry history → AreLinesOf history from to lines → slice_get (commitments_of history) place ≡ Some c → from ≤ c.start → c.start + c.hours ≤ to → cost_of_all (filter (shows_share_of c.id) lines) ≡ pos (cost_of c.purchases) }
     ensures purchases { (history : List entry.EntryValue) (from to : ℕ) (lines : List LineValue) (place : ℕ) (c : CommitmentValue) → IsLegal history → All IsEntry history → AreLinesOf history from to lines → slice_get (commitments_of history) place ≡ Some c → All (λ line. category_word line.category ≡ codes "Purchase" → id_text line.commitment ≡ c.id → line.effective ≡ pos 0) lines }
     ensures bought { (history : List entry.EntryValue) (from to : ℕ) (lines : List LineValue) (place : ℕ) (c : CommitmentValue) → IsLegal history → All IsEntry history → from ≤ to → AreLinesOf history from to lines → slice_get (commitments_of history) place ≡ Some c → billed_by_all (filter (shows_purchase_of c.id) lines) ≡ pos (cost_between c from to) }
+    ensures unbilled { (history : List entry.EntryValue) (from to : ℕ) (lines : List LineValue) (place : ℕ) (c : CommitmentValue) → IsLegal history → AreLinesOf history from to lines → slice_get (commitments_of history) place ≡ Some c → All (λ line. shows_share_of c.id line ≡ true → line.billed ≡ pos 0) lines }
 {}
 
 /// No row is left out of the lines of its hour, and none is counted twice. The rows of a range are those of its hours, each in one hour; and of each, in
