@@ -1,6 +1,6 @@
 //! What holds of every run of commands: laws over the relation that [`serve`](crate::serve) promises between a script and what was written, each the
 //! contract of a function that does nothing.
-ghost use Rattle.std.specs.Prelude.{◌≡◌, ◌⊎◌, ◌+◌, ◌<◌, ◌≤◌, ◌^◌, ◌∷◌, ◌++◌, [], List, Some, length, slice_get, take, true, ℕ};
+ghost use Rattle.std.specs.Prelude.{◌≡◌, ◌⊎◌, ◌+◌, ◌<◌, ◌≤◌, ◌^◌, ◌∷◌, ◌++◌, [], List, Some, drop, length, slice_get, take, true, ℕ};
 ghost use Rattle.std.specs.List.{concat};
 ghost use Rattle.fw_amortise.specs.LineValue.{LineValue};
 ghost use Rattle.fw_disk.specs.declared.volume.Side.{Side};
@@ -21,7 +21,7 @@ ghost use Rattle.fw_script.specs.Plain.{PlainCommand, checkpoint, lines, report,
 ghost use Rattle.fw_serve.specs.Answers.{Answer, Answers, last_generation};
 ghost use Rattle.fw_serve.specs.Replies.{accepted_line, already_line, conflict_line, counted, gap_line, no_memory_line, query_fault_line, state_line, store_fault_line};
 ghost use Rattle.fw_serve.specs.Runs.{AnswersEach, AreOne, AreTold, AreUnhindered, IsHindered, LacksRoom, NoneHindered, Sends, StandsAt};
-ghost use Rattle.fw_serve.specs.Sessions.{PassesThrough, SessionValue};
+ghost use Rattle.fw_serve.specs.Sessions.{HasKept, PassesThrough, SessionValue};
 ghost use Rattle.fw_serve.specs.Standings.{IsBetween, Standing};
 ghost use Rattle.fw_serve.specs.Whole.{IsWhole, ReportsAddUp};
 ghost use Rattle.fw_snapshot.specs.History.{History, commitments_of, entries_from, rows_of};
@@ -154,13 +154,17 @@ pub fn what_a_crash_leaves_is_reported_whole()
         × IsWhole found.entries × ReportsAddUp found.entries }
 {}
 
-/// A warehouse outlives its stops, however many. In each session, from an opening to the next stop, entries are committed one by one, the first of them
-/// are answered, and a crash leaves an image, from which the next session begins. What is opened at the end has all that was there when a session
-/// began, behind it the accepted ones of the session's first n entries, where n is how many were answered or one more, and behind these what came
-/// later (`kept`). So what was accepted keeps its place for good. It is whole, and its reports add up (`whole`).
+/// A warehouse outlives its stops, however many. In each session, from an opening to the next stop, entries are committed, one by one or in groups, the
+/// first of them are answered, and a crash leaves an image, which has each that was answered, and of those in flight none or all (`single`, `group`).
+/// From it the next session begins. What is opened at the end has all that was there when a session began, behind it the accepted ones of the session's
+/// first n entries, where n is how many were answered, or these and those in flight, and behind these what came later (`kept`). So what was
+/// accepted keeps its place for good. It is whole, and its reports add up (`whole`).
 pub fn a_warehouse_outlives_its_stops()
+    ensures single { (before : History) (s : SessionValue) → s.in_flight ≡ 1 → HasAnswered before s.entries s.answered s.image → HasKept before s }
+    ensures group { (before now : History) (s : SessionValue) → now ≡ with_first before s.answered s.entries
+        → StandsForEither now (accepted_of now.entries (take s.in_flight (drop s.answered s.entries))) s.image → HasKept before s }
     ensures kept { (before after : History) (sessions : List SessionValue) (place : ℕ) (s : SessionValue) → PassesThrough before sessions after → slice_get sessions place ≡ Some s
-        → (middle : History) × (n : ℕ) × (more : List EntryValue) × PassesThrough before (take place sessions) middle × (s.answered ≤ n) × (n ≤ s.answered + 1)
+        → (middle : History) × (n : ℕ) × (more : List EntryValue) × PassesThrough before (take place sessions) middle × ((n ≡ s.answered) ⊎ (n ≡ s.answered + s.in_flight))
         × (after ≡ with_more middle (accepted_of middle.entries (take n s.entries) ++ more)) }
     ensures whole { (before after : History) (sessions : List SessionValue) → IsWhole before.entries → PassesThrough before sessions after → IsWhole after.entries × ReportsAddUp after.entries }
 {}
