@@ -609,6 +609,7 @@ module _ {V : Type 0} (tells : Bool) (told : IsTrue tells) (view : V → View)
     last = house.Open t;
     state = state_of (house.Open t) d so.published so.group so.failed so.seen;
     run = so.run;
+    rests = refl;
     stands = so.stands;
     since = started (view t.volume) _ (λ c left. so.stands.each c (only_now t.volume c left));
   }
@@ -616,6 +617,7 @@ module _ {V : Type 0} (tells : Bool) (told : IsTrue tells) (view : V → View)
     last = house.Stopped v;
     state = state_of (house.Stopped v) d so.published so.group so.failed so.seen;
     run = so.run;
+    rests = inl refl;
     stands = so.stands;
     since = started (view v) _ (λ c left. so.stands.each c (only_now v c left));
   }
@@ -633,6 +635,7 @@ module _ {V : Type 0} (tells : Bool) (told : IsTrue tells) (view : V → View)
     last = house.Stopped v;
     state = state_of (house.Stopped v) d so.published so.group so.failed so.seen;
     run = so.run;
+    rests = inr (λ _. calm told);
     stands = record { shows = refl; each = λ c left. so.stands.each c ((calm told).crash c left) };
     since = weakened (view v) (view w) _ _ (calm told).run so.stands.each;
   }

@@ -18,7 +18,7 @@ use Rattle.fw_group.specs.declared.event.House.{House}
 use Rattle.fw_group.specs.declared.event.House.TheVariants as house
 use Rattle.fw_group.specs.declared.run.Desk.{Desk}
 use Rattle.fw_group.specs.Steps.{State, in_hand, Does}
-use Rattle.fw_group.specs.Turns.{IsStopped}
+use Rattle.fw_group.specs.Turns.{IsStopped, Stays}
 
 -- The state of a house: of an open one its store's warehouse is what is published. What else is told is not in the house.
 abbrev pub state_of : {V : Type 0} → House V → Desk → History → List EntryValue → Bool → List (List EntryValue) → State
@@ -117,10 +117,12 @@ module _ {V : Type 0} (view : V → View) where
   Runs h s before (e ∷ es) k t after =
       (m : House V) × (u : State) × (a : EventAnswer) × Does s before e a u × Stands m u × Between h s e m × Led h s e a m u × Runs m u (before ++ a ∷ []) es k t after
 
-  -- the events ran, and left this house: the one after the last event, or one whose volume was read and synced since
+  -- the events ran, and left this house: the one after the last event, and nothing was done to it since, but that a stopped volume which couldn't be
+  -- opened may have been read and synced
   pub record HasRun (h : House V) (s : State) (es : List Event) (answers : List EventAnswer) (left : House V) : Type 0 where
     pub last : House V
     pub state : State
     pub run : Runs h s [] es last state answers
+    pub rests : Stays true view last left
     pub stands : Stands left state
     pub since : Between last state on.Reopen left
