@@ -1,0 +1,4 @@
+pub mod LineFacts
+pub mod EscapeFacts
+pub mod PastFacts
+pub mod SeriesFacts

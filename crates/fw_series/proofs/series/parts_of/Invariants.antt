@@ -1,0 +1,8 @@
+use Rattle.std.proofs.Common.{◌≡◌, All, map, take}
+use Rattle.fw_series.specs.Series.{IsPartReport}
+use Rattle.fw_series.proofs.series.parts_of.Given as goal
+
+-- the parts are the periods so far, each with its report
+abbrev pub invariant-loop-period : goal.invariant-loop-period
+invariant-loop-period l =
+    (map (λ p. p.period) l.parts.items ≡ take l.period-index l.period-items) × All (IsPartReport l.snapshot.entries l.query.key.now) l.parts.items

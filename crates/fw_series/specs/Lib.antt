@@ -1,0 +1,5 @@
+pub mod Sums
+pub mod Series
+pub mod Top
+pub mod Lines
+pub mod Escapes

@@ -1,0 +1,253 @@
+//! Charts of a page: a stack for each period, or a bar for each group.
+use crate::escapes::push_escaped;
+use crate::lines::{Line, lines_of};
+use crate::names::name_of;
+use crate::series::{Part, Series};
+use fw_calendar::Step;
+use fw_table::cents_text;
+use std::alloc::{AllocError, Global};
+
+/// How many groups have a colour; all others are grey.
+pub(crate) const COLOURS: usize = 8;
+
+/// How high a chart is, in the units of its drawing.
+const HEIGHT: u128 = 1_000;
+
+/// How wide a period is, and its stack, and where the stack begins.
+const PERIOD_WIDTH: usize = 100;
+
+const STACK_WIDTH: usize = 80;
+
+const STACK_START: usize = 10;
+
+/// How much a stack rises above zero, and how far it falls below: of the charges in nanos, those above zero and those below.
+#[derive(Clone, Copy, Debug)]
+struct Reach {
+    above: u128,
+    below: u128,
+}
+
+impl Reach {
+    // Nothing yet.
+    const NONE: Reach = Reach { above: 0, below: 0 };
+
+    // With one more charge.
+    fn with(self, charged: i128) -> Reach {
+        let size = charged.unsigned_abs();
+        if charged < 0 {
+            Reach {
+                above: self.above,
+                below: self.below.saturating_add(size),
+            }
+        } else {
+            Reach {
+                above: self.above.saturating_add(size),
+                below: self.below,
+            }
+        }
+    }
+
+    // As far as the farther one on either side.
+    fn max(self, other: Reach) -> Reach {
+        Reach {
+            above: self.above.max(other.above),
+            below: self.below.max(other.below),
+        }
+    }
+
+    // Where an amount above zero ends, and one below, counted from the top of the drawing; all of it spans this reach.
+    fn height_above(self, above: u128) -> u128 {
+        self.scaled(self.above.saturating_sub(above))
+    }
+
+    fn height_below(self, below: u128) -> u128 {
+        self.scaled(self.above.saturating_add(below))
+    }
+
+    // An amount in the units of the drawing.
+    fn scaled(self, amount: u128) -> u128 {
+        let whole = self.above.saturating_add(self.below);
+        amount
+            .saturating_mul(HEIGHT)
+            .checked_div(whole)
+            .unwrap_or(0)
+    }
+}
+
+/// The class of a line's colour: its place among the names, or the one of all others.
+pub(crate) fn class_of(
+    alloc: Global,
+    line: &Line<'_>,
+    names: &[String],
+) -> Result<String, AllocError> {
+    match place_of(line, names) {
+        Some(place) => format!(in alloc; "c{place}"),
+        None => String::from_str(alloc, "cx"),
+    }
+}
+
+// The place of a line's group among the names.
+fn place_of(line: &Line<'_>, names: &[String]) -> Option<usize> {
+    if line.is_others {
+        return None;
+    }
+    names.iter().position(|name| name.as_str() == line.group)
+}
+
+/// Adds a text to a page as it is.
+pub(crate) fn put(page: &mut Vec<u8>, text: &str) -> Result<(), AllocError> {
+    page.extend_from_slice(text.as_bytes())
+}
+
+/// Adds the drawing of a series: a stack of the groups' charges for each period, charges below zero under the line.
+pub(crate) fn push_stacks(
+    alloc: Global,
+    page: &mut Vec<u8>,
+    series: &Series,
+    step: Step,
+    names: &[String],
+) -> Result<(), AllocError> {
+    let parts = series.parts.as_slice();
+    let reach = reach_of(alloc, parts, names)?;
+    push_most(alloc, page, reach)?;
+    let width = parts.len().saturating_mul(PERIOD_WIDTH);
+    let head = format!(in alloc;
+        "<svg viewBox=\"0 0 {width} {HEIGHT}\" preserveAspectRatio=\"none\" role=\"img\" aria-label=\"ChargedCost by period\">"
+    )?;
+    put(page, head.as_str())?;
+    for (place, part) in parts.iter().enumerate() {
+        let left = place
+            .saturating_mul(PERIOD_WIDTH)
+            .saturating_add(STACK_START);
+        let period = step.text(alloc, part.period.from)?;
+        push_stack(alloc, page, part, left, reach, period.as_str(), names)?;
+    }
+    let zero = reach.height_below(0);
+    let line = format!(in alloc; "<path class=\"zero\" d=\"M0 {zero}H{width}\"/></svg>")?;
+    put(page, line.as_str())?;
+    push_ends(alloc, page, parts, step)
+}
+
+// How far the stacks reach.
+fn reach_of(alloc: Global, parts: &[Part], names: &[String]) -> Result<Reach, AllocError> {
+    let mut reach = Reach::NONE;
+    for part in parts {
+        let mut own = Reach::NONE;
+        let lines = lines_of(alloc, &part.report, Some(names))?;
+        for line in &lines {
+            own = own.with(line.costs.charged);
+        }
+        reach = reach.max(own);
+    }
+    Ok(reach)
+}
+
+// Adds the amount at the top of the drawing.
+fn push_most(alloc: Global, page: &mut Vec<u8>, reach: Reach) -> Result<(), AllocError> {
+    let most = i128::try_from(reach.above).unwrap_or(i128::MAX);
+    let text = cents_text(alloc, most)?;
+    put(page, "<p class=\"axis\">")?;
+    put(page, text.as_str())?;
+    put(page, "</p>")
+}
+
+// Adds the stack of a period.
+fn push_stack(
+    alloc: Global,
+    page: &mut Vec<u8>,
+    part: &Part,
+    left: usize,
+    reach: Reach,
+    period: &str,
+    names: &[String],
+) -> Result<(), AllocError> {
+    let lines = lines_of(alloc, &part.report, Some(names))?;
+    let mut own = Reach::NONE;
+    for line in &lines {
+        let next = own.with(line.costs.charged);
+        let (top, bottom) = if line.costs.charged < 0 {
+            (
+                reach.height_below(own.below),
+                reach.height_below(next.below),
+            )
+        } else {
+            (
+                reach.height_above(next.above),
+                reach.height_above(own.above),
+            )
+        };
+        let class = class_of(alloc, line, names)?;
+        let height = bottom.saturating_sub(top);
+        let shape = format!(in alloc;
+            "<rect class=\"{class}\" x=\"{left}\" y=\"{top}\" width=\"{STACK_WIDTH}\" height=\"{height}\"><title>{period}, "
+        )?;
+        put(page, shape.as_str())?;
+        push_escaped(page, name_of(line))?;
+        let cost = cents_text(alloc, line.costs.charged)?;
+        put(page, ": ")?;
+        put(page, cost.as_str())?;
+        put(page, "</title></rect>")?;
+        own = next;
+    }
+    Ok(())
+}
+
+// Adds the first and the last period, under the drawing.
+fn push_ends(
+    alloc: Global,
+    page: &mut Vec<u8>,
+    parts: &[Part],
+    step: Step,
+) -> Result<(), AllocError> {
+    put(page, "<p class=\"ends\"><span>")?;
+    if let Some(first) = parts.first() {
+        let text = step.text(alloc, first.period.from)?;
+        put(page, text.as_str())?;
+    }
+    put(page, "</span><span>")?;
+    if let Some(last) = parts.last() {
+        let text = step.text(alloc, last.period.from)?;
+        put(page, text.as_str())?;
+    }
+    put(page, "</span></p>")
+}
+
+/// Adds a bar for each line, as long as its part of the greatest charge.
+pub(crate) fn push_bars(
+    alloc: Global,
+    page: &mut Vec<u8>,
+    lines: &[Line<'_>],
+    names: &[String],
+) -> Result<(), AllocError> {
+    let mut reach = Reach::NONE;
+    for line in lines {
+        reach = reach.max(Reach::NONE.with(line.costs.charged));
+    }
+    put(page, "<div class=\"bars\">")?;
+    for line in lines {
+        push_bar(alloc, page, line, reach.above, names)?;
+    }
+    put(page, "</div>")
+}
+
+// Adds the bar of a line.
+fn push_bar(
+    alloc: Global,
+    page: &mut Vec<u8>,
+    line: &Line<'_>,
+    most: u128,
+    names: &[String],
+) -> Result<(), AllocError> {
+    let above = Reach::NONE.with(line.costs.charged).above;
+    let tenths = above.saturating_mul(1_000).checked_div(most).unwrap_or(0);
+    let class = class_of(alloc, line, names)?;
+    let cost = cents_text(alloc, line.costs.charged)?;
+    put(page, "<span>")?;
+    push_escaped(page, name_of(line))?;
+    let bar = format!(in alloc;
+        "</span><span class=\"bar\"><i class=\"{class}\" style=\"width:{}.{}%\"></i></span><span class=\"number\">{cost}</span>",
+        tenths / 10,
+        tenths % 10
+    )?;
+    put(page, bar.as_str())
+}

@@ -1,0 +1,93 @@
+//! The reports of the periods of a range.
+ghost use Rattle.std.specs.Prelude.{◌≡◌, ◌<◌, ◌≤◌, ◌⊎◌, All, IfErr, IfOk, map, [], ℕ};
+ghost use Rattle.fw_calendar.specs.Periods.{ArePeriods};
+ghost use Rattle.fw_query.specs.Refusals.{IsRefused};
+ghost use Rattle.fw_query.specs.Reports.{IsReport};
+ghost use Rattle.fw_snapshot.specs.History.{commitments_of, policy_of, rows_of};
+ghost use Rattle.fw_series.specs.Series.{AreParts, IsPartReport, IsSeries, IsSeriesRefused};
+
+use fw_calendar::{Period, Step, periods};
+use fw_query::{Query, QueryFault, Report, report};
+use fw_snapshot::Snapshot;
+use std::alloc::Global;
+
+/// A period of a range, and its report.
+#[derive(Debug, Drop)]
+pub struct Part {
+    /// The hours of the period.
+    pub period: Period,
+    /// The report of these hours.
+    pub report: Report,
+}
+
+/// The report of a range of hours, and the reports of the periods that it is cut into.
+#[derive(Debug, Drop)]
+pub struct Series {
+    /// The report of the whole range.
+    pub whole: Report,
+    /// The periods in order, each with its report; none where the range isn't cut.
+    pub parts: Vec<Part>,
+}
+
+/// The report that a query asks for and, where there is a step, the report of each period of its range: the range is cut where a new hour,
+/// day or month begins. Each report is that of [`fw_query::report`] over its hours alone, so that common costs are shared period by period.
+/// `Range` where the range has no hour or more than 26,304; `TotalTooLarge` where the costs of the range or of a period pass 10^19 nanos;
+/// `NoMemory` where memory ran out.
+pub fn series_of(
+    alloc: Global,
+    snapshot: &Snapshot,
+    query: &Query<'_>,
+    step: Option<Step>,
+) -> Result<Series, QueryFault>
+    ensures series { IfOk result (IsSeries snapshot.now.entries query.now.key.now query.now.from_hour query.now.to_hour step) }
+    ensures fault { IfErr result (IsSeriesRefused snapshot.now.entries query.now.key.now query.now.from_hour query.now.to_hour) }
+{
+    let whole = report(alloc, snapshot, query, 1)?;
+    let parts = match step {
+        Some(step) => parts_of(alloc, snapshot, query, step)?,
+        None => Vec::new(alloc),
+    };
+    Ok(Series { whole, parts })
+}
+
+// The periods of a query's range, each with its report.
+fn parts_of(
+    alloc: Global,
+    snapshot: &Snapshot,
+    query: &Query<'_>,
+    step: Step,
+) -> Result<Vec<Part>, QueryFault>
+    requires { query.now.from_hour < query.now.to_hour }
+    ensures parts { IfOk result (λ parts. AreParts snapshot.now.entries query.now.key.now query.now.from_hour query.now.to_hour step parts.items) }
+    ensures fault { IfErr result (IsSeriesRefused snapshot.now.entries query.now.key.now query.now.from_hour query.now.to_hour) }
+{
+    let periods = periods(alloc, step, query.from_hour, query.to_hour)?;
+    let mut parts = Vec::new(alloc);
+    for period in &periods {
+        match part_of(alloc, snapshot, query.key, *period) {
+            Ok(part) => parts.push(part)?,
+            Err(fault) => return Err(fault),
+        }
+    }
+    Ok(parts)
+}
+
+// A period with its report.
+fn part_of(
+    alloc: Global,
+    snapshot: &Snapshot,
+    key: &str,
+    period: Period,
+) -> Result<Part, QueryFault>
+    ensures period { IfOk result (λ part. part.period ≡ period) }
+    ensures report { IfOk result (IsPartReport snapshot.now.entries key.now) }
+    ensures fault { IfErr result (IsRefused (commitments_of snapshot.now.entries) (rows_of snapshot.now.entries) key.now period.from period.to) }
+{
+    let query = Query {
+        key,
+        from_hour: period.from,
+        to_hour: period.to,
+    };
+    let report = report(alloc, snapshot, &query, 1)?;
+    Ok(Part { period, report })
+}
