@@ -7,7 +7,9 @@ The warehouse is made from a script by `focusd run --dir`. What reports and line
 made of that here, by Python's decimal.
 """
 import csv
+import datetime
 import decimal
+import html.parser
 import io
 import json
 import pathlib
@@ -61,6 +63,72 @@ def share(part, whole):
     return f"{tenths // 10}.{tenths % 10}%"
 
 
+def periods(low, high, by):
+    """The periods of a range of instants: cut where a new hour, day or month begins."""
+    start, end = (datetime.datetime.strptime(it, "%Y-%m-%dT%H:%MZ") for it in (low, high))
+    cut = [start]
+    while cut[-1] < end:
+        last = cut[-1]
+        following = {
+            "hour": last + datetime.timedelta(hours=1),
+            "day": datetime.datetime(last.year, last.month, last.day) + datetime.timedelta(days=1),
+            "month": datetime.datetime(last.year + last.month // 12, last.month % 12 + 1, 1),
+        }[by]
+        cut.append(min(following, end))
+    texts = [it.strftime("%Y-%m-%dT%H:%MZ") for it in cut]
+    return list(zip(texts, texts[1:]))
+
+
+def units(nanos):
+    """An amount exact to the nano."""
+    sign = "-" if nanos < 0 else ""
+    return f"{sign}{abs(nanos) // 10**9}.{abs(nanos) % 10**9:09}"
+
+
+def shown(rows, names):
+    """The lines of a report: kind, group and costs, of these groups (all where there is none), and the sums of the others."""
+    lines = [("group", *row) for row in rows if names is None or row[0] in names]
+    rest = [row for row in rows if names is not None and row[0] not in names]
+    if rest:
+        lines.append(("others", "(others)", *(sum(row[at] for row in rest) for at in (1, 2, 3))))
+    return lines
+
+
+def most_charged(rows, count):
+    """The groups that are charged most, those first in byte order where they are charged alike."""
+    return {row[0] for row in sorted(rows, key=lambda row: (-row[3], row[0].encode()))[:count]}
+
+
+class Page(html.parser.HTMLParser):
+    """What a page has: its tables as lists of rows of texts, its tags, and the attributes of all of them."""
+
+    def __init__(self, text):
+        super().__init__()
+        self.tables, self.tags, self.attributes, self.titles = [], [""], [], []
+        self.feed(text)
+
+    def handle_starttag(self, tag, attributes):
+        self.tags.append(tag)
+        self.attributes += attributes
+        if tag == "table":
+            self.tables.append([])
+        elif tag == "tr":
+            self.tables[-1].append([])
+        elif tag in ("td", "th"):
+            self.tables[-1][-1].append("")
+        elif tag == "title":
+            self.titles.append("")
+
+    def handle_data(self, text):
+        if self.tags[-1] in ("td", "th"):
+            self.tables[-1][-1][-1] += text
+        elif self.tags[-1] == "title":
+            self.titles[-1] += text
+
+    def handle_endtag(self, tag):
+        self.tags.append("/" + tag)
+
+
 class Commands(unittest.TestCase):
     """Each command over the shipped scripts."""
 
@@ -106,6 +174,121 @@ class Commands(unittest.TestCase):
         lines = ["  ".join(it.ljust(w) if at == 0 else it.rjust(w) for at, (it, w) in enumerate(zip(row, widths))) for row in cells]
         lines = [lines[0], rule, *lines[1:-1], rule, lines[-1]]
         self.assertEqual(self.asked("report", "--tag", "team", *MONTH).splitlines(), lines)
+
+    def test_report_by(self):
+        for by, low, high in (
+            ("hour", "2024-01-01T05:00Z", "2024-01-02T03:00Z"),
+            ("day", "2024-01-01T05:00Z", "2024-01-04T02:00Z"),
+            ("month", "2023-12-31T23:00Z", "2024-03-01T00:00Z"),
+        ):
+            wanted = [["From", "To", "Kind", "Group", "BilledCost", "EffectiveCost", "ChargedCost"]]
+            for start, end in periods(low, high, by):
+                wanted += [[start, end, kind, group, *map(units, costs)] for kind, group, *costs in shown(self.report("team", start, end)[1], None)]
+            printed = self.asked("report", "--tag", "team", "--from", low, "--to", high, "--by", by, "--format", "csv")
+            self.assertEqual(list(csv.reader(io.StringIO(printed))), wanted, by)
+            self.assertGreater(len(wanted), 4, by)
+
+    def test_report_by_month_is_the_whole(self):
+        # What each group was billed and cost in the months is what it was billed and cost in all of them.
+        low, high = "2024-01-01T00:00Z", "2024-03-01T00:00Z"
+        _, rows = self.report("team", low, high)
+        printed = self.asked("report", "--tag", "team", "--from", "2024-01", "--to", "2024-03", "--by", "month", "--format", "csv")
+        sums = {}
+        for _, _, _, group, *costs in list(csv.reader(io.StringIO(printed)))[1:]:
+            before = sums.get(group, (0, 0))
+            sums[group] = tuple(it + expected.nanos(cost) for it, cost in zip(before, costs))
+        self.assertEqual(sums, {row[0]: row[1:3] for row in rows})
+
+    def test_report_top(self):
+        low, high = "2024-01-01T00:00Z", "2024-02-01T00:00Z"
+        _, rows = self.report("team", low, high)
+        self.assertGreater(len(rows), 2)
+        for count in (1, 2, len(rows), 1000):
+            names = most_charged(rows, count)
+            wanted = [[low, high, kind, group, *map(units, costs)] for kind, group, *costs in shown(rows, names)]
+            printed = self.asked("report", "--tag", "team", *MONTH, "--top", str(count), "--format", "csv")
+            self.assertEqual(list(csv.reader(io.StringIO(printed)))[1:], wanted, count)
+            table = self.asked("report", "--tag", "team", *MONTH, "--top", str(count)).splitlines()
+            cells = [expected.re.split("  +", line)[:4] for line in table[2:-2]]
+            self.assertEqual(cells, [[group or "(untagged)", *map(cents, costs)] for _, group, *costs in shown(rows, names)])
+
+    def test_report_by_table(self):
+        low, high = "2024-01-01T00:00Z", "2024-02-01T00:00Z"
+        _, rows = self.report("team", low, high)
+        names = most_charged(rows, 1)
+        wanted = []
+        for start, end in periods(low, high, "day"):
+            own = self.report("team", start, end)[1]
+            total = sum(row[3] for row in own)
+            for _, group, *costs in shown(own, names):
+                wanted.append([start[:10], group or "(untagged)", *map(cents, costs), *filter(None, [share(costs[2], total)])])
+        table = self.asked("report", "--tag", "team", *MONTH, "--by", "day", "--top", "1").splitlines()
+        self.assertEqual([line.split() for line in table[2:-2]], wanted)
+        totals = [sum(row[at] for row in rows) for at in (1, 2, 3)]
+        self.assertEqual(table[-1].split(), ["Total", *map(cents, totals), share(totals[2], totals[2])])
+
+    def test_report_json(self):
+        low, high = "2024-01-01T00:00Z", "2024-02-01T00:00Z"
+        _, rows = self.report("team", low, high)
+
+        def members(start, end, names):
+            own = self.report("team", start, end)[1]
+            costs = lambda it: dict(zip(("billed", "effective", "charged"), map(units, it)))
+            return {
+                "from": start,
+                "to": end,
+                "groups": [{"group": group, "kind": kind, **costs(it)} for kind, group, *it in shown(own, names)],
+                "total": costs(sum(row[at] for row in own) for at in (1, 2, 3)),
+            }
+
+        whole = {"tag": "team", "currency": "USD", **members(low, high, None)}
+        printed = self.asked("report", "--tag", "team", *MONTH, "--format", "json")
+        self.assertEqual(json.loads(printed), whole)
+        self.assertEqual((printed.count("\n"), printed[-1]), (1, "\n"))
+        names = most_charged(rows, 1)
+        whole = {"tag": "team", "currency": "USD", **members(low, high, names), "by": "day", "periods": [members(*it, names) for it in periods(low, high, "day")]}
+        printed = self.asked("report", "--tag", "team", *MONTH, "--by", "day", "--top", "1", "--format", "json")
+        self.assertEqual(json.loads(printed), whole)
+
+    def test_report_html(self):
+        low, high = "2024-01-01T00:00Z", "2024-02-01T00:00Z"
+        _, rows = self.report("team", low, high)
+        totals = [sum(row[at] for row in rows) for at in (1, 2, 3)]
+        groups = [[group or "(untagged)", *map(cents, costs), share(costs[2], totals[2])] for group, *costs in [*rows, ("Total", *totals)]]
+        plain = Page(self.asked("report", "--tag", "team", *MONTH, "--format", "html"))
+        self.assertEqual([row for row in plain.tables[0][1:]], groups)
+        by_day = Page(self.asked("report", "--tag", "team", *MONTH, "--by", "day", "--format", "html"))
+        self.assertEqual(by_day.tables[1][1:], groups)
+        names = sorted((row[0] for row in rows), key=str.encode)
+        self.assertEqual(by_day.tables[0][0], ["Period", *(it or "(untagged)" for it in names), "Total"])
+        for row, (start, end) in zip(by_day.tables[0][1:], periods(low, high, "day")):
+            own = {it[0]: it[3] for it in self.report("team", start, end)[1]}
+            self.assertEqual(row, [start[:10], *(cents(own[it]) if it in own else "" for it in names), cents(sum(own.values()))])
+        for page in (plain, by_day):
+            self.assertFalse({"script", "link", "img", "iframe", "object"} & set(page.tags))
+            self.assertFalse([it for it in page.attributes if it[0] in ("src", "href", "onload")])
+
+    def test_names_that_look_like_markup(self):
+        names = ['<b class="x">', "a&lt;b", "it's", "(others)", 'say "hi"', "</title>"]
+        head = "BilledCost,EffectiveCost,BillingCurrency,ChargeCategory,ChargePeriodStart,ChargePeriodEnd,Tags"
+        rows = [(json.dumps({"<t>": name}), cost + 1) for cost, name in enumerate(names)]
+        quoted = ['"' + tags.replace('"', '""') + '"' for tags, _ in rows]
+        lines = [head, *(f"{cost},{cost},USD,Usage,2024-01-01T00:00Z,2024-01-01T01:00Z,{tags}" for (_, cost), tags in zip(rows, quoted))]
+        with tempfile.TemporaryDirectory() as folder:
+            script = f"post a 1 {len(lines)}\n" + "\n".join(lines) + "\n"
+            self.assertEqual(focusd("run", "--dir", folder, "--create", given=script.encode())[0], 0)
+            words = ("report", "--dir", folder, "--tag", "<t>", *MONTH)
+            ordered = sorted(names, key=str.encode)
+            found = json.loads(focusd(*words, "--format", "json")[1])
+            self.assertEqual((found["tag"], [it["group"] for it in found["groups"]]), ("<t>", ordered))
+            found = json.loads(focusd(*words, "--format", "json", "--top", "3")[1])
+            self.assertEqual([(it["group"], it["kind"]) for it in found["groups"]], [*((it, "group") for it in ordered if it in names[3:]), ("(others)", "others")])
+            text = focusd(*words, "--format", "html", "--by", "day")[1]
+            page = Page(text)
+            self.assertEqual([row[0] for row in page.tables[1][1:-1]], ordered)
+            self.assertEqual(page.titles[0], "Costs by <t>")
+            self.assertEqual([it.split(", ", 1)[1] for it in page.titles[1:]], [f"{it}: {names.index(it) + 1}.00" for it in ordered])
+            self.assertNotIn("b", page.tags)
 
     def test_times(self):
         for low, high, first, end in (
@@ -212,6 +395,11 @@ class Commands(unittest.TestCase):
             # A range without an hour is refused before the folder is looked at.
             (("report", "--dir", self.folder + "/none", "--tag", "t", "--from", "2024-02", "--to", "2024-01"), 2, "Q1 Range"),
             (("lines", "--dir", self.folder + "/none", "--from", "2024-01", "--to", "2024-01"), 2, "Q1 Range"),
+            (("report", "--dir", self.folder, "--tag", "t", *MONTH, "--by", "week"), 2, "--by"),
+            (("report", "--dir", self.folder, "--tag", "t", *MONTH, "--top", "0"), 2, "--top"),
+            (("report", "--dir", self.folder, "--tag", "t", *MONTH, "--top", "1001"), 2, "1,000"),
+            (("report", "--dir", self.folder, "--tag", "t", *MONTH, "--top", "many"), 2, "many"),
+            (("report", "--dir", self.folder, "--tag", "t", *MONTH, "--format", "pdf"), 2, "--format"),
             (("status",), 2, "--dir"),
             (("lines", "--dir", self.folder, "--from", "2000-01", "--to", "2024-01"), 2, "26,304"),
         ):

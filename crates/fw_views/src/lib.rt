@@ -7,11 +7,11 @@
 mod covered;
 mod questions;
 mod report;
+mod series;
 mod status;
-mod sums;
 mod tables;
 
 pub use covered::coverage_text;
 pub use questions::{Question, answer};
 pub use report::{Format, report_text};
-pub use sums::{Sums, sums_of};
+pub use series::Layout;

@@ -11,6 +11,7 @@ ghost use Rattle.fw_views.specs.declared.report.Format.TheVariants.{Csv};
 
 use crate::covered::coverage_text;
 use crate::report::{Format, report_text};
+use crate::series::{Layout, series_text};
 use crate::status::{sound_text, status_text};
 use fw_disk::Volume;
 use fw_query::{Query, QueryFault, lines_csv};
@@ -22,6 +23,8 @@ use std::alloc::Global;
 pub enum Question<'q> {
     /// What each group of a tag cost.
     Report { query: Query<'q>, format: Format },
+    /// What each group of a tag cost, by period, or of the groups that are charged most, or for programs and browsers.
+    Series { query: Query<'q>, layout: Layout },
     /// Each line behind the costs of the hours from `from` up to, not including, `to`, counted from 1970.
     Lines { from: u64, to: u64 },
     /// How well each commitment was used in the hours from `from` up to, not including, `to`, counted from 1970.
@@ -32,8 +35,8 @@ pub enum Question<'q> {
     Verify,
 }
 
-/// The answer to a question, as text. Nothing changes. The errors are those of the question: of a report `Range`, `TotalTooLarge` and
-/// `NoMemory`, of lines and coverage `Range` and `NoMemory`, of a status `NoMemory`.
+/// The answer to a question, as text. Nothing changes. The errors are those of the question: of a report and of a series `Range`, `TotalTooLarge`
+/// and `NoMemory`, of lines and coverage `Range` and `NoMemory`, of a status `NoMemory`.
 pub fn answer<V: Volume>(
     alloc: Global,
     store: &Store<V>,
@@ -44,6 +47,7 @@ pub fn answer<V: Volume>(
 {
     match question {
         Question::Report { query, format } => report_text(alloc, store.state(), query, *format),
+        Question::Series { query, layout } => series_text(alloc, store.state(), query, layout),
         Question::Lines { from, to } => lines_csv(alloc, store.state(), *from, *to),
         Question::Coverage { from, to, format } => {
             coverage_text(alloc, store.state(), *from, *to, *format)

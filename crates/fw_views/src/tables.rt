@@ -1,6 +1,6 @@
 //! Tables of reports.
-use crate::sums::{Sums, sums_of};
 use fw_query::{Entry, Report};
+use fw_series::{Sums, sums_of};
 use fw_table::{Align, Line, cents_text, share_text, table_text};
 use std::alloc::{AllocError, Global};
 
@@ -57,12 +57,7 @@ fn entry_line(alloc: Global, entry: &Entry, sums: &Sums) -> Result<Line, AllocEr
     } else {
         entry.group()
     };
-    let costs = Sums {
-        billed: entry.billed(),
-        direct: entry.direct(),
-        charged: entry.charged(),
-    };
-    costs_line(alloc, name, &costs, sums)
+    costs_line(alloc, name, &Sums::of(entry), sums)
 }
 
 // The line of the sums.

@@ -4,8 +4,10 @@ use crate::command_line::dir_option;
 use crate::fault::Fault;
 use crate::range::{FROM, TO, read_range, time_option, wrong_time};
 use clap::{Arg, ArgMatches, Command};
+use fw_calendar::Step;
 use fw_query::Query;
-use fw_views::{Format, Question};
+use fw_series::Form;
+use fw_views::{Format, Layout, Question};
 use std::alloc::{AllocError, Global};
 use std::process::ExitCode;
 
@@ -15,8 +17,20 @@ const TAG: &str = "tag";
 /// The id of the option that names the format.
 const FORMAT: &str = "format";
 
+/// The id of the option that cuts the range into periods.
+const BY: &str = "by";
+
+/// The id of the option that shows the groups that are charged most.
+const TOP: &str = "top";
+
 /// The formats of a report.
-const FORMATS: [&str; 2] = ["table", "csv"];
+const FORMATS: [&str; 4] = ["table", "csv", "json", "html"];
+
+/// The periods that a range can be cut into.
+const STEPS: [&str; 3] = ["hour", "day", "month"];
+
+/// The most groups that `--top` takes.
+const MOST_TOP: usize = 1_000;
 
 const EXAMPLE: &str =
     "T is a month (2024-01), a date (2024-01-31) or a time on a whole hour (2024-01-31T14:00Z), in UTC, and
@@ -24,11 +38,25 @@ stands for the hour at which it begins. The range has the hours from --from up t
 most 26,304 of them: --from 2024-01 --to 2024-02 is January.
 
 Each group is a value of the tag. BilledCost is what was billed; EffectiveCost spreads what commitments cost
-over the hours and rows that used them; ChargedCost shares common costs by the policy. A table shows cents,
-rounded from the exact sums; csv is exact, to the nano.
+over the hours and rows that used them; ChargedCost shares common costs by the policy. A table and a page
+(html) show cents, rounded from the exact sums; csv and json are exact, to the nano.
 
-Example: what each team cost in January 2024
-  focusd report --dir costs --tag team --from 2024-01 --to 2024-02";
+With --by the range is cut where a new hour, day or month begins, and each period has a report of its own.
+BilledCost and EffectiveCost of a group sum to those of the whole range; its ChargedCost can differ by a few
+nanos, since shares of common costs are rounded in each period. The sum over all groups doesn't differ.
+
+With --top N only the N groups that are charged most over the whole range have lines of their own; one line,
+(others), has the sums of all others.
+
+Examples:
+  what each team cost in January 2024
+    focusd report --dir costs --tag team --from 2024-01 --to 2024-02
+  the five teams that cost most, day by day
+    focusd report --dir costs --tag team --from 2024-01 --to 2024-02 --by day --top 5
+  a page with a chart, to open in a browser
+    focusd report --dir costs --tag team --from 2024-01 --to 2024-07 --by month --format html > costs.html
+  the sums by team, for a program
+    focusd report --dir costs --tag team --from 2024-01 --to 2024-02 --format json | jq '.total'";
 
 /// The command's part of the command line.
 pub(crate) fn command<'a>(alloc: Global) -> Result<Command<'a>, AllocError> {
@@ -46,6 +74,14 @@ pub(crate) fn command<'a>(alloc: Global) -> Result<Command<'a>, AllocError> {
         .default_value("table")
         .value_parser(FORMATS.as_slice())
         .help("How the report is written");
+    let by = Arg::new(alloc, BY)
+        .long("by")
+        .value_name("PERIOD")
+        .value_parser(STEPS.as_slice())
+        .help("Cuts the range into hours, days or months, each with a report of its own");
+    let top = Arg::new(alloc, TOP).long("top").value_name("N").help(
+        "Shows the N groups that are charged most, and the sums of all others: 1 to 1,000",
+    );
     Command::new(alloc, "report")
         .about("Sums the costs of a range of time by the values of a tag")
         .after_help(EXAMPLE)
@@ -57,6 +93,8 @@ pub(crate) fn command<'a>(alloc: Global) -> Result<Command<'a>, AllocError> {
             TO,
             "When the range ends; the hour that begins then is not in it",
         ))?
+        .arg(by)?
+        .arg(top)?
         .arg(format)
 }
 
@@ -72,9 +110,69 @@ pub(crate) fn run(rt: &HostRuntime, options: &ArgMatches<'_>) -> Result<ExitCode
         from_hour,
         to_hour,
     };
-    let format = match options.get_str(FORMAT) {
-        Some("csv") => Format::Csv,
-        _ => Format::Table,
+    let top = match options.get_str(TOP) {
+        Some(text) => match read_top(text) {
+            Some(top) => Some(top),
+            None => return Ok(wrong_top(rt, text)),
+        },
+        None => None,
     };
-    Ok(ask(rt, options, &Question::Report { query, format }))
+    let layout = Layout {
+        step: step_of(options.get_str(BY)),
+        top,
+        form: form_of(options.get_str(FORMAT)),
+    };
+    Ok(ask(rt, options, &question_of(query, layout)))
+}
+
+// The question that a query and a layout come to: a plain report where nothing else is asked for.
+fn question_of<'q>(query: Query<'q>, layout: Layout) -> Question<'q> {
+    let is_plain = layout.step.is_none() && layout.top.is_none();
+    match layout.form {
+        Form::Table if is_plain => Question::Report {
+            query,
+            format: Format::Table,
+        },
+        Form::Csv if is_plain => Question::Report {
+            query,
+            format: Format::Csv,
+        },
+        _ => Question::Series { query, layout },
+    }
+}
+
+// The period that a word of `--by` names.
+fn step_of(word: Option<&str>) -> Option<Step> {
+    match word {
+        Some("hour") => Some(Step::Hour),
+        Some("day") => Some(Step::Day),
+        Some("month") => Some(Step::Month),
+        _ => None,
+    }
+}
+
+// The form that a word of `--format` names.
+fn form_of(word: Option<&str>) -> Form {
+    match word {
+        Some("csv") => Form::Csv,
+        Some("json") => Form::Json,
+        Some("html") => Form::Html,
+        _ => Form::Table,
+    }
+}
+
+// The number of groups that `--top` says, if it is one.
+fn read_top(text: &str) -> Option<usize> {
+    match text.parse::<usize>() {
+        Ok(top) if top >= 1 && top <= MOST_TOP => Some(top),
+        _ => None,
+    }
+}
+
+// Says that the value of `--top` is no number of groups.
+fn wrong_top(rt: &HostRuntime, text: &str) -> ExitCode {
+    let _ = eprintln!(rt;
+        "focusd: --top: {text:?} is not a number of groups from 1 to 1,000, as 5"
+    );
+    ExitCode::from(crate::WRONG_USE)
 }
