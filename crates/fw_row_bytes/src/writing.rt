@@ -3,15 +3,15 @@
 //! Each has one error, [`AllocError`] where the buffer can't grow; then nothing is promised of what the buffer holds.
 ghost use Rattle.std.specs.Prelude.{◌≡◌, ◌≤◌, ◌++◌, ◌∷◌, [], length, All, OnOk, IfSome, option_copied};
 ghost use Rattle.std.specs.List.{flat_map};
-ghost use Rattle.fw_bytes.specs.Spelling.{text, optional};
+ghost use Rattle.fw_bytes.specs.Spelling.{listed, text, optional};
 ghost use Rattle.fw_charge.specs.Charge.{IsShortText};
 ghost use Rattle.fw_charge.specs.Tags.{longest_tag_text, IsTags, IsTagSized};
-ghost use Rattle.fw_charge.specs.Spelling.{nanos, tag, tags, amounts, period, discount, consumed, row};
+ghost use Rattle.fw_charge.specs.Spelling.{nanos, tag, tags, amounts, period, discount, consumed, row, IsRow};
 ghost use Rattle.fw_columns.specs.Lending.{tag_lent, tags_lent};
 
 use fw_bytes::{put_byte, put_i64, put_text, put_u32, put_u64};
 use fw_charge::class_code;
-use fw_columns::{LentRow, LentTag, LentTags};
+use fw_columns::{Columns, LentRow, LentTag, LentTags};
 use fw_money::Nanos;
 use std::alloc::AllocError;
 
@@ -161,5 +161,24 @@ pub fn put_row(out: &mut Vec<u8>, one: &LentRow<'_>) -> Result<(), AllocError>
     put_discount(out, one)?;
     put_consumed(out, one)?;
     put_tags(out, one.tags())?;
+    Ok(())
+}
+
+/// Writes rows at the end of the buffer: their number, and each in turn. Each row has a spelling.
+///
+/// # Errors
+/// [`AllocError`] where the buffer can't grow. Then nothing is promised of what the buffer holds.
+pub fn put_rows(out: &mut Vec<u8>, rows: &Columns) -> Result<(), AllocError>
+    ensures spelled { OnOk result (out.new.items ≡ out.old.items ++ listed row rows.now) }
+    ensures valid { OnOk result (All IsRow rows.now) }
+{
+    let len = rows.len();
+    put_u32(out, len as u32)?;
+    for place in 0..len {
+        let one = rows.lent(place);
+        // Proves that the row has a spelling.
+        let _len = one.encoded_len();
+        put_row(out, &one)?;
+    }
     Ok(())
 }
