@@ -8,7 +8,7 @@ ghost use Rattle.fw_segment.specs.Segments.{count_at, most_segment_rows, row_cou
 use crate::kind::Kind;
 use fw_bytes::{ReadError, put_byte, put_u32, u32_at};
 use fw_columns::Columns;
-use fw_row_bytes::{put_row, rows_of};
+use fw_row_bytes::{put_rows, rows_of};
 use std::alloc::{AllocError, Global};
 
 /// The most rows of a segment.
