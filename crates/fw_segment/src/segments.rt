@@ -60,8 +60,11 @@ pub fn put_segment(out: &mut Vec<u8>, columns: &Columns, kind: Kind) -> Result<(
 {
     match kind {
         Kind::Rows => {
+            // Proves that there are rows, and not too many.
+            let _len = columns.len();
             put_byte(out, 1)?;
-            put_rows(out, columns)
+            put_rows(out, columns)?;
+            Ok(())
         }
     }
 }
