@@ -50,7 +50,7 @@ pub(crate) fn purchase_line<'a>(
         quantity: None,
         sku: None,
         sub_account: commitment.sub_account(),
-        tags: LentTags::Whole(commitment.tags()),
+        tags: LentTags::of_tags(commitment.tags()),
     })
 }
 
@@ -138,7 +138,7 @@ pub(crate) fn unused_line<'a>(commitment: &'a Commitment, share: u128, hour: u32
         quantity: None,
         sku: None,
         sub_account: commitment.sub_account(),
-        tags: LentTags::Whole(commitment.tags()),
+        tags: LentTags::of_tags(commitment.tags()),
     })
 }
 

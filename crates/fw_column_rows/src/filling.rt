@@ -1,5 +1,5 @@
 //! Columns that the records of a text fill.
-ghost use Rattle.std.specs.Prelude.{◌≡◌, ◌<◌, [], length, OnOk};
+ghost use Rattle.std.specs.Prelude.{◌≡◌, ◌<◌, [], length, IfOk, OnOk};
 ghost use Rattle.fw_rows.specs.Judged.{JudgedWithin};
 ghost use Rattle.fw_rows.specs.Parts.{texts_of};
 ghost use Rattle.fw_rows.specs.Rules.{length_rules};
@@ -11,7 +11,7 @@ use crate::view::view_of;
 use fw_charge::Currency;
 use fw_columns::{Columns, ColumnsBuilder, Names, RowView};
 use fw_rows::{Cells, Column, RecordFault, Refusal, RowSink};
-use std::alloc::Global;
+use std::alloc::{AllocError, Global};
 
 /// The columns of the rows so far, and the texts of tags that were read for them.
 #[derive(Drop)]
@@ -37,11 +37,12 @@ impl Filling {
     }
 
     /// The columns of the rows, of which there is one at least.
-    pub(crate) fn finish(self) -> Columns
+    pub(crate) fn finish(self) -> Result<Columns, AllocError>
         requires { 0 < length self.columns }
-        ensures { result ≡ self.columns }
+        ensures { IfOk result (λ columns. columns ≡ self.columns) }
     {
-        self.columns.finish()
+        let columns = self.columns.finish()?;
+        Ok(columns)
     }
 
     /// Adds the row with these values of a record and with its tags, if tags and lengths break no rule. The tags are read where their text is new.

@@ -14,5 +14,6 @@ pub fn read_columns(alloc: Global, text: &[u8], currency: Currency) -> Result<Co
 {
     let mut filling = Filling::new(alloc);
     read_into(alloc, text, currency, &mut filling)?;
-    Ok(filling.finish())
+    let columns = filling.finish()?;
+    Ok(columns)
 }

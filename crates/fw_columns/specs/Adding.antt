@@ -1,14 +1,11 @@
 -- What one more row adds to columns. The private functions of the crate cite it.
-use Rattle.std.specs.Prelude.{◌≡◌, ◌≤◌, ◌+◌, ℕ, pos, nat_abs, List, [], ◌∷◌, ◌++◌, length, option_copied, option_to_list, is_some}
+use Rattle.std.specs.Prelude.{◌≡◌, ◌≤◌, ℕ, pos, nat_abs, List, [], ◌∷◌, ◌++◌, option_copied, option_to_list, is_some}
 use Rattle.fw_money.specs.Amount.{most_nanos}
-use Rattle.fw_charge.specs.Charge.{Charge}
 use Rattle.fw_charge.specs.Codes.{category_code, class_code}
-use Rattle.fw_columns.specs.Names.{Text, place_of, with_text}
-use Rattle.fw_columns.specs.Texts.{with_texts, texts_of, most_texts}
-use Rattle.fw_columns.specs.Lists.{tag_places}
+use Rattle.fw_columns.specs.Names.{Text}
 use Rattle.fw_columns.specs.Codes.{text_code}
 use Rattle.fw_columns.specs.RowViews.{discount_with}
-use Rattle.fw_columns.specs.Table.{id_kept, kind_kept, status_kept, quantity_kept}
+use Rattle.fw_columns.specs.Table.{kind_kept, status_kept, quantity_kept}
 use Rattle.fw_columns.specs.declared.adding.TextCodes.{TextCodes}
 use Rattle.fw_columns.specs.declared.row_view.RowView.{RowView}
 use Rattle.fw_columns.specs.declared.table.Table.{Table}

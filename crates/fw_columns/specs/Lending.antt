@@ -1,5 +1,5 @@
 -- Lent rows: what their fields stand for.
-use Rattle.std.specs.Prelude.{ℕ, List, Option, Some, None, option_copied}
+use Rattle.std.specs.Prelude.{ℕ, List, [], ◌∷◌, Option, Some, None, option_copied}
 use Rattle.fw_charge.specs.Charge.{Charge, DiscountText}
 use Rattle.fw_charge.specs.Tags.{TagText}
 use Rattle.fw_charge.specs.declared.discount.DiscountKind.{DiscountKind}
@@ -7,6 +7,7 @@ use Rattle.fw_charge.specs.declared.discount.DiscountStatus.{DiscountStatus}
 use Rattle.fw_columns.specs.Table.{tags_of}
 use Rattle.fw_columns.specs.declared.lending.LentDiscount.{LentDiscount}
 use Rattle.fw_columns.specs.declared.lending.LentFields.{LentFields}
+use Rattle.fw_columns.specs.declared.lending.LentTag.{LentTag}
 use Rattle.fw_columns.specs.declared.lending.LentTags.{LentTags}
 use Rattle.fw_columns.specs.declared.lending.LentTags.TheVariants as tags
 
@@ -18,10 +19,18 @@ unfoldable pub discount_shown : Option (List ℕ) → DiscountKind → Option Di
 discount_shown None kind status = None
 discount_shown (Some id) kind status = Some (record { id = id; kind = kind; status = status })
 
+abbrev pub tag_lent : LentTag → TagText
+tag_lent t = record { key = t.key.now; value = t.value.now }
+
 -- tags that are kept as they are, or as the places of their texts in names
 abbrev pub tags_lent : LentTags → List TagText
 tags_lent (tags.Whole kept) = kept.now
 tags_lent (tags.Listed names list) = tags_of names.now list.now
+
+-- a tag and the tags behind it, or no tags
+unfoldable pub tags_split : Option (LentTag × LentTags) → List TagText
+tags_split None = []
+tags_split (Some first) = tag_lent first.0 ∷ tags_lent first.1
 
 abbrev pub row_lent : LentFields → Charge
 row_lent fields = record {

@@ -1,5 +1,5 @@
 -- The columns of rows, and the rows of columns. The private functions of the crate cite it.
-use Rattle.std.specs.Prelude.{◌≡◌, ◌≤◌, ◌<◌, ◌*◌, ℕ, zero, suc, ℤ, pos, nat_abs, Bool, true, false, List, [], ◌∷◌, length, map, slice_index_or, Option, Some, None, option_map, is_some, unwrap_or, All}
+use Rattle.std.specs.Prelude.{◌≡◌, ◌≤◌, ◌*◌, ℕ, zero, suc, ℤ, pos, nat_abs, Bool, true, false, List, [], ◌∷◌, length, map, slice_index_or, Option, Some, None, option_map, is_some, unwrap_or, All}
 use Rattle.std.specs.List.{range_with_len}
 use Rattle.fw_money.specs.Amount.{most_nanos}
 use Rattle.fw_charge.specs.Tags.{TagText}

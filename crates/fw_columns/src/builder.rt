@@ -5,9 +5,9 @@ ghost use Rattle.fw_columns.specs.RowViews.{charge_with, tags_at};
 
 use crate::adding::{add_row, add_row_like};
 use crate::columns::Columns;
-use crate::row_view::RowView;
+use crate::row_view::{RowView, view_of};
 use crate::table::Table;
-use fw_charge::Tags;
+use fw_charge::{Row, Tags};
 use std::alloc::{AllocError, Global};
 use std::marker::Model;
 
@@ -84,13 +84,26 @@ impl ColumnsBuilder {
         }
     }
 
-    /// The columns of the rows, of which there is one at least.
-    pub fn finish(self) -> Columns
-        requires { 0 < length self }
-        ensures { result ≡ self }
+    /// Adds a row. Where memory is refused, no rows are left.
+    pub fn push_row(&mut self, row: &Row) -> Result<(), AllocError>
+        requires { length self.old < 65536 }
+        ensures added { OnOk result (self.new ≡ self.old ++ row.now ∷ []) }
+        ensures refused { OnErr result (self.new ≡ []) }
     {
+        let view = view_of(row);
+        self.push(&view, row.tags())?;
+        Ok(())
+    }
+
+    /// The columns of the rows, of which there is one at least.
+    pub fn finish(self) -> Result<Columns, AllocError>
+        requires { 0 < length self }
+        ensures { IfOk result (λ columns. columns ≡ self) }
+    {
+        let alloc = *self.list.allocator();
         let mut table = self.table;
         table.shrink();
-        Columns { table }
+        let columns = Columns::of_table(alloc, table)?;
+        Ok(columns)
     }
 }

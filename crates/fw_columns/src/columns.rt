@@ -1,28 +1,30 @@
 //! Rows kept by column.
 ghost use Rattle.std.specs.Prelude.{◌≡◌, ◌<◌, ◌≤◌, ◌+◌, ◌++◌, Some, length, map, nat_abs, pos, slice_get, All, IfOk};
 ghost use Rattle.fw_charge.specs.Charge.{Charge};
-ghost use Rattle.fw_charge.specs.Tags.{group_of};
 ghost use Rattle.fw_money.specs.Amount.{most_nanos};
+ghost use Rattle.fw_columns.specs.Table.{rows_of, AreColumns};
 ghost use Rattle.fw_columns.specs.Texts.{names_of};
 ghost use Rattle.fw_charge.specs.Codes.{category_code, class_code};
 ghost use Rattle.fw_columns.specs.Codes.{tag_code, AgreeWithGroups};
 
 use crate::builder::ColumnsBuilder;
-use crate::grouping::{group_codes, group_texts};
+use crate::grouping::group_codes;
 use crate::joining::joined;
 use crate::lending::{LentRow, lent_row, lent_tags};
 use crate::names::Names;
 use crate::reading::fields_at;
-use crate::row_view::push_row;
 use crate::table::Table;
 use fw_charge::Row;
 use std::alloc::{AllocError, Global};
 use std::marker::Model;
+use std::sync::Arc;
 
 /// 1 to 65,536 charge rows kept by column, each of their texts and each of their lists of tags once. A contract sees the list of the rows.
+///
+/// Columns are never changed, so a [copy](Columns::copy) shares them.
 #[derive(Drop)]
 pub struct Columns {
-    pub(crate) table: Table,
+    table: Arc<Table>,
 }
 
 impl Model for Columns {
@@ -32,12 +34,41 @@ impl Model for Columns {
 
     ghost Value = { List Charge };
 
-    ghost view = { λ c. rows_of c.table };
+    ghost view = { λ c. rows_of c.table.value };
 
-    ghost invariant = { λ c. (0 < length (rows_of c.table)) × AreColumns c.table (rows_of c.table) };
+    ghost invariant = { λ c. (0 < length (rows_of c.table.value)) × AreColumns c.table.value (rows_of c.table.value) };
 }
 
 impl Columns {
+    /// The columns of the rows of a table, of which there is one at least.
+    pub(crate) fn of_table(alloc: Global, table: Table) -> Result<Columns, AllocError>
+        requires some { 0 < length (rows_of table) }
+        requires columns { AreColumns table (rows_of table) }
+        ensures { IfOk result (λ columns. columns ≡ rows_of table) }
+    {
+        Ok(Columns {
+            table: Arc::new(alloc, table)?,
+        })
+    }
+
+    /// The columns as they are kept.
+    fn table(&self) -> &Table
+        ensures rows { rows_of result.now ≡ self.now }
+        ensures columns { AreColumns result.now (rows_of result.now) }
+        ensures some { 0 < length self.now }
+    {
+        &self.table
+    }
+
+    /// The same rows, shared. It takes no memory. The error comes only where the columns have as many owners as can be counted.
+    pub fn copy(&self) -> Result<Columns, AllocError>
+        ensures { IfOk result (λ copy. copy ≡ self.now) }
+    {
+        Ok(Columns {
+            table: Arc::try_clone(&self.table)?,
+        })
+    }
+
     /// The columns of 1 to 65,536 rows.
     pub fn from_rows(alloc: Global, rows: &[Row]) -> Result<Columns, AllocError>
         requires some { 0 < length rows.now }
@@ -46,9 +77,10 @@ impl Columns {
     {
         let mut builder = ColumnsBuilder::new(alloc);
         for row in rows {
-            push_row(&mut builder, row)?;
+            builder.push_row(row)?;
         }
-        Ok(builder.finish())
+        let columns = builder.finish()?;
+        Ok(columns)
     }
 
     /// How many rows there are: 1 to 65,536.
@@ -57,7 +89,7 @@ impl Columns {
         ensures some { 0 < result }
         ensures few { result ≤ 65536 }
     {
-        self.table.billed.len()
+        self.table().billed.len()
     }
 
     /// The row at a place, counted from 0.
@@ -65,8 +97,9 @@ impl Columns {
         requires { place < length self.now }
         ensures { IfOk result (λ row. slice_get self.now place ≡ Some row) }
     {
-        let alloc = *self.table.billed.allocator();
-        Ok(Row::of_fields(fields_at(alloc, &self.table, place)?))
+        let kept = self.table();
+        let alloc = *kept.billed.allocator();
+        Ok(Row::of_fields(fields_at(alloc, kept, place)?))
     }
 
     /// The row at a place, counted from 0, with its texts and tags lent. It takes no memory.
@@ -74,8 +107,9 @@ impl Columns {
         requires { place < length self.now }
         ensures { slice_get self.now place ≡ Some result }
     {
-        let tags = lent_tags(&self.table, place);
-        lent_row(&self.table, tags, place)
+        let kept = self.table();
+        let tags = lent_tags(kept, place);
+        lent_row(kept, tags, place)
     }
 
     /// The texts of the rows, each once, in the order in which it first occurs when the rows are read in turn, and in each row its
@@ -83,7 +117,7 @@ impl Columns {
     pub fn names(&self) -> &Names
         ensures { result.now ≡ names_of self.now }
     {
-        &self.table.names
+        &self.table().names
     }
 
     /// BilledCost of each row, in nanos.
@@ -91,7 +125,7 @@ impl Columns {
         ensures costs { result.now ≡ map (λ c. c.billed) self.now }
         ensures amounts { All (λ n. nat_abs n ≤ most_nanos) result.now }
     {
-        self.table.billed.as_slice()
+        self.table().billed.as_slice()
     }
 
     /// EffectiveCost of each row, in nanos.
@@ -99,28 +133,28 @@ impl Columns {
         ensures costs { result.now ≡ map (λ c. c.effective) self.now }
         ensures amounts { All (λ n. nat_abs n ≤ most_nanos) result.now }
     {
-        self.table.effective.as_slice()
+        self.table().effective.as_slice()
     }
 
     /// The first second of each row's period, counted from 1970.
     pub fn starts(&self) -> &[i64]
         ensures { result.now ≡ map (λ c. pos c.start) self.now }
     {
-        self.table.starts.as_slice()
+        self.table().starts.as_slice()
     }
 
     /// The code of each row's category, as `Category::code` returns it.
     pub fn categories(&self) -> &[u8]
         ensures { result.now ≡ map (λ c. category_code c.category) self.now }
     {
-        self.table.categories.as_slice()
+        self.table().categories.as_slice()
     }
 
     /// The code of each row's class, as `class_code` returns it: 1 for a correction, 0 for none.
     pub fn classes(&self) -> &[u8]
         ensures { result.now ≡ map (λ c. class_code c.is_correction) self.now }
     {
-        self.table.classes.as_slice()
+        self.table().classes.as_slice()
     }
 
     /// The rows of one and then those of another, together at most 65,536.
@@ -128,9 +162,9 @@ impl Columns {
         requires { length first.now + length second.now ≤ 65536 }
         ensures { IfOk result (λ columns. columns ≡ first.now ++ second.now) }
     {
-        Ok(Columns {
-            table: joined(alloc, &first.table, &second.table)?,
-        })
+        let joined = joined(alloc, first.table(), second.table())?;
+        let columns = Columns::of_table(alloc, joined)?;
+        Ok(columns)
     }
 
     /// The code of each row's group under a tag key: 0 where the group is the empty text, else 1 more than the group's place in the
@@ -139,14 +173,8 @@ impl Columns {
         ensures codes { IfOk result (λ codes. codes.items ≡ map (tag_code key.now (names_of self.now)) self.now) }
         ensures agree { IfOk result (λ codes. AgreeWithGroups key.now self.now codes.items) }
     {
-        let codes = group_codes(*self.table.billed.allocator(), &self.table, key)?;
+        let kept = self.table();
+        let codes = group_codes(*kept.billed.allocator(), kept, key)?;
         Ok(codes)
-    }
-    /// The group of each row under a tag key, as its text.
-    pub fn groups(&self, key: &str) -> Result<Vec<&str>, AllocError>
-        ensures { IfOk result (λ groups. map (λ g. g.now) groups.items ≡ map (λ c. group_of key.now c.tags) self.now) }
-    {
-        let groups = group_texts(*self.table.billed.allocator(), &self.table, key)?;
-        Ok(groups)
     }
 }

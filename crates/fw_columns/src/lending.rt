@@ -1,8 +1,8 @@
 //! Rows whose texts and tags are lent: nothing is copied.
 ghost use Rattle.std.specs.Prelude.{◌≡◌, ◌≤◌, length, option_copied, option_map};
 ghost use Rattle.fw_charge.specs.Charge.{IsCharge};
-ghost use Rattle.fw_charge.specs.Tags.{group_of};
-ghost use Rattle.fw_columns.specs.Lending.{discount_lent, discount_shown, row_lent, tags_lent};
+ghost use Rattle.fw_charge.specs.Tags.{group_of, IsTags};
+ghost use Rattle.fw_columns.specs.Lending.{discount_lent, discount_shown, row_lent, tags_lent, tags_split};
 ghost use Rattle.fw_columns.specs.Reading.{HasRow};
 ghost use Rattle.fw_columns.specs.Table.{charge_at, list_at, tags_of, text_at, text_of};
 
@@ -10,7 +10,7 @@ use crate::codes::quantity_of;
 use crate::names::Names;
 use crate::reading::{amount_at, category_at, class_at, second_at};
 use crate::table::Table;
-use fw_charge::{Category, DiscountKind, DiscountStatus, Row, Tags, hour_of};
+use fw_charge::{Category, DiscountKind, DiscountStatus, Row, Tag, Tags, hour_of};
 use fw_money::Nanos;
 use std::marker::Model;
 
@@ -25,11 +25,20 @@ pub struct LentDiscount<'a> {
     pub status: Option<DiscountStatus>,
 }
 
-/// The tags of a lent row.
+/// A tag of a lent row: a key, and the text under it.
+#[derive(Clone, Copy, Debug, Drop)]
+pub struct LentTag<'a> {
+    /// The key.
+    pub key: &'a str,
+    /// The text under the key.
+    pub value: &'a str,
+}
+
+/// The tags of a lent row, in rising order of the bytes of their keys.
 #[derive(Clone, Copy, Debug, Drop)]
 pub enum LentTags<'a> {
     /// Tags that are kept as they are.
-    Whole(&'a Tags),
+    Whole(&'a [Tag]),
     /// Tags that columns keep: the place of each key in the names, and behind it that of its value.
     Listed { names: &'a Names, list: &'a [u32] },
 }
@@ -149,7 +158,7 @@ impl<'a> LentRow<'a> {
             unit: row.unit(),
             sku: row.sku(),
             sub_account: row.sub_account(),
-            tags: LentTags::Whole(row.tags()),
+            tags: LentTags::of_tags(row.tags()),
         })
     }
 
@@ -259,14 +268,80 @@ impl<'a> LentRow<'a> {
 }
 
 impl<'a> LentTags<'a> {
+    /// Tags, lent.
+    pub fn of_tags(tags: &'a Tags) -> LentTags<'a>
+        ensures value { tags_lent result ≡ tags.now }
+        ensures valid { IsTags tags.now }
+    {
+        LentTags::Whole(tags.as_slice())
+    }
+
+    /// How many tags there are. It takes no memory.
+    pub fn len(self) -> usize
+        ensures { result ≡ length (tags_lent self.entry) }
+    {
+        match self {
+            LentTags::Whole(tags) => tags.len(),
+            LentTags::Listed { names: _, list } => list.len() / 2,
+        }
+    }
+
+    /// The first tag and the tags behind it; `None` where there is no tag. It takes no memory.
+    pub fn split_first(self) -> Option<(LentTag<'a>, LentTags<'a>)>
+        ensures { tags_lent self.entry ≡ tags_split result }
+    {
+        match self {
+            LentTags::Whole(tags) => first_whole(tags),
+            LentTags::Listed { names, list } => first_listed(names, list),
+        }
+    }
+
     /// The group under a key: the text under it, or the empty text where the key isn't there.
     pub fn group(self, key: &str) -> &'a str
         ensures { result.now ≡ group_of key.now (tags_lent self.entry) }
     {
-        match self {
-            LentTags::Whole(tags) => tags.group(key),
-            LentTags::Listed { names, list } => listed_group(names, list, key),
+        let mut rest = self;
+        while let Some((tag, after)) = rest.split_first() {
+            if tag.key == key {
+                return tag.value;
+            }
+            rest = after;
         }
+        ""
+    }
+}
+
+// The first of tags that are kept as they are, and those behind it.
+#[tactic(auto, unfolding(crate::specs::Lending::tags_split))]
+fn first_whole(tags: &[Tag]) -> Option<(LentTag<'_>, LentTags<'_>)>
+    ensures { tags.now ≡ tags_split result }
+{
+    match tags {
+        [first, rest @ ..] => {
+            let tag = LentTag {
+                key: first.key(),
+                value: first.value(),
+            };
+            Some((tag, LentTags::Whole(rest)))
+        }
+        [] => None,
+    }
+}
+
+// The first of tags that columns keep, and those behind it.
+#[tactic(auto, unfolding(crate::specs::Lending::tags_split))]
+fn first_listed<'a>(names: &'a Names, list: &'a [u32]) -> Option<(LentTag<'a>, LentTags<'a>)>
+    ensures { tags_of names.now list.now ≡ tags_split result }
+{
+    match list {
+        [key, value, rest @ ..] => {
+            let tag = LentTag {
+                key: text_at(names, *key),
+                value: text_at(names, *value),
+            };
+            Some((tag, LentTags::Listed { names, list: rest }))
+        }
+        _ => None,
     }
 }
 
@@ -280,20 +355,6 @@ fn text_at(names: &Names, place: u32) -> &str
     } else {
         ""
     }
-}
-
-// The group under a key of tags that columns keep.
-fn listed_group<'a>(names: &'a Names, list: &'a [u32], key: &str) -> &'a str
-    ensures { result.now ≡ group_of key.now (tags_lent (LentTags.Listed names.entry list.entry)) }
-{
-    let mut rest = list;
-    while let [found, value, after @ ..] = rest {
-        if text_at(names, *found) == key {
-            return text_at(names, *value);
-        }
-        rest = after;
-    }
-    ""
 }
 
 // The text of a code, lent.

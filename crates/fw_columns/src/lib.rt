@@ -8,6 +8,7 @@ mod columns;
 mod grouping;
 mod joining;
 mod lending;
+mod lengths;
 mod lists;
 mod names;
 mod naming;
@@ -17,6 +18,6 @@ mod table;
 
 pub use builder::ColumnsBuilder;
 pub use columns::Columns;
-pub use lending::{LentDiscount, LentRow, LentTags};
+pub use lending::{LentDiscount, LentRow, LentTag, LentTags};
 pub use names::Names;
 pub use row_view::RowView;

@@ -1,12 +1,10 @@
 //! A charge row as it is added to columns.
-ghost use Rattle.std.specs.Prelude.{◌≡◌, ◌<◌, ◌++◌, [], ◌∷◌, length, option_copied, OnOk};
+ghost use Rattle.std.specs.Prelude.{◌≡◌, option_copied};
 ghost use Rattle.fw_charge.specs.Charge.{IsCharge};
 ghost use Rattle.fw_columns.specs.RowViews.{charge_with, discount_with};
 
-use crate::builder::ColumnsBuilder;
 use fw_charge::{Category, Discount, DiscountKind, DiscountStatus, Row};
 use fw_money::Nanos;
-use std::alloc::AllocError;
 
 /// The values of a charge row but its tags. Its texts stand where they are. An `Option` is `None` where the column is null.
 #[derive(Clone, Copy, Debug, Drop)]
@@ -39,18 +37,8 @@ pub struct RowView<'a> {
     pub sub_account: Option<&'a str>,
 }
 
-/// Adds a row to columns.
-pub(crate) fn push_row(builder: &mut ColumnsBuilder, row: &Row) -> Result<(), AllocError>
-    requires { length builder.old < 65536 }
-    ensures { OnOk result (builder.new ≡ builder.old ++ row.now ∷ []) }
-{
-    let view = view_of(row);
-    builder.push(&view, row.tags())?;
-    Ok(())
-}
-
 /// A row as it stands, but its tags.
-fn view_of(row: &Row) -> RowView<'_>
+pub(crate) fn view_of(row: &Row) -> RowView<'_>
     ensures row { charge_with result row.now.tags ≡ row.now }
     ensures valid { IsCharge row.now }
 {

@@ -3,6 +3,7 @@ use crate::values::{
     push_amount, push_comma, push_number, push_quoted, push_second, push_tags, push_text,
 };
 use fw_charge::SECONDS_PER_HOUR;
+use fw_columns::LentTags;
 use fw_terms::{Commitment, Purchase, Rate, Terms};
 use std::alloc::{AllocError, Global};
 
@@ -81,7 +82,7 @@ fn push_billing(
     }
     if !commitment.tags().as_slice().is_empty() {
         push_text(out, "tags = ")?;
-        push_tags(out, commitment.tags(), b'=')?;
+        push_tags(out, LentTags::of_tags(commitment.tags()), b'=')?;
         push_text(out, "\n")?;
     }
     for purchase in commitment.purchases() {

@@ -87,10 +87,10 @@ fn next_command(
     ensures rest { OnOk result (rows_left rows.new ≡ drop (row_count (content_view content.now)) (rows_left rows.old)) }
 {
     match content {
-        Content::Post { rows: count } => Ok(Command::Post(rows.take_front(
-            alloc,
-            *count as usize,
-        )?)),
+        Content::Post { rows: count } => {
+            let front = rows.take_front(alloc, *count as usize)?;
+            Ok(Command::Post(front.finish()?))
+        }
         Content::Commit(commitment) => Ok(Command::Commit(commitment.copy()?)),
         Content::SetPolicy(policy) => Ok(Command::SetPolicy(policy.copy(alloc)?)),
     }

@@ -1,7 +1,8 @@
 //! The rows of a post, as CSV.
 use crate::values::{push_amount, push_second, push_tags, push_text};
 use csv::{Writer, WriterBuilder};
-use fw_charge::{Currency, Discount, Row, Tags};
+use fw_charge::Currency;
+use fw_columns::{Columns, LentDiscount, LentRow, LentTags};
 use fw_money::Nanos;
 use fw_rows::Column;
 use std::alloc::{AllocError, Global};
@@ -29,7 +30,7 @@ const COLUMNS: [Column; 15] = [
 pub(crate) fn rows_csv(
     alloc: Global,
     currency: Currency,
-    rows: &[Row],
+    rows: &Columns,
 ) -> Result<Vec<u8>, AllocError> {
     let mut writer = WriterBuilder::new().from_writer(Vec::new(alloc));
     write_records(alloc, &mut writer, currency, rows)?;
@@ -44,17 +45,18 @@ fn write_records(
     alloc: Global,
     writer: &mut Writer<Vec<u8>>,
     currency: Currency,
-    rows: &[Row],
+    rows: &Columns,
 ) -> Result<(), AllocError> {
     for column in COLUMNS {
         write_field(writer, column.name().as_bytes())?;
     }
     end_record(writer)?;
     let mut cell = Vec::new(alloc);
-    for row in rows {
+    for place in 0..rows.len() {
+        let row = rows.lent(place);
         for column in COLUMNS {
             cell.clear();
-            push_cell(alloc, &mut cell, currency, row, column)?;
+            push_cell(alloc, &mut cell, currency, &row, column)?;
             write_field(writer, cell.as_slice())?;
         }
         end_record(writer)?;
@@ -83,7 +85,7 @@ fn push_cell(
     alloc: Global,
     cell: &mut Vec<u8>,
     currency: Currency,
-    row: &Row,
+    row: &LentRow<'_>,
     column: Column,
 ) -> Result<(), AllocError> {
     match column {
@@ -111,27 +113,27 @@ fn class_word(is_correction: bool) -> &'static str {
 }
 
 // The id of a discount, which is empty where there is none.
-fn id_of(discount: Option<&Discount>) -> &str {
+fn id_of(discount: Option<LentDiscount<'_>>) -> &str {
     match discount {
-        Some(discount) => discount.id(),
+        Some(discount) => discount.id,
         None => "",
     }
 }
 
 // The word of a discount's kind, which is empty where there is none.
-fn kind_of(discount: Option<&Discount>) -> &'static str {
+fn kind_of(discount: Option<LentDiscount<'_>>) -> &'static str {
     match discount {
-        Some(discount) => discount.kind().word(),
+        Some(discount) => discount.kind.word(),
         None => "",
     }
 }
 
 // The word of a discount's status, which is empty where there is none.
-fn status_of(discount: Option<&Discount>) -> &'static str {
+fn status_of(discount: Option<LentDiscount<'_>>) -> &'static str {
     let Some(discount) = discount else {
         return "";
     };
-    match discount.status() {
+    match discount.status {
         Some(status) => status.word(),
         None => "",
     }
@@ -150,8 +152,8 @@ fn push_quantity(
 }
 
 // Appends tags as a JSON object; nothing where there is none.
-fn push_row_tags(cell: &mut Vec<u8>, tags: &Tags) -> Result<(), AllocError> {
-    if tags.as_slice().is_empty() {
+fn push_row_tags(cell: &mut Vec<u8>, tags: LentTags<'_>) -> Result<(), AllocError> {
+    if tags.len() == 0 {
         return Ok(());
     }
     push_tags(cell, tags, b':')

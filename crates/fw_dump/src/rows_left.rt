@@ -3,8 +3,7 @@ ghost use Rattle.std.specs.Prelude.{◌≡◌, IfOk, take, drop};
 ghost use Rattle.fw_snapshot.specs.Heads.{segment_rows};
 ghost use Rattle.fw_dump.specs.RowsLeft.{rows_left};
 
-use fw_charge::Row;
-use fw_columns::Columns;
+use fw_columns::{Columns, ColumnsBuilder};
 use fw_persistent::Sequence;
 use std::alloc::{AllocError, Global};
 
@@ -29,18 +28,23 @@ impl<'a> RowsLeft<'a> {
         }
     }
 
-    /// Takes so many rows from the front, or all where there are fewer.
-    pub(crate) fn take_front(&mut self, alloc: Global, count: usize) -> Result<Vec<Row>, AllocError>
-        ensures { IfOk result (λ front. (front.items ≡ take count (rows_left self.old)) × (rows_left self.new ≡ drop count (rows_left self.old))) }
+    /// Takes so many rows from the front, at most 65,536, or all where there are fewer.
+    pub(crate) fn take_front(
+        &mut self,
+        alloc: Global,
+        count: usize,
+    ) -> Result<ColumnsBuilder, AllocError>
+        requires { count ≤ 65536 }
+        ensures { IfOk result (λ front. (front ≡ take count (rows_left self.old)) × (rows_left self.new ≡ drop count (rows_left self.old))) }
     {
-        let mut front = Vec::new(alloc);
+        let mut front = ColumnsBuilder::new(alloc);
         while front.len() < count {
             if self.segment >= self.segments.len() {
                 return Ok(front);
             }
             let columns = self.segments.get(self.segment);
             if self.taken < columns.len() {
-                front.push(columns.row(self.taken)?)?;
+                front.push_row(&columns.row(self.taken)?)?;
                 self.taken += 1;
             } else {
                 self.segment += 1;

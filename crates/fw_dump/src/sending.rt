@@ -9,11 +9,12 @@ ghost use Rattle.fw_serve.specs.Contents.{ContentReads};
 ghost use Rattle.fw_serve.specs.Runs.{Sends};
 
 use fw_charge::Currency;
+use fw_column_rows::read_columns;
 use fw_commitment::{CommitmentFault, read_commitment};
 use fw_entry::{Command as EntryCommand, Entry, EntryFault};
 use fw_import::same_entry;
 use fw_policy::{PolicyFault, read_policy};
-use fw_rows::{RowFault, read_rows};
+use fw_rows::RowFault;
 use fw_script::{Command, EntryKind, Script, sequence_number};
 use std::alloc::{AllocError, Global};
 
@@ -99,7 +100,7 @@ fn read_content(
     ensures sized { IfOk result (λ read. IfSome read (λ command. HasRowCount (command_view command))) }
 {
     match kind {
-        EntryKind::Post => match read_rows(alloc, content, currency) {
+        EntryKind::Post => match read_columns(alloc, content, currency) {
             Ok(rows) => Ok(Some(EntryCommand::Post(rows))),
             Err(RowFault::NoMemory) => Err(AllocError),
             Err(_) => Ok(None),

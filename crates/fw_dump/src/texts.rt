@@ -70,7 +70,7 @@ fn kind_of(command: &Command) -> EntryKind {
 // The content of an entry: CSV or TOML, each line with its line feed.
 fn content_of(alloc: Global, currency: Currency, command: &Command) -> Result<Vec<u8>, AllocError> {
     match command {
-        Command::Post(rows) => rows_csv(alloc, currency, rows.as_slice()),
+        Command::Post(rows) => rows_csv(alloc, currency, rows),
         Command::Commit(commitment) => {
             let mut content = Vec::new(alloc);
             push_commitment(alloc, &mut content, commitment)?;

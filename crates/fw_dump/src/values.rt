@@ -1,5 +1,5 @@
 //! Values, as they stand in the texts of entries.
-use fw_charge::Tags;
+use fw_columns::LentTags;
 use fw_money::Nanos;
 use jiff_core::civil::Date;
 use std::alloc::{AllocError, Global};
@@ -83,15 +83,21 @@ fn push_escaped(out: &mut Vec<u8>, byte: u8) -> Result<(), AllocError> {
 }
 
 /// Appends tags in braces, each key and text in quotes with this sign between them: `:` in JSON, `=` in TOML.
-pub(crate) fn push_tags(out: &mut Vec<u8>, tags: &Tags, sign: u8) -> Result<(), AllocError> {
+pub(crate) fn push_tags(
+    out: &mut Vec<u8>,
+    tags: LentTags<'_>,
+    sign: u8,
+) -> Result<(), AllocError> {
     push_byte(out, b'{')?;
     let mut is_first = true;
-    for tag in tags.as_slice() {
+    let mut rest = tags;
+    while let Some((tag, after)) = rest.split_first() {
         push_comma(out, is_first)?;
         is_first = false;
-        push_quoted(out, tag.key())?;
+        push_quoted(out, tag.key)?;
         push_byte(out, sign)?;
-        push_quoted(out, tag.value())?;
+        push_quoted(out, tag.value)?;
+        rest = after;
     }
     push_byte(out, b'}')
 }

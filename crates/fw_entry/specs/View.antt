@@ -7,7 +7,7 @@ use Rattle.fw_entry.specs.Entry.{CommandValue, EntryValue}
 use Rattle.fw_entry.specs.Entry.CommandValue.{post, commit, set_policy}
 
 abbrev pub command_view : Command → CommandValue
-command_view (Post rows) = post rows.items
+command_view (Post rows) = post rows
 command_view (Commit c) = commit c
 command_view (SetPolicy p) = set_policy p
 

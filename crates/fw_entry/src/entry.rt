@@ -10,7 +10,7 @@ ghost use Rattle.fw_entry.specs.View.{command_view};
 
 use crate::fault::EntryFault;
 use crate::kind::CommandKind;
-use fw_charge::{Row, row_has_spelling, row_len};
+use fw_columns::Columns;
 use fw_terms::{
     Commitment, Policy, commitment_has_spelling, commitment_len, policy_has_spelling, policy_len,
 };
@@ -18,10 +18,10 @@ use std::alloc::{AllocError, Global};
 use std::marker::Model;
 
 /// What an entry asks for.
-#[derive(Debug, Drop)]
+#[derive(Drop)]
 pub enum Command {
     /// These charge rows count from now on: 1 to 4,096 of them.
-    Post(Vec<Row>),
+    Post(Columns),
     /// This is committed to.
     Commit(Commitment),
     /// This policy holds from now on.
@@ -47,12 +47,12 @@ impl Command {
         }
     }
 
-    /// An equal command.
+    /// An equal command. Rows are shared.
     pub fn copy(&self, alloc: Global) -> Result<Command, AllocError>
         ensures { IfOk result (λ copy. command_view copy ≡ command_view self.now) }
     {
         match self {
-            Command::Post(rows) => Ok(Command::Post(copy_rows(alloc, rows)?)),
+            Command::Post(rows) => Ok(Command::Post(rows.copy()?)),
             Command::Commit(commitment) => Ok(Command::Commit(commitment.copy()?)),
             Command::SetPolicy(policy) => Ok(Command::SetPolicy(policy.copy(alloc)?)),
         }
@@ -80,28 +80,16 @@ impl Command {
     }
 }
 
-/// Equal rows.
-fn copy_rows(alloc: Global, rows: &[Row]) -> Result<Vec<Row>, AllocError>
-    ensures { IfOk result (λ copies. copies.items ≡ rows.now) }
-{
-    let mut copies = Vec::with_capacity(alloc, rows.len())?;
-    for row in rows {
-        copies.push(row.copy(alloc)?)?;
-    }
-    Ok(copies)
-}
-
 // How many bytes rows are written in, their number included.
-fn rows_len(rows: &[Row]) -> usize
+fn rows_len(rows: &Columns) -> usize
     requires { length rows.now ≤ most_post_rows }
     ensures length { result ≡ length (listed row rows.now) }
     ensures short { result < 2 ^ 32 - 1 }
     ensures valid { All IsRow rows.now }
 {
     let mut len = 4;
-    for one in rows {
-        row_has_spelling(one);
-        len += row_len(one);
+    for place in 0..rows.len() {
+        len += rows.lent(place).encoded_len();
     }
     len
 }
@@ -152,7 +140,7 @@ fn checked<'a>(origin: &'a [u8], seq: u64, command: &Command) -> Result<&'a str,
 }
 
 /// A command, the name of its sender, and its number among the commands of this sender: 1, 2, 3 and so on.
-#[derive(Debug, Drop)]
+#[derive(Drop)]
 pub struct Entry {
     origin: String,
     seq: u64,

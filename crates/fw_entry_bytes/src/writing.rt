@@ -7,23 +7,10 @@ ghost use Rattle.fw_entry.specs.Spelling.{brought, command, entry, IsCommand, Is
 ghost use Rattle.fw_entry.specs.View.{command_view};
 
 use fw_bytes::{put_byte, put_text, put_u32, put_u64};
-use fw_charge::Row;
 use fw_entry::{Command, Entry};
-use fw_row_bytes::put_row;
+use fw_row_bytes::put_rows;
 use fw_terms_bytes::{put_commitment, put_policy};
 use std::alloc::AllocError;
-
-/// Writes rows: their number, and each in turn.
-fn put_rows(out: &mut Vec<u8>, rows: &[Row]) -> Result<(), AllocError>
-    requires { length rows.now ≤ most_post_rows }
-    ensures { OnOk result (out.new.items ≡ out.old.items ++ listed row rows.now) }
-{
-    put_u32(out, rows.len() as u32)?;
-    for one in rows {
-        put_row(out, one)?;
-    }
-    Ok(())
-}
 
 /// Writes what a command brings.
 #[tactic(auto, unfolding(fw_entry::specs::Spelling::brought))]

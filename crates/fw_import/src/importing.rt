@@ -8,10 +8,11 @@ ghost use Rattle.fw_import.specs.Importing.{post_of, Becomes, MayStop, IsPostOf}
 use crate::comparing::same_entry;
 use crate::fault::ImportFault;
 use crate::stored::stored_post;
+use fw_column_rows::read_columns;
 use fw_disk::Volume;
 use fw_entry::{Command, Entry, EntryFault};
 use fw_recover::Store;
-use fw_rows::{Currency, read_rows};
+use fw_rows::Currency;
 use fw_snapshot::{State, Verdict};
 use std::alloc::Global;
 
@@ -77,7 +78,7 @@ fn entry_of(
 ) -> Result<Entry, ImportFault>
     ensures { IfOk result (IsPostOf currency origin.now number text.now) }
 {
-    match read_rows(alloc, text, currency) {
+    match read_columns(alloc, text, currency) {
         Ok(rows) => match Entry::new(alloc, origin.as_bytes(), number, Command::Post(rows)) {
             Ok(entry) => Ok(entry),
             Err(EntryFault::NoMemory) => Err(ImportFault::NoMemory),
@@ -114,8 +115,10 @@ fn submit<V: Volume>(
 
 // Compares an entry with the one that was accepted under its number.
 fn compare(alloc: Global, state: &State, entry: &Entry) -> Result<(), ImportFault> {
-    let rows = stored_post(alloc, state, entry.origin(), entry.seq())?;
-    if rows.is_empty() || rows.len() > Command::MOST_POST_ROWS {
+    let Some(rows) = stored_post(alloc, state, entry.origin(), entry.seq())? else {
+        return Err(ImportFault::Differs);
+    };
+    if rows.len() > Command::MOST_POST_ROWS {
         return Err(ImportFault::Differs);
     }
     match Entry::new(

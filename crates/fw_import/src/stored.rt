@@ -1,16 +1,19 @@
 //! Posts that a warehouse has.
-use fw_charge::Row;
+use fw_columns::{Columns, ColumnsBuilder};
 use fw_snapshot::{Content, State};
 use std::alloc::{AllocError, Global};
 
-/// The rows of the post that was accepted from an origin under a number, or no rows where another entry was, or none. It reads the heads
+/// The most rows of columns.
+const MOST_ROWS: usize = 65_536;
+
+/// The rows of the post that was accepted from an origin under a number; `None` where another entry was, or none. It reads the heads
 /// of the entries up to this one.
 pub fn stored_post(
     alloc: Global,
     state: &State,
     origin: &str,
     number: u64,
-) -> Result<Vec<Row>, AllocError> {
+) -> Result<Option<Columns>, AllocError> {
     let heads = state.heads();
     let mut before: usize = 0;
     for place in 0..heads.len() {
@@ -24,7 +27,7 @@ pub fn stored_post(
         }
         before = before.saturating_add(rows);
     }
-    Ok(Vec::new(alloc))
+    Ok(None)
 }
 
 // The rows of a warehouse from a place up to another, counted from 0.
@@ -33,9 +36,9 @@ fn rows_between(
     state: &State,
     from: usize,
     to: usize,
-) -> Result<Vec<Row>, AllocError> {
+) -> Result<Option<Columns>, AllocError> {
     let segments = state.segments();
-    let mut rows = Vec::new(alloc);
+    let mut rows = ColumnsBuilder::new(alloc);
     let mut start: usize = 0;
     for place in 0..segments.len() {
         let columns = segments.get(place);
@@ -44,10 +47,16 @@ fn rows_between(
             let first = from.saturating_sub(start);
             let last = to.saturating_sub(start).min(columns.len());
             for row in first..last {
-                rows.push(columns.row(row)?)?;
+                if rows.len() >= MOST_ROWS {
+                    return Ok(None);
+                }
+                rows.push_row(&columns.row(row)?)?;
             }
         }
         start = end;
     }
-    Ok(rows)
+    if rows.len() == 0 {
+        return Ok(None);
+    }
+    Ok(Some(rows.finish()?))
 }

@@ -1,3 +1,4 @@
 pub mod FieldFormats
 pub mod RowFacts
 pub mod RowFormat
+pub mod Written

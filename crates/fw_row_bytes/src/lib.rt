@@ -17,4 +17,4 @@ pub use fields::{
 };
 pub use row::row_of;
 pub use rows::rows_of;
-pub use writing::{put_nanos, put_optional_nanos, put_optional_text, put_row, put_tags};
+pub use writing::{put_nanos, put_optional_nanos, put_optional_text, put_row, put_rows, put_tags};

@@ -1,14 +1,17 @@
 //! The writers of a row and of its fields, at the end of a buffer.
 //!
 //! Each has one error, [`AllocError`] where the buffer can't grow; then nothing is promised of what the buffer holds.
-ghost use Rattle.std.specs.Prelude.{◌≡◌, ◌++◌, ◌∷◌, [], OnOk, IfSome, option_copied};
-ghost use Rattle.fw_bytes.specs.Spelling.{text, optional};
+ghost use Rattle.std.specs.Prelude.{◌≡◌, ◌≤◌, ◌++◌, ◌∷◌, [], length, All, OnOk, IfSome, option_copied};
+ghost use Rattle.std.specs.List.{flat_map};
+ghost use Rattle.fw_bytes.specs.Spelling.{listed, text, optional};
 ghost use Rattle.fw_charge.specs.Charge.{IsShortText};
-ghost use Rattle.fw_charge.specs.Tags.{IsTagSized};
-ghost use Rattle.fw_charge.specs.Spelling.{nanos, tag, tags, amounts, period, discount, consumed, row};
+ghost use Rattle.fw_charge.specs.Tags.{longest_tag_text, IsTags, IsTagSized};
+ghost use Rattle.fw_charge.specs.Spelling.{nanos, tag, tags, amounts, period, discount, consumed, row, IsRow};
+ghost use Rattle.fw_columns.specs.Lending.{tag_lent, tags_lent};
 
 use fw_bytes::{put_byte, put_i64, put_text, put_u32, put_u64};
-use fw_charge::{Row, Tag, Tags, class_code};
+use fw_charge::class_code;
+use fw_columns::{Columns, LentRow, LentTag, LentTags};
 use fw_money::Nanos;
 use std::alloc::AllocError;
 
@@ -46,30 +49,51 @@ pub fn put_optional_text(out: &mut Vec<u8>, words: Option<&str>) -> Result<(), A
     }
 }
 
-/// Writes a tag.
-fn put_tag(out: &mut Vec<u8>, one: &Tag) -> Result<(), AllocError>
-    requires { IsTagSized one.now }
-    ensures { OnOk result (out.new.items ≡ out.old.items ++ tag one.now) }
+/// Writes a key or a text of a tag.
+fn put_tag_text(out: &mut Vec<u8>, words: &str) -> Result<(), AllocError>
+    requires { length words.now ≤ longest_tag_text }
+    ensures { OnOk result (out.new.items ≡ out.old.items ++ text words.now) }
 {
-    put_text(out, one.key())?;
-    put_text(out, one.value())
+    put_text(out, words)
+}
+
+/// Writes a tag.
+fn put_tag(out: &mut Vec<u8>, one: LentTag<'_>) -> Result<(), AllocError>
+    requires { IsTagSized (tag_lent one) }
+    ensures { OnOk result (out.new.items ≡ out.old.items ++ tag (tag_lent one.entry)) }
+{
+    put_tag_text(out, one.key)?;
+    put_tag_text(out, one.value)
+}
+
+/// Writes each tag in turn.
+fn put_each_tag(out: &mut Vec<u8>, all: LentTags<'_>) -> Result<(), AllocError>
+    requires { All IsTagSized (tags_lent all) }
+    ensures { OnOk result (out.new.items ≡ out.old.items ++ flat_map tag (tags_lent all.entry)) }
+{
+    match all.split_first() {
+        Some((first, rest)) => {
+            put_tag(out, first)?;
+            put_each_tag(out, rest)?;
+            Ok(())
+        }
+        None => Ok(()),
+    }
 }
 
 /// Writes tags: their number, and each in turn.
-pub fn put_tags(out: &mut Vec<u8>, all: &Tags) -> Result<(), AllocError>
-    ensures { OnOk result (out.new.items ≡ out.old.items ++ tags all.now) }
+pub fn put_tags(out: &mut Vec<u8>, all: LentTags<'_>) -> Result<(), AllocError>
+    requires { IsTags (tags_lent all) }
+    ensures { OnOk result (out.new.items ≡ out.old.items ++ tags (tags_lent all.entry)) }
 {
-    let tags = all.as_slice();
-    put_u32(out, tags.len() as u32)?;
-    for one in tags {
-        put_tag(out, one)?;
-    }
+    put_u32(out, all.len() as u32)?;
+    put_each_tag(out, all)?;
     Ok(())
 }
 
 /// Writes costs, category and class.
 #[tactic(auto, unfolding(fw_charge::specs::Spelling::amounts))]
-fn put_amounts(out: &mut Vec<u8>, one: &Row) -> Result<(), AllocError>
+fn put_amounts(out: &mut Vec<u8>, one: &LentRow<'_>) -> Result<(), AllocError>
     ensures { OnOk result (out.new.items ≡ out.old.items ++ amounts one.now) }
 {
     put_nanos(out, one.billed())?;
@@ -81,7 +105,7 @@ fn put_amounts(out: &mut Vec<u8>, one: &Row) -> Result<(), AllocError>
 
 /// Writes the period.
 #[tactic(auto, unfolding(fw_charge::specs::Spelling::period))]
-fn put_period(out: &mut Vec<u8>, one: &Row) -> Result<(), AllocError>
+fn put_period(out: &mut Vec<u8>, one: &LentRow<'_>) -> Result<(), AllocError>
     ensures { OnOk result (out.new.items ≡ out.old.items ++ period one.now) }
 {
     put_u64(out, one.start())?;
@@ -91,7 +115,7 @@ fn put_period(out: &mut Vec<u8>, one: &Row) -> Result<(), AllocError>
 
 /// Writes the discount: id, kind and status, all three null where there is none.
 #[tactic(auto, unfolding(fw_charge::specs::Spelling::discount, fw_charge::specs::Codes::kind_code, fw_charge::specs::Codes::status_code))]
-fn put_discount(out: &mut Vec<u8>, one: &Row) -> Result<(), AllocError>
+fn put_discount(out: &mut Vec<u8>, one: &LentRow<'_>) -> Result<(), AllocError>
     ensures { OnOk result (out.new.items ≡ out.old.items ++ discount one.now.discount) }
 {
     match one.discount() {
@@ -102,9 +126,9 @@ fn put_discount(out: &mut Vec<u8>, one: &Row) -> Result<(), AllocError>
             Ok(())
         }
         Some(discount) => {
-            put_optional_text(out, Some(discount.id()))?;
-            put_byte(out, discount.kind().code())?;
-            put_byte(out, discount.status().map_or(0, |status| status.code()))?;
+            put_optional_text(out, Some(discount.id))?;
+            put_byte(out, discount.kind.code())?;
+            put_byte(out, discount.status.map_or(0, |status| status.code()))?;
             Ok(())
         }
     }
@@ -112,7 +136,7 @@ fn put_discount(out: &mut Vec<u8>, one: &Row) -> Result<(), AllocError>
 
 /// Writes quantity, unit, SKU and sub-account.
 #[tactic(auto, unfolding(fw_charge::specs::Spelling::consumed))]
-fn put_consumed(out: &mut Vec<u8>, one: &Row) -> Result<(), AllocError>
+fn put_consumed(out: &mut Vec<u8>, one: &LentRow<'_>) -> Result<(), AllocError>
     ensures { OnOk result (out.new.items ≡ out.old.items ++ consumed one.now) }
 {
     // Proves that the texts are short.
@@ -129,7 +153,7 @@ fn put_consumed(out: &mut Vec<u8>, one: &Row) -> Result<(), AllocError>
 /// # Errors
 /// [`AllocError`] where the buffer can't grow. Then nothing is promised of what the buffer holds.
 #[tactic(auto, unfolding(fw_charge::specs::Spelling::row))]
-pub fn put_row(out: &mut Vec<u8>, one: &Row) -> Result<(), AllocError>
+pub fn put_row(out: &mut Vec<u8>, one: &LentRow<'_>) -> Result<(), AllocError>
     ensures { OnOk result (out.new.items ≡ out.old.items ++ row one.now) }
 {
     put_amounts(out, one)?;
@@ -137,5 +161,24 @@ pub fn put_row(out: &mut Vec<u8>, one: &Row) -> Result<(), AllocError>
     put_discount(out, one)?;
     put_consumed(out, one)?;
     put_tags(out, one.tags())?;
+    Ok(())
+}
+
+/// Writes rows at the end of the buffer: their number, and each in turn. Each row has a spelling.
+///
+/// # Errors
+/// [`AllocError`] where the buffer can't grow. Then nothing is promised of what the buffer holds.
+pub fn put_rows(out: &mut Vec<u8>, rows: &Columns) -> Result<(), AllocError>
+    ensures spelled { OnOk result (out.new.items ≡ out.old.items ++ listed row rows.now) }
+    ensures valid { OnOk result (All IsRow rows.now) }
+{
+    let len = rows.len();
+    put_u32(out, len as u32)?;
+    for place in 0..len {
+        let one = rows.lent(place);
+        // Proves that the row has a spelling.
+        let _len = one.encoded_len();
+        put_row(out, &one)?;
+    }
     Ok(())
 }

@@ -1,5 +1,4 @@
 pub mod Taking
-pub mod Writing
 pub mod Chosen
 pub mod SegmentFormat
 pub mod HeadFormat

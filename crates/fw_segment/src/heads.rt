@@ -1,7 +1,8 @@
 //! The readers and the writer of heads.
-ghost use Rattle.std.specs.Prelude.{◌≡◌, ◌++◌, ◌<◌, ◌^◌, length, map, OnOk};
+ghost use Rattle.std.specs.Prelude.{◌≡◌, ◌++◌, ◌<◌, ◌≤◌, ◌^◌, length, map, OnOk};
 ghost use Rattle.fw_bytes.specs.Reading.{Gives, times};
 ghost use Rattle.fw_snapshot.specs.HeadView as stored;
+ghost use Rattle.fw_entry.specs.Entry.{most_post_rows};
 ghost use Rattle.fw_snapshot.specs.Heads.{row_count};
 ghost use Rattle.fw_segment.specs.Heads.{content, head, brought_at, content_at, head_at, head_fields_at, heads_at, post_count_at, IsHead};
 ghost use Rattle.fw_segment.specs.HeadView.{content_view, head_view};
@@ -34,9 +35,11 @@ pub struct ReadHead {
 }
 
 impl ReadHead {
-    /// How many rows the entry has.
+    /// How many rows the entry has: at most 4,096.
     pub fn rows(&self) -> usize
-        ensures { result ≡ row_count (content_view self.now.content) }
+        requires { IsHead (head_view self.now) }
+        ensures count { result ≡ row_count (content_view self.now.content) }
+        ensures few { result ≤ most_post_rows }
     {
         match &self.content {
             ReadContent::Post(count) => *count as usize,

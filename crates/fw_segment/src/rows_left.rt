@@ -6,6 +6,7 @@ ghost use Rattle.fw_segment.specs.RowsLeft.{behind, most_left, rows_left, segmen
 use crate::segments::row_count_of;
 use fw_bytes::ReadError;
 use fw_charge::Row;
+use fw_columns::ColumnsBuilder;
 use fw_row_bytes::row_of;
 use std::alloc::Global;
 
@@ -81,18 +82,19 @@ impl<'a> RowsLeft<'a> {
         }
     }
 
-    /// Takes so many rows from the front, or all where there are fewer.
-    pub fn take_front(&mut self, alloc: Global, count: usize) -> Result<Vec<Row>, ReadError>
-        ensures taken { IfOk result (λ front. AreTaken count front.items self.old self.new) }
+    /// Takes so many rows from the front, at most 65,536, or all where there are fewer.
+    pub fn take_front(&mut self, alloc: Global, count: usize) -> Result<ColumnsBuilder, ReadError>
+        requires { count ≤ 65536 }
+        ensures taken { IfOk result (λ front. AreTaken count front self.old self.new) }
         ensures fault { IfErr result (λ e. Fails e (rows_left self.old)) }
     {
-        let mut front = Vec::new(alloc);
+        let mut front = ColumnsBuilder::new(alloc);
         while front.len() < count {
             if !self.has_next()? {
                 return Ok(front);
             }
             let row = self.next_row(alloc)?;
-            front.push(row)?;
+            front.push_row(&row)?;
         }
         Ok(front)
     }

@@ -7,9 +7,8 @@ ghost use Rattle.fw_segment.specs.Segments.{count_at, most_segment_rows, row_cou
 
 use crate::kind::Kind;
 use fw_bytes::{ReadError, put_byte, put_u32, u32_at};
-use fw_charge::{Row, row_has_spelling};
 use fw_columns::Columns;
-use fw_row_bytes::{put_row, rows_of};
+use fw_row_bytes::{put_rows, rows_of};
 use std::alloc::{AllocError, Global};
 
 /// The most rows of a segment.
@@ -42,24 +41,14 @@ fn count_of(bytes: &[u8]) -> Result<(u32, &[u8]), ReadError>
     Ok((count, rest))
 }
 
-/// The rows of a segment, and the bytes after it.
+/// The columns of a segment, and the bytes after it.
 #[tactic(auto, unfolding(crate::specs::Segments::segment_at))]
-pub fn rows_of_segment(alloc: Global, bytes: &[u8]) -> Result<(Vec<Row>, &[u8]), ReadError>
-    ensures { Gives (λ x. (x.0.items, x.1.now)) result (segment_at bytes.now) }
+pub fn segment_of(alloc: Global, bytes: &[u8]) -> Result<(Columns, &[u8]), ReadError>
+    ensures { Gives (λ x. (x.0, x.1.now)) result (segment_at bytes.now) }
 {
     match bytes {
         [1, rest @ ..] => rows_of(alloc, MOST_ROWS, rest),
         _ => Err(ReadError::Corrupt(bytes.len())),
-    }
-}
-
-/// The columns of a segment, and the bytes after it.
-pub fn segment_of(alloc: Global, bytes: &[u8]) -> Result<(Columns, &[u8]), ReadError>
-    ensures { Gives (λ x. (x.0, x.1.now)) result (segment_at bytes.now) }
-{
-    match rows_of_segment(alloc, bytes) {
-        Ok((rows, rest)) => Ok((Columns::from_rows(alloc, &rows)?, rest)),
-        Err(e) => Err(e),
     }
 }
 
@@ -71,23 +60,11 @@ pub fn put_segment(out: &mut Vec<u8>, columns: &Columns, kind: Kind) -> Result<(
 {
     match kind {
         Kind::Rows => {
+            // Proves that there are rows, and not too many.
+            let _len = columns.len();
             put_byte(out, 1)?;
-            put_rows(out, columns)
+            put_rows(out, columns)?;
+            Ok(())
         }
     }
-}
-
-/// Writes rows: their number, and each in turn.
-fn put_rows(out: &mut Vec<u8>, columns: &Columns) -> Result<(), AllocError>
-    ensures spelled { OnOk result (out.new.items ≡ out.old.items ++ listed row columns.now) }
-    ensures valid { OnOk result (IsSegment columns.now) }
-{
-    let len = columns.len();
-    put_u32(out, len as u32)?;
-    for place in 0..len {
-        let one = columns.row(place)?;
-        row_has_spelling(&one);
-        put_row(out, &one)?;
-    }
-    Ok(())
 }

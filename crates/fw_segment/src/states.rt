@@ -8,7 +8,7 @@ ghost use Rattle.fw_entry.specs.View.{command_view};
 ghost use Rattle.fw_snapshot.specs.Judging.{most_rows, IsLegal};
 ghost use Rattle.fw_snapshot.specs.Heads.{command_of, entry_of, head_of, row_count};
 ghost use Rattle.fw_segment.specs.HeadView.{content_view, head_view};
-ghost use Rattle.fw_segment.specs.Heads.{IsHead, heads};
+ghost use Rattle.fw_segment.specs.Heads.{IsContent, IsHead, heads};
 ghost use Rattle.fw_segment.specs.Replaying.{stepped, state_behind, with_rows, AreBehind, AreReplayed};
 ghost use Rattle.fw_segment.specs.RowsLeft.{rows_left};
 ghost use Rattle.fw_segment.specs.Segments.{IsSegment, segment};
@@ -20,8 +20,8 @@ use crate::kind::Kind;
 use crate::rows_left::RowsLeft;
 use crate::segments::put_segment;
 use fw_bytes::{ReadError, put_u32, put_u64, str_at, u32_at};
-use fw_charge::{Currency, Row};
-use fw_columns::Columns;
+use fw_charge::Currency;
+use fw_columns::{Columns, ColumnsBuilder};
 use fw_entry::{Command, Entry, EntryFault};
 use fw_entry_bytes::Form;
 use fw_persistent::Sequence;
@@ -85,13 +85,15 @@ fn parts_of(alloc: Global, form: Form, bytes: &[u8]) -> Result<Parts<'_>, ReadEr
 }
 
 /// The command of a head, with these rows if it is a post.
-fn command_of(content: ReadContent, rows: Vec<Row>) -> Command
-    ensures { command_view result ≡ command_of (content_view content) rows.items }
+fn command_of(content: ReadContent, rows: ColumnsBuilder) -> Result<Command, AllocError>
+    requires content { IsContent (content_view content) }
+    requires rows { length rows ≡ row_count (content_view content) }
+    ensures { IfOk result (λ command. command_view command ≡ command_of (content_view content) rows) }
 {
     match content {
-        ReadContent::Post(_) => Command::Post(rows),
-        ReadContent::Commit(commitment) => Command::Commit(commitment),
-        ReadContent::SetPolicy(policy) => Command::SetPolicy(policy),
+        ReadContent::Post(_) => Ok(Command::Post(rows.finish()?)),
+        ReadContent::Commit(commitment) => Ok(Command::Commit(commitment)),
+        ReadContent::SetPolicy(policy) => Ok(Command::SetPolicy(policy)),
     }
 }
 
@@ -100,18 +102,18 @@ fn state_after(
     alloc: Global,
     state: &State,
     head: ReadHead,
-    rows: Vec<Row>,
+    rows: ColumnsBuilder,
 ) -> Result<Option<State>, AllocError>
     requires head { IsHead (head_view head) }
-    requires rows { length rows.items ≡ row_count (content_view head.content) }
-    ensures { IfOk result (λ next. next ≡ followed state.now (entry_of (head_view head) rows.items)) }
+    requires rows { length rows ≡ row_count (content_view head.content) }
+    ensures { IfOk result (λ next. next ≡ followed state.now (entry_of (head_view head) rows)) }
 {
     let ReadHead {
         origin,
         seq,
         content,
     } = head;
-    let command = command_of(content, rows);
+    let command = command_of(content, rows)?;
     let entry = match Entry::new(alloc, origin.as_bytes(), seq, command) {
         Ok(entry) => entry,
         Err(fault) => match fault {
@@ -133,12 +135,12 @@ fn put_behind(
     alloc: Global,
     answer: &mut Result<State, usize>,
     head: ReadHead,
-    rows: Vec<Row>,
+    rows: ColumnsBuilder,
     left: usize,
 ) -> Result<(), AllocError>
     requires head { IsHead (head_view head) }
-    requires rows { length rows.items ≡ row_count (content_view head.content) }
-    ensures { OnOk result (answer.new ≡ stepped left answer.old (entry_of (head_view head) rows.items)) }
+    requires rows { length rows ≡ row_count (content_view head.content) }
+    ensures { OnOk result (answer.new ≡ stepped left answer.old (entry_of (head_view head) rows)) }
 {
     if let Ok(state) = answer {
         match state_after(alloc, state, head, rows)? {

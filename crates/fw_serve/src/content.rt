@@ -7,10 +7,11 @@ ghost use Rattle.fw_entry.specs.View.{command_view};
 
 use crate::refusals::{commitment_reply, policy_reply, row_reply};
 use crate::reply::Reply;
+use fw_column_rows::read_columns;
 use fw_commitment::read_commitment;
 use fw_entry::Command;
 use fw_policy::read_policy;
-use fw_rows::{Currency, read_rows};
+use fw_rows::Currency;
 use fw_script::EntryKind;
 use std::alloc::Global;
 
@@ -25,7 +26,7 @@ pub(crate) fn read_content(
     ensures sized { IfOk result (λ command. HasRowCount (command_view command)) }
 {
     match kind {
-        EntryKind::Post => match read_rows(alloc, content, currency) {
+        EntryKind::Post => match read_columns(alloc, content, currency) {
             Ok(rows) => Ok(Command::Post(rows)),
             Err(fault) => Err(row_reply(fault)),
         },

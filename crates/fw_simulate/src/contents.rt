@@ -7,7 +7,8 @@ use crate::script::Fault;
 use fw_commitment::read_commitment;
 use fw_entry::Command;
 use fw_policy::read_policy;
-use fw_rows::{Currency, read_rows};
+use fw_column_rows::read_columns;
+use fw_rows::Currency;
 use std::alloc::Global;
 
 /// The currency of all costs.
@@ -60,11 +61,11 @@ fn post_of(alloc: Global, text: &[u8]) -> Result<Command, Fault>
     let Some(currency) = Currency::new(CURRENCY) else {
         return Err(Fault::Script);
     };
-    let rows = match read_rows(alloc, text, currency) {
+    let rows = match read_columns(alloc, text, currency) {
         Ok(rows) => rows,
         Err(_) => return Err(Fault::Script),
     };
-    if rows.is_empty() || rows.len() > MOST_ROWS {
+    if rows.len() > MOST_ROWS {
         return Err(Fault::Script);
     }
     Ok(Command::Post(rows))

@@ -1,5 +1,5 @@
 -- What lists of entries come to with one more at their end.
-use Rattle.std.proofs.Common.{◌≡◌, ◌+◌, ◌≤◌, ◌||◌, ◌&&◌, ◌<◌, ℕ, List, [], ◌∷◌, ◌++◌, Option, Some, None, Bool, true, false, cond, if◌then◌else◌, length, filter, take, get_or, nat_lt, nat_le, refl, sym, ap, ◌∙◌, arith, Bor, IfOk}
+use Rattle.std.proofs.Common.{◌≡◌, ◌+◌, ◌≤◌, ◌||◌, ◌&&◌, ◌<◌, ℕ, zero, suc, List, [], ◌∷◌, ◌++◌, Option, Some, None, Bool, true, false, cond, if◌then◌else◌, length, filter, take, get_or, nat_lt, nat_le, refl, sym, ap, ◌∙◌, arith, Bor, IfOk}
 use Rattle.std.specs.List.{list_any}
 use Rattle.std.specs.Option.{option_copied, option_to_list}
 use Rattle.std.specs.Str.{bytes_eq}
@@ -136,3 +136,13 @@ counts_same before found p q same h = IfOk-weaker found _ _ (λ after each id. e
 pub counts_kept : {E : Type 0} (before : Counts) (found : Result Counts E) (q : List ℕ → ℕ) → ((id : List ℕ) → q id ≡ 0) → IfOk found (λ after. after ≡ before) → IfOk found (λ after. (id : List ℕ) → count_of id after ≡ count_of id before + q id)
 counts_kept before found q none h =
     IfOk-weaker found _ _ (λ after same id. let zero = none id in let kept = ap (count_of id) same in omega (arith, zero, kept)) h
+
+or_true : (a b : Bool) → b ≡ true → (a || b) ≡ true
+or_true true b h = refl
+or_true false b h = h
+
+-- a test that one element passes
+pub any_there : {A : Type 0} (test : A → Bool) (xs : List A) (i : ℕ) (d : A) → i < length xs → test (get_or xs i d) ≡ true → list_any test xs ≡ true
+any_there test [] i d within passes = absurd (omega (arith, within))
+any_there test (x ∷ xs) zero d within passes = rw passes refl
+any_there test (x ∷ xs) (suc i) d within passes = or_true (test x) (list_any test xs) (any_there test xs i d (omega (arith, within)) passes)

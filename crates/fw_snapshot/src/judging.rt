@@ -6,7 +6,7 @@ ghost use Rattle.fw_snapshot.specs.Judging.{judged, command_conflict, rows_confl
 
 use crate::state::State;
 use crate::verdict::{Conflict, Verdict};
-use fw_charge::Row;
+use fw_columns::{Columns, LentRow};
 use fw_entry::{Command, Entry};
 use fw_terms::Commitment;
 
@@ -49,7 +49,7 @@ fn command_conflict(state: &State, command: &Command) -> Option<Conflict>
 
 /// Why these rows can't follow, if they can't.
 #[tactic(auto, using(std::proofs::lemmas::Bool::Decides::nat_tests), unfolding(crate::specs::Judging::rows_conflict))]
-fn rows_conflict(state: &State, rows: &[Row]) -> Option<Conflict>
+fn rows_conflict(state: &State, rows: &Columns) -> Option<Conflict>
     ensures { result ≡ rows_conflict (rows_posted state.now.entries) (commitments_of state.now.entries) rows.now }
 {
     if rows.len() > MOST_ROWS - state.rows_posted() {
@@ -79,19 +79,24 @@ fn commitment_conflict(state: &State, commitment: &Commitment) -> Option<Conflic
 }
 
 /// Whether one of these rows carries the id of a commitment of the warehouse.
-#[tactic(auto, unfolding(crate::specs::Judging::carries_any))]
-fn carry_registered(state: &State, rows: &[Row]) -> bool
+fn carry_registered(state: &State, rows: &Columns) -> bool
     ensures { result ≡ carries_any rows.now (commitments_of state.now.entries) }
 {
-    rows.iter().any(|row| carries_registered(state, row))
+    for place in 0..rows.len() {
+        let row = rows.lent(place);
+        if carries_registered(state, &row) {
+            return true;
+        }
+    }
+    false
 }
 
 /// Whether a row carries the id of a commitment of the warehouse.
-fn carries_registered(state: &State, row: &Row) -> bool
+fn carries_registered(state: &State, row: &LentRow<'_>) -> bool
     ensures { result ≡ has_registered_id (commitments_of state.now.entries) row.now }
 {
     match row.discount() {
-        Some(discount) => state.is_registered(discount.id()),
+        Some(discount) => state.is_registered(discount.id),
         None => false,
     }
 }

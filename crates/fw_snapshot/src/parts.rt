@@ -9,24 +9,33 @@ ghost use Rattle.fw_snapshot.specs.HeadView.{content_view};
 ghost use Rattle.fw_snapshot.specs.History.{posted, committed, policy_after};
 ghost use Rattle.fw_snapshot.specs.Judging.{carries, has_id};
 ghost use Rattle.fw_snapshot.specs.Uses.{commitments_with};
-ghost use Rattle.fw_snapshot.specs.Held.{held_commitments, held_policy};
+ghost use Rattle.fw_snapshot.specs.Held.{held_commitments, held_policy, held_rows};
 
 use crate::head::Content;
-use fw_charge::Row;
-use fw_columns::Columns;
+use fw_columns::{Columns, LentRow};
 use fw_entry::Command;
 use fw_persistent::{Counters, Sequence};
 use fw_terms::{Commitment, Policy};
 use std::alloc::{AllocError, Global};
 use std::sync::Arc;
 
-/// The rows that a command posts.
-pub(crate) fn posted(command: &Command) -> &[Row]
-    ensures { result.now ≡ posted (command_view command.now) }
+/// The rows that a command posts, if it posts any.
+pub(crate) fn posted(command: &Command) -> Option<&Columns>
+    ensures { held_rows (option_copied result) ≡ posted (command_view command.now) }
 {
     match command {
-        Command::Post(rows) => rows.as_slice(),
-        Command::Commit(_) | Command::SetPolicy(_) => &[],
+        Command::Post(rows) => Some(rows),
+        Command::Commit(_) | Command::SetPolicy(_) => None,
+    }
+}
+
+/// How many rows there are.
+pub(crate) fn row_count(rows: Option<&Columns>) -> usize
+    ensures { result ≡ length (held_rows (option_copied rows.entry)) }
+{
+    match rows {
+        Some(rows) => rows.len(),
+        None => 0,
     }
 }
 
@@ -68,23 +77,23 @@ pub(crate) fn shared_text(
     }
 }
 
-/// The segments with these rows behind them.
+/// The segments with these rows behind them, if there are any. The rows are shared.
 pub(crate) fn segments_after(
     alloc: Global,
     segments: &Sequence<Columns>,
-    rows: &[Row],
+    rows: Option<&Columns>,
 ) -> Result<Sequence<Columns>, AllocError>
-    requires few { length rows.now ≤ 65536 }
     requires filled { length segments.now ≤ length (segment_rows segments.now) }
-    ensures rows { IfOk result (λ after. segment_rows after ≡ segment_rows segments.now ++ rows.now) }
+    ensures rows { IfOk result (λ after. segment_rows after ≡ segment_rows segments.now ++ held_rows (option_copied rows.entry)) }
     ensures filled { IfOk result (λ after. length after ≤ length (segment_rows after)) }
 {
-    if rows.is_empty() {
-        return segments.copy();
-    }
-    match Columns::from_rows(alloc, rows) {
-        Ok(columns) => segments.push(alloc, columns),
-        Err(refused) => Err(refused),
+    match rows {
+        Some(rows) => {
+            // Proves that there is a row.
+            let _len = rows.len();
+            segments.push(alloc, rows.copy()?)
+        }
+        None => segments.copy(),
     }
 }
 
@@ -177,17 +186,40 @@ pub(crate) fn registered_after(
     }
 }
 
-/// How many posts have a row that carries each id, with one post of these rows more.
+/// How many posts have a row that carries each id, with one post of these rows more, if there are any.
 pub(crate) fn carried_after(
     alloc: Global,
     carried: &Counters,
-    rows: &[Row],
+    rows: Option<&Columns>,
+) -> Result<Counters, AllocError>
+    ensures { IfOk result (λ after. (id : List ℕ) → count_of id after ≡ count_of id carried.now + (if carries id (held_rows (option_copied rows.entry)) then 1 else 0)) }
+{
+    match rows {
+        Some(rows) => carried_with_rows(alloc, carried, rows),
+        None => carried_without_rows(carried),
+    }
+}
+
+/// The same counts: no row carries an id.
+fn carried_without_rows(carried: &Counters) -> Result<Counters, AllocError>
+    ensures { IfOk result (λ after. (id : List ℕ) → count_of id after ≡ count_of id carried.now + (if carries id [] then 1 else 0)) }
+{
+    let after = carried.copy()?;
+    Ok(after)
+}
+
+/// How many posts have a row that carries each id, with one post of these rows more.
+fn carried_with_rows(
+    alloc: Global,
+    carried: &Counters,
+    rows: &Columns,
 ) -> Result<Counters, AllocError>
     ensures { IfOk result (λ after. (id : List ℕ) → count_of id after ≡ count_of id carried.now + (if carries id rows.now then 1 else 0)) }
 {
     let mut after = carried.copy()?;
-    for row in rows {
-        after = carried_with(alloc, carried, &after, row)?;
+    for place in 0..rows.len() {
+        let row = rows.lent(place);
+        after = carried_with(alloc, carried, &after, &row)?;
     }
     Ok(after)
 }
@@ -198,12 +230,12 @@ fn carried_with(
     alloc: Global,
     before: &Counters,
     after: &Counters,
-    row: &Row,
+    row: &LentRow<'_>,
 ) -> Result<Counters, AllocError>
     ensures { IfOk result (λ next. (id : List ℕ) → count_of id next ≡ count_of id after.now + (if has_id id row.now && nat_le (count_of id after.now) (count_of id before.now) then 1 else 0)) }
 {
     match row.discount() {
-        Some(discount) => counted_unless_above(alloc, before, after, discount.id()),
+        Some(discount) => counted_unless_above(alloc, before, after, discount.id),
         None => after.copy(),
     }
 }

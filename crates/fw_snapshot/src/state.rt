@@ -10,7 +10,7 @@ ghost use Rattle.fw_snapshot.specs.declared.verdict.Verdict.TheVariants as verdi
 use crate::head::Head;
 use crate::parts::{
     carried_after, commitments_after, commitments_in, committed, content_of, policy_after, posted,
-    registered_after, segments_after, share_list, share_policy, shared_text,
+    registered_after, row_count, segments_after, share_list, share_policy, shared_text,
 };
 use fw_charge::Currency;
 use fw_columns::Columns;
@@ -100,7 +100,7 @@ impl State {
             currency: self.currency,
             heads,
             segments,
-            rows: self.rows + rows.len(),
+            rows: self.rows + row_count(rows),
             commitments,
             policy,
             origins,

@@ -9,4 +9,8 @@ returns-in_err-read_into c =
     let p = err_from_is_err_and c.from_residual.result c.from_residual.ensures.1 in rw (p.1, p.2) c.in_err-read_into.ensures.rows
 
 pub returns : goal.returns
-returns c = let Reads : List Charge → Type 0 = λ rows. RowsRead c.args.currency c.args.text.now (Ok rows) in subst Reads (sym c.finish.ensures) c.in_ok-read_into.ensures.rows
+returns c = let Reads : List Charge → Type 0 = λ rows. RowsRead c.args.currency c.args.text.now (Ok rows) in subst Reads (sym c.in_ok-columns.ensures) c.in_ok-read_into.ensures.rows
+
+pub returns-in_err-columns : goal.returns-in_err-columns
+returns-in_err-columns c =
+    let p = err_from_is_err_and c.from_residual-in_err-columns.result c.from_residual-in_err-columns.ensures.1 in rw (p.1, p.2) tt

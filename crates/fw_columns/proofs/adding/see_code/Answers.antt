@@ -1,4 +1,4 @@
-use Rattle.std.proofs.Common.{◌≡◌, ◌∙◌, ◌+◌, ◌≤◌, length, sym, rules, arith}
+use Rattle.std.proofs.Common.{◌≡◌, ◌+◌, sym, rules, arith}
 use Rattle.fw_columns.specs.Codes.{text_code}
 use Rattle.fw_columns.specs.Names.{place_of}
 use Rattle.fw_columns.specs.Texts.{with_texts}

@@ -5,7 +5,7 @@ use Rattle.fw_charge.specs.Charge.{Charge, IsCharge}
 use Rattle.fw_charge.specs.Codes.{kind_of, status_of}
 use Rattle.fw_charge.specs.declared.discount.DiscountKind.TheVariants as kinds
 use Rattle.fw_columns.specs.Lending.{discount_shown, tags_lent}
-use Rattle.fw_columns.specs.Table.{charge_at, category_at, class_at, kind_at, text_of, discount_of, quantity_of, tags_of, list_at}
+use Rattle.fw_columns.specs.Table.{charge_at, category_at, class_at, text_of, quantity_of, list_at}
 use Rattle.fw_columns.proofs.LendingFacts.{discount_kept}
 use Rattle.fw_columns.proofs.lending.lent_row.Goals as goal
 

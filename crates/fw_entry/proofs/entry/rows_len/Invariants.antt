@@ -11,5 +11,5 @@ pub record IsLen (len : ℕ) (rows : List Charge) (n : ℕ) : Type 0 where
   pub few : len ≤ 4 + 527429 * n
   pub valid : All IsRow (take n rows)
 
-abbrev pub invariant-loop-one : goal.invariant-loop-one
-invariant-loop-one l = IsLen l.len l.rows l.one-index
+abbrev pub invariant-loop-place : goal.invariant-loop-place
+invariant-loop-place l = IsLen l.len l.rows l.place

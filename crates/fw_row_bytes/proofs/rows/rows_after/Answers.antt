@@ -1,14 +1,19 @@
+use Rattle.std.proofs.Common.{◌≡◌, ◌∙◌, ◌+◌, ◌∷◌, [], ◌++◌, length, length-append, ap, arith}
 use Rattle.fw_bytes.specs.Reading.{times}
 use Rattle.fw_bytes.proofs.Loop.{goes_on, ends, is_done}
 use Rattle.fw_row_bytes.specs.Reading.{row_at}
 use Rattle.fw_row_bytes.proofs.rows.rows_after.Goals as goal
 
-pub returns-in-Err : goal.returns-in-Err
-returns-in-Err c = ends row_at c.in-Err.e c.loop.rows.items c.args.count c.loop.counter c.loop.rest.now (times row_at c.args.count c.args.bytes.now) c.loop-test.true c.in-Err.ensures c.loop.invariant
+pub returns-in-Err-clause-read : goal.returns-in-Err-clause-read
+returns-in-Err-clause-read c =
+    ends row_at c.in-Err.e c.loop.rows c.args.count c.loop.counter c.loop.rest.now (times row_at c.args.count c.args.bytes.now) c.loop-test.true c.in-Err.ensures c.loop.invariant.0
 
 pub loop-preserved : goal.loop-preserved
 loop-preserved c =
-    rw c.in_ok-push-in-Ok.ensures.items (goes_on row_at c.loop.rows.items c.args.count c.loop.counter c.loop.rest.now c.in-Ok.row c.in-Ok.after.now (times row_at c.args.count c.args.bytes.now) c.loop-test.true c.in-Ok.ensures c.loop.invariant)
+    let longer : length c.push_row.new.self ≡ length c.loop.rows + 1 =
+    ap length c.in_ok-push_row-in-Ok.ensures.added ∙ length-append c.loop.rows (c.in-Ok.row ∷ []) in
+    (rw c.in_ok-push_row-in-Ok.ensures.added (goes_on row_at c.loop.rows c.args.count c.loop.counter c.loop.rest.now c.in-Ok.row c.in-Ok.after.now (times row_at c.args.count c.args.bytes.now) c.loop-test.true c.in-Ok.ensures c.loop.invariant.0), omega (arith, longer, c.loop.invariant.1))
 
-pub returns : goal.returns
-returns c = is_done row_at c.loop.rows.items c.args.count c.loop.counter c.loop.rest.now (times row_at c.args.count c.args.bytes.now) c.loop-test.false c.loop.invariant
+pub returns-clause-read : goal.returns-clause-read
+returns-clause-read c =
+    is_done row_at c.loop.rows c.args.count c.loop.counter c.loop.rest.now (times row_at c.args.count c.args.bytes.now) c.loop-test.false c.loop.invariant.0

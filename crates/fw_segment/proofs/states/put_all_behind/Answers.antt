@@ -17,6 +17,9 @@ use Rattle.fw_segment.proofs.states.put_all_behind.Goals as goal
 pub encoded_len-len-requires : goal.encoded_len-len-requires
 encoded_len-len-requires c = All-head IsHead _ _ (subst (All IsHead) (ap (map head_view) c.in-Some.ensures.steps.0) c.loop-head.invariant.4)
 
+pub rows-count-requires : goal.rows-count-requires
+rows-count-requires c = All-head IsHead _ _ (subst (All IsHead) (ap (map head_view) c.in-Some.ensures.steps.0) c.loop-head.invariant.4)
+
 pub put_behind-requires-clause-head : goal.put_behind-requires-clause-head
 put_behind-requires-clause-head c = All-head IsHead _ _ (subst (All IsHead) (ap (map head_view) c.in-Some.ensures.steps.0) c.loop-head.invariant.4)
 
@@ -26,13 +29,13 @@ returns-then-len-count-clause-behind c =
     let others = map head_view (into_iter_items c.next.new.self) in
     let left : map head_view (into_iter_items c.loop-head.head-iterator) ≡ g ∷ others = ap (map head_view) c.in-Some.ensures.steps.0 in
     let so_far = c.loop-head.invariant.0 in
-    let front = c.in_ok-front.front.items in
-    let few : length front < c.rows-count.result = omega (arith, c.if-len-count.true, c.len.ensures) in
+    let front = c.in_ok-front.front in
+    let few : length front < c.rows-count.result = omega (arith, c.if-len-count.true, c.len.ensures.count) in
     let sum = length-append so_far front in
     let more = row_counts_cons g others in
     let counts = ap row_counts left in
     let all = c.loop-head.invariant.3 in
-    let count = c.rows-count.ensures in
+    let count = c.rows-count.ensures.count in
     record {
       taken = so_far ++ front;
       front = c.loop-head.invariant.1 ∙ (ap (behind so_far) c.in_ok-front.ensures.taken.front ∙ behind_both so_far front (rows_left c.take_front.new.self));
@@ -47,10 +50,10 @@ loop-head-preserved c =
     let others = map head_view (into_iter_items c.next.new.self) in
     let left : map head_view (into_iter_items c.loop-head.head-iterator) ≡ g ∷ others = ap (map head_view) c.in-Some.ensures.steps.0 in
     let so_far = c.loop-head.invariant.0 in
-    let front = c.in_ok-front.front.items in
-    let count = c.rows-count.ensures in
+    let front = c.in_ok-front.front in
+    let count = c.rows-count.ensures.count in
     let few = c.in_ok-front.ensures.taken.few in
-    let same : length front ≡ row_count g.content = omega (arith, c.if-len-count.false, c.len.ensures, few, count) in
+    let same : length front ≡ row_count g.content = omega (arith, c.if-len-count.false, c.len.ensures.count, few, count) in
     let sum = length-append so_far front in
     let more = row_counts_cons g others in
     let counts = ap row_counts left in

@@ -2,7 +2,7 @@ use Rattle.std.proofs.Common.{length}
 use Rattle.fw_bytes.specs.Spelling.{number32}
 use Rattle.fw_segment.specs.declared.kind.Kind.TheVariants.{Rows}
 use Rattle.fw_segment.specs.Segments.{segment, IsSegment}
-use Rattle.fw_segment.proofs.Writing.{written_more, all_more}
+use Rattle.fw_row_bytes.proofs.Written.{written_more, all_more}
 use Rattle.fw_segment.proofs.states.put_segments.Goals as goal
 
 pub loop-place-preserved : goal.loop-place-preserved

@@ -11,7 +11,7 @@ push_row-requires c =
 
 pub loop-row-preserved : goal.loop-row-preserved
 loop-row-preserved c =
-    c.in_ok-push_row.ensures
+    c.in_ok-push_row.ensures.added
     ∙ ((λ j. c.loop-row.invariant j ++ c.row-item.is j ∷ []) ∙ sym (take_more c.args.rows.now c.loop-row.row-index c.row-item.result c.loop-row-test.true))
 
 pub finish-requires : goal.finish-requires
@@ -21,4 +21,4 @@ finish-requires c =
     omega (arith, size, c.requires.some)
 
 pub returns : goal.returns
-returns c = c.finish.ensures ∙ (c.loop-row.invariant ∙ take_all c.loop-row.row-index c.args.rows.now c.loop-row-test.false)
+returns c = c.in_ok-columns.ensures ∙ (c.loop-row.invariant ∙ take_all c.loop-row.row-index c.args.rows.now c.loop-row-test.false)

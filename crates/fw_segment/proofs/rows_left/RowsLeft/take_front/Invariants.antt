@@ -4,8 +4,8 @@ use Rattle.fw_segment.proofs.rows_left.RowsLeft.take_front.Given as goal
 
 -- the rows so far, and those that are left behind them, are what was left
 abbrev pub invariant-loop-alloc : goal.invariant-loop-alloc
-invariant-loop-alloc l = (rows_left l.fn.self ≡ behind l.front.items (rows_left l.self)) × (length l.front.items ≤ l.count)
+invariant-loop-alloc l = (rows_left l.fn.self ≡ behind l.front (rows_left l.self)) × (length l.front ≤ l.count)
 
 -- each turn takes a row
 abbrev pub decreases-loop-alloc : goal.decreases-loop-alloc
-decreases-loop-alloc l = l.count - length l.front.items
+decreases-loop-alloc l = l.count - length l.front

@@ -1,8 +1,9 @@
 use Rattle.std.proofs.Common.{◌+◌, ◌++◌, ◌∷◌, [], if◌then◌else◌, length, refl, ap, ◌∙◌, arith}
+use Rattle.std.specs.Prelude.{option_copied}
 use Rattle.std.specs.Str.{bytes_eq}
 use Rattle.fw_persistent.specs.Counts.{count_of}
 use Rattle.fw_snapshot.specs.Heads.{content_of, segment_rows}
-use Rattle.fw_snapshot.specs.Held.{held_commitments, held_policy}
+use Rattle.fw_snapshot.specs.Held.{held_commitments, held_policy, held_rows}
 use Rattle.fw_snapshot.specs.History.{posted, committed}
 use Rattle.fw_snapshot.specs.Judging.{judged, carries}
 use Rattle.fw_snapshot.specs.Uses.{commitments_with}
@@ -15,8 +16,8 @@ overflow_add-result c =
     let e = c.args.entry.now in
     let posted_is = c.posted-rows.ensures ∙ ap posted c.command-command.ensures.command in
     let accepted = ap (λ h. judged h.entries e) c.self.view_is ∙ c.requires in
-    let fits = follows_fits c.self.inside e c.posted-rows.result.now c.self.invariant accepted posted_is in
-    omega arith
+    let fits = follows_fits c.self.inside e (held_rows (option_copied c.posted-rows.result)) c.self.invariant accepted posted_is in
+    omega (arith, fits, c.row_count.ensures)
 
 pub invariant_of-result : goal.invariant_of-result
 invariant_of-result c =
@@ -32,7 +33,7 @@ invariant_of-result c =
       heads = c.in_ok-heads.ensures ∙ ap (λ h. s.heads ++ h ∷ []) (head_made _ _ _ _ e c.new.ensures origin_is c.seq.ensures.number content_is);
       segments = c.in_ok-segments.ensures.rows ∙ ap (λ xs. segment_rows s.segments ++ xs) posted_is;
       filled = c.in_ok-segments.ensures.filled;
-      row_count = ap (λ xs. s.rows + length xs) posted_is;
+      row_count = ap (λ n. s.rows + n) (c.row_count.ensures ∙ ap length posted_is);
       commitments = c.in_ok-commitments.ensures ∙ ap (λ xs. held_commitments s.commitments ++ xs) committed_is;
       policy = c.in_ok-policy.ensures ∙ policy_by_content (held_policy s.policy) _ e.command content_is;
       origins = λ o. c.in_ok-origins.ensures.counts o ∙ ap (λ text. count_of o s.origins + (if bytes_eq o text then 1 else 0)) origin_is;
@@ -54,7 +55,7 @@ returns c =
       currency = s.currency;
       heads = c.in_ok-heads.heads;
       segments = c.in_ok-segments.segments;
-      rows = s.rows + length c.posted-rows.result.now;
+      rows = s.rows + c.row_count.result;
       commitments = c.in_ok-commitments.commitments;
       policy = c.in_ok-policy.policy;
       origins = c.in_ok-origins.origins;
@@ -65,7 +66,7 @@ returns c =
       heads = c.in_ok-heads.ensures ∙ ap (λ h. s.heads ++ h ∷ []) (head_made _ _ _ _ e c.new.ensures origin_is c.seq.ensures.number content_is);
       segments = c.in_ok-segments.ensures.rows ∙ ap (λ xs. segment_rows s.segments ++ xs) posted_is;
       filled = c.in_ok-segments.ensures.filled;
-      row_count = ap (λ xs. s.rows + length xs) posted_is;
+      row_count = ap (λ n. s.rows + n) (c.row_count.ensures ∙ ap length posted_is);
       commitments = c.in_ok-commitments.ensures ∙ ap (λ xs. held_commitments s.commitments ++ xs) committed_is;
       policy = c.in_ok-policy.ensures ∙ policy_by_content (held_policy s.policy) _ e.command content_is;
       origins = λ o. c.in_ok-origins.ensures.counts o ∙ ap (λ text. count_of o s.origins + (if bytes_eq o text then 1 else 0)) origin_is;
