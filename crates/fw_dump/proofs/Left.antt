@@ -1,8 +1,8 @@
 -- Rows that are taken from the front of segments, and entries that take theirs.
-use Rattle.std.proofs.Common.{◌≡◌, ◌∙◌, ◌+◌, ◌-◌, ◌≤◌, ◌<◌, ℕ, suc, List, [], ◌∷◌, ◌++◌, length, take, drop, get_or, refl, sym, ap, subst, add-one, append-nil, append_assoc, arith}
+use Rattle.std.proofs.Common.{◌≡◌, ◌∙◌, ◌+◌, ◌-◌, ◌≤◌, ◌<◌, ℕ, suc, List, [], ◌∷◌, ◌++◌, length, length-append, take, drop, get_or, min, refl, sym, ap, subst, add-one, append-nil, append_assoc, arith}
 use Rattle.std.specs.Prelude.{All, Some, slice_get}
 use Rattle.std.proofs.Math.Seq.{drop-cons}
-use Rattle.std.proofs.lemmas.List.{take_more, take_all, drop_all}
+use Rattle.std.proofs.lemmas.List.{length-take, take_more, take_all, drop_all}
 use Rattle.std.proofs.lemmas.Option.{slice_get_within, get_or_from_slice_get, slice_get-get_or}
 use Rattle.std.proofs.lemmas.List.Elements.{All-get_or}
 use Rattle.fw_charge.specs.Charge.{Charge}
@@ -47,6 +47,15 @@ segment_taken taken n segments segment there past =
 -- a row goes behind those that were taken
 pub one_more : (all front rest later : List Charge) (row : Charge) → all ≡ front ++ rest → rest ≡ row ∷ later → all ≡ (front ++ row ∷ []) ++ later
 one_more all front rest later row is begins = is ∙ ap (λ (rows : List Charge). front ++ rows) begins ∙ sym (append_assoc front (row ∷ []) later)
+
+-- as long as fewer rows than are asked for were taken, there is room for the next one where there is room for all of them
+pub room_left : (all front rest later : List Charge) (row : Charge) (count most : ℕ) → all ≡ front ++ rest → rest ≡ row ∷ later → length front < count → length (take count all) ≤ most
+    → length front < most
+room_left all front rest later row count most is begins fewer few =
+    let long : length all ≡ length front + length rest = ap length is ∙ length-append front rest in
+    let some : length rest ≡ suc (length later) = ap length begins in
+    let taken : length (take count all) ≡ min count (length all) = length-take count all in
+    omega (arith, long, some, taken, fewer, few)
 
 -- nothing is left: all was taken
 pub all_taken : (all front rest : List Charge) (count : ℕ) → all ≡ front ++ rest → rest ≡ [] → length front ≤ count → (front ≡ take count all) × (rest ≡ drop count all)

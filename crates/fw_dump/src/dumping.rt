@@ -3,7 +3,7 @@ ghost use Rattle.std.specs.Prelude.{◌≡◌, ℕ, List, OnOk, IfOk, take, drop
 ghost use Rattle.std.specs.Io.KnownBytes.{Appends};
 ghost use Rattle.fw_dump.specs.Dumps.{IsDumpOf, IsTextOf};
 ghost use Rattle.fw_dump.specs.RowsLeft.{rows_left};
-ghost use Rattle.fw_entry.specs.Spelling.{IsEntry};
+ghost use Rattle.fw_entry.specs.Spelling.{IsCommand, IsEntry};
 ghost use Rattle.fw_entry.specs.View.{command_view};
 ghost use Rattle.fw_snapshot.specs.HeadView.{content_view};
 ghost use Rattle.fw_snapshot.specs.Heads.{command_of, entry_of, row_count};
@@ -83,13 +83,15 @@ fn next_command(
     content: &Content,
     rows: &mut RowsLeft<'_>,
 ) -> Result<Command, AllocError>
+    requires { let brought = content_view content.now in IsCommand (command_of brought (take (row_count brought) (rows_left rows.old))) }
     ensures command { let brought = content_view content.now in IfOk result (λ command. command_view command ≡ command_of brought (take (row_count brought) (rows_left rows.old))) }
     ensures rest { OnOk result (rows_left rows.new ≡ drop (row_count (content_view content.now)) (rows_left rows.old)) }
 {
     match content {
         Content::Post { rows: count } => {
             let front = rows.take_front(alloc, *count as usize)?;
-            Ok(Command::Post(front.finish()?))
+            let columns = front.finish()?;
+            Ok(Command::Post(columns))
         }
         Content::Commit(commitment) => Ok(Command::Commit(commitment.copy()?)),
         Content::SetPolicy(policy) => Ok(Command::SetPolicy(policy.copy(alloc)?)),

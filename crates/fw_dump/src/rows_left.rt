@@ -1,5 +1,5 @@
 //! The rows of a warehouse, taken from the front.
-ghost use Rattle.std.specs.Prelude.{◌≡◌, IfOk, take, drop};
+ghost use Rattle.std.specs.Prelude.{◌≡◌, ◌≤◌, IfOk, length, take, drop};
 ghost use Rattle.fw_snapshot.specs.Heads.{segment_rows};
 ghost use Rattle.fw_dump.specs.RowsLeft.{rows_left};
 
@@ -28,13 +28,13 @@ impl<'a> RowsLeft<'a> {
         }
     }
 
-    /// Takes so many rows from the front, at most 65,536, or all where there are fewer.
+    /// Takes so many rows from the front, or all where there are fewer. These are at most 65,536.
     pub(crate) fn take_front(
         &mut self,
         alloc: Global,
         count: usize,
     ) -> Result<ColumnsBuilder, AllocError>
-        requires { count ≤ 65536 }
+        requires { length (take count (rows_left self.old)) ≤ 65536 }
         ensures { IfOk result (λ front. (front ≡ take count (rows_left self.old)) × (rows_left self.new ≡ drop count (rows_left self.old))) }
     {
         let mut front = ColumnsBuilder::new(alloc);
@@ -44,7 +44,8 @@ impl<'a> RowsLeft<'a> {
             }
             let columns = self.segments.get(self.segment);
             if self.taken < columns.len() {
-                front.push_row(&columns.row(self.taken)?)?;
+                let row = columns.row(self.taken)?;
+                front.push_row(&row)?;
                 self.taken += 1;
             } else {
                 self.segment += 1;

@@ -83,11 +83,7 @@ fn push_escaped(out: &mut Vec<u8>, byte: u8) -> Result<(), AllocError> {
 }
 
 /// Appends tags in braces, each key and text in quotes with this sign between them: `:` in JSON, `=` in TOML.
-pub(crate) fn push_tags(
-    out: &mut Vec<u8>,
-    tags: LentTags<'_>,
-    sign: u8,
-) -> Result<(), AllocError> {
+pub(crate) fn push_tags(out: &mut Vec<u8>, tags: LentTags<'_>, sign: u8) -> Result<(), AllocError> {
     push_byte(out, b'{')?;
     let mut is_first = true;
     let mut rest = tags;

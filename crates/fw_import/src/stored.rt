@@ -1,10 +1,8 @@
 //! Posts that a warehouse has.
 use fw_columns::{Columns, ColumnsBuilder};
+use fw_entry::Command;
 use fw_snapshot::{Content, State};
 use std::alloc::{AllocError, Global};
-
-/// The most rows of columns.
-const MOST_ROWS: usize = 65_536;
 
 /// The rows of the post that was accepted from an origin under a number; `None` where another entry was, or none. It reads the heads
 /// of the entries up to this one.
@@ -30,7 +28,7 @@ pub fn stored_post(
     Ok(None)
 }
 
-// The rows of a warehouse from a place up to another, counted from 0.
+// The rows of a warehouse from a place up to another, counted from 0; `None` where these are no rows, or more than a post has.
 fn rows_between(
     alloc: Global,
     state: &State,
@@ -47,7 +45,7 @@ fn rows_between(
             let first = from.saturating_sub(start);
             let last = to.saturating_sub(start).min(columns.len());
             for row in first..last {
-                if rows.len() >= MOST_ROWS {
+                if rows.len() >= Command::MOST_POST_ROWS {
                     return Ok(None);
                 }
                 rows.push_row(&columns.row(row)?)?;
