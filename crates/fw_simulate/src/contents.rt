@@ -4,18 +4,15 @@ ghost use Rattle.fw_entry.specs.Spelling.{HasRowCount};
 ghost use Rattle.fw_entry.specs.View.{command_view};
 
 use crate::script::Fault;
+use fw_column_rows::read_columns;
 use fw_commitment::read_commitment;
 use fw_entry::Command;
 use fw_policy::read_policy;
-use fw_column_rows::read_columns;
 use fw_rows::Currency;
 use std::alloc::Global;
 
 /// The currency of all costs.
 pub(crate) const CURRENCY: &[u8] = b"USD";
-
-/// The most rows of a post.
-const MOST_ROWS: usize = 4_096;
 
 const HEADER: &str =
     "BilledCost,EffectiveCost,BillingCurrency,ChargeCategory,ChargePeriodStart,ChargePeriodEnd,\
@@ -65,7 +62,7 @@ fn post_of(alloc: Global, text: &[u8]) -> Result<Command, Fault>
         Ok(rows) => rows,
         Err(_) => return Err(Fault::Script),
     };
-    if rows.len() > MOST_ROWS {
+    if rows.len() > Command::MOST_POST_ROWS {
         return Err(Fault::Script);
     }
     Ok(Command::Post(rows))
