@@ -64,9 +64,28 @@ fn are(names: &Names, texts: &[&str]) -> bool {
     true
 }
 
+/// Whether these groups have these codes: 0 has the empty text, and each other code the text of the name one place before it.
+fn stand_for(names: &Names, codes: &[u32], groups: &[&str]) -> bool {
+    if codes.len() != groups.len() {
+        return false;
+    }
+    for (place, group) in groups.iter().enumerate() {
+        let text = match codes[place] {
+            0 => "",
+            code if code as usize <= names.len() => names.text(code - 1),
+            _ => return false,
+        };
+        if text != *group {
+            return false;
+        }
+    }
+    true
+}
+
 /// Whether these are the codes and the groups of the rows under a key.
 fn have(columns: &Columns, key: &str, codes: &[u32], groups: &[&str]) -> Result<bool, AllocError> {
-    Ok(columns.tag_codes(key)?.as_slice() == codes && columns.groups(key)?.as_slice() == groups)
+    let are_codes = columns.tag_codes(key)?.as_slice() == codes;
+    Ok(are_codes && stand_for(columns.names(), codes, groups))
 }
 
 /// Whether the texts of a new list of names have these codes.

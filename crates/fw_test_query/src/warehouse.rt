@@ -4,6 +4,7 @@ ghost use Rattle.fw_entry.specs.Spelling.{HasRowCount};
 ghost use Rattle.fw_entry.specs.View.{command_view};
 
 use crate::given::{dollar, rows};
+use fw_columns::Columns;
 use fw_commitment::read_commitment;
 use fw_entry::{Command, Entry};
 use fw_policy::read_policy;
@@ -29,18 +30,18 @@ pub(crate) fn posted(
     seq: u64,
     records: &str,
 ) -> Result<Snapshot, AllocError> {
-    let post = post(rows(alloc, records)?)?;
+    let post = post(alloc, &rows(alloc, records)?)?;
     after(alloc, before, origin, seq, post)
 }
 
 /// A post of 1 to 4,096 rows.
-fn post(rows: Vec<Row>) -> Result<Command, AllocError>
+fn post(alloc: Global, rows: &[Row]) -> Result<Command, AllocError>
     ensures { IfOk result (λ command. HasRowCount (command_view command)) }
 {
     if rows.is_empty() || rows.len() > 4_096 {
         return Err(AllocError);
     }
-    Ok(Command::Post(rows))
+    Ok(Command::Post(Columns::from_rows(alloc, rows)?))
 }
 
 /// The warehouse after a commitment, which is accepted.
