@@ -5,8 +5,9 @@ use crate::vectors::{
     VALUES,
 };
 use fw_bytes::{ReadError, i64_at, put_byte, str_at, u32_at, u64_at};
-use fw_charge::row_len;
-use fw_entry::Entry;
+use fw_charge::{Row, row_len};
+use fw_columns::{Columns, LentRow};
+use fw_entry::{Command, Entry};
 use fw_entry_bytes::{Form, entry_of, put_entry};
 use fw_row_bytes::{put_row, row_of, short_text_of, tag_text_of};
 use fw_terms::{Commitment, Policy, commitment_len, policy_len};
@@ -31,15 +32,21 @@ pub(crate) enum What {
 }
 
 /// What is written in bytes.
-trait Spelled: Debug + Drop {
+trait Spelled: Drop {
+    fn shown(&self, alloc: Global) -> Result<String, AllocError>;
+
     fn put(&self, out: &mut Vec<u8>) -> Result<(), AllocError>;
 
     fn written_len(&self) -> usize;
 }
 
-impl Spelled for fw_charge::Row {
+impl Spelled for Row {
+    fn shown(&self, alloc: Global) -> Result<String, AllocError> {
+        printed(alloc, self)
+    }
+
     fn put(&self, out: &mut Vec<u8>) -> Result<(), AllocError> {
-        put_row(out, self)
+        put_row(out, &LentRow::of_row(self))
     }
 
     fn written_len(&self) -> usize {
@@ -48,6 +55,10 @@ impl Spelled for fw_charge::Row {
 }
 
 impl Spelled for Commitment {
+    fn shown(&self, alloc: Global) -> Result<String, AllocError> {
+        printed(alloc, self)
+    }
+
     fn put(&self, out: &mut Vec<u8>) -> Result<(), AllocError> {
         put_commitment(out, self)
     }
@@ -58,6 +69,10 @@ impl Spelled for Commitment {
 }
 
 impl Spelled for Policy {
+    fn shown(&self, alloc: Global) -> Result<String, AllocError> {
+        printed(alloc, self)
+    }
+
     fn put(&self, out: &mut Vec<u8>) -> Result<(), AllocError> {
         put_policy(out, self)
     }
@@ -68,6 +83,11 @@ impl Spelled for Policy {
 }
 
 impl Spelled for Entry {
+    fn shown(&self, alloc: Global) -> Result<String, AllocError> {
+        let command = command_shown(alloc, self.command())?;
+        format!(in alloc; "Entry {{ origin: {:?}, seq: {}, command: {command} }}", self.origin(), self.seq())
+    }
+
     fn put(&self, out: &mut Vec<u8>) -> Result<(), AllocError> {
         put_entry(out, self)
     }
@@ -86,10 +106,32 @@ pub(crate) fn joined(alloc: Global, parts: &[&[u8]]) -> Result<Vec<u8>, AllocErr
     Ok(bytes)
 }
 
+/// A value as it prints.
+fn printed<T: Debug>(alloc: Global, one: &T) -> Result<String, AllocError> {
+    format!(in alloc; "{one:?}")
+}
+
+/// A command with all that it holds, as values print.
+fn command_shown(alloc: Global, command: &Command) -> Result<String, AllocError> {
+    match command {
+        Command::Post(rows) => rows_shown(alloc, rows),
+        Command::Commit(commitment) => format!(in alloc; "Commit({commitment:?})"),
+        Command::SetPolicy(policy) => format!(in alloc; "SetPolicy({policy:?})"),
+    }
+}
+
+/// The rows of a post, as values print.
+fn rows_shown(alloc: Global, rows: &Columns) -> Result<String, AllocError> {
+    let mut all = Vec::new(alloc);
+    for place in 0..rows.len() {
+        all.push(rows.row(place)?)?;
+    }
+    format!(in alloc; "Post({all:?})")
+}
+
 /// Whether a value prints so.
-fn prints<T: Debug>(alloc: Global, one: &T, printed: &str) -> Result<bool, AllocError> {
-    let text = format!(in alloc; "{one:?}")?;
-    Ok(text.as_str() == printed)
+fn prints<T: Spelled>(alloc: Global, one: &T, printed: &str) -> Result<bool, AllocError> {
+    Ok(one.shown(alloc)?.as_str() == printed)
 }
 
 /// Whether a value is written as these bytes, here behind a 7.

@@ -4,6 +4,7 @@ ghost use Rattle.fw_entry.specs.Spelling.{HasRowCount};
 ghost use Rattle.fw_entry.specs.View.{command_view};
 
 use fw_charge::{Category, Row, RowFields, Tags};
+use fw_columns::Columns;
 use fw_entry::{Command, Entry, EntryFault, is_origin};
 use fw_money::Nanos;
 use std::alloc::{AllocError, Global};
@@ -31,10 +32,8 @@ fn tax(alloc: Global) -> Row {
 fn post(alloc: Global) -> Result<Command, AllocError>
     ensures { IfOk result (λ command. HasRowCount (command_view command)) }
 {
-    let mut rows = Vec::new(alloc);
-    rows.push(tax(alloc))?;
-    rows.push(tax(alloc))?;
-    Ok(Command::Post(rows))
+    let rows = [tax(alloc), tax(alloc)];
+    Ok(Command::Post(Columns::from_rows(alloc, &rows)?))
 }
 
 /// Whether an entry is number 7 of `a-B_9.` and posts two rows.
