@@ -5,7 +5,7 @@ use crate::vectors::{
     VALUES,
 };
 use fw_bytes::{ReadError, i64_at, put_byte, str_at, u32_at, u64_at};
-use fw_charge::{Row, row_len};
+use fw_charge::Row;
 use fw_columns::{Columns, LentRow};
 use fw_entry::{Command, Entry};
 use fw_entry_bytes::{Form, entry_of, put_entry};
@@ -50,7 +50,7 @@ impl Spelled for Row {
     }
 
     fn written_len(&self) -> usize {
-        row_len(self)
+        LentRow::of_row(self).encoded_len()
     }
 }
 
