@@ -20,7 +20,7 @@ import tempfile
 HERE = os.path.dirname(os.path.abspath(__file__))
 ROOT = os.path.dirname(HERE)
 TURNS = 2_000
-STANDS_ON = "fw_charge fw_entry fw_entry_bytes fw_row_bytes fw_segment fw_snapshot anyhow"
+STANDS_ON = "fw_charge fw_columns fw_entry fw_entry_bytes fw_row_bytes fw_segment fw_snapshot anyhow"
 
 
 def run(folder):
