@@ -85,7 +85,11 @@ impl Spelled for Policy {
 impl Spelled for Entry {
     fn shown(&self, alloc: Global) -> Result<String, AllocError> {
         let command = command_shown(alloc, self.command())?;
-        format!(in alloc; "Entry {{ origin: {:?}, seq: {}, command: {command} }}", self.origin(), self.seq())
+        format!(in alloc;
+            "Entry {{ origin: {:?}, seq: {}, command: {command} }}",
+            self.origin(),
+            self.seq()
+        )
     }
 
     fn put(&self, out: &mut Vec<u8>) -> Result<(), AllocError> {
