@@ -162,10 +162,9 @@ fn move_front(
     ensures rest { items.new.items ≡ drop count items.old.items }
 {
     for _ in 0..count {
-        if let Some(Item { importer, entry }) = items.pop_front() {
-            importers.push_reserved(importer);
-            entries.push_reserved(entry);
-        }
+        let Item { importer, entry } = items.pop_front().unwrap();
+        importers.push_reserved(importer);
+        entries.push_reserved(entry);
     }
 }
 
