@@ -12,5 +12,6 @@ pub returns : goal.returns
 returns c = let Reads : List Charge → Type 0 = λ rows. RowsRead c.args.currency c.args.text.now (Ok rows) in subst Reads (sym c.in_ok-columns.ensures) c.in_ok-read_into.ensures.rows
 
 pub returns-in_err-columns : goal.returns-in_err-columns
+unfolding RowsRead
 returns-in_err-columns c =
     let p = err_from_is_err_and c.from_residual-in_err-columns.result c.from_residual-in_err-columns.ensures.1 in rw (p.1, p.2) tt
