@@ -29,7 +29,7 @@ push_row-requires c =
     let left = c.loop-front.self in
     let taken = one_taken left.taken left.segment left.segments.now _ c.in_ok-row.row c.get-columns.ensures c.in_ok-row.ensures in
     let fewer : length c.loop-front.front < c.args.count = omega (arith, c.loop-front-test.true, c.len.ensures.count) in
-    room_left _ c.loop-front.front _ _ c.in_ok-row.row c.args.count 65536 c.loop-front.invariant.0 taken fewer c.args.requires
+    room_left _ c.loop-front.front _ _ c.in_ok-row.row c.args.count 65536 c.loop-front.invariant.0 taken fewer c.requires
 
 pub loop-front-smaller : goal.loop-front-smaller
 loop-front-smaller c =
