@@ -2,7 +2,7 @@
 """Runs the toolchain's gate, `rt ci`, over a copy of the tree that has only the must-fail edits that are due.
 
     tools/gate.py             tries the edits of each crate that changed since the last landing, edits that are new, and
-                              those of a quarter of the other crates, which the commit's hash picks
+                              those of an eighth of the other crates, which the commit's hash picks
     tools/gate.py --all       tries every edit
     tools/gate.py --program   tries none: proves and builds focusd and the crates that it stands on, and no more
     tools/gate.py --list      says which edits are due, and runs nothing
@@ -40,7 +40,7 @@ LANDING = "tools/last-landing"
 # The crates that are programs: what is built of them is kept.
 PROGRAMS = ("focusd", "fw_simulate")
 # The crates that did not change are tried in so many parts, one a run.
-PARTS = 4
+PARTS = 8
 # A line of `rt ci` that says no more than that all is well with one item.
 ITEM = re.compile(r"(fn|struct|enum|union|impl|trait|type|const|static) \S.*: (proved|assumed)$|statements |crate .*: modules ")
 
@@ -162,7 +162,7 @@ def changes_since(top, commit):
 
 
 def part_of(counts, commit):
-    """A quarter of these crates by their number of edits, which the commit's hash picks: four picks see them all."""
+    """An eighth of these crates by their number of edits, which the commit's hash picks: eight picks see them all."""
     parts, loads = [[] for _ in range(PARTS)], [0] * PARTS
     for crate in sorted(counts, key=lambda crate: (-counts[crate], crate)):
         lightest = loads.index(min(loads))
@@ -176,7 +176,7 @@ def due(counts, changed, commit):
     if changed is None:
         return {crate: "all" for crate in counts}
     same = {crate: count for crate, count in counts.items() if crate not in changed}
-    reasons = {crate: "its quarter" for crate in part_of(same, commit)}
+    reasons = {crate: "its eighth" for crate in part_of(same, commit)}
     return {crate: "changed" if crate in changed else reasons[crate] for crate in counts if crate in changed or crate in reasons}
 
 
