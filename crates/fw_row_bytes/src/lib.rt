@@ -1,4 +1,5 @@
-//! Rows as bytes: how each field of a charge row is read and written, and a whole row.
+//! Rows as bytes: how each field of a charge row is read and written, a whole row, and rows behind their number. Rows are written as columns
+//! lend them, and read into columns.
 //!
 //! A row is read from the front of a slice. A fault is reported as the number of bytes from its place to the end: a field that is cut off or
 //! out of its range is a fault at that field, and fields that break a rule together are a fault at the first byte of the row, reported once

@@ -74,7 +74,8 @@ impl State {
         }
     }
 
-    /// The state after an entry that is accepted. The old one stays as it is, and the two share what was accepted before.
+    /// The state after an entry that is accepted. The old one stays as it is, and the two share what was accepted before. Of a post the state
+    /// keeps the columns, which it shares with the entry.
     /// The error comes where memory ran out.
     pub fn apply(&self, entry: &Entry) -> Result<State, AllocError>
         requires { judged self.now.entries entry.now ≡ verdict.Accept }
