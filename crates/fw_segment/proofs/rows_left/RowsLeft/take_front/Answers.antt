@@ -22,9 +22,9 @@ loop-alloc-preserved c =
     let added : c.push_row.new.self ≡ front ++ row ∷ [] = c.in_ok-push_row.ensures.added in
     let longer : length c.push_row.new.self ≡ length front + 1 = ap length added ∙ length-append front (row ∷ []) in (
       c.loop-alloc.invariant.0
-      ∙ (ap (behind front) (c.in_ok-has_next.ensures.same ∙ c.in_ok-row.ensures.row)
-      ∙ (behind_both front (row ∷ []) (rows_left c.next_row.new.self)
-      ∙ ap (λ rows. behind rows (rows_left c.next_row.new.self)) (sym added))),
+          ∙ (ap (behind front) (c.in_ok-has_next.ensures.same ∙ c.in_ok-row.ensures.row)
+          ∙ (behind_both front (row ∷ []) (rows_left c.next_row.new.self)
+          ∙ ap (λ rows. behind rows (rows_left c.next_row.new.self)) (sym added))),
       omega (arith, longer, c.loop-alloc-test.true, c.len.ensures.count),
     )
 
