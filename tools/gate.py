@@ -1,17 +1,18 @@
 #!/usr/bin/env python3
 """Runs the toolchain's gate, `rt ci`, over a copy of the tree that has only the must-fail edits that are due.
 
-    tools/gate.py             tries the edits of each crate that changed since the last landing, edits that are new, and
-                              those of an eighth of the other crates, which the commit's hash picks
+    tools/gate.py             tries the edits of each file that changed since the last landing, those of each crate whose
+                              definitions changed, edits that are new, and those of an eighth of all crates, which the
+                              commit's hash picks
     tools/gate.py --all       tries every edit
     tools/gate.py --program   tries none: proves and builds focusd and the crates that it stands on, and no more
     tools/gate.py --list      says which edits are due, and runs nothing
 
 Every run proves every crate and its tests from nothing, runs them, and prints what each crate cost. The edits alone are
-sampled: they show that contracts have teeth, and what they show changes only with their own crate or with the toolchain.
-So after a change of toolchain every edit is due, and so it is where the commit of the last full run isn't in this clone.
-A landing is a commit whose gate passed: it tried the edits of each crate that had changed since the landing before it, and the first
-landing those of each crate that had changed since the last full run. So each edit was tried on the code that its crate has there.
+sampled: they show that contracts have teeth, and what they show changes with the file that they turn, with the definitions that its
+contracts speak of, and with the toolchain. After a change of toolchain every edit is due, and so it is where the commit of the last full run
+isn't in this clone. A landing is a commit whose gate passed. What an edit shows may also change with the contract of a function in another
+file that its function calls: such an edit is tried again when its crate is picked, or by --all.
 
 It leaves the built programs in out/focusd and out/fw_simulate, the built tests in out/tests/, and all that `rt ci` printed in out/gate.log.
 
@@ -119,9 +120,9 @@ def edit_counts(files):
 
 @dataclass
 class Changes:
-    """What is another than in a commit: the crates whose code, or whose line in crates.txt, is; and of the other crates the edits that are new."""
+    """What is another than in a commit: the files of crates that are, edits aside, and the edits that are new."""
 
-    crates: set
+    files: set
     edits: set
 
 
@@ -144,40 +145,35 @@ def old_edits(top, commit):
 
 def changes_since(top, commit):
     """What changed since a commit; None where the commit isn't here. An edit that is gone, or that has only another name, is no change."""
-    then = output_of(["git", "show", f"{commit}:crates.txt"], top)
     named = output_of(["git", "diff", "--name-status", "--no-renames", "-z", commit, "--", "crates"], top)
     new = output_of(["git", "ls-files", "-z", "--others", "--exclude-standard", "crates"], top)
-    if then is None or named is None or new is None:
+    if named is None or new is None:
         return None
-    then, now = crate_lines(then), crates_of(top)
     words = named.split("\0")
     paths = [(status, path) for status, path in zip(words[::2], words[1::2])] + [("A", path) for path in new.split("\0")]
     paths = [(status, path) for status, path in paths if path.count("/") > 1]
-    crates = {crate_of(path) for _, path in paths if not is_edit(path)}
-    crates |= {crate for crate, line in now.items() if then.get(crate) != line}
-    added = sorted(path for status, path in paths if is_edit(path) and status != "D" and crate_of(path) not in crates)
+    added = sorted(path for status, path in paths if is_edit(path) and status != "D")
     hashes = (output_of(["git", "hash-object", "--", *added], top) or "").split() if added else []
     known = old_edits(top, commit)
-    return Changes(crates, {path for path, text in zip(added, hashes) if (crate_of(path), text) not in known})
+    return Changes({path for _, path in paths if not is_edit(path)}, {path for path, text in zip(added, hashes) if (crate_of(path), text) not in known})
+
+
+def is_turned(top, edit, files):
+    """Whether one of the files that an edit turns is among these, or a definition of its crate."""
+    crate = f"crates/{crate_of(edit)}"
+    with open(os.path.join(top, edit), encoding="utf-8", errors="replace") as file:
+        turned = {f"{crate}/{line[6:].strip()}" for line in file if line.startswith("file: ")}
+    return any(path in turned or path.startswith(f"{crate}/specs/") for path in files)
 
 
 def part_of(counts, commit):
-    """An eighth of these crates by their number of edits, which the commit's hash picks: eight picks see them all."""
+    """An eighth of the crates by their number of edits, which the commit's hash picks: eight picks see them all."""
     parts, loads = [[] for _ in range(PARTS)], [0] * PARTS
     for crate in sorted(counts, key=lambda crate: (-counts[crate], crate)):
         lightest = loads.index(min(loads))
         parts[lightest].append(crate)
         loads[lightest] += counts[crate]
     return set(parts[int(commit[:8], 16) % PARTS])
-
-
-def due(counts, changed, commit):
-    """Why each crate's edits are due; the others are left."""
-    if changed is None:
-        return {crate: "all" for crate in counts}
-    same = {crate: count for crate, count in counts.items() if crate not in changed}
-    reasons = {crate: "its eighth" for crate in part_of(same, commit)}
-    return {crate: "changed" if crate in changed else reasons[crate] for crate in counts if crate in changed or crate in reasons}
 
 
 @dataclass
@@ -201,7 +197,7 @@ def landed(top):
 def choose(top, files, kit, tries_all):
     """The edits that are due."""
     edits, counts = {path for path in files if is_edit(path)}, edit_counts(files)
-    every = lambda why: Choice(due(counts, None, ""), edits, why)
+    every = lambda why: Choice({crate: "all" for crate in counts}, edits, why)
     if tries_all:
         return every("every edit is due")
     record = Record.read(top)
@@ -214,9 +210,11 @@ def choose(top, files, kit, tries_all):
     head = output_of(["git", "rev-parse", "HEAD"], top)
     if head is None:
         raise GateError("git names no commit")
-    reasons = due(counts, changes.crates, head)
-    chosen = {path for path in edits if crate_of(path) in reasons or path in changes.edits}
-    reasons = {crate: reasons.get(crate, "new edits") for crate in counts if crate in {crate_of(path) for path in chosen}}
+    part = part_of(counts, head)
+    turned = {path for path in edits if is_turned(top, path, changes.files)}
+    chosen = {path for path in edits if crate_of(path) in part} | turned | changes.edits
+    changed = {crate_of(path) for path in turned}
+    reasons = {crate_of(path): "its eighth" if crate_of(path) in part else "changed" if crate_of(path) in changed else "new edits" for path in chosen}
     return Choice(reasons, chosen, f"the last full run was of {record.commit[:12]}, on {record.date}, and the last landing of {base[:12]}")
 
 

@@ -32,22 +32,14 @@ ACCEPTED = "file: src/lib.rt\nold:     u16::from(byte) + 1\nnew:     1 + u16::fr
 
 
 class Choice(unittest.TestCase):
-    def test_a_changed_crate_is_due_whatever_the_commit(self):
-        for digit in "0123456789abcdef":
-            reasons = gate.due(COUNTS, {"c", "no_edits"}, digit * 40)
-            self.assertEqual(reasons["c"], "changed")
-            self.assertNotIn("no_edits", reasons)
-
-    def test_four_picks_see_each_crate_once(self):
-        parts = [gate.part_of(COUNTS, f"{digit:08x}") for digit in range(4)]
+    def test_eight_picks_see_each_crate_once(self):
+        parts = [gate.part_of(COUNTS, f"{digit:08x}") for digit in range(8)]
         self.assertEqual(sorted(crate for part in parts for crate in part), sorted(COUNTS))
 
     def test_the_parts_have_about_as_many_edits(self):
-        loads = [sum(COUNTS[crate] for crate in gate.part_of(COUNTS, f"{digit:08x}")) for digit in range(4)]
-        self.assertLessEqual(max(loads) - min(loads), 3)
-
-    def test_every_edit_is_due_where_the_commit_is_not_here(self):
-        self.assertEqual(set(gate.due(COUNTS, None, "")), set(COUNTS))
+        counts = {f"crate{number}": number for number in range(1, 40)}
+        loads = [sum(counts[crate] for crate in gate.part_of(counts, f"{digit:08x}")) for digit in range(8)]
+        self.assertLessEqual(max(loads) - min(loads), 8)
 
     def test_counts_are_of_edits(self):
         files = ["crates/a/must-fail/x.edit", "crates/a/must-fail/notes.md", "crates/a/src/lib.rt", "crates/b/src/lib.rt"]
@@ -86,28 +78,38 @@ class Changes(unittest.TestCase):
             three = "crates/same/must-fail/adds_three.edit"
             repository.write(three, REFUSED.replace("+ 2", "+ 3"))
             self.assertEqual(gate.changes_since(top, commit), gate.Changes(set(), {three}))
-            repository.write("crates/changed/src/lib.rt", SOURCE + "// a comment\n")
-            repository.write("crates/changed/must-fail/adds_three.edit", REFUSED.replace("+ 2", "+ 3"))
+            code = "crates/changed/src/lib.rt"
+            repository.write(code, SOURCE + "// a comment\n")
             repository.commit("another edit, and code")
-            self.assertEqual(gate.changes_since(top, commit), gate.Changes({"changed"}, {three}))
+            self.assertEqual(gate.changes_since(top, commit), gate.Changes({code}, {three}))
             self.assertIsNone(gate.changes_since(top, "0" * 40))
+
+    def test_an_edit_is_due_where_its_file_or_a_definition_of_its_crate_changed(self):
+        with tempfile.TemporaryDirectory() as top:
+            repository = Repository(top)
+            repository.fill()
+            edit = "crates/changed/must-fail/adds_two.edit"
+            for files, is_due in [
+                ({"crates/changed/src/lib.rt"}, True),
+                ({"crates/changed/specs/Lib.antt"}, True),
+                ({"crates/changed/src/other.rt", "crates/changed/proofs/Lib.antt"}, False),
+                ({"crates/same/src/lib.rt", "crates/same/specs/Lib.antt"}, False),
+            ]:
+                self.assertEqual(gate.is_turned(top, edit, files), is_due, files)
 
     def test_what_a_landing_tried_is_not_due_again(self):
         with tempfile.TemporaryDirectory() as top:
             repository = Repository(top)
             repository.fill()
             repository.write("crates/changed/src/lib.rt", SOURCE + "// a comment\n")
-            repository.leave_same()
+            repository.leave_all()
             kit = gate.Record.read(top).kit
             chosen = gate.choose(top, gate.files_of(top), kit, False)
             self.assertEqual((chosen.reasons, chosen.edits), ({"changed": "changed"}, {"crates/changed/must-fail/adds_two.edit"}))
             repository.write(gate.LANDING, f"commit {repository.commit('landed')}\n")
             new = "crates/same/must-fail/adds_three.edit"
             repository.write(new, REFUSED.replace("+ 2", "+ 3"))
-            for number in range(1000):
-                commit = repository.commit(f"more {number}")
-                if not gate.part_of({"same": 3, "changed": 1}, commit):
-                    break
+            repository.leave_all()
             chosen = gate.choose(top, gate.files_of(top), kit, False)
             self.assertEqual((chosen.reasons, chosen.edits), ({"same": "new edits"}, {new}))
             self.assertEqual(gate.choose(top, gate.files_of(top), "another kit", False).edits, {path for path in gate.files_of(top) if gate.is_edit(path)})
@@ -175,12 +177,13 @@ class Repository:
         os.makedirs(os.path.join(self.top, "tools"))
         gate.Record(self.commit("all"), "2026-01-01", kit).write(self.top)
 
-    def leave_same(self):
-        """Commits until the commit's hash leaves the crate that didn't change."""
+    def leave_all(self):
+        """Commits until the commit's hash picks no crate."""
+        counts = gate.edit_counts(gate.files_of(self.top))
         for number in range(1000):
-            if "same" not in gate.part_of({"same": 2}, self.commit(f"change {number}")):
+            if not gate.part_of(counts, self.commit(f"change {number}")):
                 return
-        raise AssertionError("no commit leaves the crate")
+        raise AssertionError("each commit picks a crate")
 
 
 class Gate(unittest.TestCase):
@@ -190,7 +193,7 @@ class Gate(unittest.TestCase):
             repository.fill()
             repository.write("crates/changed/src/lib.rt", SOURCE + "// a comment\n")
             repository.write("crates/changed/must-fail/adds_the_other_way.edit", ACCEPTED)
-            repository.leave_same()
+            repository.leave_all()
             ran = subprocess.run([sys.executable, TOOL, "--top", top], capture_output=True, text=True, check=False)
             self.assertEqual(ran.returncode, 1, ran.stdout + ran.stderr)
             self.assertIn("tried: changed (changed, 2)\n", ran.stdout)
