@@ -1,5 +1,5 @@
 -- Items: an entry, and the importer who posted it.
-use Rattle.std.specs.Prelude.{◌≢◌, ℕ, Bool, List, All, map}
+use Rattle.std.specs.Prelude.{◌≡◌, ◌≢◌, ℕ, Bool, List, [], ◌∷◌, All, map}
 use Rattle.fw_entry.specs.Entry.{EntryValue}
 use Rattle.fw_group.specs.declared.inbox.Item.{Item}
 
