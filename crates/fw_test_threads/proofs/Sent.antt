@@ -1,7 +1,13 @@
 -- The ends of a split may go to other threads.
+use mathlib.Core.List.{List, ◌∷◌}
+use mir.Syntax.{Sym, Ty}
+use denote.Exit.{no}
 use denote.RattleType.{RattleType}
-use denote.Param.Send.{IsSend, IsSync, sendable, struct_send, struct_sync, recorded_send, recorded_sync, view_send}
+use denote.Param.{param, arg}
+use denote.Param.Send.{IsSend, IsSync, AllSend, sendable, struct_send, struct_sync, recorded_send, recorded_sync, view_send, shr_send}
+use denote.Ref.{NamedLft}
 use denote.Struct.Declared.{shape}
+use denote.Struct.Tuple.{TupleAt, type_at}
 use Rattle.std.proofs.Crossing.{crosses, send, sync, frees, Arc-send, Vec-send}
 use Rattle.core.proofs.sync.Sent.{Mutex-sync}
 use Rattle.left_right.proofs.reader.Reader.TheSendSync as reader
@@ -29,6 +35,8 @@ use Rattle.fw_threads.specs.contracts.shared.Shared as Shared
 use Rattle.fw_threads.specs.contracts.shared.Slot as Slot
 use Rattle.fw_threads.specs.declared.naming.Naming as Naming
 use Rattle.fw_test_threads.specs.contracts.answered.Seats as Seats
+use Rattle.fw_test_threads.specs.contracts.ends.Held as Held
+use Rattle.fw_test_threads.proofs.Captures.{closure_send}
 use Rattle.fw_test_threads.proofs.Snapshots.{snapshot_send, snapshot_sync}
 
 page_send : IsSend Page.the_row
@@ -82,3 +90,12 @@ module _ (J : RattleType) (g : Naming.Ghosts J.Denot) where
   pub seats_sync : IsSync (Seats.the_row J g)
   seats_sync = recorded_sync _ _ _ (Seats.the_type J g).to_one (struct_sync (shape (Seats.the_type J g))
       (search sendable, (Mutex-sync _ (Vec-send (Importer.the_row J g) (importer_send J g)), (search (analyst_send J g, crosses, sendable) depth 20, (search (crosses, sendable) depth 20, tt)))))
+
+module _ (κ : NamedLft) (J V R : RattleType) (g : Naming.Ghosts J.Denot) (v : Volume.Ghosts V.Denot) (s : IsSend V) (y : IsSync R) where
+  pub held_send : IsSend (Held.the_row κ J V R g v)
+  held_send = recorded_send _ _ _ (Held.the_type κ J V R g v).to_one (struct_send (shape (Held.the_type κ J V R g v))
+      (flusher_send J g V v s, (shr_send _ _ _ y, tt)))
+
+  -- a closure that captured the flusher, and then others
+  pub held_closure_send : (δ : Ty) (ν : Sym) (Ts : List RattleType) → AllSend (shape (type_at ν Ts)).fields → IsSend (param 1 (arg δ no (TupleAt ν (Held.the_row κ J V R g v ∷ Ts))))
+  held_closure_send δ ν Ts others = closure_send 1 δ no ν (Held.the_row κ J V R g v ∷ Ts) (held_send, others)
