@@ -1,7 +1,7 @@
 use mathlib.Core.List.{[], ◌∷◌}
 use denote.Exit.{no}
 use denote.Param.{param}
-use denote.Param.Send.{IsSend, sendable, shr_send}
+use denote.Param.Send.{shr_send}
 use denote.Ref.{ShrRef}
 use Rattle.fw_test_threads.specs.contracts.answered.Seats as Seats
 use Rattle.fw_test_threads.proofs.Captures.{closure_send}

@@ -2,7 +2,7 @@ use mathlib.Core.List.{[], ◌∷◌}
 use denote.Builtin.{u8}
 use denote.Exit.{no}
 use denote.Param.{param}
-use denote.Param.Send.{IsSend, sendable, shr_send}
+use denote.Param.Send.{sendable, shr_send}
 use denote.Ref.{ShrRef}
 use Rattle.fw_test_threads.specs.contracts.answered.Seats as Seats
 use Rattle.fw_test_threads.proofs.Captures.{closure_send}

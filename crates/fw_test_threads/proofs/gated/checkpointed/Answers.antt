@@ -17,4 +17,4 @@ use Rattle.fw_test_threads.proofs.gated.Latch.TheSendSync as latch
 use Rattle.fw_test_threads.proofs.gated.checkpointed.Goals as goal
 
 pub join-requires-send-F : goal.join-requires-send-F
-join-requires-send-F g c κs within = held_closure_send _ (param 0 g.row.J) (GateVolume.the_row MemVolume.the_row Waits.the_row) (param 1 g.row.R) g.J.Naming (gate_volume.ghosts MemVolume.the_row Waits.the_row memory_volume.ghosts waits_gate.ghosts) (gate.the_send MemVolume.the_row Waits.the_row memory.the_send waits.the_send) c.type_bounds.sync-R _ _ (ShrRef _ _ Latch.the_row ∷ []) (shr_send _ _ _ latch.the_sync, tt)
+join-requires-send-F g c κs within = held_closure_send _ (param 0 g.row.J) (GateVolume.the_row MemVolume.the_row Waits.the_row) (param 1 g.row.R) g.J.Naming (gate_volume.ghosts MemVolume.the_row Waits.the_row memory_volume.ghosts memory_volume.dict waits_gate.ghosts waits_gate.dict waits_gate.dict) (gate.the_send MemVolume.the_row Waits.the_row memory.the_send waits.the_send) c.type_bounds.sync-R _ _ (ShrRef _ _ Latch.the_row ∷ []) (shr_send _ _ _ latch.the_sync, tt)
