@@ -504,6 +504,58 @@ class Files(unittest.TestCase):
         self.assertEqual(found["records"], len(records) - 1)
         self.assertEqual(focusd("check", str(self.EXPORT))[0], 0)
 
+    # What each planted fault is called, and what it does to a record: fields by their columns.
+    PLANTS = (
+        ("V3", "ChargeCategory", lambda it: it.update(ChargeCategory="Rent")),
+        ("V4", "ChargeClass", lambda it: it.update(ChargeClass="correction")),
+        ("V5", "BilledCost", lambda it: it.update(BilledCost="1.2.3")),
+        ("V5", "EffectiveCost", lambda it: it.update(EffectiveCost="one")),
+        ("V6", "BillingCurrency", lambda it: it.update(BillingCurrency="EUR")),
+        ("V7", "ChargePeriodStart", lambda it: it.update(ChargePeriodStart="soon")),
+        ("V7", "ChargePeriodEnd", lambda it: it.update(ChargePeriodEnd="1969-12-31T23:00:00Z")),
+        ("V8", "ChargePeriodEnd", lambda it: it.update(ChargePeriodEnd="1970-01-01T00:00:00Z")),
+        ("V9", "CommitmentDiscountCategory", lambda it: it.update(CommitmentDiscountId="ri-1", CommitmentDiscountCategory="", CommitmentDiscountStatus="Used")),
+        ("V10", "CommitmentDiscountStatus", lambda it: it.update(CommitmentDiscountId="", CommitmentDiscountCategory="", CommitmentDiscountStatus="Used")),
+        ("V11", "ConsumedQuantity", lambda it: it.update(ConsumedQuantity="a dozen")),
+        ("V12", "Tags", lambda it: it.update(Tags="[1]")),
+        ("V13", "SubAccountId", lambda it: it.update(SubAccountId="a" * 257)),
+        ("V13", "Tags", lambda it: it.update(Tags=json.dumps({f"k{at}": "" for at in range(257)}))),
+        ("V2", "SkuId", lambda it: it.update(SkuId="\udcff")),
+        ("V1", "", lambda it: it.popitem()),
+    )
+
+    def test_check_finds_a_thousand_planted_faults(self):
+        """1,000 faults of all kinds in 900 of 4,500 records, 100 of which have two; each group with its count and its first three places."""
+        made = [sys.executable, "-B", str(HERE / "make_export.py"), "--rows", "4500", "--seed", "7"]
+        text = subprocess.run(made, capture_output=True, check=True).stdout.decode("utf-8-sig")
+        header, *records = expected.csv.reader(io.StringIO(text, newline=""))
+        planted, out, lines = {}, io.StringIO(newline=""), 2
+        writer = expected.csv.writer(out, lineterminator="\n")
+        writer.writerow(header)
+        for number, record in enumerate(records):
+            fields, turn = dict(zip(header, record)), number // 5
+            plants = [] if number % 5 else [self.PLANTS[turn % len(self.PLANTS)]]
+            if plants and turn % 9 == 0:
+                # whatever the first one is, a second one that leaves it alone, and is read behind it or before it
+                plants = [self.PLANTS[2], self.PLANTS[11 + turn // 9 % 2]]
+            for code, column, plant in plants:
+                plant(fields)
+                planted.setdefault((code, column), []).append((lines, number + 1))
+            before = out.tell()
+            writer.writerow(fields.values())
+            lines += out.getvalue()[before:].count("\n") if "\n" in "".join(fields.values()) else 1
+        self.assertEqual(sum(len(it) for it in planted.values()), 1000)
+        file = pathlib.Path(self.folder).parent / (pathlib.Path(self.folder).name + ".csv")
+        self.addCleanup(file.unlink)
+        file.write_bytes(out.getvalue().encode("utf-8", "surrogateescape"))
+        status, printed, _ = focusd("check", "--format", "json", str(file))
+        found = json.loads(printed)
+        counted = {(it["code"].split()[0], it["column"]): it["count"] for it in found["findings"]}
+        places = {(it["code"].split()[0], it["column"]): [(at["line"], at["record"]) for at in it["places"]] for it in found["findings"]}
+        self.assertEqual(counted, {group: len(at) for group, at in planted.items()})
+        self.assertEqual(places, {group: at[:3] for group, at in planted.items()})
+        self.assertEqual((status, found["records"], found["badRecords"], found["faults"]), (1, 4500, 900, 1000))
+
 
 class Dumps(unittest.TestCase):
     """A dump, served by a new warehouse, makes the same one again."""

@@ -8,7 +8,8 @@
     tools/gate.py --program   tries none: proves and builds focusd and the crates that it stands on, and no more
     tools/gate.py --list      says which edits are due, and runs nothing
 
-Every run proves every crate and its tests from nothing, runs them, and prints what each crate cost. The edits alone are
+Every run proves every crate and its tests, runs them, and prints what each crate cost. It proves from nothing, but for what `rt ci` has passed on this
+machine, of the same files over the same libraries: that it takes as it is, and says so. The edits alone are
 sampled: they show that contracts have teeth, and what they show changes with the file that they turn, with the definitions that its
 contracts speak of, and with the toolchain. After a change of toolchain every edit is due, and so it is where the commit of the last full run
 isn't in this clone. A landing is a commit whose gate passed. What an edit shows may also change with the contract of a function in another

@@ -1,0 +1,216 @@
+#!/usr/bin/env python3
+"""Runs the commands for people over an export of 1,000,000 rows, compares what they print with what other programs computed, and says what
+each took, as Markdown.
+
+    python3 bench/commands.py --date 2026-01-31 > result.md
+
+The export is imported, and posted by a script, in turns; the reports of both must be those of examples/expected.py. The report by day, the
+statistics of `check` and the lines are compared with sums that this program makes of the export by itself, in whole nanos. Then four
+commitments are posted, and the coverage is compared with sums over the lines. A dump is run into a new folder, whose dump must have the same
+bytes. Progress goes to standard error. It takes some minutes, most of them to make the data.
+
+Exit status: 0 all answers are right, 1 one isn't, 2 a wrong command line or a machine on which nothing can be measured.
+"""
+import argparse
+import collections
+import csv
+import json
+import os
+import shlex
+import shutil
+import sys
+import tempfile
+
+from bench import HERE, ROOT, Data, Stopped, load, machine, measure, say, verdict, whole_number
+from store import posts_alone, written
+
+sys.path.insert(0, os.path.join(ROOT, "examples"))
+import expected  # noqa: E402
+
+# The goals: an import beside the same rows by a script, and its memory beside that of the warehouse alone.
+MOST_TIMES_SCRIPT = 1.2
+MOST_MEGABYTES = 100
+MONTH = ("--from", "2024-01-02", "--to", "2024-01-31")
+COSTS = ("BilledCost", "EffectiveCost")
+
+
+class Sums:
+    """What this program makes of the export by itself."""
+
+    def __init__(self, export):
+        self.rows, self.hours, self.skus = 0, set(), collections.Counter()
+        self.total, self.by_day = [0, 0], {}
+        with open(export, encoding="utf-8-sig", newline="") as file:
+            for row in csv.DictReader(file):
+                costs = [expected.nanos(row[it]) for it in COSTS]
+                start = row["ChargePeriodStart"]
+                team = json.loads(row["Tags"] or "{}").get("team") or ""
+                self.rows += 1
+                self.hours.add(start[:13])
+                self.skus[row["SkuId"]] += row["ChargeCategory"] == "Usage"
+                self.add(self.total, costs)
+                if "2024-01-02" <= start[:10] < "2024-01-31":
+                    self.add(self.by_day.setdefault((start[:10], team), [0, 0]), costs)
+
+    @staticmethod
+    def add(sums, costs):
+        for at, cost in enumerate(costs):
+            sums[at] += cost
+
+
+class Runs:
+    """Runs of the program, what each took, and what was wrong."""
+
+    def __init__(self, options):
+        self.program, self.options, self.lines, self.wrong = os.path.abspath(options.program), options, [], []
+
+    def run(self, name, *words, stdin=os.devnull, shown=True):
+        """Runs a command: what it took and printed."""
+        turn = measure([self.program, *words], stdin, self.options)
+        self.expect(f"{name} ends well", turn.status == 0 or f"status {turn.status}: {turn.complaint.strip()[-300:]}")
+        if shown:
+            self.lines.append((name, turn))
+        say(f"  {name}: {turn.seconds:.2f} s")
+        return turn
+
+    def expect(self, what, is_right):
+        if is_right is not True:
+            self.wrong.append(f"{what}: {is_right or 'no'}")
+            say(f"WRONG: {self.wrong[-1]}")
+
+    def table(self):
+        yield "| command | s | processor s | peak MB |"
+        yield "|---|---:|---:|---:|"
+        for name, turn in self.lines:
+            clock = f"{turn.processor_seconds:.2f} | {turn.peak / 1e6:.0f}" if turn.is_clocked else " | "
+            yield f"| {name} | {turn.seconds:.2f} | {clock} |"
+
+
+def dicts(printed):
+    return list(csv.DictReader(printed.decode().splitlines()))
+
+
+def imports(runs, data, posts, folders):
+    """The export by import and by script, in turns: the least processor seconds of each."""
+    least = {}
+    for turn in range(runs.options.turns):
+        ways = {
+            "import": (("import", "--quiet", "--dir", folders["import"], "--create", "--origin", "bench", data.export), os.devnull),
+            "the same rows by a script": (("run", "--dir", folders["script"], "--create"), posts),
+        }
+        for name, (words, stdin) in ways.items():
+            folder = words[words.index("--dir") + 1]
+            shutil.rmtree(folder, ignore_errors=True)
+            os.mkdir(folder)
+            took = runs.run(name, *words, stdin=stdin, shown=turn == 0)
+            least[name] = min(least.get(name, took.processor_seconds), took.processor_seconds)
+    again = runs.run("import again", "import", "--quiet", "--dir", folders["import"], "--origin", "bench", data.export)
+    runs.expect("an import that is run again imports nothing", again.output.startswith(b"imported 0 rows, 1,000,000 were there") or data.rows != 10**6)
+    for name in ("import", "script"):
+        report = runs.run("report --format csv", "report", "--dir", folders[name], "--tag", "team", *MONTH, "--format", "csv", shown=name == "import")
+        runs.expect(f"the report after {name} is that of expected.py", report.output == data.right_report)
+    return least
+
+
+def questions(runs, data, sums, folder):
+    """The commands that ask a warehouse without commitments, and `check`."""
+    found = dicts(runs.run("report --by day", "report", "--dir", folder, "--tag", "team", *MONTH, "--by", "day", "--format", "csv").output)
+    by_day = {(it["Period"], it["Group"]): [expected.nanos(it[cost]) for cost in COSTS] for it in found}
+    runs.expect("the report by day has the sums of the export", {it: costs for it, costs in by_day.items() if any(costs)} == {it: costs for it, costs in sums.by_day.items() if any(costs)})
+    lines = dicts(runs.run("lines", "lines", "--dir", folder, *MONTH).output)
+    totals = [sum(expected.nanos(it[cost]) for it in lines) for cost in COSTS]
+    runs.expect("the lines sum to the rows of the range", totals == [sum(costs[at] for costs in sums.by_day.values()) for at in (0, 1)])
+    for form in ("table", "json", "html"):
+        runs.run(f"report --format {form}", "report", "--dir", folder, "--tag", "team", *MONTH, "--by", "day", "--format", form)
+    checked = json.loads(runs.run("check --format json", "check", "--format", "json", data.export).output)
+    runs.expect("check counts the rows and finds no fault", (checked["records"], checked["faults"]) == (sums.rows, 0))
+    status = runs.run("status", "status", "--dir", folder)
+    runs.expect("status counts the rows", ["Rows", f"{sums.rows:,}"] in [it.split() for it in status.output.decode().splitlines()])
+    runs.expect("verify finds the files whole", runs.run("verify", "verify", "--dir", folder).output.startswith(b"sound\n"))
+    return status
+
+
+def coverage(runs, sums, folder, scratch):
+    """Four commitments over the SKUs that most rows have: the coverage beside sums over the lines."""
+    skus = [sku for sku, _ in sums.skus.most_common(4)]
+    script = b""
+    for number, sku in enumerate(skus, 1):
+        named = json.dumps(sku)
+        kind = ['category = "Usage"', 'unit = "Hours"', 'capacity = "40"', f"skus = [{named}]"] if number % 2 else ['category = "Spend"', 'capacity = "3"', f"rates = {{ {named} = 700000 }}"]
+        lines = [f'id = "plan-{number}"', *kind, 'start = "2024-01-01T00:00Z"', "hours = 700", f'purchase = [{{ at = "2024-01-01T00:00Z", billed = "{number}234.567890123" }}]']
+        script += f"commit plans {number} {len(lines)}\n".encode() + "\n".join(lines).encode() + b"\n"
+    path = written(os.path.join(scratch, "commands-commitments.script"), [script])
+    posted = runs.run("four commitments", "run", "--dir", folder, stdin=path, shown=False)
+    runs.expect("the commitments are taken", posted.output.count(b"accepted ") == 4 or posted.output)
+    found = dicts(runs.run("coverage", "coverage", "--dir", folder, *MONTH, "--format", "csv").output)
+    lines = dicts(runs.run("lines under commitments", "lines", "--dir", folder, *MONTH).output)
+    runs.expect("each commitment has its coverage", [it["CommitmentDiscountId"] for it in found] == [f"plan-{it}" for it in (1, 2, 3, 4)])
+    for line in found:
+        own = [it for it in lines if it["CommitmentDiscountId"] == line["CommitmentDiscountId"]]
+        for column, status in (("UsedCost", "Used"), ("UnusedCost", "Unused")):
+            total = sum(expected.nanos(it["EffectiveCost"]) for it in own if it["CommitmentDiscountStatus"] == status)
+            runs.expect(f"{column} of {line['CommitmentDiscountId']} is the sum of its lines", total == expected.nanos(line[column]))
+
+
+def dumps(runs, folders, scratch):
+    """A dump, run into a new folder, and the dump of that."""
+    scripts = []
+    for name in ("import", "copy"):
+        dump = runs.run("dump", "dump", "--dir", folders[name], shown=name == "import")
+        scripts.append(dump.output)
+        if name == "import":
+            path = written(os.path.join(scratch, "commands-dump.script"), [dump.output])
+            os.mkdir(folders["copy"])
+            runs.run("a dump that is run", "run", "--dir", folders["copy"], "--create", stdin=path)
+    runs.expect("the dump of the copy has the same bytes", scripts[0] == scripts[1])
+    reports = [runs.run("report", "report", "--dir", folders[it], "--tag", "team", *MONTH, "--format", "csv", shown=False).output for it in ("import", "copy")]
+    runs.expect("both report the same", reports[0] == reports[1])
+
+
+def run(options):
+    os.makedirs(options.scratch, exist_ok=True)
+    if not os.access(options.program, os.X_OK):
+        raise Stopped(f"{options.program} isn't there: build it by `examples/run --proved`")
+    data, before = Data(options), load()
+    posts = written(os.path.join(options.scratch, os.path.basename(data.script) + ".posts"), posts_alone(data.script))
+    say("summing the export")
+    sums, runs = Sums(data.export), Runs(options)
+    with tempfile.TemporaryDirectory(dir=options.scratch) as room:
+        folders = {it: os.path.join(room, it) for it in ("import", "script", "copy")}
+        least = imports(runs, data, posts, folders)
+        status = questions(runs, data, sums, folders["import"])
+        coverage(runs, sums, folders["import"], room)
+        dumps(runs, folders, room)
+    print(f"Command: `{shlex.join(['python3', 'bench/commands.py', *sys.argv[1:]])}`  ")
+    for line in [f"Date: {options.date}"] * bool(options.date) + list(machine()):
+        print(f"{line}  ")
+    print(f"Load of the machine before and after: {before}; {load()}\n")
+    print("\n".join(runs.table()))
+    taken, beside = least["import"], least["the same rows by a script"]
+    print(f"\nImport beside the same rows by a script, the least of {options.turns} turns each, processor time: {taken:.2f} and {beside:.2f} s, {taken / beside:.2f} times. Goal, at most {MOST_TIMES_SCRIPT}: **{verdict(taken <= MOST_TIMES_SCRIPT * beside)}**")
+    room = (max(it.peak for name, it in runs.lines if name == "import") - status.peak) / 1e6
+    print(f"\nMemory of an import beside the warehouse, which `status` opens: {room:.0f} MB. Goal, below {MOST_MEGABYTES} MB: **{verdict(room < MOST_MEGABYTES)}**")
+    print("\nAll answers are right." if not runs.wrong else "\n" + "\n".join(f"- WRONG: {it}" for it in runs.wrong))
+    return 1 if runs.wrong else 0
+
+
+def main():
+    parser = argparse.ArgumentParser(description=__doc__, formatter_class=argparse.RawDescriptionHelpFormatter)
+    parser.add_argument("--rows", type=whole_number, default=1_000_000, help="default: 1,000,000")
+    parser.add_argument("--turns", type=whole_number, default=3, help="how often each import is measured (default: 3)")
+    parser.add_argument("--seed", type=whole_number, default=1)
+    parser.add_argument("--limit", type=whole_number, default=600, help="seconds for one run (default: 600)")
+    parser.add_argument("--date", default="", help="the date that the result carries")
+    parser.add_argument("--program", default=os.path.join(ROOT, "out", "focusd"), help="default: out/focusd")
+    parser.add_argument("--scratch", default=os.path.join(HERE, "scratch"), help="default: bench/scratch")
+    options = parser.parse_args()
+    options.narrow = False
+    try:
+        return run(options)
+    except Stopped as why:
+        say(f"commands.py: {why}")
+        return 2
+
+
+if __name__ == "__main__":
+    sys.exit(main())
