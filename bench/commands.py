@@ -105,18 +105,24 @@ def imports(runs, data, posts, folders):
             took = runs.run(name, *words, stdin=stdin, shown=turn == 0)
             least[name] = min(least.get(name, took.processor_seconds), took.processor_seconds)
     again = runs.run("import again", "import", "--quiet", "--dir", folders["import"], "--origin", "bench", data.export)
-    runs.expect("an import that is run again imports nothing", again.output.startswith(b"imported 0 rows, 1,000,000 were there") or data.rows != 10**6)
+    runs.expect("an import that is run again imports nothing", again.output.startswith(f"imported 0 rows, {data.rows:,} were there".encode()))
     for name in ("import", "script"):
-        report = runs.run("report --format csv", "report", "--dir", folders[name], "--tag", "team", *MONTH, "--format", "csv", shown=name == "import")
+        asked = ("report", "--dir", folders[name], "--tag", "team", *MONTH, "--format", "csv")
+        report = runs.run("report --format csv", *asked, shown=name == "import")
         runs.expect(f"the report after {name} is that of expected.py", report.output == data.right_report)
     return least
+
+
+def with_costs(sums):
+    """The groups whose costs aren't all zero."""
+    return {group: costs for group, costs in sums.items() if any(costs)}
 
 
 def questions(runs, data, sums, folder):
     """The commands that ask a warehouse without commitments, and `check`."""
     found = dicts(runs.run("report --by day", "report", "--dir", folder, "--tag", "team", *MONTH, "--by", "day", "--format", "csv").output)
     by_day = {(it["Period"], it["Group"]): [expected.nanos(it[cost]) for cost in COSTS] for it in found}
-    runs.expect("the report by day has the sums of the export", {it: costs for it, costs in by_day.items() if any(costs)} == {it: costs for it, costs in sums.by_day.items() if any(costs)})
+    runs.expect("the report by day has the sums of the export", with_costs(by_day) == with_costs(sums.by_day))
     lines = dicts(runs.run("lines", "lines", "--dir", folder, *MONTH).output)
     totals = [sum(expected.nanos(it[cost]) for it in lines) for cost in COSTS]
     runs.expect("the lines sum to the rows of the range", totals == [sum(costs[at] for costs in sums.by_day.values()) for at in (0, 1)])
@@ -136,8 +142,12 @@ def coverage(runs, sums, folder, scratch):
     script = b""
     for number, sku in enumerate(skus, 1):
         named = json.dumps(sku)
-        kind = ['category = "Usage"', 'unit = "Hours"', 'capacity = "40"', f"skus = [{named}]"] if number % 2 else ['category = "Spend"', 'capacity = "3"', f"rates = {{ {named} = 700000 }}"]
-        lines = [f'id = "plan-{number}"', *kind, 'start = "2024-01-01T00:00Z"', "hours = 700", f'purchase = [{{ at = "2024-01-01T00:00Z", billed = "{number}234.567890123" }}]']
+        lines = [f'id = "plan-{number}"', 'start = "2024-01-01T00:00Z"', "hours = 700"]
+        if number % 2:
+            lines += ['category = "Usage"', 'unit = "Hours"', 'capacity = "40"', f"skus = [{named}]"]
+        else:
+            lines += ['category = "Spend"', 'capacity = "3"', f"rates = {{ {named} = 700000 }}"]
+        lines += [f'purchase = [{{ at = "2024-01-01T00:00Z", billed = "{number}234.567890123" }}]']
         script += f"commit plans {number} {len(lines)}\n".encode() + "\n".join(lines).encode() + b"\n"
     path = written(os.path.join(scratch, "commands-commitments.script"), [script])
     posted = runs.run("four commitments", "run", "--dir", folder, stdin=path, shown=False)
@@ -163,7 +173,8 @@ def dumps(runs, folders, scratch):
             os.mkdir(folders["copy"])
             runs.run("a dump that is run", "run", "--dir", folders["copy"], "--create", stdin=path)
     runs.expect("the dump of the copy has the same bytes", scripts[0] == scripts[1])
-    reports = [runs.run("report", "report", "--dir", folders[it], "--tag", "team", *MONTH, "--format", "csv", shown=False).output for it in ("import", "copy")]
+    asked = ("--tag", "team", *MONTH, "--format", "csv")
+    reports = [runs.run("report", "report", "--dir", folders[it], *asked, shown=False).output for it in ("import", "copy")]
     runs.expect("both report the same", reports[0] == reports[1])
 
 
@@ -187,9 +198,11 @@ def run(options):
     print(f"Load of the machine before and after: {before}; {load()}\n")
     print("\n".join(runs.table()))
     taken, beside = least["import"], least["the same rows by a script"]
-    print(f"\nImport beside the same rows by a script, the least of {options.turns} turns each, processor time: {taken:.2f} and {beside:.2f} s, {taken / beside:.2f} times. Goal, at most {MOST_TIMES_SCRIPT}: **{verdict(taken <= MOST_TIMES_SCRIPT * beside)}**")
+    print(f"\nImport beside the same rows by a script, processor time, the least of {options.turns} turns: {taken:.2f} and {beside:.2f} s.")
+    print(f"Goal, at most {MOST_TIMES_SCRIPT} times: **{verdict(taken <= MOST_TIMES_SCRIPT * beside)}** ({taken / beside:.2f} times)")
     room = (max(it.peak for name, it in runs.lines if name == "import") - status.peak) / 1e6
-    print(f"\nMemory of an import beside the warehouse, which `status` opens: {room:.0f} MB. Goal, below {MOST_MEGABYTES} MB: **{verdict(room < MOST_MEGABYTES)}**")
+    print(f"\nPeak memory of an import above that of `status`, which opens the same warehouse: {room:.0f} MB.")
+    print(f"Goal, below {MOST_MEGABYTES} MB: **{verdict(room < MOST_MEGABYTES)}**")
     print("\nAll answers are right." if not runs.wrong else "\n" + "\n".join(f"- WRONG: {it}" for it in runs.wrong))
     return 1 if runs.wrong else 0
 
@@ -198,7 +211,7 @@ def main():
     parser = argparse.ArgumentParser(description=__doc__, formatter_class=argparse.RawDescriptionHelpFormatter)
     parser.add_argument("--rows", type=whole_number, default=1_000_000, help="default: 1,000,000")
     parser.add_argument("--turns", type=whole_number, default=3, help="how often each import is measured (default: 3)")
-    parser.add_argument("--seed", type=whole_number, default=1)
+    parser.add_argument("--seed", type=whole_number, default=7, help="default: 7")
     parser.add_argument("--limit", type=whole_number, default=600, help="seconds for one run (default: 600)")
     parser.add_argument("--date", default="", help="the date that the result carries")
     parser.add_argument("--program", default=os.path.join(ROOT, "out", "focusd"), help="default: out/focusd")
