@@ -22,6 +22,9 @@ pub fn cut_off(text: &[u8], most: usize) -> Cut
     let mut place = Place::Start;
     let mut cut = Cut { records: 0, end: 0 };
     for (index, byte) in text.iter().enumerate() {
+        if place.stays(*byte) {
+            continue;
+        }
         let step = place.after(*byte);
         place = step.place;
         if step.ends {

@@ -1,5 +1,5 @@
 //! Where a reader of records stands between two bytes of a text.
-ghost use Rattle.std.specs.Prelude.{◌≡◌, true, false};
+ghost use Rattle.std.specs.Prelude.{◌≡◌, true, false, IsTrue};
 ghost use Rattle.csv.specs.Machine.{in_field, start_field, start_record, step};
 ghost use Rattle.csv.specs.Reading.{default_config};
 ghost use Rattle.fw_cut.specs.Places.{state_of, Does};
@@ -38,6 +38,17 @@ pub(crate) struct Step {
 }
 
 impl Place {
+    /// Whether the next byte is one of those within a field: it ends nothing, and the reader stands as before.
+    pub(crate) fn stays(self, byte: u8) -> bool
+        ensures { IsTrue result → Does (step default_config (state_of self) byte) (record { place = self; ends = false }) }
+    {
+        match self {
+            Place::Plain => byte != COMMA && byte != CARRIAGE_RETURN && byte != LINE_FEED,
+            Place::Quoted => byte != QUOTE,
+            Place::Start | Place::AfterReturn | Place::Field | Place::AfterQuote => false,
+        }
+    }
+
     /// What the next byte does.
     pub(crate) fn after(self, byte: u8) -> Step
         ensures { Does (step default_config (state_of self) byte) result }

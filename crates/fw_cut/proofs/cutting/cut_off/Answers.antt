@@ -1,10 +1,14 @@
-use Rattle.std.proofs.Common.{arith}
+use Rattle.std.proofs.Common.{arith, refl, false}
 use Rattle.fw_cut.proofs.CutFacts.{scanned-start, scanned-on, scanned-ended, ended, cuts-most, cuts-all}
 use Rattle.fw_cut.proofs.cutting.cut_off.Goals as goal
 use Rattle.fw_cut.proofs.cutting.cut_off.Goals.{then-step+else-cut-most, else-step}
 
 pub loop-index-init : goal.loop-index-init
 loop-index-init c = scanned-start c.args.text.now c.args.most c.requires
+
+pub loop-index-preserved-then-stays : goal.loop-index-preserved-then-stays
+loop-index-preserved-then-stays c =
+    scanned-on c.args.text.now c.args.most c.loop-index.index c.loop-index.place c.loop-index.cut (record { place = c.loop-index.place; ends = false }) c.loop-index.invariant c.loop-index-test.true (c.stays.ensures c.if-stays.true) refl
 
 pub returns-then-cut-most : goal.returns-then-cut-most
 returns-then-cut-most c =
