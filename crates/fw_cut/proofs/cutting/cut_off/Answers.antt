@@ -1,4 +1,4 @@
-use Rattle.std.proofs.Common.{◌<◌, ◌+◌, ◌-◌, length, arith}
+use Rattle.std.proofs.Common.{◌<◌, ◌+◌, length, arith}
 use Rattle.fw_cut.proofs.CutFacts.{scanned-start, scanned-run, scanned-on, scanned-ended, ended, cuts-most, cuts-all}
 use Rattle.fw_cut.proofs.cutting.cut_off.Goals as goal
 

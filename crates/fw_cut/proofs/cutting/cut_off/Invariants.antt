@@ -1,4 +1,4 @@
-use Rattle.std.proofs.Common.{ℕ, ◌-◌, ◌≤◌, length}
+use Rattle.std.proofs.Common.{◌-◌, ◌≤◌, length}
 use Rattle.fw_cut.proofs.CutFacts.{Scanned}
 use Rattle.fw_cut.proofs.cutting.cut_off.Given as goal
 

@@ -1,4 +1,4 @@
-use Rattle.std.proofs.Common.{ℕ, ◌-◌, ◌≤◌, length, take}
+use Rattle.std.proofs.Common.{◌-◌, ◌≤◌, length, take}
 use Rattle.fw_cut.specs.Places.{GoesOn}
 use Rattle.fw_cut.specs.declared.place.Place.TheVariants.{Quoted}
 use Rattle.fw_cut.proofs.place.quoted_len.Given as goal

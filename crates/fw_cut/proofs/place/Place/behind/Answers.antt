@@ -1,7 +1,6 @@
-use Rattle.std.proofs.Common.{◌≡◌, ◌≢◌, ◌==◌, ◌∙◌, ◌+◌, ◌-◌, ◌<◌, ℕ, false, List, length, take, get_or, sym, ap, refl, arith}
+use Rattle.std.proofs.Common.{◌≡◌, ◌≢◌, ◌∙◌, ◌+◌, ◌-◌, ◌<◌, ℕ, List, length, take, get_or, sym, ap, refl, arith}
 use Rattle.fw_cut.specs.Places.{place_behind, place_of}
 use Rattle.fw_cut.specs.declared.place.Place.{Place}
-use Rattle.fw_cut.specs.declared.place.Place.TheVariants as place
 use Rattle.fw_cut.proofs.RunFacts.{behind-last, is-not}
 use Rattle.fw_cut.proofs.place.Place.behind.Goals as goal
 
