@@ -34,7 +34,7 @@ use Rattle.fw_threads.specs.contracts.shared.Reply.TheInside as inside_reply
 use Rattle.fw_threads.specs.contracts.shared.Shared as Shared
 use Rattle.fw_threads.specs.contracts.shared.Slot as Slot
 use Rattle.fw_threads.specs.declared.naming.Naming as Naming
-use Rattle.fw_test_threads.specs.contracts.answered.Seats as Seats
+use Rattle.fw_test_threads.specs.contracts.seats.Seats as Seats
 use Rattle.fw_test_threads.specs.contracts.ends.Held as Held
 use Rattle.fw_test_threads.proofs.Captures.{closure_send}
 use Rattle.fw_test_threads.proofs.Snapshots.{snapshot_send, snapshot_sync}

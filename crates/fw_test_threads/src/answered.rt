@@ -1,11 +1,12 @@
 //! All posts are answered, and each view has what its analyst learned.
 ghost use Rattle.std.specs.Prelude.{◌≡◌};
 
-use crate::ends::{Held, Left, Told, created, memory, outcome_of, post};
+use crate::ends::{Held, Left, created, memory, outcome_of, post};
+use crate::seats::{ALL, Seats, Tally};
 use fw_disk::MemVolume;
 use fw_group::Answer;
 use fw_recover::StoreFault;
-use fw_threads::{Analyst, Importer, Naming, Opened, Parts, Published, split};
+use fw_threads::{Naming, Opened, Parts, Published, split};
 use std::alloc::Global;
 use std::marker::Brand;
 use std::process::Abort;
@@ -18,58 +19,6 @@ const IMPORTERS: usize = 8;
 
 /// How many entries each posts.
 const ENTRIES: u8 = 4;
-
-/// How many entries are posted.
-const ALL: usize = 32;
-
-/// What the answers were.
-#[derive(Drop)]
-struct Tally {
-    /// Which numbers were answered.
-    numbers: [bool; ALL + 1],
-    /// How many answers were none of a new number, or were followed by a view that lacked the entry.
-    wrong: usize,
-    ran_out: bool,
-}
-
-impl Tally {
-    fn new() -> Tally {
-        Tally {
-            numbers: [false; ALL + 1],
-            wrong: 0,
-            ran_out: false,
-        }
-    }
-
-    fn note(&mut self, told: Told, viewed: usize) {
-        match told {
-            Told::Accepted(number) if number <= viewed => self.note_number(number),
-            Told::NoMemory => self.ran_out = true,
-            _ => self.wrong = self.wrong.saturating_add(1),
-        }
-    }
-
-    fn note_number(&mut self, number: usize) {
-        match self.numbers.get_mut(number) {
-            Some(answered) if !*answered => *answered = true,
-            _ => self.wrong = self.wrong.saturating_add(1),
-        }
-    }
-
-    // Whether the answers had the numbers 1 to 32, each once.
-    fn is_right(&self) -> bool {
-        self.wrong == 0 && self.numbers[1..].iter().all(|answered| *answered)
-    }
-}
-
-/// What the importers' threads share.
-#[derive(Drop)]
-struct Seats<J: Naming> {
-    alloc: Global,
-    importers: Mutex<Vec<Importer<J>>>,
-    analyst: Mutex<Analyst<J>>,
-    tally: Mutex<Tally>,
-}
 
 // Learns a receipt and views. It answers how many entries it viewed.
 fn look<J: Naming, R: Wait>(rt: &R, seats: &Seats<J>, answer: &Answer<Published<J>>) -> usize {

@@ -5,9 +5,9 @@
 
 #[cfg(test)]
 mod answered;
-#[cfg(test)]
 mod ends;
 #[cfg(test)]
 mod gated;
 #[cfg(test)]
 mod refused;
+mod seats;
