@@ -1,0 +1,3 @@
+mod Captures
+mod Sent
+mod Snapshots

@@ -1,0 +1,190 @@
+//! All posts are answered, and each view has what its analyst learned.
+ghost use Rattle.std.specs.Prelude.{◌≡◌};
+
+use crate::ends::{Held, Left, Told, created, memory, outcome_of, post};
+use fw_disk::MemVolume;
+use fw_group::Answer;
+use fw_recover::StoreFault;
+use fw_threads::{Analyst, Importer, Naming, Opened, Parts, Published, split};
+use std::alloc::Global;
+use std::marker::Brand;
+use std::process::Abort;
+use std::sync::{Mutex, Wait};
+use std::test::*;
+use std::thread::{Threads, join};
+
+/// How many importers post at once.
+const IMPORTERS: usize = 8;
+
+/// How many entries each posts.
+const ENTRIES: u8 = 4;
+
+/// How many entries are posted.
+const ALL: usize = 32;
+
+/// What the answers were.
+#[derive(Drop)]
+struct Tally {
+    /// Which numbers were answered.
+    numbers: [bool; ALL + 1],
+    /// How many answers were none of a new number, or were followed by a view that lacked the entry.
+    wrong: usize,
+    ran_out: bool,
+}
+
+impl Tally {
+    fn new() -> Tally {
+        Tally {
+            numbers: [false; ALL + 1],
+            wrong: 0,
+            ran_out: false,
+        }
+    }
+
+    fn note(&mut self, told: Told, viewed: usize) {
+        match told {
+            Told::Accepted(number) if number <= viewed => self.note_number(number),
+            Told::NoMemory => self.ran_out = true,
+            _ => self.wrong = self.wrong.saturating_add(1),
+        }
+    }
+
+    fn note_number(&mut self, number: usize) {
+        match self.numbers.get_mut(number) {
+            Some(answered) if !*answered => *answered = true,
+            _ => self.wrong = self.wrong.saturating_add(1),
+        }
+    }
+
+    // Whether the answers had the numbers 1 to 32, each once.
+    fn is_right(&self) -> bool {
+        self.wrong == 0 && self.numbers[1..].iter().all(|answered| *answered)
+    }
+}
+
+/// What the importers' threads share.
+#[derive(Drop)]
+struct Seats<J: Naming> {
+    alloc: Global,
+    importers: Mutex<Vec<Importer<J>>>,
+    analyst: Mutex<Analyst<J>>,
+    tally: Mutex<Tally>,
+}
+
+// Learns a receipt and views. It answers how many entries it viewed.
+fn look<J: Naming, R: Wait>(rt: &R, seats: &Seats<J>, answer: &Answer<Published<J>>) -> usize {
+    let mut analyst = seats.analyst.lock(rt);
+    if let Answer::Accepted(receipt) = answer {
+        analyst.learn(receipt);
+    }
+    match analyst.view() {
+        Ok(seen) => seen.state().entries(),
+        Err(_) => 0,
+    }
+}
+
+// One importer posts the entries of an origin.
+fn one<J: Naming, R: Wait>(rt: &R, seats: &Seats<J>, origin: u8) {
+    let Some(importer) = seats.importers.lock(rt).pop() else {
+        return;
+    };
+    let mut importer = importer;
+    for place in 0..ENTRIES {
+        let answer = post(rt, seats.alloc, &mut importer, origin, place + 1);
+        let viewed = look(rt, seats, &answer);
+        seats.tally.lock(rt).note(outcome_of(&answer), viewed);
+    }
+    importer.leave(rt);
+}
+
+// Two importers at once, for this origin and the next.
+fn two<J: Naming + Send + Sync, R: Threads + Wait + Sync>(rt: &R, seats: &Seats<J>, origin: u8) {
+    join(
+        rt,
+        move || one(rt, seats, origin),
+        move || one(rt, seats, origin.wrapping_add(1)),
+    );
+}
+
+fn four<J: Naming + Send + Sync, R: Threads + Wait + Sync>(rt: &R, seats: &Seats<J>, origin: u8) {
+    join(
+        rt,
+        move || two(rt, seats, origin),
+        move || two(rt, seats, origin.wrapping_add(2)),
+    );
+}
+
+fn eight<J: Naming + Send + Sync, R: Threads + Wait + Sync>(rt: &R, seats: &Seats<J>) {
+    join(
+        rt,
+        move || four(rt, seats, b'a'),
+        move || four(rt, seats, b'e'),
+    );
+}
+
+// Eight importers at once, beside the flusher.
+fn answered<J: Naming + Send + Sync, R: Threads + Wait + Abort + Sync>(
+    rt: &R,
+    alloc: Global,
+    opened: Opened,
+) -> Result<(), Fail>
+    requires { (opened.fronts ≡ J.fronts) × (opened.posts ≡ J.posts) }
+{
+    let (held, seats) = seated::<J, R>(rt, alloc, opened)?;
+    let shared = &seats;
+    let (left, ()) = join(rt, move || held.flush(), move || eight(rt, shared));
+    judge(rt, &left, &seats)
+}
+
+// The flusher and the seats of a new warehouse.
+fn seated<'a, J: Naming, R: Wait>(
+    rt: &'a R,
+    alloc: Global,
+    opened: Opened,
+) -> Result<(Held<'a, J, MemVolume, R>, Seats<J>), Fail>
+    requires { (opened.fronts ≡ J.fronts) × (opened.posts ≡ J.posts) }
+{
+    let store = created(alloc, memory(alloc))?;
+    match split::<J, MemVolume, R>(rt, alloc, opened, store, IMPORTERS, 1) {
+        Ok(parts) => {
+            let Parts {
+                importers,
+                flusher,
+                mut analysts,
+            } = parts;
+            let held = Held { flusher, rt };
+            let Some(analyst) = analysts.pop() else {
+                return Err(Fail::from("analyst"));
+            };
+            let seats = Seats {
+                alloc,
+                importers: Mutex::new(importers),
+                analyst: Mutex::new(analyst),
+                tally: Mutex::new(Tally::new()),
+            };
+            Ok((held, seats))
+        }
+        Err((_, fault)) => Err(Fail::from(fault)),
+    }
+}
+
+// Whether all went as it has to.
+fn judge<J: Naming, R: Wait + Abort>(rt: &R, left: &Left, seats: &Seats<J>) -> Result<(), Fail> {
+    let tally = seats.tally.lock(rt);
+    if let Some(fault) = left.fault {
+        return Err(Fail::from(fault));
+    }
+    if tally.ran_out {
+        return Err(Fail::from(StoreFault::NoMemory));
+    }
+    assert_eq!(rt; (left.entries, left.accepted), (ALL, ALL));
+    assert!(rt; tally.is_right());
+    Ok(())
+}
+
+/// Eight importers on threads each post four entries of an origin of their own, and an analyst learns each receipt and views. All are
+/// accepted, with the numbers 1 to 32, each once; each view has the entry that was learned; no commit fails; 32 entries are stored.
+#[test]
+fn all_answered(rt: HostRuntime) -> Result<(), Fail> {
+    answered::<Brand, _>(&rt, rt.alloc(), Opened::new())
+}
