@@ -557,6 +557,60 @@ class Files(unittest.TestCase):
         self.assertEqual((status, found["records"], found["badRecords"], found["faults"]), (1, 4500, 900, 1000))
 
 
+class Loads(unittest.TestCase):
+    """Files that are loaded side by side. The answers are worked out by hand from the format."""
+
+    HEADER = "BilledCost,EffectiveCost,BillingCurrency,ChargeCategory,ChargePeriodStart,ChargePeriodEnd,Tags\n"
+    ROW = '{0},{0},USD,Usage,2024-01-01T00:00:00Z,2024-01-01T01:00:00Z,"{{""team"":""{1}""}}"\n'
+
+    def setUp(self):
+        made = tempfile.TemporaryDirectory()
+        self.addCleanup(made.cleanup)
+        self.room = pathlib.Path(made.name)
+        self.folder = self.room / "costs"
+        self.folder.mkdir()
+
+    def file(self, name, *rows):
+        """A file of these rows, each a cost and a team, or a text as it is."""
+        path = self.room / name
+        path.write_text(self.HEADER + "".join(row if isinstance(row, str) else self.ROW.format(*row) for row in rows))
+        return str(path)
+
+    def load(self, *words):
+        return focusd("load", *map(str, words))
+
+    def test_a_right_file_and_one_with_a_bad_row(self):
+        files = self.file("a.csv", ("1.5", "web")), self.file("b.csv", ("1", "web"), "1,1\n")
+        self.assertEqual(self.load(*files), (0, "1 accepted\n2 refused V1 Fields 2\nstale 0\nstate 1 1 0 0\n", ""))
+
+    def test_a_folder_keeps_what_was_loaded(self):
+        files = [self.file(f"{at}.csv", (f"{at}.25", "web"), (f"0.{at}", "data")) for at in range(1, 9)]
+        wanted = "".join(f"{at} accepted\n" for at in range(1, 9)) + "stale 0\nstate 8 16 0 0\n"
+        self.assertEqual(self.load("--dir", self.folder, "--create", "--analysts", 4, *files), (0, wanted, ""))
+        report = focusd("report", "--dir", str(self.folder), "--tag", "team", *MONTH, "--format", "csv")[1]
+        self.assertEqual(report, "Group,BilledCost,EffectiveCost,ChargedCost\ndata,3.600000000,3.600000000,3.600000000\nweb,38.000000000,38.000000000,38.000000000\n")
+        again = "".join(f"{at} already 1\n" for at in range(1, 9)) + "stale 0\nstate 8 16 0 0\n"
+        self.assertEqual(self.load("--dir", self.folder, *files), (0, again, ""))
+        more = "1 accepted\nstale 0\nstate 9 18 0 0\n"
+        self.assertEqual(self.load("--dir", self.folder, "--origin", "g", files[0]), (0, more, ""))
+        self.assertEqual(focusd("verify", "--dir", str(self.folder))[0], 0)
+
+    def test_sixty_four_files_and_one_more(self):
+        file = self.file("a.csv", ("1", "web"))
+        wanted = "".join(f"{at} accepted\n" for at in range(1, 65)) + "stale 0\nstate 64 64 0 0\n"
+        self.assertEqual(self.load("--analysts", 16, *[file] * 64), (0, wanted, ""))
+        self.assertEqual(self.load(*[file] * 65), (1, "", "focusd: G1 Counts\n"))
+
+    def test_what_is_wrong(self):
+        file = self.file("a.csv", ("1", "web"))
+        self.assertEqual(self.load(file, self.room / "none.csv"), (1, "", "focusd: F1 Read\n"))
+        self.assertEqual(self.load("--dir", self.folder, file), (1, "", "focusd: S1 NoHouse\n"))
+        for words in ((), ("--analysts", "0", file), ("--analysts", "17", file), ("--currency", "dollars", file)):
+            self.assertEqual(self.load(*words)[0], 2, words)
+        refused = "1 refused E1 Origin\nstale 0\nstate 0 0 0 0\n"
+        self.assertEqual(self.load("--origin", "a b", file), (0, refused, ""))
+
+
 class Dumps(unittest.TestCase):
     """A dump, served by a new warehouse, makes the same one again."""
 
