@@ -5,8 +5,9 @@ use Rattle.csv.specs.Reading.{default_config}
 use Rattle.csv.specs.declared.parser.State.{State}
 use Rattle.csv.specs.declared.parser.State.TheVariants as st
 use Rattle.csv.proofs.ReadFacts.{feeds-push}
-use Rattle.std.proofs.lemmas.List.{take_more}
-use Rattle.fw_cut.specs.Places.{state_of, IsBehind, Does}
+use Rattle.std.proofs.lemmas.Bool.{cases_Bool}
+use Rattle.std.proofs.lemmas.List.{take_more, drop-drop}
+use Rattle.fw_cut.specs.Places.{state_of, IsBehind, Does, GoesOn}
 use Rattle.fw_cut.specs.Records.{Record, Spells, all_records}
 use Rattle.fw_cut.proofs.RecordFacts.{records-whole, records-spelled, no-end-behind}
 use Rattle.fw_cut.specs.Cutting.{Cuts, HasNoEnd}
@@ -95,6 +96,48 @@ scanned-on text most at p cut next s lt does goes =
       order = omega (arith, s.order);
       fed = n.2;
     }
+
+-- more bytes, of which none ends a record
+feeds-then : (s s1 s2 : State) (f f1 f2 : Record) (p p1 p2 x y : List ℕ) → Feeds default_config s f p x s1 f1 p1 false → Feeds default_config s1 f1 p1 y s2 f2 p2 false
+    → Feeds default_config s f p (x ++ y) s2 f2 p2 false
+unfolding Feeds
+feeds-then s s1 s2 f f1 f2 p p1 p2 [] y h k = rw (h.0, h.1, h.2) at k
+feeds-then s s1 s2 f f1 f2 p p1 p2 (c ∷ x) y h k = elim (cases_Bool (is_end (step default_config s c).1)) [
+  | inl e ↦ let q = rw e at h in cc q.4
+  | inr e ↦ let q = rw e at h in
+      rw e (feeds-then (step default_config s c).0 s1 s2 (fields_after (step default_config s c).1 f p) f1 f2 (field_after (step default_config s c).1 c p) p1 p2 x y q k)
+]
+
+scanned-goes : (text : List ℕ) (most at n : ℕ) (p q : Place) (cut : Cut) → Scanned text most at p cut → GoesOn p (take n (drop at text)) q → Scanned text most (at + n) q cut
+scanned-goes text most at n p q cut s goes =
+    let g = goes s.fields s.field in
+    let to : at ≡ cut.end + (at - cut.end) = omega (arith, s.order) in
+    let rest : drop (at - cut.end) (drop cut.end text) ≡ drop at text = drop-drop (at - cut.end) cut.end text ∙ ap (λ k. drop k text) (sym to) in
+    let count : at + n - cut.end ≡ at - cut.end + n = omega (arith, s.order) in
+    let bytes : take (at + n - cut.end) (drop cut.end text) ≡ take (at - cut.end) (drop cut.end text) ++ take n (drop at text)
+    = ap (λ k. take k (drop cut.end text)) count ∙ take-add (at - cut.end) n (drop cut.end text) ∙ ap (λ l. take (at - cut.end) (drop cut.end text) ++ take n l) rest in
+    record {
+      rows = s.rows;
+      state = s.state;
+      fields = g.0;
+      field = g.1;
+      whole = s.whole;
+      behind = s.behind;
+      count = s.count;
+      few = s.few;
+      order = omega (arith, s.order);
+      fed = rw bytes (feeds-then s.state (state_of p) (state_of q) [] s.fields g.0 [] s.field g.1 (take (at - cut.end) (drop cut.end text)) (take n (drop at text)) s.fed g.2);
+    }
+
+-- the same of the bytes of a slice that begins at the place
+pub scanned-run : (text : List ℕ) (most at n : ℕ) (p q : Place) (cut : Cut) → Scanned text most at p cut → at ≤ length text → n ≤ length (take (length text - at) (drop at text))
+    → GoesOn p (take n (take (length text - at) (drop at text))) q → Scanned text most (at + n) q cut × (at + n ≤ length text)
+scanned-run text most at n p q cut s low within goes =
+    let size = length-drop at text in
+    let all : take (length text - at) (drop at text) ≡ drop at text = take_all (length text - at) (drop at text) (omega (arith, size)) in
+    let fits : n ≤ length (drop at text) = rw all at within in
+    let all_goes : GoesOn p (take n (drop at text)) q = rw all at goes in
+    (scanned-goes text most at n p q cut s all_goes, omega (arith, size, fits, low))
 
 -- the record that the byte at the place ends
 pub record Ended (text : List ℕ) (at records : ℕ) (p : Place) : Type 0 where

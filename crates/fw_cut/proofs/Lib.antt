@@ -1,4 +1,5 @@
 mod RecordFacts
+mod RunFacts
 mod CutFacts
 mod PieceFacts
 mod PartFacts

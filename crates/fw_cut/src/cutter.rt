@@ -10,6 +10,7 @@ use crate::input::fill;
 use std::alloc::{AllocError, Global};
 use std::io::Read;
 use std::marker::Model;
+use std::mem;
 
 /// A text of the header and some records behind it.
 #[derive(Debug, Drop)]
@@ -30,6 +31,8 @@ pub struct Cutter<R: Read> {
     header: Vec<u8>,
     // what was read and isn't in a part yet
     buffer: Vec<u8>,
+    // room for what stays in the buffer when a part is taken: then the two change places, so that no part costs fresh memory
+    spare: Vec<u8>,
     // whether the reader has nothing left
     at_end: bool,
 }
@@ -71,8 +74,18 @@ fn rest_of(alloc: Global, text: &[u8], from: usize) -> Result<Vec<u8>, AllocErro
     ensures { IfOk result (λ rest. rest.items ≡ drop from text.now) }
 {
     let mut rest = Vec::new(alloc);
-    rest.extend_from_slice(&text[from..])?;
+    put_rest(&mut rest, text, from)?;
     Ok(rest)
+}
+
+/// Puts the bytes from a place on in place of what the first one had.
+fn put_rest(rest: &mut Vec<u8>, text: &[u8], from: usize) -> Result<(), AllocError>
+    requires { from ≤ length text.now }
+    ensures { OnOk result (rest.new.items ≡ drop from text.now) }
+{
+    rest.clear();
+    rest.extend_from_slice(&text[from..])?;
+    Ok(())
 }
 
 impl<R: Read + Drop> Cutter<R> {
@@ -103,6 +116,7 @@ impl<R: Read + Drop> Cutter<R> {
             reader,
             header: buffer,
             buffer: rest,
+            spare: Vec::new(alloc),
             at_end,
         })
     }
@@ -174,7 +188,8 @@ impl<R: Read> Cutter<R> {
         let mut text = Vec::new(alloc);
         text.extend_from_slice(&self.header)?;
         text.extend_from_slice(&self.buffer[..end])?;
-        self.buffer = rest_of(alloc, &self.buffer, end)?;
+        put_rest(&mut self.spare, &self.buffer, end)?;
+        mem::swap(&mut self.buffer, &mut self.spare);
         Ok(Part {
             text,
             header: self.header.len(),

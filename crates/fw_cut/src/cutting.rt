@@ -21,16 +21,20 @@ pub fn cut_off(text: &[u8], most: usize) -> Cut
 {
     let mut place = Place::Start;
     let mut cut = Cut { records: 0, end: 0 };
-    for (index, byte) in text.iter().enumerate() {
-        if place.stays(*byte) {
-            continue;
+    let mut at = 0;
+    while at < text.len() {
+        let run = place.run(&text[at..]);
+        let stop = at + run.len;
+        if stop == text.len() {
+            return cut;
         }
-        let step = place.after(*byte);
+        let step = run.place.after(text[stop]);
         place = step.place;
+        at = stop + 1;
         if step.ends {
             cut = Cut {
                 records: cut.records + 1,
-                end: index + 1,
+                end: at,
             };
             if cut.records == most {
                 return cut;

@@ -1,8 +1,9 @@
 //! Where a reader of records stands between two bytes of a text.
-ghost use Rattle.std.specs.Prelude.{◌≡◌, true, false, IsTrue};
+ghost use Rattle.std.specs.Prelude.{◌≡◌, ◌≤◌, true, false, All, length, take};
 ghost use Rattle.csv.specs.Machine.{in_field, start_field, start_record, step};
 ghost use Rattle.csv.specs.Reading.{default_config};
-ghost use Rattle.fw_cut.specs.Places.{state_of, Does};
+ghost use Rattle.fw_cut.specs.Places.{state_of, place_behind, Does, GoesOn, IsPlain};
+ghost use Rattle.fw_cut.specs.declared.place.Place.TheVariants.{Quoted};
 
 /// The bytes that separate fields and records.
 const COMMA: u8 = b',';
@@ -37,15 +38,46 @@ pub(crate) struct Step {
     pub(crate) ends: bool,
 }
 
+/// Bytes that end no record: where the reader stands behind them, and how many they are.
+#[derive(Clone, Copy, Drop)]
+pub(crate) struct Run {
+    pub(crate) place: Place,
+    pub(crate) len: usize,
+}
+
 impl Place {
-    /// Whether the next byte is one of those within a field: it ends nothing, and the reader stands as before.
-    pub(crate) fn stays(self, byte: u8) -> bool
-        ensures { IsTrue result → Does (step default_config (state_of self) byte) (record { place = self; ends = false }) }
+    /// The bytes that are next and surely end no record: within quotes all before the closing quote, else all before the next quote or line
+    /// end. Most bytes of a text are in such a run, and looking for its end takes a loop of few instructions a byte.
+    pub(crate) fn run(self, text: &[u8]) -> Run
+        ensures within { result.len ≤ length text.now }
+        ensures goes { GoesOn self (take result.len text.now) result.place }
     {
         match self {
-            Place::Plain => byte != COMMA && byte != CARRIAGE_RETURN && byte != LINE_FEED,
-            Place::Quoted => byte != QUOTE,
-            Place::Start | Place::AfterReturn | Place::Field | Place::AfterQuote => false,
+            Place::Quoted => Run {
+                place: self,
+                len: quoted_len(text),
+            },
+            _ => {
+                let len = plain_len(text);
+                Run {
+                    place: self.behind(text, len),
+                    len,
+                }
+            }
+        }
+    }
+
+    // Where a reader outside of quotes stands behind the first bytes, which are neither quotes nor line ends.
+    fn behind(self, text: &[u8], len: usize) -> Place
+        requires { len ≤ length text.now }
+        ensures { result ≡ place_behind self (take len text.now) }
+    {
+        if len == 0 {
+            self
+        } else if text[len - 1] == COMMA {
+            Place::Field
+        } else {
+            Place::Plain
         }
     }
 
@@ -126,4 +158,35 @@ fn in_field(byte: u8) -> Step
     } else {
         going_on(Place::Plain)
     }
+}
+
+// How many bytes stand before the first quote or line end.
+fn plain_len(text: &[u8]) -> usize
+    ensures within { result ≤ length text.now }
+    ensures plain { All IsPlain (take result text.now) }
+{
+    for (at, byte) in text.iter().enumerate() {
+        if *byte == QUOTE || *byte == CARRIAGE_RETURN || *byte == LINE_FEED {
+            return at;
+        }
+    }
+    text.len()
+}
+
+// How many bytes stand before the quote that closes a field, two quotes in a row being none; where the text ends behind a quote, those before it.
+fn quoted_len(text: &[u8]) -> usize
+    ensures within { result ≤ length text.now }
+    ensures goes { GoesOn Quoted (take result text.now) Quoted }
+{
+    let mut at = 0;
+    while at < text.len() {
+        if text[at] != QUOTE {
+            at += 1;
+        } else if at + 1 < text.len() && text[at + 1] == QUOTE {
+            at += 2;
+        } else {
+            return at;
+        }
+    }
+    at
 }
