@@ -25,5 +25,8 @@ pub use laws::{
     questions_are_answered_from_what_is_held, what_a_crash_leaves_is_reported_whole,
     what_is_written_is_true, what_the_store_refuses_has_its_cause,
 };
+pub use questions::answer_state;
+pub use refusals::{entry_reply, row_reply, verdict_reply};
 pub use reply::{Detail, Refusal, Reply};
 pub use server::serve;
+pub use writing::write_reply;

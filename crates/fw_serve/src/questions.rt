@@ -11,7 +11,7 @@ use fw_snapshot::Snapshot;
 use std::alloc::Global;
 
 /// The counts of a warehouse.
-pub(crate) fn answer_state(snapshot: &Snapshot) -> Reply
+pub fn answer_state(snapshot: &Snapshot) -> Reply
     ensures { reply_text result ≡ state_line snapshot.now }
 {
     let state = snapshot.state();

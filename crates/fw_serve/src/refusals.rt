@@ -14,7 +14,7 @@ use fw_snapshot::{Conflict, Snapshot, Verdict};
 
 /// The reply to rows that have a fault.
 #[tactic(auto, unfolding(crate::specs::Replies::row_fault_line, crate::specs::ReplyText::reply_text))]
-pub(crate) fn row_reply(fault: RowFault) -> Reply
+pub fn row_reply(fault: RowFault) -> Reply
     ensures { reply_text result ≡ row_fault_line fault }
 {
     match fault {
@@ -82,7 +82,7 @@ pub(crate) fn policy_reply(fault: PolicyFault) -> Reply
 
 /// The reply to parts that make no entry.
 #[tactic(auto, unfolding(crate::specs::Replies::entry_fault_line, crate::specs::ReplyText::reply_text))]
-pub(crate) fn entry_reply(fault: EntryFault) -> Reply
+pub fn entry_reply(fault: EntryFault) -> Reply
     ensures { reply_text result ≡ entry_fault_line fault }
 {
     match fault {
@@ -95,7 +95,7 @@ pub(crate) fn entry_reply(fault: EntryFault) -> Reply
 
 /// The reply to an entry with this verdict, after which this is the warehouse.
 #[tactic(auto, unfolding(crate::specs::Replies::verdict_line, crate::specs::ReplyText::reply_text))]
-pub(crate) fn verdict_reply(snapshot: &Snapshot, verdict: Verdict) -> Reply
+pub fn verdict_reply(snapshot: &Snapshot, verdict: Verdict) -> Reply
     ensures { reply_text result ≡ verdict_line (length snapshot.now.entries) verdict }
 {
     match verdict {

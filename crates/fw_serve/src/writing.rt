@@ -12,7 +12,7 @@ use std::io::Write;
 
 // Writes the reply, with the line feed that ends its line.
 #[tactic(auto, unfolding(crate::specs::ReplyText::reply_text, crate::specs::Replies::accepted_line, crate::specs::Replies::already_line, crate::specs::Replies::gap_line, crate::specs::Replies::counted, crate::specs::Replies::store_line, crate::specs::Replies::checkpointed_line, crate::specs::Replies::no_memory_line, crate::specs::Replies::bad_command_line, crate::specs::Replies::bad_end_line))]
-pub(crate) fn write_reply<W: Write>(writer: &mut W, reply: &Reply) -> Result<(), ServeFault>
+pub fn write_reply<W: Write>(writer: &mut W, reply: &Reply) -> Result<(), ServeFault>
     ensures whole { OnOk result (Appends (W.contents writer.old) (W.contents writer.new) (reply_text reply.now)) }
     ensures part { IfErr result (λ why. (why ≡ ServeFault.Write) × WritesPart (W.contents writer.old) (W.contents writer.new) (reply_text reply.now)) }
 {
