@@ -153,14 +153,18 @@ fn quantity_of(row: &LentRow<'_>) -> u64
     }
 }
 
-/// The part of a cost that falls to what is left of a quantity, rounded down. The product stays within 128 bits: a cost is at most 10^17
-/// nanos, which is below 2^57, and what is left is below 2^64.
+/// The part of a cost that falls to what is left of a quantity, rounded down: all of it where all is left, which divides nothing. The
+/// product stays within 128 bits: a cost is at most 10^17 nanos, which is below 2^57, and what is left is below 2^64.
 fn part_of(cost: Nanos, left: u64, quantity: u64) -> Nanos
     requires some { 0 < quantity }
     requires left { left ≤ quantity }
     ensures { result ≡ pos (in_proportion (unsigned_abs cost) quantity left) }
 {
-    let cost = u128::from(cost.count().unsigned_abs());
+    let cost = cost.count().unsigned_abs();
+    if left == quantity {
+        return Nanos::of_fields(cost as i64);
+    }
+    let cost = u128::from(cost);
     let part = cost * u128::from(left) / u128::from(quantity);
     Nanos::of_fields(part as i64)
 }

@@ -1,5 +1,5 @@
 ghost use Rattle.std.specs.Prelude.{◌≡◌, ℕ, ◌*◌, ◌^◌, ◌<◌, ◌≤◌};
-ghost use Rattle.fw_cover.specs.Part.{usage_part_of, spend_part_of};
+ghost use Rattle.fw_cover.specs.Part.{in_proportion, usage_part_of, spend_part_of};
 
 /// What a commitment takes of a row, in nanos: the quantity taken, and its weight, which is what it uses of the commitment's capacity.
 #[derive(Clone, Copy, Debug, PartialEq, Eq)]
@@ -20,6 +20,20 @@ pub(crate) fn usage_part(row_left: u64, capacity_left: u64) -> Part
         quantity,
         weight: quantity,
     }
+}
+
+/// The part of a cost that falls to what is left of a quantity, rounded down: all of it where all is left, which divides nothing.
+fn in_proportion(cost: u64, quantity: u64, left: u64) -> u128
+    requires cost { cost ≤ 10 ^ 17 }
+    requires some { 0 < quantity }
+    requires left { left ≤ quantity }
+    ensures part { result ≡ in_proportion cost quantity left }
+    ensures most { result ≤ cost }
+{
+    if left == quantity {
+        return u128::from(cost);
+    }
+    u128::from(cost) * u128::from(left) / u128::from(quantity)
 }
 
 /// A commitment to a cost takes all that is left of the row where what it needs for its cost fits in what is left of the capacity, and
@@ -56,7 +70,7 @@ pub(crate) fn spend_part(
             weight: 0,
         };
     }
-    let cost = u128::from(billed) * u128::from(row_left) / u128::from(quantity);
+    let cost = in_proportion(billed, quantity, row_left);
     let need = (cost * u128::from(rate)).div_ceil(1_000_000);
     if need == 0 {
         return Part {
