@@ -18,6 +18,7 @@ import json
 import os
 import shlex
 import shutil
+import statistics
 import sys
 import tempfile
 
@@ -91,8 +92,8 @@ def dicts(printed):
 
 
 def imports(runs, data, posts, folders):
-    """The export by import and by script, in turns: the least processor seconds of each."""
-    least = {}
+    """The export by import and by script, in turns: the processor seconds of each, the median of the turns."""
+    taken = {}
     for turn in range(runs.options.turns):
         ways = {
             "import": (("import", "--quiet", "--dir", folders["import"], "--create", "--origin", "bench", data.export), os.devnull),
@@ -103,14 +104,14 @@ def imports(runs, data, posts, folders):
             shutil.rmtree(folder, ignore_errors=True)
             os.mkdir(folder)
             took = runs.run(name, *words, stdin=stdin, shown=turn == 0)
-            least[name] = min(least.get(name, took.processor_seconds), took.processor_seconds)
+            taken.setdefault(name, []).append(took.processor_seconds)
     again = runs.run("import again", "import", "--quiet", "--dir", folders["import"], "--origin", "bench", data.export)
-    runs.expect("an import that is run again imports nothing", again.output.startswith(f"imported 0 rows, {data.rows:,} were there".encode()))
+    runs.expect("an import that is run again imports nothing", again.output.startswith(f"imported 0 rows, {data.rows} were there already".encode()))
     for name in ("import", "script"):
         asked = ("report", "--dir", folders[name], "--tag", "team", *MONTH, "--format", "csv")
         report = runs.run("report --format csv", *asked, shown=name == "import")
         runs.expect(f"the report after {name} is that of expected.py", report.output == data.right_report)
-    return least
+    return {name: statistics.median(seconds) for name, seconds in taken.items()}
 
 
 def with_costs(sums):
@@ -121,7 +122,7 @@ def with_costs(sums):
 def questions(runs, data, sums, folder):
     """The commands that ask a warehouse without commitments, and `check`."""
     found = dicts(runs.run("report --by day", "report", "--dir", folder, "--tag", "team", *MONTH, "--by", "day", "--format", "csv").output)
-    by_day = {(it["Period"], it["Group"]): [expected.nanos(it[cost]) for cost in COSTS] for it in found}
+    by_day = {(it["From"][:10], it["Group"]): [expected.nanos(it[cost]) for cost in COSTS] for it in found}
     runs.expect("the report by day has the sums of the export", with_costs(by_day) == with_costs(sums.by_day))
     lines = dicts(runs.run("lines", "lines", "--dir", folder, *MONTH).output)
     totals = [sum(expected.nanos(it[cost]) for it in lines) for cost in COSTS]
@@ -188,7 +189,7 @@ def run(options):
     sums, runs = Sums(data.export), Runs(options)
     with tempfile.TemporaryDirectory(dir=options.scratch) as room:
         folders = {it: os.path.join(room, it) for it in ("import", "script", "copy")}
-        least = imports(runs, data, posts, folders)
+        medians = imports(runs, data, posts, folders)
         status = questions(runs, data, sums, folders["import"])
         coverage(runs, sums, folders["import"], room)
         dumps(runs, folders, room)
@@ -197,8 +198,8 @@ def run(options):
         print(f"{line}  ")
     print(f"Load of the machine before and after: {before}; {load()}\n")
     print("\n".join(runs.table()))
-    taken, beside = least["import"], least["the same rows by a script"]
-    print(f"\nImport beside the same rows by a script, processor time, the least of {options.turns} turns: {taken:.2f} and {beside:.2f} s.")
+    taken, beside = medians["import"], medians["the same rows by a script"]
+    print(f"\nImport beside the same rows by a script, processor time, the median of {options.turns} turns: {taken:.2f} and {beside:.2f} s.")
     print(f"Goal, at most {MOST_TIMES_SCRIPT} times: **{verdict(taken <= MOST_TIMES_SCRIPT * beside)}** ({taken / beside:.2f} times)")
     room = (max(it.peak for name, it in runs.lines if name == "import") - status.peak) / 1e6
     print(f"\nPeak memory of an import above that of `status`, which opens the same warehouse: {room:.0f} MB.")
