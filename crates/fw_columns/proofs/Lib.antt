@@ -6,4 +6,5 @@ mod RowFacts
 mod JoinFacts
 mod GroupFacts
 mod AddFacts
+mod KeptFacts
 pub mod LendingFacts

@@ -52,7 +52,7 @@ impl Columns {
     }
 
     /// The columns as they are kept.
-    fn table(&self) -> &Table
+    pub(crate) fn table(&self) -> &Table
         ensures rows { rows_of result.now ≡ self.now }
         ensures columns { AreColumns result.now (rows_of result.now) }
         ensures some { 0 < length self.now }

@@ -10,6 +10,7 @@ mod codes;
 mod columns;
 mod grouping;
 mod joining;
+mod kept;
 mod lending;
 mod lengths;
 mod lists;
