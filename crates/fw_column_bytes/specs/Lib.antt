@@ -1,1 +1,5 @@
 pub mod Spelling
+pub mod Reading
+pub mod PartsView
+pub mod Fits
+pub mod Rows

@@ -5,6 +5,10 @@
 //! and a file without a look at each row.
 #![tactic(auto)]
 
+mod fields;
+mod reading;
+mod rows;
 mod writing;
 
+pub use rows::columns_of;
 pub use writing::put_columns;

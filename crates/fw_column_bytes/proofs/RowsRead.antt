@@ -1,0 +1,172 @@
+-- The rows of fields that were read, each in its range.
+use Rattle.std.proofs.Common.{◌≡◌, ℕ, zero, suc, ◌+◌, ◌*◌, ◌/◌, ◌<◌, ◌≤◌, ◌^◌, Bool, true, false, List, [], ◌∷◌, length, get_or, cond, Option, Some, None, All, refl, sym, ap, subst, ◌∙◌, arith, ℤ}
+use Rattle.std.specs.Prelude.{pos, nat_lt, nat_le, map}
+use Rattle.std.specs.List.{AllByRecursion, list_all, range_with_len}
+use Rattle.std.proofs.lemmas.Bool.{and_parts, ltb-true, ltb-false, leb-true}
+use Rattle.std.proofs.lemmas.List.{length-map}
+use Rattle.std.proofs.lemmas.List.FromFn.{length-range_with_len}
+use Rattle.std.proofs.lemmas.List.Elements.{All-from_recursion, All-nil, All-cons}
+use Rattle.fw_bytes.specs.Spelling.{FitsOptional, FitsChecked, Fits32}
+use Rattle.fw_bytes.proofs.Laws.{list_fits, list_parts}
+use Rattle.fw_charge.specs.Spelling.{FitsNanos, FitsShortText, FitsTagText, FitsTag, FitsTags, IsRow, is_short}
+use Rattle.fw_charge.specs.Tags.{TagText, most_tags}
+use Rattle.fw_columns.specs.Names.{Text}
+use Rattle.fw_columns.specs.Table.{text_at, text_of, quantity_of, tag_of, tags_of}
+use Rattle.fw_columns.proofs.LendingFacts.{tags_counted}
+use Rattle.fw_row_bytes.specs.Reading.{Fields, fields_agree, row_from}
+use Rattle.fw_row_bytes.proofs.RowFormat.{FitFields, is_row_from}
+use Rattle.fw_charge.specs.Spelling.{FitsSecond}
+use Rattle.fw_money.specs.Amount.{most_nanos}
+use Rattle.std.specs.Prelude.{nat_abs}
+use Rattle.fw_column_bytes.specs.Reading.{is_text_code, is_place_code, most_names, most_rows, Parts, fields_at_place}
+use Rattle.fw_column_bytes.specs.Fits.{FitsTimes, FitsTextCode, FitsPlace, FitsPlaces, FitParts, FitsByte}
+use Rattle.fw_column_bytes.specs.Rows.{HasPlace, fields_with}
+use Rattle.fw_column_bytes.specs.declared.rows.FieldsRead.{FieldsRead}
+
+-- what each value of a column keeps
+pub each_keeps : {A : Type 0} (Fits : A → Type 0) (n : ℕ) (xs : List A) (i : ℕ) (d : A) → FitsTimes n Fits xs → i < n → Fits (get_or xs i d)
+each_keeps Fits n xs i d h lt = let size : length xs ≡ n = h.0 in All-from_recursion Fits xs h.1 i d (omega (arith, size, lt))
+
+pub one_more : (n : ℕ) → 1 + n ≡ suc n
+one_more n = omega arith
+
+module _ (names : List Text) (fit : All FitsTagText names) where
+  -- the text of a code
+  pub text_fits : (code : ℕ) → FitsTextCode names code → FitsOptional FitsShortText (text_of names code)
+  unfolding text_of text_at
+  text_fits zero h = tt
+  text_fits (suc place) h =
+      let p = and_parts (nat_lt place (length names)) (is_short (text_at names place)) h.1 in
+      ((fit place [] (ltb-true _ _ p.0)).0, p.1)
+
+  -- the text at a place
+  place_below : (place : ℕ) → FitsPlace names place → place < length names
+  place_below place h = ltb-true _ _ (subst (λ (n : ℕ). is_place_code names n ≡ true) (one_more place) h.1)
+
+  tag_text_fits : (place : ℕ) → FitsPlace names place → FitsTagText (text_at names place)
+  unfolding text_at
+  tag_text_fits place h = fit place [] (place_below place h)
+
+  each_tag_fits : (places : List ℕ) → AllByRecursion (FitsPlace names) places → All FitsTag (tags_of names places)
+  unfolding tags_of tag_of
+  each_tag_fits [] h = All-nil FitsTag
+  each_tag_fits (key ∷ []) h = All-nil FitsTag
+  each_tag_fits (key ∷ value ∷ places) h =
+      All-cons FitsTag (tag_of names key value) (tags_of names places) (tag_text_fits key h.0, tag_text_fits value h.1.0) (each_tag_fits places h.1.1)
+
+  pub tags_fit : (places : List ℕ) → FitsPlaces names places → FitsTags (tags_of names places)
+  tags_fit places h =
+      let count : length places / 2 ≡ length (tags_of names places) = tags_counted names places in
+      let few : length places / 2 ≤ most_tags = leb-true _ _ h.few.1 in
+      list_fits FitsTag 0 most_tags (tags_of names places) (omega arith) (omega (arith, count, few)) (omega arith) (each_tag_fits places h.each)
+
+  pub places_within : (places : List ℕ) → AllByRecursion (FitsPlace names) places → All (λ place. place < length names) places
+  places_within [] h = All-nil (λ place. place < length names)
+  places_within (place ∷ places) h = All-cons (λ place. place < length names) place places (place_below place h.0) (places_within places h.1)
+
+  pub code_within : (code : ℕ) → FitsTextCode names code → code ≤ length names
+  code_within zero h = omega arith
+  code_within (suc place) h = let b : place < length names = ltb-true _ _ (and_parts (nat_lt place (length names)) (is_short (text_at names place)) h.1).0 in omega (arith, b)
+
+quantity_fits : (there : Bool) (z : ℤ) → FitsNanos z → FitsOptional FitsNanos (quantity_of there z)
+unfolding quantity_of
+quantity_fits false z h = tt
+quantity_fits true z h = h
+
+module _ (p : Parts) (h : FitParts p) where
+  pub names_fit : All FitsTagText p.0.1.1
+  names_fit = (list_parts FitsTagText 0 most_names p.0.1.1 h.0.1.1).2
+
+  module _ (i : ℕ) (lt : i < p.0.1.0) where
+    pub fields_fit : FitFields (fields_at_place p i)
+    unfolding fields_at_place
+    fields_fit =
+        let b = h.1 in
+        let names = p.0.1.1 in
+        let text = λ (xs : List ℕ) (k : FitsTimes p.0.1.0 (FitsTextCode names) xs). text_fits names names_fit (get_or xs i 0) (each_keeps (FitsTextCode names) p.0.1.0 xs i 0 k lt) in
+        (
+          (each_keeps FitsNanos p.0.1.0 p.1.0.0 i (pos 0) b.0.0 lt, (each_keeps FitsNanos p.0.1.0 p.1.0.1.0 i (pos 0) b.0.1.0 lt, (tt, tt))),
+          (
+            (each_keeps _ p.0.1.0 p.1.1.0.0 i 0 b.1.0.0 lt, each_keeps _ p.0.1.0 p.1.1.0.1 i 0 b.1.0.1 lt),
+            (
+              (text p.1.1.1.0.0 b.1.1.0.0, (tt, tt)),
+              (
+                (
+                  quantity_fits _ (get_or p.1.1.1.1.0.1 i (pos 0)) (each_keeps FitsNanos p.0.1.0 p.1.1.1.1.0.1 i (pos 0) b.1.1.1.0.1 lt),
+                  (text p.1.1.1.1.1.0.0 b.1.1.1.1.0.0, (text p.1.1.1.1.1.0.1.0 b.1.1.1.1.0.1.0, text p.1.1.1.1.1.0.1.1 b.1.1.1.1.0.1.1)),
+                ),
+                tags_fit names names_fit (get_or p.1.1.1.1.1.1 i []) (each_keeps (FitsPlaces names) p.0.1.0 p.1.1.1.1.1.1 i [] b.1.1.1.1.1 lt),
+              ),
+            ),
+          ),
+        )
+
+    pub row_kept : fields_agree (fields_at_place p i) ≡ true → IsRow (row_from (fields_at_place p i))
+    row_kept e = is_row_from (fields_at_place p i) fields_fit e
+
+    in_range : (xs : List ℤ) → FitsTimes p.0.1.0 FitsNanos xs → nat_abs (get_or xs i (pos 0)) ≤ most_nanos
+    in_range xs k = leb-true _ _ (each_keeps FitsNanos p.0.1.0 xs i (pos 0) k lt).1
+
+    below : {A : Type 0} (Fits : A → Type 0) (xs : List A) → FitsTimes p.0.1.0 Fits xs → i < length xs
+    below Fits xs k = let size : length xs ≡ p.0.1.0 = k.0 in omega (arith, size, lt)
+
+    code : (xs : List ℕ) → FitsTimes p.0.1.0 (FitsTextCode p.0.1.1) xs → get_or xs i 0 ≤ length p.0.1.1
+    code xs k = code_within p.0.1.1 names_fit (get_or xs i 0) (each_keeps (FitsTextCode p.0.1.1) p.0.1.0 xs i 0 k lt)
+
+    -- the columns have a row at each place
+    pub has_place : HasPlace p i
+    has_place =
+        let b = h.1 in
+        record {
+          billed = below FitsNanos p.1.0.0 b.0.0;
+          billed_range = in_range p.1.0.0 b.0.0;
+          effective = below FitsNanos p.1.0.1.0 b.0.1.0;
+          effective_range = in_range p.1.0.1.0 b.0.1.0;
+          categories = below (FitsByte 1 5) p.1.0.1.1.0 b.0.1.1.0;
+          classes = below (FitsByte 0 1) p.1.0.1.1.1 b.0.1.1.1;
+          starts = below FitsSecond p.1.1.0.0 b.1.0.0;
+          ends = below FitsSecond p.1.1.0.1 b.1.0.1;
+          ids = below (FitsTextCode p.0.1.1) p.1.1.1.0.0 b.1.1.0.0;
+          id = code p.1.1.1.0.0 b.1.1.0.0;
+          kinds = below (FitsByte 0 2) p.1.1.1.0.1.0 b.1.1.0.1.0;
+          statuses = below (FitsByte 0 2) p.1.1.1.0.1.1 b.1.1.0.1.1;
+          are_there = below (FitsByte 0 1) p.1.1.1.1.0.0 b.1.1.1.0.0;
+          counts = below FitsNanos p.1.1.1.1.0.1 b.1.1.1.0.1;
+          count_range = in_range p.1.1.1.1.0.1 b.1.1.1.0.1;
+          units = below (FitsTextCode p.0.1.1) p.1.1.1.1.1.0.0 b.1.1.1.1.0.0;
+          unit = code p.1.1.1.1.1.0.0 b.1.1.1.1.0.0;
+          skus = below (FitsTextCode p.0.1.1) p.1.1.1.1.1.0.1.0 b.1.1.1.1.0.1.0;
+          sku = code p.1.1.1.1.1.0.1.0 b.1.1.1.1.0.1.0;
+          sub_accounts = below (FitsTextCode p.0.1.1) p.1.1.1.1.1.0.1.1 b.1.1.1.1.0.1.1;
+          sub_account = code p.1.1.1.1.1.0.1.1 b.1.1.1.1.0.1.1;
+        }
+
+    pub list_fits_there : FitsPlaces p.0.1.1 (get_or p.1.1.1.1.1.1 i [])
+    list_fits_there = each_keeps (FitsPlaces p.0.1.1) p.0.1.0 p.1.1.1.1.1.1 i [] h.1.1.1.1.1.1 lt
+
+    pub list_below : i < length p.1.1.1.1.1.1
+    list_below = below (FitsPlaces p.0.1.1) p.1.1.1.1.1.1 h.1.1.1.1.1.1
+
+-- ---- how many rows there are
+
+within_is : (low high : Bool) → cond low false (cond high false true) ≡ true → (low ≡ false) × (high ≡ false)
+within_is true high e = absurd cc
+within_is false true e = absurd cc
+within_is false false e = (refl, refl)
+
+pub count_within : (p : Parts) → FitParts p → (1 ≤ p.0.1.0) × (p.0.1.0 ≤ 65536)
+count_within p h =
+    let w = within_is (nat_lt p.0.1.0 1) (nat_lt most_rows p.0.1.0) h.0.1.0.1 in
+    (ltb-false _ _ w.0, ltb-false _ _ w.1)
+
+pub made_count : (p : Parts) (n : ℕ) → length (map row_from (map (fields_at_place p) (range_with_len 0 n))) ≡ n
+made_count p n = length-map (map (fields_at_place p) (range_with_len 0 n)) row_from ∙ (length-map (range_with_len 0 n) (fields_at_place p) ∙ length-range_with_len 0 n)
+
+-- ---- the fields of a row, with tags that were made of its list
+
+tags_there : (p : Parts) (i : ℕ) → (fields_at_place p i).1.1.1.1 ≡ tags_of p.0.1.1 (get_or p.1.1.1.1.1.1 i [])
+unfolding fields_at_place
+tags_there p i = refl
+
+pub whole_fields : (p : Parts) (i : ℕ) (f : FieldsRead) (tags : List TagText) → fields_with f (fields_at_place p i).1.1.1.1 ≡ fields_at_place p i → tags ≡ tags_of p.0.1.1 (get_or p.1.1.1.1.1.1 i []) → fields_with f tags ≡ fields_at_place p i
+whole_fields p i f tags read are = ap (fields_with f) (are ∙ sym (tags_there p i)) ∙ read

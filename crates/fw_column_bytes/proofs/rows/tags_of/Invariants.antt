@@ -1,0 +1,10 @@
+use Rattle.std.proofs.Common.{length}
+use Rattle.std.specs.Prelude.{map, string_bytes}
+use Rattle.fw_column_bytes.proofs.TagLists.{AreSplit}
+use Rattle.fw_column_bytes.proofs.rows.tags_of.Given as goal
+
+abbrev pub invariant-loop-rest : goal.invariant-loop-rest
+invariant-loop-rest l = AreSplit (map string_bytes l.names) l.tags.items l.rest l.list
+
+abbrev pub decreases-loop-rest : goal.decreases-loop-rest
+decreases-loop-rest l = length l.rest
