@@ -4,3 +4,4 @@ pub mod TagLists
 pub mod PartsFormat
 pub mod RowsRead
 pub mod ColumnFacts
+pub mod ColumnsTaken

@@ -3,3 +3,4 @@ pub mod Reading
 pub mod PartsView
 pub mod Fits
 pub mod Rows
+pub mod Kept
