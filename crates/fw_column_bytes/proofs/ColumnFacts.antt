@@ -1,5 +1,5 @@
 -- What is read of rows by column, from its fields and the rows of these.
-use Rattle.std.proofs.Common.{◌≡◌, ℕ, zero, suc, ◌+◌, ◌-◌, ◌<◌, Bool, true, false, List, [], ◌∷◌, ◌++◌, length, take, Option, Some, None, Result, Ok, Err, cond, refl, sym, ap, subst, ◌∙◌, arith}
+use Rattle.std.proofs.Common.{◌≡◌, ℕ, zero, suc, ◌+◌, ◌-◌, ◌<◌, Bool, true, false, List, [], ◌∷◌, ◌++◌, length, take, Result, Ok, Err, cond, refl, sym, ap, subst, arith}
 use Rattle.std.specs.Prelude.{map, ◌&&◌}
 use Rattle.std.specs.List.{list_all, range_with_len}
 use Rattle.std.specs.Str.{bytes_eq}
@@ -8,7 +8,7 @@ use Rattle.fw_bytes.specs.Reading.{Fails}
 use Rattle.fw_bytes.specs.declared.fault.ReadError.{ReadError}
 use Rattle.fw_bytes.specs.declared.fault.ReadError.TheVariants as errors
 use Rattle.fw_charge.specs.Charge.{Charge}
-use Rattle.fw_row_bytes.specs.Reading.{Fields, fields_agree, row_from}
+use Rattle.fw_row_bytes.specs.Reading.{fields_agree, row_from}
 use Rattle.fw_column_bytes.specs.Spelling.{columns}
 use Rattle.fw_column_bytes.specs.Reading.{Parts, parts_at, fields_at_place, rows_fields, rows_from, columns_at}
 use Rattle.fw_column_bytes.specs.Rows.{Refuses, agreeing_rows}

@@ -1,17 +1,17 @@
 -- What is read of rows by column is spelled so.
-use Rattle.std.proofs.Common.{◌≡◌, ℕ, zero, suc, ◌+◌, ◌-◌, ◌<◌, ◌≤◌, Bool, true, false, List, [], ◌∷◌, ◌++◌, length, get_or, take, drop, All, Result, Ok, Err, cond, refl, sym, ap, subst, ◌∙◌, arith, length-append}
+use Rattle.std.proofs.Common.{◌≡◌, ℕ, zero, suc, ◌+◌, ◌-◌, ◌<◌, Bool, true, List, ◌++◌, length, get_or, take, drop, All, Result, Ok, Err, cond, sym, ap, subst, ◌∙◌, arith, length-append}
 use Rattle.std.specs.Prelude.{map, ◌&&◌}
 use Rattle.std.specs.List.{list_all, range_with_len}
 use Rattle.std.specs.Str.{bytes_eq}
 use Rattle.std.specs.Cmp.Lexicographic.{bytes_decides}
 use Rattle.std.proofs.lemmas.Bool.{and_parts}
-use Rattle.std.proofs.lemmas.List.{take-append-drop, drop_at, length-map}
+use Rattle.std.proofs.lemmas.List.{take-append-drop, drop_at}
 use Rattle.std.proofs.lemmas.List.Elements.{All-map}
 use Rattle.std.proofs.lemmas.List.FromFn.{length-range_with_len, get_or-range_with_len}
 use Rattle.fw_bytes.proofs.Laws.{IsBytes, Takes, bind_ok, passed, ok_is}
 use Rattle.fw_charge.specs.Charge.{Charge}
 use Rattle.fw_charge.specs.Spelling.{IsRow}
-use Rattle.fw_row_bytes.specs.Reading.{Fields, fields_agree, row_from}
+use Rattle.fw_row_bytes.specs.Reading.{fields_agree, row_from}
 use Rattle.fw_column_bytes.specs.Kept.{AreRows}
 use Rattle.fw_column_bytes.specs.Fits.{FitParts}
 use Rattle.fw_column_bytes.specs.Spelling.{columns}
@@ -38,10 +38,10 @@ module _ (p : Parts) (h : FitParts p) (agree : list_all fields_agree (rows_field
       let Row : ℕ → Type 0 = λ i. IsRow (row_from (fields_at_place p i)) in
       let each : All Row (range_with_len 0 p.0.1.0) =
       (λ k d lt.
-          let size : length (range_with_len 0 p.0.1.0) ≡ p.0.1.0 = length-range_with_len 0 p.0.1.0 in
-          let below : k < p.0.1.0 = omega (arith, size, lt) in
-          let there : k ≡ get_or (range_with_len 0 p.0.1.0) k d = sym (get_or-range_with_len 0 p.0.1.0 k d below ∙ (omega arith)) in
-          subst Row there (row_at_place k below)) in
+      let size : length (range_with_len 0 p.0.1.0) ≡ p.0.1.0 = length-range_with_len 0 p.0.1.0 in
+      let below : k < p.0.1.0 = omega (arith, size, lt) in
+      let there : k ≡ get_or (range_with_len 0 p.0.1.0) k d = sym (get_or-range_with_len 0 p.0.1.0 k d below ∙ (omega arith)) in
+      subst Row there (row_at_place k below)) in
       All-map IsRow row_from (map (fields_at_place p) (range_with_len 0 p.0.1.0)) (All-map (λ f. IsRow (row_from f)) (fields_at_place p) (range_with_len 0 p.0.1.0) each)
 
   are_rows : AreRows (rows_from p)
@@ -75,7 +75,3 @@ columns_taken_so bytes x is e =
     let whole : bytes ≡ columns (rows_from p) ++ rest = front_is bytes (spelled_parts p) rest t.0.parts ∙ ap (λ (w : List ℕ). w ++ rest) (sym spelled) in
     let took : Takes bytes (columns made.0) made.1 = record { parts = whole; rest_fits = t.0.rest_fits } in
     subst (λ (y : List Charge × List ℕ). Takes bytes (columns y.0) y.1 × AreRows y.0) (ok_is made x g.1) (took, are_rows p t.1 both.0)
-
--- rows whose bytes are one are one: what is read of these
-pub one_reading : (bytes : List ℕ) (x y : List Charge × List ℕ) → columns_at bytes ≡ Ok x → columns_at bytes ≡ Ok y → x ≡ y
-one_reading bytes x y e f = ok_is x y (sym e ∙ f)

@@ -5,3 +5,4 @@ pub mod PartsFormat
 pub mod RowsRead
 pub mod ColumnFacts
 pub mod ColumnsTaken
+pub mod ColumnsAgain

@@ -1,16 +1,14 @@
 -- What is read of the fields is spelled so, and what is spelled so is read.
-use Rattle.std.proofs.Common.{◌≡◌, ℕ, zero, suc, ◌+◌, ◌-◌, ◌*◌, ◌/◌, ◌^◌, ◌≤◌, Bool, true, false, List, [], ◌∷◌, ◌++◌, length, Option, Some, None, Ok, refl, sym, ap, subst, ◌∙◌, append_assoc, arith, ℤ}
+use Rattle.std.proofs.Common.{◌≡◌, ℕ, zero, suc, ◌+◌, ◌-◌, ◌*◌, ◌/◌, ◌^◌, List, [], ◌∷◌, ◌++◌, length, Some, Ok, refl, sym, subst, append_assoc, arith}
 use Rattle.std.specs.Prelude.{nat_le}
 use Rattle.std.specs.List.{flat_map, AllByRecursion}
 use Rattle.std.specs.Int.{w32}
-use Rattle.std.proofs.lemmas.Bool.{leb-true, le-leb}
-use Rattle.fw_bytes.specs.Spelling.{number32, number64, text, listed, pair, within, Always, Fits32, FitsChecked, FitsPair, FitsList}
-use Rattle.fw_bytes.specs.Reading.{◌>>=◌, times, checked}
-use Rattle.fw_bytes.proofs.Laws.{IsBytes, Takes, Takes-then, IsFormat, bind_ok, ok_is, checked_format, seen_format, both_format, list_format, number_format, wide32, code_format, times_takes, times_again}
-use Rattle.fw_charge.specs.Spelling.{nanos, FitsNanos, FitsSecond, FitsTagText}
+use Rattle.fw_bytes.specs.Spelling.{number32, number64, text, listed, pair, within, Fits32, FitsChecked}
+use Rattle.fw_bytes.specs.Reading.{◌>>=◌, times}
+use Rattle.fw_bytes.proofs.Laws.{Takes, Takes-then, IsFormat, bind_ok, ok_is, checked_format, seen_format, both_format, list_format, number_format, wide32, code_format, times_takes, times_again}
+use Rattle.fw_charge.specs.Spelling.{nanos}
 use Rattle.fw_charge.specs.Tags.{most_tags}
 use Rattle.fw_columns.specs.Names.{Text}
-use Rattle.fw_row_bytes.specs.Reading.{nanos_at, second_at, tag_text_at}
 use Rattle.fw_row_bytes.proofs.FieldFormats.{nanos_format, second_format, tag_text_format}
 use Rattle.fw_column_bytes.specs.Spelling.{layout}
 use Rattle.fw_column_bytes.specs.Reading.{byte_at, is_text_code, text_code_at, is_place_code, place_at, tag_count_at, tag_places_at, most_rows, row_count_at, most_names, names_at, Front, front_at, Body, body_at, amounts_at, periods_at, discounts_at, quantities_at, texts_at, Parts, parts_at}

@@ -1,24 +1,24 @@
 -- The rows of fields that were read, each in its range.
-use Rattle.std.proofs.Common.{◌≡◌, ℕ, zero, suc, ◌+◌, ◌*◌, ◌/◌, ◌<◌, ◌≤◌, ◌^◌, Bool, true, false, List, [], ◌∷◌, length, get_or, cond, Option, Some, None, All, refl, sym, ap, subst, ◌∙◌, arith, ℤ}
-use Rattle.std.specs.Prelude.{pos, nat_lt, nat_le, map}
-use Rattle.std.specs.List.{AllByRecursion, list_all, range_with_len}
+use Rattle.std.proofs.Common.{◌≡◌, ℕ, zero, suc, ◌+◌, ◌/◌, ◌<◌, ◌≤◌, Bool, true, false, List, [], ◌∷◌, length, get_or, cond, All, refl, sym, ap, subst, ◌∙◌, arith, ℤ}
+use Rattle.std.specs.Prelude.{pos, nat_lt, map}
+use Rattle.std.specs.List.{AllByRecursion, range_with_len}
 use Rattle.std.proofs.lemmas.Bool.{and_parts, ltb-true, ltb-false, leb-true}
 use Rattle.std.proofs.lemmas.List.{length-map}
 use Rattle.std.proofs.lemmas.List.FromFn.{length-range_with_len}
 use Rattle.std.proofs.lemmas.List.Elements.{All-from_recursion, All-nil, All-cons}
-use Rattle.fw_bytes.specs.Spelling.{FitsOptional, FitsChecked, Fits32}
+use Rattle.fw_bytes.specs.Spelling.{FitsOptional}
 use Rattle.fw_bytes.proofs.Laws.{list_fits, list_parts}
 use Rattle.fw_charge.specs.Spelling.{FitsNanos, FitsShortText, FitsTagText, FitsTag, FitsTags, IsRow, is_short}
 use Rattle.fw_charge.specs.Tags.{TagText, most_tags}
 use Rattle.fw_columns.specs.Names.{Text}
 use Rattle.fw_columns.specs.Table.{text_at, text_of, quantity_of, tag_of, tags_of}
 use Rattle.fw_columns.proofs.LendingFacts.{tags_counted}
-use Rattle.fw_row_bytes.specs.Reading.{Fields, fields_agree, row_from}
+use Rattle.fw_row_bytes.specs.Reading.{fields_agree, row_from}
 use Rattle.fw_row_bytes.proofs.RowFormat.{FitFields, is_row_from}
 use Rattle.fw_charge.specs.Spelling.{FitsSecond}
 use Rattle.fw_money.specs.Amount.{most_nanos}
 use Rattle.std.specs.Prelude.{nat_abs}
-use Rattle.fw_column_bytes.specs.Reading.{is_text_code, is_place_code, most_names, most_rows, Parts, fields_at_place}
+use Rattle.fw_column_bytes.specs.Reading.{is_place_code, most_names, most_rows, Parts, fields_at_place}
 use Rattle.fw_column_bytes.specs.Fits.{FitsTimes, FitsTextCode, FitsPlace, FitsPlaces, FitParts, FitsByte}
 use Rattle.fw_column_bytes.specs.Rows.{HasPlace, fields_with}
 use Rattle.fw_column_bytes.specs.declared.rows.FieldsRead.{FieldsRead}
@@ -83,8 +83,7 @@ module _ (p : Parts) (h : FitParts p) where
     fields_fit =
         let b = h.1 in
         let names = p.0.1.1 in
-        let text = λ (xs : List ℕ) (k : FitsTimes p.0.1.0 (FitsTextCode names) xs). text_fits names names_fit (get_or xs i 0) (each_keeps (FitsTextCode names) p.0.1.0 xs i 0 k lt) in
-        (
+        let text = λ (xs : List ℕ) (k : FitsTimes p.0.1.0 (FitsTextCode names) xs). text_fits names names_fit (get_or xs i 0) (each_keeps (FitsTextCode names) p.0.1.0 xs i 0 k lt) in (
           (each_keeps FitsNanos p.0.1.0 p.1.0.0 i (pos 0) b.0.0 lt, (each_keeps FitsNanos p.0.1.0 p.1.0.1.0 i (pos 0) b.0.1.0 lt, (tt, tt))),
           (
             (each_keeps _ p.0.1.0 p.1.1.0.0 i 0 b.1.0.0 lt, each_keeps _ p.0.1.0 p.1.1.0.1 i 0 b.1.0.1 lt),

@@ -40,4 +40,3 @@ FitBody names n =
 
 abbrev pub FitParts : Parts → Type 0
 FitParts p = FitFront p.0 × FitBody p.0.1.1 p.0.1.0 p.1
-

@@ -1,5 +1,5 @@
 -- How rows by column read: first each field, in its range, and then what the fields are together.
-use Rattle.std.specs.Prelude.{◌-◌, ◌+◌, ◌*◌, ◌==◌, ◌&&◌, ℕ, zero, suc, ℤ, pos, Bool, true, false, List, [], ◌∷◌, length, map, take, slice_index_or, Option, Some, None, Ok, Err, nat_lt, nat_le, if◌then◌else◌}
+use Rattle.std.specs.Prelude.{◌-◌, ◌*◌, ◌==◌, ◌&&◌, ℕ, zero, suc, ℤ, pos, Bool, true, false, List, [], length, map, take, slice_index_or, Some, Ok, Err, nat_lt, nat_le, if◌then◌else◌}
 use Rattle.std.specs.List.{list_all, range_with_len}
 use Rattle.std.specs.Int.{w32}
 use Rattle.std.specs.Str.{bytes_eq}
@@ -131,8 +131,7 @@ fields_at_place p i =
     let discounts = p.1.1.1.0 in
     let quantities = p.1.1.1.1.0 in
     let texts = p.1.1.1.1.1.0 in
-    let tags = p.1.1.1.1.1.1 in
-    (
+    let tags = p.1.1.1.1.1.1 in (
       (slice_index_or amounts.0 i (pos 0), (slice_index_or amounts.1.0 i (pos 0), (category_at (slice_index_or amounts.1.1.0 i 0), class_at (slice_index_or amounts.1.1.1 i 0)))),
       (
         (slice_index_or periods.0 i 0, slice_index_or periods.1 i 0),

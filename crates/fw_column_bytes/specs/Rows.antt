@@ -1,5 +1,5 @@
 -- The rows of fields that were read. The private functions of the crate cite it.
-use Rattle.std.specs.Prelude.{◌≡◌, ◌<◌, ◌≤◌, ℕ, pos, nat_abs, false, List, length, map, slice_index_or, option_copied, Result, Ok, Err, if◌then◌else◌}
+use Rattle.std.specs.Prelude.{◌≡◌, ◌<◌, ◌≤◌, ℕ, pos, nat_abs, false, List, length, slice_index_or, option_copied, Result, Ok, Err, if◌then◌else◌}
 use Rattle.std.specs.List.{list_all}
 use Rattle.fw_bytes.specs.declared.fault.ReadError.{ReadError}
 use Rattle.fw_bytes.specs.declared.fault.ReadError.TheVariants as errors

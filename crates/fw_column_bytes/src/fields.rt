@@ -10,7 +10,11 @@ use fw_row_bytes::{nanos_of, second_of, tag_text_of};
 use std::alloc::Global;
 
 /// So many amounts.
-pub fn amounts_after(alloc: Global, count: u32, bytes: &[u8]) -> Result<(Vec<i64>, &[u8]), ReadError>
+pub fn amounts_after(
+    alloc: Global,
+    count: u32,
+    bytes: &[u8],
+) -> Result<(Vec<i64>, &[u8]), ReadError>
     ensures { Gives (λ x. (x.0.items, x.1.now)) result (times nanos_at count bytes.now) }
 {
     let mut column = Vec::new(alloc);
@@ -24,7 +28,11 @@ pub fn amounts_after(alloc: Global, count: u32, bytes: &[u8]) -> Result<(Vec<i64
 }
 
 /// So many seconds.
-pub fn seconds_after(alloc: Global, count: u32, bytes: &[u8]) -> Result<(Vec<u64>, &[u8]), ReadError>
+pub fn seconds_after(
+    alloc: Global,
+    count: u32,
+    bytes: &[u8],
+) -> Result<(Vec<u64>, &[u8]), ReadError>
     ensures { Gives (λ x. (x.0.items, x.1.now)) result (times second_at count bytes.now) }
 {
     let mut column = Vec::new(alloc);

@@ -229,12 +229,7 @@ fn rows_of(alloc: Global, parts: &PartsRead, left: usize) -> Result<Columns, Rea
 }
 
 /// Whether rows are spelled as bytes begin, all but those that are left behind them.
-fn is_spelled(
-    alloc: Global,
-    rows: &Columns,
-    bytes: &[u8],
-    left: usize,
-) -> Result<bool, AllocError>
+fn is_spelled(alloc: Global, rows: &Columns, bytes: &[u8], left: usize) -> Result<bool, AllocError>
     ensures { IfOk result (λ is. is ≡ bytes_eq (columns rows.now) (take (length bytes.now - left) bytes.now)) }
 {
     let len = bytes.len().saturating_sub(left);

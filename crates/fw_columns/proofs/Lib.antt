@@ -1,7 +1,7 @@
 pub mod NameFacts
 pub mod TextFacts
-mod ListFacts
-mod TableFacts
+pub mod ListFacts
+pub mod TableFacts
 mod RowFacts
 mod JoinFacts
 mod GroupFacts

@@ -1,4 +1,4 @@
-use Rattle.std.proofs.Common.{◌≡◌, ◌∙◌, ℕ, List, sym, arith}
+use Rattle.std.proofs.Common.{◌∙◌, ℕ, List, sym, arith}
 use Rattle.std.proofs.lemmas.Result.{err_from_is_err_and}
 use Rattle.fw_column_bytes.specs.PartsView.{parts_view}
 use Rattle.fw_column_bytes.specs.Reading.{Parts}

@@ -2,13 +2,12 @@ use Rattle.std.proofs.Common.{Vec, Global, rules, ◌≡◌, ◌∙◌, ◌<◌,
 use Rattle.std.specs.Prelude.{map, string_bytes}
 use Rattle.std.proofs.lemmas.List.{get_or-map, length-map}
 use Rattle.fw_charge.specs.Charge.{Charge, IsCharge}
-use Rattle.fw_charge.specs.Spelling.{FitsTags, keys_rise}
-use Rattle.fw_charge.specs.Tags.{TagText}
+use Rattle.fw_charge.specs.Spelling.{FitsTags}
 use Rattle.fw_columns.specs.RowViews.{charge_with}
 use Rattle.fw_columns.specs.Table.{tags_of}
 use Rattle.fw_row_bytes.specs.Reading.{fields_agree, row_from}
 use Rattle.fw_column_bytes.specs.PartsView.{parts_view}
-use Rattle.fw_column_bytes.specs.Reading.{Parts, fields_at_place}
+use Rattle.fw_column_bytes.specs.Reading.{fields_at_place}
 use Rattle.fw_column_bytes.specs.Rows.{fields_with}
 use Rattle.fw_column_bytes.proofs.RowsRead.{has_place, list_below, list_fits_there, names_fit, places_within, row_kept, tags_fit, whole_fields}
 use Rattle.fw_column_bytes.proofs.rows.push_at.Goals as goal

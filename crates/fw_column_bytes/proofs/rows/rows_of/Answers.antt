@@ -1,14 +1,13 @@
-use Rattle.std.proofs.Common.{◌≡◌, ◌∙◌, ◌+◌, ◌<◌, ◌≤◌, ◌++◌, [], ◌∷◌, ℕ, List, length, true, Ok, sym, ap, subst, arith}
+use Rattle.std.proofs.Common.{◌≡◌, ◌∙◌, ◌+◌, ◌++◌, [], ◌∷◌, ℕ, List, length, true, Ok, sym, ap, subst, arith}
 use Rattle.std.specs.Prelude.{map}
 use Rattle.std.specs.List.{list_all, range_with_len}
-use Rattle.std.proofs.lemmas.List.{map_push, length-map}
-use Rattle.std.proofs.lemmas.List.FromFn.{length-range_with_len, map-range_with_len_more}
+use Rattle.std.proofs.lemmas.List.{map_push}
+use Rattle.std.proofs.lemmas.List.FromFn.{map-range_with_len_more}
 use Rattle.std.proofs.lemmas.Result.{err_from_is_err_and}
 use Rattle.fw_charge.specs.Charge.{Charge}
-use Rattle.fw_row_bytes.specs.Reading.{Fields, fields_agree, row_from}
+use Rattle.fw_row_bytes.specs.Reading.{fields_agree, row_from}
 use Rattle.fw_column_bytes.specs.PartsView.{parts_view}
-use Rattle.fw_column_bytes.specs.Reading.{fields_at_place, rows_from, rows_fields}
-use Rattle.fw_column_bytes.specs.Rows.{agreeing_rows}
+use Rattle.fw_column_bytes.specs.Reading.{fields_at_place}
 use Rattle.fw_column_bytes.proofs.RowsRead.{count_within, made_count}
 use Rattle.fw_column_bytes.proofs.ColumnFacts.{all_push, rows_fail, rows_agree}
 use Rattle.fw_column_bytes.proofs.rows.rows_of.Goals as goal

@@ -1,0 +1,424 @@
+-- What is spelled by column is read again, whatever follows.
+use Rattle.std.proofs.Common.{◌≡◌, ℕ, ◌+◌, ◌-◌, ◌*◌, ◌/◌, ◌<◌, ◌≤◌, Bool, true, false, cond, List, [], ◌∷◌, ◌++◌, length, get_or, take, All, Option, Some, None, Ok, refl, sym, ap, subst, ◌∙◌, arith, append_assoc, length-append}
+use Rattle.std.specs.Prelude.{map, option_map, option_to_list, is_some, pos, ℤ, ◌==◌, nat_lt, nat_le}
+use Rattle.std.specs.List.{flat_map, AllByRecursion, list_all}
+use Rattle.std.specs.Cmp.Lexicographic.{bytes_decides}
+use Rattle.std.proofs.lemmas.Bool.{and_from, and_parts, lt-ltb, le-ltb, le-leb, leb-true}
+use Rattle.std.proofs.lemmas.List.{get_or-map, length-map, take_at, map-id}
+use Rattle.std.proofs.lemmas.List.Concat.{flat_map_single}
+use Rattle.std.proofs.lemmas.List.Folds.{flat_map-map}
+use Rattle.std.proofs.lemmas.List.FromFn.{fill_by_all}
+use Rattle.std.proofs.lemmas.List.Elements.{All-nil, All-cons, All-head, All-tail, All-append}
+use Rattle.fw_bytes.specs.Spelling.{number32, number64, text, listed, within, FitsOptional}
+use Rattle.fw_bytes.proofs.Laws.{IsFormat, list_fits, list_parts, ok_is}
+use Rattle.fw_charge.specs.Charge.{Charge, DiscountText}
+use Rattle.fw_charge.specs.Codes.{category_code, class_code, kind_code, status_code, kind_of, status_of}
+use Rattle.fw_charge.specs.Spelling.{nanos, FitsNanos, FitsSecond, FitsShortText, FitsTagText, FitsTag, FitsTags, FitsDiscount, IsRow, is_short}
+use Rattle.fw_charge.specs.Tags.{TagText, most_tags}
+use Rattle.fw_charge.specs.declared.category.Category.{Category}
+use Rattle.fw_charge.specs.declared.category.Category.TheVariants as category
+use Rattle.fw_charge.specs.declared.discount.DiscountKind.{DiscountKind}
+use Rattle.fw_charge.specs.declared.discount.DiscountKind.TheVariants as kind
+use Rattle.fw_charge.specs.declared.discount.DiscountStatus.{DiscountStatus}
+use Rattle.fw_charge.specs.declared.discount.DiscountStatus.TheVariants as status
+use Rattle.fw_charge.proofs.CodeFacts.{category_there, class_there, kind_there, status_there}
+use Rattle.fw_columns.specs.Codes.{text_code}
+use Rattle.fw_columns.specs.Lists.{tag_places, lists_of}
+use Rattle.fw_columns.specs.Names.{Text, place_of, with_text}
+use Rattle.fw_columns.specs.Table.{id_kept, kind_kept, status_kept, quantity_kept, category_at, class_at, text_at, text_of, quantity_of, tags_of}
+use Rattle.fw_columns.specs.Texts.{with_texts, texts_of_tags, texts_of, names_of}
+use Rattle.fw_columns.proofs.NameFacts.{text_at_place}
+use Rattle.fw_columns.proofs.TextFacts.{IsKnown, AreKnown, IsRowKnown, rows-known, with_text_adds_one}
+use Rattle.fw_columns.proofs.ListFacts.{with_texts-all}
+use Rattle.fw_columns.proofs.TableFacts.{text-back, tags-back}
+use Rattle.fw_row_bytes.specs.Reading.{fields_agree, row_from}
+use Rattle.fw_row_bytes.proofs.RowFacts.{parts_of, parts_agree, tags_rise}
+use Rattle.fw_row_bytes.proofs.RowFormat.{row_to, row_from-to}
+use Rattle.fw_column_bytes.specs.Kept.{AreRows}
+use Rattle.fw_column_bytes.specs.Fits.{FitsTimes, FitsByte, FitsTextCode, FitsPlace, FitsPlaces, FitBody, FitParts}
+use Rattle.fw_column_bytes.specs.Spelling.{amounts, periods, discounts, flag, quantities, texts, columns, layout}
+use Rattle.fw_column_bytes.specs.Reading.{is_text_code, is_place_code, most_rows, most_names, Parts, parts_at, fields_at_place, rows_fields, rows_from, columns_at}
+use Rattle.fw_column_bytes.specs.Rows.{agreeing_rows}
+use Rattle.fw_column_bytes.proofs.Copied.{counted, lists_spelled}
+use Rattle.fw_column_bytes.proofs.PartsFormat.{one_byte, spelled_parts, parts_format}
+use Rattle.fw_column_bytes.proofs.RowsRead.{one_more}
+use Rattle.fw_column_bytes.proofs.ColumnFacts.{columns_taken}
+use Rattle.fw_column_bytes.proofs.ColumnsTaken.{columns_taken_so}
+
+-- the fields of rows
+abbrev pub fields_of_rows : List Text → List Charge → Parts
+fields_of_rows names rows = (
+  (layout, (length rows, names)),
+  (
+    (map (λ c. c.billed) rows, (map (λ c. c.effective) rows, (map (λ c. category_code c.category) rows, map (λ c. class_code c.is_correction) rows))),
+    (
+      (map (λ c. c.start) rows, map (λ c. c.end) rows),
+      (
+        (map (λ c. id_kept names c.discount) rows, (map (λ c. kind_kept c.discount) rows, map (λ c. status_kept c.discount) rows)),
+        (
+          (map (λ c. flag (is_some c.quantity)) rows, map (λ c. quantity_kept c.quantity) rows),
+          ((map (λ c. text_code names c.unit) rows, (map (λ c. text_code names c.sku) rows, map (λ c. text_code names c.sub_account) rows)), lists_of names rows),
+        ),
+      ),
+    ),
+  ),
+)
+
+-- ---- their spelling
+
+bytes_are : (code : Charge → ℕ) (rows : List Charge) → flat_map one_byte (map code rows) ≡ map code rows
+bytes_are code rows = flat_map_single (λ b. b) (map code rows) ∙ map-id (map code rows)
+
+pub spelled_by_column : (rows : List Charge) → spelled_parts (fields_of_rows (names_of rows) rows) ≡ columns rows
+unfolding columns amounts periods discounts quantities texts
+spelled_by_column rows =
+    let names = names_of rows in
+    let e1 = flat_map-map nanos (λ (c : Charge). c.billed) rows in
+    let e2 = flat_map-map nanos (λ (c : Charge). c.effective) rows in
+    let e3 = bytes_are (λ c. category_code c.category) rows in
+    let e4 = bytes_are (λ c. class_code c.is_correction) rows in
+    let e5 = flat_map-map number64 (λ (c : Charge). c.start) rows in
+    let e6 = flat_map-map number64 (λ (c : Charge). c.end) rows in
+    let e7 = flat_map-map number32 (λ (c : Charge). id_kept names c.discount) rows in
+    let e8 = bytes_are (λ c. kind_kept c.discount) rows in
+    let e9 = bytes_are (λ c. status_kept c.discount) rows in
+    let e10 = bytes_are (λ c. flag (is_some c.quantity)) rows in
+    let e11 = flat_map-map nanos (λ (c : Charge). quantity_kept c.quantity) rows in
+    let e12 = flat_map-map number32 (λ (c : Charge). text_code names c.unit) rows in
+    let e13 = flat_map-map number32 (λ (c : Charge). text_code names c.sku) rows in
+    let e14 = flat_map-map number32 (λ (c : Charge). text_code names c.sub_account) rows in
+    let e15 = lists_spelled names rows in
+    ap (λ (w : List ℕ). layout ∷ w) (append_assoc (number32 (length rows)) (listed text names) _)
+    ∙ (λ j. layout ∷ (number32 (length rows) ++ (listed text names ++ ((e1 j ++ (e2 j ++ (e3 j ++ e4 j))) ++ ((e5 j ++ e6 j) ++ ((e7 j ++ (e8 j ++ e9 j)) ++ ((e10 j ++ e11 j) ++ ((e12 j ++ (e13 j ++ e14 j)) ++ e15 j))))))))
+
+-- ---- their ranges
+
+abbrev FitsRow : List Text → Charge → Type 0
+FitsRow names c = IsRow c × IsRowKnown names c
+
+each_fits : {A : Type 0} (names : List Text) (value : Charge → A) (Fits : A → Type 0) → ((c : Charge) → FitsRow names c → Fits (value c)) → (rows : List Charge) → All (FitsRow names) rows → AllByRecursion Fits (map value rows)
+each_fits names value Fits one [] h = tt
+each_fits names value Fits one (r ∷ rs) h = (one r (All-head (FitsRow names) r rs h), each_fits names value Fits one rs (All-tail (FitsRow names) r rs h))
+
+times_fit : {A : Type 0} (names : List Text) (value : Charge → A) (Fits : A → Type 0) → ((c : Charge) → FitsRow names c → Fits (value c)) → (rows : List Charge) → All (FitsRow names) rows → FitsTimes (length rows) Fits (map value rows)
+times_fit names value Fits one rows h = (length-map rows value, each_fits names value Fits one rows h)
+
+category_within : (c : Category) → within 1 5 (category_code c) ≡ true
+unfolding category_code
+category_within category.Usage = refl
+category_within category.Purchase = refl
+category_within category.Tax = refl
+category_within category.Credit = refl
+category_within category.Adjustment = refl
+
+class_within : (b : Bool) → within 0 1 (class_code b) ≡ true
+unfolding class_code
+class_within false = refl
+class_within true = refl
+
+flag_within : (b : Bool) → within 0 1 (flag b) ≡ true
+unfolding flag
+flag_within false = refl
+flag_within true = refl
+
+kind_code_within : (k : DiscountKind) → within 0 2 (kind_code (Some k)) ≡ true
+unfolding kind_code
+kind_code_within kind.Usage = refl
+kind_code_within kind.Spend = refl
+
+kind_within : (d : Option DiscountText) → within 0 2 (kind_kept d) ≡ true
+unfolding kind_kept
+kind_within None = refl
+kind_within (Some d) = kind_code_within d.kind
+
+status_code_within : (s : Option DiscountStatus) → within 0 2 (status_code s) ≡ true
+unfolding status_code
+status_code_within None = refl
+status_code_within (Some status.Used) = refl
+status_code_within (Some status.Unused) = refl
+
+status_within : (d : Option DiscountText) → within 0 2 (status_kept d) ≡ true
+unfolding status_kept
+status_within None = refl
+status_within (Some d) = status_code_within d.status
+
+second_fits : (n limit : ℕ) → n ≤ limit → limit ≤ 253402300799 → FitsSecond n
+second_fits n limit le most = (lt-ltb _ _ (omega (arith, le, most)), le-leb _ _ (omega (arith, le, most)))
+
+quantity_fits : (q : Option ℤ) → FitsOptional FitsNanos q → FitsNanos (quantity_kept q)
+unfolding quantity_kept
+quantity_fits None h = (refl, refl)
+quantity_fits (Some q) h = h
+
+id_fits : (d : Option DiscountText) → FitsOptional FitsDiscount d → FitsOptional FitsShortText (option_map (λ x. x.id) d)
+id_fits None h = tt
+id_fits (Some d) h = h
+
+module _ (names : List Text) (few : length names < 4294967295) where
+  place_fits : (t : Text) → IsKnown names t → FitsPlace names (place_of names t)
+  place_fits t known =
+      let b : place_of names t < length names = known.below in
+      let code : is_place_code names (1 + place_of names t) ≡ true = subst (λ (n : ℕ). is_place_code names n ≡ true) (sym (one_more (place_of names t))) (lt-ltb _ _ b) in
+      (lt-ltb _ _ (omega (arith, b, few)), code)
+
+  code_fits : (t : Option Text) → AreKnown names (option_to_list t) → FitsOptional FitsShortText t → FitsTextCode names (text_code names t)
+  unfolding text_code text_at
+  code_fits None known h = (refl, refl)
+  code_fits (Some t) known h =
+      let b : place_of names t < length names = known.0.below in
+      let there : text_at names (place_of names t) ≡ t = text_at_place names t [] b in
+      let short : is_short (text_at names (place_of names t)) ≡ true = ap is_short there ∙ h.1 in
+      let code : is_text_code names (1 + place_of names t) ≡ true = subst (λ (n : ℕ). is_text_code names n ≡ true) (sym (one_more (place_of names t))) (and_from _ _ (lt-ltb _ _ b) short) in
+      (lt-ltb _ _ (omega (arith, b, few)), code)
+
+  each_place_fits : (ts : List TagText) → AreKnown names (texts_of_tags ts) → AllByRecursion (FitsPlace names) (tag_places names ts)
+  unfolding tag_places texts_of_tags
+  each_place_fits [] known = tt
+  each_place_fits (t ∷ ts) known = (place_fits t.key known.0, (place_fits t.value known.1.0, each_place_fits ts known.1.1))
+
+  twice : (ts : List TagText) → length (tag_places names ts) ≡ 2 * length ts
+  unfolding tag_places texts_of_tags
+  twice [] = refl
+  twice (t ∷ ts) = let rest : length (tag_places names ts) ≡ 2 * length ts = twice ts in omega (arith, rest)
+
+  places_fit : (ts : List TagText) → FitsTags ts → AreKnown names (texts_of_tags ts) → FitsPlaces names (tag_places names ts)
+  places_fit ts h known =
+      let count : length (tag_places names ts) / 2 ≡ length ts = counted names ts in
+      let all : length (tag_places names ts) ≡ 2 * length ts = twice ts in
+      let le : length ts ≤ most_tags = (list_parts FitsTag 0 most_tags ts h).1 in
+      record {
+        even = omega (arith, count, all);
+        few = (lt-ltb _ _ (omega (arith, count, le)), le-leb _ _ (omega (arith, count, le)));
+        each = each_place_fits ts known;
+      }
+
+  body_fits : (rows : List Charge) → All (FitsRow names) rows → FitBody names (length rows) (fields_of_rows names rows).1
+  unfolding lists_of
+  body_fits rows h = (
+    (
+      times_fit names (λ c. c.billed) FitsNanos (λ c k. k.0.billed) rows h,
+      (
+        times_fit names (λ c. c.effective) FitsNanos (λ c k. k.0.effective) rows h,
+        (
+          times_fit names (λ c. category_code c.category) (FitsByte 1 5) (λ c k. (tt, category_within c.category)) rows h,
+          times_fit names (λ c. class_code c.is_correction) (FitsByte 0 1) (λ c k. (tt, class_within c.is_correction)) rows h,
+        ),
+      ),
+    ),
+    (
+      (
+        times_fit names (λ c. c.start) FitsSecond (λ c k. second_fits c.start c.end k.0.charge.ordered k.0.charge.dated) rows h,
+        times_fit names (λ c. c.end) FitsSecond (λ c k. second_fits c.end c.end (omega arith) k.0.charge.dated) rows h,
+      ),
+      (
+        (
+          times_fit names (λ c. id_kept names c.discount) (FitsTextCode names) (λ c k. code_fits (option_map (λ x. x.id) c.discount) k.1.discount (id_fits c.discount k.0.discount)) rows h,
+          (
+            times_fit names (λ c. kind_kept c.discount) (FitsByte 0 2) (λ c k. (tt, kind_within c.discount)) rows h,
+            times_fit names (λ c. status_kept c.discount) (FitsByte 0 2) (λ c k. (tt, status_within c.discount)) rows h,
+          ),
+        ),
+        (
+          (
+            times_fit names (λ c. flag (is_some c.quantity)) (FitsByte 0 1) (λ c k. (tt, flag_within (is_some c.quantity))) rows h,
+            times_fit names (λ c. quantity_kept c.quantity) FitsNanos (λ c k. quantity_fits c.quantity k.0.quantity) rows h,
+          ),
+          (
+            (
+              times_fit names (λ c. text_code names c.unit) (FitsTextCode names) (λ c k. code_fits c.unit k.1.unit k.0.unit) rows h,
+              (
+                times_fit names (λ c. text_code names c.sku) (FitsTextCode names) (λ c k. code_fits c.sku k.1.sku k.0.sku) rows h,
+                times_fit names (λ c. text_code names c.sub_account) (FitsTextCode names) (λ c k. code_fits c.sub_account k.1.sub_account k.0.sub_account) rows h,
+              ),
+            ),
+            times_fit names (λ c. tag_places names c.tags) (FitsPlaces names) (λ c k. places_fit c.tags k.0.tags k.1.tags) rows h,
+          ),
+        ),
+      ),
+    ),
+  )
+
+-- ---- the names of rows
+
+short_is_fit : (t : Text) → FitsShortText t → FitsTagText t
+short_is_fit t h = (h.0, le-leb _ _ (let le : length t ≤ 256 = leb-true (length t) 256 (and_parts (nat_lt 0 (length t)) (nat_le (length t) 256) h.1).1 in omega (arith, le)))
+
+shorts_fit : (t : Option Text) → FitsOptional FitsShortText t → All FitsTagText (option_to_list t)
+shorts_fit None h = All-nil FitsTagText
+shorts_fit (Some t) h = All-cons FitsTagText t [] (short_is_fit t h) (All-nil FitsTagText)
+
+tag_texts_fit : (ts : List TagText) → AllByRecursion FitsTag ts → All FitsTagText (texts_of_tags ts)
+unfolding texts_of_tags
+tag_texts_fit [] h = All-nil FitsTagText
+tag_texts_fit (t ∷ ts) h = All-cons FitsTagText t.key (t.value ∷ texts_of_tags ts) h.0.0 (All-cons FitsTagText t.value (texts_of_tags ts) h.0.1 (tag_texts_fit ts h.1))
+
+texts_fit : (rows : List Charge) → All IsRow rows → All FitsTagText (flat_map texts_of rows)
+unfolding texts_of
+texts_fit [] h = All-nil FitsTagText
+texts_fit (r ∷ rs) h =
+    let k = All-head IsRow r rs h in
+    All-append FitsTagText (texts_of r) (flat_map texts_of rs)
+    (All-append FitsTagText _ _ (shorts_fit _ (id_fits r.discount k.discount))
+    (All-append FitsTagText _ _ (shorts_fit r.unit k.unit)
+    (All-append FitsTagText _ _ (shorts_fit r.sku k.sku)
+    (All-append FitsTagText _ _ (shorts_fit r.sub_account k.sub_account) (tag_texts_fit r.tags k.tags.2)))))
+    (texts_fit rs (All-tail IsRow r rs h))
+
+one_at_most : (t : Option Text) → length (option_to_list t) ≤ 1
+one_at_most None = omega arith
+one_at_most (Some t) = omega arith
+
+two_each : (ts : List TagText) → length (texts_of_tags ts) ≡ 2 * length ts
+unfolding texts_of_tags
+two_each [] = refl
+two_each (t ∷ ts) = let rest : length (texts_of_tags ts) ≡ 2 * length ts = two_each ts in omega (arith, rest)
+
+texts_few : (c : Charge) → IsRow c → length (texts_of c) ≤ 516
+unfolding texts_of
+texts_few c h =
+    let le : length c.tags ≤ most_tags = (list_parts FitsTag 0 most_tags c.tags h.tags).1 in
+    let count : length (texts_of_tags c.tags) ≡ 2 * length c.tags = two_each c.tags in
+    simp length-append (omega (arith, le, count, one_at_most (option_map (λ d. d.id) c.discount), one_at_most c.unit, one_at_most c.sku, one_at_most c.sub_account))
+
+all_few : (rows : List Charge) → All IsRow rows → length (flat_map texts_of rows) ≤ 516 * length rows
+all_few [] h = omega arith
+all_few (r ∷ rs) h =
+    let one : length (texts_of r) ≤ 516 = texts_few r (All-head IsRow r rs h) in
+    let rest : length (flat_map texts_of rs) ≤ 516 * length rs = all_few rs (All-tail IsRow r rs h) in
+    let sum : length (texts_of r ++ flat_map texts_of rs) ≡ length (texts_of r) + length (flat_map texts_of rs) = length-append (texts_of r) (flat_map texts_of rs) in
+    omega (arith, one, rest, sum)
+
+no_more : (names ts : List Text) → length (with_texts names ts) ≤ length names + length ts
+unfolding with_texts
+no_more names [] = omega arith
+no_more names (t ∷ ts) =
+    let one = with_text_adds_one names t in
+    let rest = no_more (with_text names t) ts in
+    omega (arith, one, rest)
+
+names_few : (rows : List Charge) → AreRows rows → length (names_of rows) ≤ 33816576
+unfolding names_of
+names_few rows h =
+    let made = no_more [] (flat_map texts_of rows) in
+    let all : length (flat_map texts_of rows) ≤ 516 * length rows = all_few rows h.each in
+    omega (arith, made, all, h.few)
+
+names_fit : (rows : List Charge) → All IsRow rows → All FitsTagText (names_of rows)
+unfolding names_of
+names_fit rows h = with_texts-all FitsTagText [] (flat_map texts_of rows) (All-nil FitsTagText) (texts_fit rows h)
+
+within_from : (low high : Bool) → low ≡ false → high ≡ false → cond low false (cond high false true) ≡ true
+within_from low high l h = rw (l, h) refl
+
+pub parts_fit : (rows : List Charge) → AreRows rows → FitParts (fields_of_rows (names_of rows) rows)
+parts_fit rows h =
+    let names = names_of rows in
+    let few : length names ≤ 33816576 = names_few rows h in
+    let known = rows-known rows in
+    let both : All (FitsRow names) rows = λ k d lt. (h.each k d lt, known k d lt) in (
+      (
+        (tt, refl),
+        (
+          (lt-ltb _ _ (omega (arith, h.few)), within_from (nat_lt (length rows) 1) (nat_lt most_rows (length rows)) (le-ltb (length rows) 1 (omega (arith, h.some))) (le-ltb most_rows (length rows) h.few)),
+          list_fits FitsTagText 0 most_names names (omega arith) (omega (arith, few)) (omega arith) (names_fit rows h.each),
+        ),
+      ),
+      body_fits names (omega (arith, few)) rows both,
+    )
+
+-- ---- the rows of these fields
+
+status_again : (s : Option DiscountStatus) → status_of (status_code s) ≡ s
+unfolding status_code
+status_again None = refl
+status_again (Some s) = status_there s
+
+discount_again : (names : List Text) (d : Option DiscountText) → AreKnown names (option_to_list (option_map (λ x. x.id) d)) → (text_of names (id_kept names d), (kind_of (kind_kept d), status_of (status_kept d))) ≡ parts_of d
+unfolding kind_kept status_kept
+discount_again names None known = rw (text-back names None known) refl
+discount_again names (Some d) known = rw (text-back names (Some d.id) known, kind_there d.kind, status_again d.status) refl
+
+quantity_again : (q : Option ℤ) → quantity_of (flag (is_some q) == 1) (quantity_kept q) ≡ q
+unfolding quantity_of quantity_kept flag
+quantity_again None = refl
+quantity_again (Some q) = refl
+
+category_again : (c : Category) → category_at (category_code c) ≡ c
+category_again c = rw (category_there c) refl
+
+class_again : (b : Bool) → class_at (class_code b) ≡ b
+class_again b = rw (class_there b) refl
+
+module _ (rows : List Charge) (known : All (IsRowKnown (names_of rows)) rows) (i : ℕ) (d : Charge) (lt : i < length rows) where
+  pub fields_again : fields_at_place (fields_of_rows (names_of rows) rows) i ≡ row_to (get_or rows i d)
+  unfolding fields_at_place lists_of
+  fields_again =
+      let names = names_of rows in
+      let r = get_or rows i d in
+      let k = known i d lt in
+      let text = λ (t : Charge → Option Text) (there : AreKnown names (option_to_list (t r))).
+      ap (text_of names) (get_or-map (λ c. text_code names (t c)) rows i d 0 lt) ∙ text-back names (t r) there in
+      let e1 : get_or (map (λ c. c.billed) rows) i (pos 0) ≡ r.billed = get_or-map (λ c. c.billed) rows i d (pos 0) lt in
+      let e2 : get_or (map (λ c. c.effective) rows) i (pos 0) ≡ r.effective = get_or-map (λ c. c.effective) rows i d (pos 0) lt in
+      let e3 : category_at (get_or (map (λ c. category_code c.category) rows) i 0) ≡ r.category = ap category_at (get_or-map (λ c. category_code c.category) rows i d 0 lt) ∙ category_again r.category in
+      let e4 : class_at (get_or (map (λ c. class_code c.is_correction) rows) i 0) ≡ r.is_correction = ap class_at (get_or-map (λ c. class_code c.is_correction) rows i d 0 lt) ∙ class_again r.is_correction in
+      let e5 : get_or (map (λ c. c.start) rows) i 0 ≡ r.start = get_or-map (λ c. c.start) rows i d 0 lt in
+      let e6 : get_or (map (λ c. c.end) rows) i 0 ≡ r.end = get_or-map (λ c. c.end) rows i d 0 lt in
+      let f1 = get_or-map (λ c. id_kept names c.discount) rows i d 0 lt in
+      let f2 = get_or-map (λ c. kind_kept c.discount) rows i d 0 lt in
+      let f3 = get_or-map (λ c. status_kept c.discount) rows i d 0 lt in
+      let e7 : (text_of names (get_or (map (λ c. id_kept names c.discount) rows) i 0), (kind_of (get_or (map (λ c. kind_kept c.discount) rows) i 0), status_of (get_or (map (λ c. status_kept c.discount) rows) i 0))) ≡ parts_of r.discount =
+      (λ j. (text_of names (f1 j), (kind_of (f2 j), status_of (f3 j)))) ∙ discount_again names r.discount k.discount in
+      let q1 = get_or-map (λ c. flag (is_some c.quantity)) rows i d 0 lt in
+      let q2 = get_or-map (λ c. quantity_kept c.quantity) rows i d (pos 0) lt in
+      let e8 : quantity_of (get_or (map (λ c. flag (is_some c.quantity)) rows) i 0 == 1) (get_or (map (λ c. quantity_kept c.quantity) rows) i (pos 0)) ≡ r.quantity =
+      (λ j. quantity_of (q1 j == 1) (q2 j)) ∙ quantity_again r.quantity in
+      let e9 = text (λ c. c.unit) k.unit in
+      let e10 = text (λ c. c.sku) k.sku in
+      let e11 = text (λ c. c.sub_account) k.sub_account in
+      let e12 : tags_of names (get_or (map (λ c. tag_places names c.tags) rows) i []) ≡ r.tags = ap (tags_of names) (get_or-map (λ c. tag_places names c.tags) rows i d [] lt) ∙ tags-back names r.tags k.tags in
+      λ j. ((e1 j, (e2 j, (e3 j, e4 j))), ((e5 j, e6 j), (e7 j, ((e8 j, (e9 j, (e10 j, e11 j))), e12 j))))
+
+all_agree : (rows : List Charge) → All IsRow rows → list_all fields_agree (map row_to rows) ≡ true
+all_agree [] h = refl
+all_agree (r ∷ rs) h =
+    let k = All-head IsRow r rs h in
+    and_from (fields_agree (row_to r)) (list_all fields_agree (map row_to rs)) (and_from _ _ (le-leb _ _ k.charge.ordered) (and_from _ _ (parts_agree r.category r.discount k.charge.discount) (tags_rise r.tags k.charge.tags)))
+    (all_agree rs (All-tail IsRow r rs h))
+
+rows_back : (rows : List Charge) → map row_from (map row_to rows) ≡ rows
+rows_back [] = refl
+rows_back (r ∷ rs) = λ j. row_from-to r j ∷ rows_back rs j
+
+rows_fields_again : (rows : List Charge) → rows_fields (fields_of_rows (names_of rows) rows) ≡ map row_to rows
+unfolding rows_fields
+rows_fields_again rows =
+    let p = fields_of_rows (names_of rows) rows in
+    let first = row_from (fields_at_place p 0) in
+    sym (fill_by_all (fields_at_place p) (map row_to rows) (length rows) (fields_at_place p 0) (length-map rows row_to)
+    (λ k lt. get_or-map row_to rows k first (fields_at_place p 0) lt ∙ sym (fields_again rows (rows-known rows) k first lt)))
+
+agreeing_again : (rows : List Charge) (left : ℕ) → All IsRow rows → agreeing_rows (fields_of_rows (names_of rows) rows) left ≡ Ok rows
+unfolding agreeing_rows rows_from
+agreeing_again rows left h = rw (rows_fields_again rows, all_agree rows h, rows_back rows) refl
+
+pub columns_again : (rows : List Charge) (rest : List ℕ) → AreRows rows → columns_at (columns rows ++ rest) ≡ Ok (rows, rest)
+columns_again rows rest h =
+    let p = fields_of_rows (names_of rows) rows in
+    let bytes = columns rows ++ rest in
+    let read : parts_at bytes ≡ Ok (p, rest) = subst (λ (w : List ℕ). parts_at (w ++ rest) ≡ Ok (p, rest)) (spelled_by_column rows) (parts_format.again p rest (parts_fit rows h)) in
+    let size : length (columns rows) ≡ length bytes - length rest = let sum : length bytes ≡ length (columns rows) + length rest = length-append (columns rows) rest in omega (arith, sum) in
+    let front : take (length bytes - length rest) bytes ≡ columns rows = take_at (columns rows) rest (length bytes - length rest) size in
+    columns_taken bytes (p, rest) rows read (agreeing_again rows (length bytes) h.each) ((bytes_decides _ _).1 (sym front))
+
+-- what is read of rows by column is spelled so, and what is spelled so is read
+pub columns_format : IsFormat columns_at columns AreRows
+columns_format = record { takes = columns_taken_so; again = columns_again }
+
+-- rows that have the same bytes are the same
+pub one_spelling : (xs ys : List Charge) → AreRows xs → AreRows ys → columns xs ≡ columns ys → xs ≡ ys
+one_spelling xs ys h k e =
+    let one : List Charge × List ℕ = (xs, []) in
+    let other : List Charge × List ℕ = (ys, []) in
+    let same : one ≡ other = ok_is one other (sym (columns_again xs [] h) ∙ (ap (λ (w : List ℕ). columns_at (w ++ [])) e ∙ columns_again ys [] k)) in
+    ap (λ (x : List Charge × List ℕ). x.0) same
