@@ -415,7 +415,7 @@ class Commands(unittest.TestCase):
             self.assertEqual((run.stderr.read(), run.wait()), (b"", 0))
 
     def test_help_and_version(self):
-        for words in ((), ("run",), ("import",), ("check",), ("report",), ("lines",), ("coverage",), ("status",), ("verify",), ("checkpoint",), ("dump",), ("explain",)):
+        for words in ((), ("run",), ("import",), ("load",), ("check",), ("report",), ("lines",), ("coverage",), ("status",), ("verify",), ("checkpoint",), ("dump",), ("explain",)):
             status, printed, said = focusd(*words, "--help")
             self.assertEqual((status, said), (0, ""), words)
             self.assertIn("Example", printed, words)
@@ -555,6 +555,65 @@ class Files(unittest.TestCase):
         self.assertEqual(counted, {group: len(at) for group, at in planted.items()})
         self.assertEqual(places, {group: at[:3] for group, at in planted.items()})
         self.assertEqual((status, found["records"], found["badRecords"], found["faults"]), (1, 4500, 900, 1000))
+
+
+class Loads(unittest.TestCase):
+    """Files that are loaded side by side. What is printed is worked out by hand from docs/FORMATS.md."""
+
+    HEADER = "BilledCost,EffectiveCost,BillingCurrency,ChargeCategory,ChargePeriodStart,ChargePeriodEnd\n"
+    ROW = "0.1,0.1,USD,Tax,2024-01-01T00:00Z,2024-01-01T01:00Z\n"
+    SHORT = "0.1,0.1,USD,Tax,2024-01-01T00:00Z\n"
+
+    def setUp(self):
+        made = tempfile.TemporaryDirectory()
+        self.addCleanup(made.cleanup)
+        self.room = pathlib.Path(made.name)
+        self.right = self.file("right.csv", self.HEADER + self.ROW)
+        self.short = self.file("short.csv", self.HEADER + self.ROW + self.SHORT)
+        (self.room / "costs").mkdir()
+
+    def file(self, name, text):
+        (self.room / name).write_text(text)
+        return str(self.room / name)
+
+    def test_a_file_that_is_refused(self):
+        wanted = "1 accepted\n2 refused V1 Fields 2\nstale 0\nstate 1 1 0 0\n"
+        self.assertEqual(focusd("load", self.right, self.short), (0, wanted, ""))
+
+    def test_a_folder(self):
+        words = ("load", "--dir", str(self.room / "costs"))
+        wanted = "1 accepted\n2 accepted\nstale 0\nstate 2 2 0 0\n"
+        self.assertEqual(focusd(*words, "--create", self.right, self.right), (0, wanted, ""))
+        # The same files again are there, and a new number is a new entry.
+        wanted = "1 already 1\n2 already 1\n3 accepted\nstale 0\nstate 3 3 0 0\n"
+        self.assertEqual(focusd(*words, self.right, self.right, self.right), (0, wanted, ""))
+        wanted = "1 accepted\nstale 0\nstate 4 4 0 0\n"
+        self.assertEqual(focusd(*words, "--origin", "g", "--analysts", "16", self.right), (0, wanted, ""))
+        self.assertEqual(focusd("verify", "--dir", str(self.room / "costs"))[0], 0)
+
+    def test_sixty_four_files(self):
+        wanted = "".join(f"{number} accepted\n" for number in range(1, 65)) + "stale 0\nstate 64 64 0 0\n"
+        self.assertEqual(focusd("load", "--analysts", "4", *[self.right] * 64), (0, wanted, ""))
+
+    def test_what_is_wrong(self):
+        for words, wanted, named in (
+            (("load",), 2, "FILE"),
+            (("load", "--analysts", "0", self.right), 2, "--analysts"),
+            (("load", "--analysts", "17", self.right), 2, "--analysts"),
+            (("load", "--currency", "usd", self.right), 2, "focusd: currency"),
+            (("load", *[self.right] * 65), 1, "focusd: G1 Counts"),
+            # A file that can't be read is found before the folder is looked at.
+            (("load", "--dir", str(self.room / "none"), str(self.room / "none.csv")), 1, "focusd: F1 Read"),
+            (("load", "--dir", str(self.room / "none"), self.right), 1, "focusd: K1 Io"),
+            (("load", "--dir", str(self.room / "costs"), self.right), 1, "focusd: S1 NoHouse"),
+        ):
+            status, printed, said = focusd(*words)
+            self.assertEqual((status, printed), (wanted, ""), words)
+            self.assertIn(named, said, words)
+
+    def test_an_origin_that_is_none(self):
+        wanted = "1 refused E1 Origin\nstale 0\nstate 0 0 0 0\n"
+        self.assertEqual(focusd("load", "--origin", "a b", self.right), (0, wanted, ""))
 
 
 class Dumps(unittest.TestCase):

@@ -1,6 +1,6 @@
 //! The command line, and what its help says.
 use crate::commands::{
-    check, checkpoint, coverage, dump, explain, import, lines, report, run, status, verify,
+    check, checkpoint, coverage, dump, explain, import, lines, load, report, run, status, verify,
 };
 use clap::{Arg, ArgAction, ArgMatches, Command};
 use fw_rows::Currency;
@@ -97,6 +97,7 @@ fn commands<'a>(alloc: Global) -> Result<Vec<Command<'a>>, AllocError> {
     let mut commands = Vec::new(alloc);
     commands.push(run::command(alloc)?)?;
     commands.push(import::command(alloc)?)?;
+    commands.push(load::command(alloc)?)?;
     commands.push(check::command(alloc)?)?;
     commands.push(report::command(alloc)?)?;
     commands.push(lines::command(alloc)?)?;

@@ -1,10 +1,11 @@
 //! Why the program ended with a status that isn't 0.
 use fw_disk::FolderFault;
 use fw_dump::TextFault;
+use fw_load::LoadFault;
 use fw_query::QueryFault;
 use fw_recover::StoreFault;
 use fw_serve::ServeFault;
-use std::alloc::AllocError;
+use std::alloc::{AllocError, AllocFailed};
 
 /// Why the program ended with a status that isn't 0. The text of each is its code and its name, or `NoMemory`, and fits on one line.
 #[derive(Clone, Copy, Debug, Drop, thiserror::Error)]
@@ -18,6 +19,9 @@ pub enum Fault {
     /// The script was not served to its end.
     #[error("{0}")]
     Serve(ServeFault),
+    /// Files were not loaded to their end.
+    #[error("{0}")]
+    Load(LoadFault),
     /// An entry of the warehouse has no text in a script.
     #[error("{0}")]
     Text(TextFault),
@@ -34,6 +38,12 @@ pub enum Fault {
 
 impl From<AllocError> for Fault {
     fn from(_: AllocError) -> Fault {
+        Fault::NoMemory
+    }
+}
+
+impl<T: Drop> From<AllocFailed<T>> for Fault {
+    fn from(_: AllocFailed<T>) -> Fault {
         Fault::NoMemory
     }
 }

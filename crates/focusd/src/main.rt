@@ -18,18 +18,20 @@ use clap::ArgMatches;
 use clap::error::ErrorKind;
 use command_line::command_line;
 use commands::{
-    check, checkpoint, coverage, dump, explain, import, lines, report, run, status, verify,
+    check, checkpoint, coverage, dump, explain, import, lines, load, report, run, status, verify,
 };
 use fault::Fault;
 use fw_serve::ServeFault;
 use std::process::ExitCode;
+use std::sync::Wait;
+use std::thread::Threads;
 use std::{env, io};
 
 /// Where the command line is wrong.
 pub(crate) const WRONG_USE: u8 = 2;
 
 fn main(rt: HostRuntime) -> ExitCode {
-    match start(&rt) {
+    match start(&rt, &rt) {
         Ok(status) => status,
         Err(fault) => failed(&rt, &fault),
     }
@@ -42,7 +44,7 @@ pub(crate) fn failed(rt: &HostRuntime, fault: &Fault) -> ExitCode {
 }
 
 // Reads the command line, and runs its command.
-fn start(rt: &HostRuntime) -> Result<ExitCode, Fault> {
+fn start<R: Threads + Wait + Sync>(rt: &HostRuntime, threads: &R) -> Result<ExitCode, Fault> {
     let alloc = rt.alloc();
     let words: Vec<String> = match env::args(rt) {
         Ok(words) => words.collect(alloc)?,
@@ -52,16 +54,21 @@ fn start(rt: &HostRuntime) -> Result<ExitCode, Fault> {
         Err(_) => return Ok(wrong_use(rt, "an argument is not UTF-8")),
     };
     match command_line(alloc)?.try_get_matches_from(words.as_slice()) {
-        Ok(matches) => run_command(rt, &matches),
+        Ok(matches) => run_command(rt, threads, &matches),
         Err(error) => refused(rt, &error),
     }
 }
 
 // Runs the command that the words name.
-fn run_command(rt: &HostRuntime, matches: &ArgMatches<'_>) -> Result<ExitCode, Fault> {
+fn run_command<R: Threads + Wait + Sync>(
+    rt: &HostRuntime,
+    threads: &R,
+    matches: &ArgMatches<'_>,
+) -> Result<ExitCode, Fault> {
     match matches.subcommand() {
         Some(("run", options)) => run::run(rt, options),
         Some(("import", options)) => import::run(rt, options),
+        Some(("load", options)) => load::run(rt, threads, options),
         Some(("check", options)) => check::run(rt, options),
         Some(("report", options)) => report::run(rt, options),
         Some(("lines", options)) => lines::run(rt, options),

@@ -1,4 +1,5 @@
 //! Progress of a long command on standard error, where that is a terminal.
+use fw_load::Progress as LoadProgress;
 use std::io::IsTerminal;
 use std::time::Instant;
 
@@ -50,6 +51,34 @@ impl Progress {
     pub(crate) fn end(&self, rt: &HostRuntime) {
         if self.start.is_some() && self.rows > 0 {
             let _ = eprintln!(rt; "");
+        }
+    }
+}
+
+/// How many files of a load are stored.
+#[derive(Drop)]
+pub(crate) struct FileProgress<'a> {
+    rt: &'a HostRuntime,
+    files: usize,
+    is_shown: bool,
+}
+
+impl<'a> FileProgress<'a> {
+    /// Progress of a load of so many files. It is printed where standard error is a terminal.
+    pub(crate) fn new(rt: &'a HostRuntime, files: usize) -> FileProgress<'a> {
+        FileProgress {
+            rt,
+            files,
+            is_shown: rt.stderr().is_terminal(),
+        }
+    }
+}
+
+impl LoadProgress for FileProgress<'_> {
+    fn stored(&mut self, files: usize) {
+        if self.is_shown {
+            let all = self.files;
+            let _ = eprintln!(self.rt; "{files} of {all} files are stored");
         }
     }
 }
