@@ -3,17 +3,19 @@
 
   tools/kill_loads.py PROGRAM [--runs N] [--files N ...] [--rows N] [--seed N]
 
-All runs go over one folder. Each run starts `PROGRAM load` with a set of new files, and kills it (SIGKILL) after a random time. Some runs
-make a checkpoint, which is killed too, or not. Then the same files are loaded again, without a kill. Each has to be answered `accepted` or
-`already 1`, and `already 1` where the killed load had answered `accepted`; `stale` has to be 0; the warehouse has to have as many
-entries more as files are answered `accepted`, and after each run as many as files were loaded in all. At the end a report has to
-have the costs of each file once. A program that has not ended after a minute is an error.
+All runs go over one folder. Each run starts `PROGRAM load` with a set of new files, and kills it (SIGKILL) after a random time. Its standard
+error is a terminal, so it says there how many files it has stored so far. Some runs make a checkpoint, which is killed too, or not. When the
+warehouse is opened again it has to have as many of the run's files as the killed load said, or more. Then the same files are loaded again, without
+a kill. Each has to be answered `accepted` or `already 1`, and `already 1` where the killed load had answered `accepted`; `stale` has to be 0;
+the warehouse has to have as many entries more as files are answered `accepted`, and after each run as many as files were loaded in all. At the end a
+report has to have the costs of each file once. A program that has not ended after a minute is an error.
 
 PROGRAM may be several words, as one that runs another.
 """
 import argparse
 import os
 import random
+import re
 import shlex
 import subprocess
 import sys
@@ -54,13 +56,32 @@ def finished(words, given=b""):
 
 
 def killed(words, seconds):
-    """What a program writes that is killed after so many seconds, and whether it was."""
-    child = subprocess.Popen(words, stdout=subprocess.PIPE, stderr=subprocess.DEVNULL)
+    """What a program writes that is killed after so many seconds, what it writes to the terminal, and whether it was killed."""
+    ours, terminal = os.openpty()
+    child = subprocess.Popen(words, stdout=subprocess.PIPE, stderr=terminal)
+    os.close(terminal)
     try:
-        return child.communicate(timeout=seconds)[0], False
+        written, was_killed = child.communicate(timeout=seconds)[0], False
     except subprocess.TimeoutExpired:
         child.kill()
-        return child.communicate()[0], True
+        written, was_killed = child.communicate()[0], True
+    told = b""
+    # A terminal that nobody holds any more is read to its end, which is an error.
+    try:
+        while part := os.read(ours, 65536):
+            told += part
+    except OSError:
+        pass
+    os.close(ours)
+    return written, told, was_killed
+
+
+def stored(told, count):
+    """How many files a load said it had stored, of so many."""
+    found = re.findall(rb"(\d+) of (\d+) files are stored\r?\n", told)
+    if any(int(of) != count for _, of in found):
+        wrong(f"it told of another number of files than {count}: {told!r}")
+    return max((int(files) for files, _ in found), default=0)
 
 
 def answers(text):
@@ -109,7 +130,7 @@ def main():
     given = options.parse_args()
     dice = random.Random(given.seed)
     program = [os.path.abspath(given.program[0]), *given.program[1:]]
-    kills = checkpoints = acknowledgements = found = 0
+    kills = checkpoints = answered = acknowledged = found = 0
     costs = {}
     longest = 0.05
     with tempfile.TemporaryDirectory() as top:
@@ -123,17 +144,22 @@ def main():
                 name = f"run-{run}.{number}"
                 costs[name] = write_file(path, name, given.rows, dice)
             load = [*program, "load", "--dir", folder, "--analysts", str(ANALYSTS), "--origin", f"run-{run}", *paths]
-            text, was_killed = killed(load, dice.uniform(0, 1.2 * longest))
+            text, told, was_killed = killed(load, dice.uniform(0, 1.2 * longest))
             kills += was_killed
-            acknowledged = [number for number, answer in answers(text)[0].items() if answer == "accepted"]
-            acknowledgements += len(acknowledged)
+            accepted = [number for number, answer in answers(text)[0].items() if answer == "accepted"]
+            answered += len(accepted)
+            said = stored(told, count)
+            acknowledged += said
             if dice.randrange(4) == 0:
                 checkpoints += 1
                 killed([*program, "checkpoint", "--dir", folder], dice.choice([LIMIT, dice.uniform(0, longest)]))
             before = entries(program, folder)
-            found += before - (len(costs) - count)
+            there = before - (len(costs) - count)
+            found += there
+            if there < said:
+                wrong(f"run {run} of seed {given.seed}: {said} files were said to be stored, and {there} are there")
             started = time.time()
-            problem = check_again(finished(load), acknowledged, count, before)
+            problem = check_again(finished(load), accepted, count, before)
             if problem is None and entries(program, folder) != len(costs):
                 problem = f"the warehouse has not the {len(costs)} entries that it was given"
             if problem is not None:
@@ -145,7 +171,7 @@ def main():
             wrong("the report has not the costs of each file once")
     print(
         f"{given.runs} loads of {given.files} files, {kills} killed, {checkpoints} checkpoints: {len(costs)} files, each there once; "
-        f"{acknowledgements} had been answered before a kill or an end, {found} were there when the warehouse was opened again"
+        f"{acknowledged} were said to be stored and {answered} were answered before a kill or an end, {found} were there when the warehouse was opened again"
     )
 
 

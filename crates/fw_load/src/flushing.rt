@@ -45,7 +45,7 @@ impl<J: Naming, V: Volume + Drop, R: Wait> Held<'_, J, V, R> {
 
     /// Ends the flusher. Whoever waits is answered `closed`.
     pub(crate) fn close(self) -> Store<V>
-        ensures { result ≡ self.flusher.store }
+        ensures { result ≡ self.entry.flusher.store }
     {
         let Self { flusher, rt } = self;
         flusher.close(rt)

@@ -1,4 +1,4 @@
-use Rattle.std.proofs.Common.{⊤}
+use Rattle.std.specs.Prelude.{⊤}
 use Rattle.fw_load.proofs.loading.start_watches.Given as goal
 
 abbrev pub invariant-loop : goal.invariant-loop
