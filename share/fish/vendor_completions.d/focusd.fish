@@ -2,6 +2,7 @@
 complete -c focusd -f
 complete -c focusd -n __fish_use_subcommand -a run -d 'Reads a script from standard input and prints the answers'
 complete -c focusd -n __fish_use_subcommand -a import -d 'Takes CSV exports of any length into a warehouse'
+complete -c focusd -n __fish_use_subcommand -a load -d 'Takes up to 64 CSV files into a warehouse side by side'
 complete -c focusd -n __fish_use_subcommand -a check -d 'Lists all faults of CSV exports, and what is in them'
 complete -c focusd -n __fish_use_subcommand -a report -d 'Sums the costs of a range of time by the values of a tag'
 complete -c focusd -n __fish_use_subcommand -a lines -d 'Lists what a range of time cost, line by line, as CSV'
@@ -22,6 +23,13 @@ complete -c focusd -n '__fish_seen_subcommand_from import' -l origin -x -d 'Who 
 complete -c focusd -n '__fish_seen_subcommand_from import' -l quiet -d 'Prints no progress'
 complete -c focusd -n '__fish_seen_subcommand_from import' -l help -d 'Print help'
 complete -c focusd -n '__fish_seen_subcommand_from import' -F
+complete -c focusd -n '__fish_seen_subcommand_from load' -l currency -x -d 'The currency of all costs, where a warehouse is created: three capital letters'
+complete -c focusd -n '__fish_seen_subcommand_from load' -l dir -r -F -d 'Keeps the warehouse in this folder, which has to be there; without it the warehouse is in memory'
+complete -c focusd -n '__fish_seen_subcommand_from load' -l create -d 'Creates the warehouse in the folder; without --dir it changes nothing'
+complete -c focusd -n '__fish_seen_subcommand_from load' -l analysts -x -d 'How many analysts view the warehouse meanwhile: 1 to 16'
+complete -c focusd -n '__fish_seen_subcommand_from load' -l origin -x -d 'The first part of the names of the origins'
+complete -c focusd -n '__fish_seen_subcommand_from load' -l help -d 'Print help'
+complete -c focusd -n '__fish_seen_subcommand_from load' -F
 complete -c focusd -n '__fish_seen_subcommand_from check' -l format -x -a 'text json' -d 'How the answer is written'
 complete -c focusd -n '__fish_seen_subcommand_from check' -l currency -x -d 'The currency that all costs must have: three capital letters'
 complete -c focusd -n '__fish_seen_subcommand_from check' -l help -d 'Print help'
