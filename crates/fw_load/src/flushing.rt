@@ -1,6 +1,6 @@
 //! The flusher, as a thread holds it.
 ghost use Rattle.std.specs.Prelude.{◌≡◌, IfOk, IfErr};
-ghost use Rattle.fw_load.specs.Loads.{Loads, GoesOn, Stops};
+ghost use Rattle.fw_load.specs.Loads.{Flushes, GoesOn, Stops};
 
 use crate::fault::LoadFault;
 use crate::progress::Progress;
@@ -24,9 +24,9 @@ impl<J: Naming, V: Volume + Drop, R: Wait> Drop for Held<'_, J, V, R> {
 impl<J: Naming, V: Volume + Drop, R: Wait> Held<'_, J, V, R> {
     /// Commits until all importers have left, or until a fault, after which importers may still wait. Where a commit ran out of memory its
     /// importers were answered so, and the next group is taken. After each group it tells how many entries were stored so far.
-    #[tactic(auto, using(crate::proofs::Grown::goes_on_both, crate::proofs::Grown::stops_after))]
+    #[tactic(auto, using(crate::proofs::Grown::goes_on_both, crate::proofs::Grown::stops_after, crate::proofs::Grown::stays, crate::proofs::Grown::ends, crate::proofs::Grown::ends_in))]
     pub(crate) fn flush<P: Progress>(&mut self, progress: &mut P) -> Option<LoadFault>
-        ensures { Loads self.old.flusher.store self.new.flusher.store result }
+        ensures { Flushes V.tells V.view self.old.flusher self.new.flusher result }
     {
         let rt = self.rt;
         let mut stored: usize = 0;
@@ -58,8 +58,8 @@ fn step<J: Naming, V: Volume + Drop, R: Wait>(
     rt: &R,
     flusher: &mut Flusher<J, V>,
 ) -> Result<Option<usize>, LoadFault>
-    ensures went_on { IfOk result (λ _. GoesOn flusher.old.store flusher.new.store) }
-    ensures stopped { IfErr result (λ _. Stops flusher.old.store flusher.new.store) }
+    ensures went_on { IfOk result (λ _. GoesOn V.tells V.view flusher.old flusher.new) }
+    ensures stopped { IfErr result (λ _. Stops V.tells V.view flusher.old flusher.new) }
 {
     match flusher.take(rt) {
         Ok(Taken::Over) => Ok(None),
@@ -74,8 +74,8 @@ fn commit<J: Naming, V: Volume + Drop, R: Wait>(
     rt: &R,
     flusher: &mut Flusher<J, V>,
 ) -> Result<Option<usize>, LoadFault>
-    ensures went_on { IfOk result (λ _. GoesOn flusher.old.store flusher.new.store) }
-    ensures stopped { IfErr result (λ _. Stops flusher.old.store flusher.new.store) }
+    ensures went_on { IfOk result (λ _. GoesOn V.tells V.view flusher.old flusher.new) }
+    ensures stopped { IfErr result (λ _. Stops V.tells V.view flusher.old flusher.new) }
 {
     match flusher.commit(rt) {
         Ok(count) => Ok(Some(count)),

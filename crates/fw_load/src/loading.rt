@@ -1,6 +1,6 @@
 //! Files that are loaded side by side.
 ghost use Rattle.std.specs.Prelude.{◌≡◌};
-ghost use Rattle.fw_load.specs.Loads.{Loads};
+ghost use Rattle.fw_load.specs.Loads.{IsShown, Loads};
 
 use crate::board::{Place, places, watch};
 use crate::fault::LoadFault;
@@ -42,7 +42,7 @@ pub fn load<R: Threads + Wait + Sync, V: Volume + Drop, W: Write, P: Progress>(
     writer: &mut W,
     progress: &mut P,
 ) -> (Store<V>, Option<LoadFault>)
-    ensures { Loads store result.0 result.1 }
+    ensures { Loads V.tells V.view store result.0 result.1 }
 {
     load_as::<Brand, R, V, W, P>(rt, alloc, Opened::new(), store, job, writer, progress)
 }
@@ -63,7 +63,7 @@ fn load_as<
     progress: &mut P,
 ) -> (Store<V>, Option<LoadFault>)
     requires { (opened.fronts ≡ J.fronts) × (opened.posts ≡ J.posts) }
-    ensures { Loads store result.0 result.1 }
+    ensures { Loads V.tells V.view store result.0 result.1 }
 {
     let count = job.texts.len();
     let Ok(places) = places::<J>(alloc, count) else {
@@ -109,14 +109,15 @@ fn run<J: Naming + Send + Sync, R: Threads + Wait + Sync, V: Volume + Drop, P: P
     places: &[Place<J>],
     progress: &mut P,
 ) -> (Store<V>, Option<LoadFault>, u64)
-    ensures { Loads flusher.store result.0 result.1 }
+    requires { IsShown flusher }
+    ensures { Loads V.tells V.view flusher.store result.0 result.1 }
 {
     let held = Held { flusher, rt };
     thread::scope(
         thread::scope_env(),
         rt,
         move |scope| -> (Store<V>, Option<LoadFault>, u64)
-            ensures { Loads held.entry.flusher.store result.0 result.1 }
+            ensures { IsShown held.entry.flusher → Loads V.tells V.view held.entry.flusher.store result.0 result.1 }
         {
             start_seats(scope, seats);
             let watches = start_watches(rt, alloc, scope, analysts, places);
