@@ -33,7 +33,8 @@ pub struct Job<'a> {
 /// an entry that their analyst had learned of; and the counts of the warehouse. Meanwhile it tells its progress.
 ///
 /// There are 1 to 64 texts and as many analysts at most, else the fault is `G1 Counts`. A fault of a commit, but for out of memory, ends
-/// the load: whoever waits is answered `closed`, and the lines are written all the same. The store comes back with what was accepted.
+/// the load: whoever waits is answered `closed`, and the lines are written all the same. The store comes back with what was accepted. A crash at any
+/// moment of the load leaves a warehouse that has all that the store had before, and perhaps more of the files.
 pub fn load<R: Threads + Wait + Sync, V: Volume + Drop, W: Write, P: Progress>(
     rt: &R,
     alloc: Global,
