@@ -1,2 +1,3 @@
-pub mod Grown
 pub mod FileFacts
+pub mod Grown
+pub mod Sent

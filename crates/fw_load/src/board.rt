@@ -7,39 +7,41 @@ use std::sync::{Condvar, Mutex, Wait};
 
 /// What became of a file.
 #[derive(Drop)]
-pub(crate) enum Outcome<J: Naming> {
+pub(crate) enum Outcome<A: Drop> {
     /// It was posted, and this is the answer.
-    Posted(Answer<Published<J>>),
+    Posted(A),
     /// It was not posted, and this is why.
     NotPosted(Reply),
 }
 
 /// What became of one file, once that is known.
 #[derive(Drop)]
-pub(crate) struct Place<J: Naming> {
-    outcome: Mutex<Option<Outcome<J>>>,
+pub(crate) struct Place<A: Drop> {
+    outcome: Mutex<Option<Outcome<A>>>,
     known: Condvar,
 }
 
-impl<J: Naming> Place<J> {
-    fn new() -> Place<J> {
+impl<A: Drop> Place<A> {
+    fn new() -> Place<A> {
         Place {
             outcome: Mutex::new(None),
             known: Condvar::new(),
         }
     }
 
-    pub(crate) fn put<R: Wait>(&self, rt: &R, outcome: Outcome<J>) {
+    pub(crate) fn put<R: Wait>(&self, rt: &R, outcome: Outcome<A>) {
         let mut place = self.outcome.lock(rt);
         *place = Some(outcome);
         self.known.notify_all();
     }
 
     /// What became of the file, which is looked at under a lock.
-    pub(crate) fn outcome(&self) -> &Mutex<Option<Outcome<J>>> {
+    pub(crate) fn outcome(&self) -> &Mutex<Option<Outcome<A>>> {
         &self.outcome
     }
+}
 
+impl<J: Naming> Place<Answer<Published<J>>> {
     // Waits until it is known what became of the file. Where it was accepted, the analyst learns the receipt, and this is its number.
     fn learned<R: Wait>(&self, rt: &R, analyst: &mut Analyst<J>) -> Option<usize> {
         let outcome = self
@@ -56,7 +58,7 @@ impl<J: Naming> Place<J> {
 }
 
 /// The places of all files, in order.
-pub(crate) fn places<J: Naming>(alloc: Global, count: usize) -> Result<Vec<Place<J>>, AllocError> {
+pub(crate) fn places<A: Drop>(alloc: Global, count: usize) -> Result<Vec<Place<A>>, AllocError> {
     let mut places = Vec::with_capacity(alloc, count)?;
     for _ in 0..count {
         places.push(Place::new())?;
@@ -65,7 +67,11 @@ pub(crate) fn places<J: Naming>(alloc: Global, count: usize) -> Result<Vec<Place
 }
 
 /// Learns each receipt as it comes, and views. It answers how many views lacked an entry that was learned.
-pub(crate) fn watch<J: Naming, R: Wait>(rt: &R, analyst: Analyst<J>, places: &[Place<J>]) -> u64 {
+pub(crate) fn watch<J: Naming, R: Wait>(
+    rt: &R,
+    analyst: Analyst<J>,
+    places: &[Place<Answer<Published<J>>>],
+) -> u64 {
     let mut analyst = analyst;
     let mut stale: u64 = 0;
     for place in places {

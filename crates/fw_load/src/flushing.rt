@@ -24,7 +24,6 @@ impl<J: Naming, V: Volume + Drop, R: Wait> Drop for Held<'_, J, V, R> {
 impl<J: Naming, V: Volume + Drop, R: Wait> Held<'_, J, V, R> {
     /// Commits until all importers have left, or until a fault, after which importers may still wait. Where a commit ran out of memory its
     /// importers were answered so, and the next group is taken. After each group it tells how many entries were stored so far.
-    #[tactic(auto, using(crate::proofs::Grown::goes_on_both, crate::proofs::Grown::stops_after, crate::proofs::Grown::stays, crate::proofs::Grown::ends, crate::proofs::Grown::ends_in))]
     pub(crate) fn flush<P: Progress>(&mut self, progress: &mut P) -> Option<LoadFault>
         ensures { Flushes V.tells V.view self.old.flusher self.new.flusher result }
     {

@@ -12,7 +12,7 @@ use std::sync::Wait;
 pub(crate) fn lines<J: Naming, R: Wait>(
     rt: &R,
     alloc: Global,
-    places: &[Place<J>],
+    places: &[Place<Answer<Published<J>>>],
     stale: u64,
     after: &Snapshot,
 ) -> Result<Vec<u8>, LoadFault> {
@@ -45,7 +45,10 @@ fn push_reply(text: &mut Vec<u8>, reply: &Reply) -> Result<(), LoadFault> {
 }
 
 // The words of what became of a file.
-fn push_outcome<J: Naming>(text: &mut Vec<u8>, outcome: &Outcome<J>) -> Result<(), LoadFault> {
+fn push_outcome<J: Naming>(
+    text: &mut Vec<u8>,
+    outcome: &Outcome<Answer<Published<J>>>,
+) -> Result<(), LoadFault> {
     match outcome {
         Outcome::Posted(answer) => push_answer(text, answer),
         Outcome::NotPosted(reply) => push_reply(text, reply),

@@ -9,8 +9,9 @@ use crate::lines::lines;
 use crate::progress::Progress;
 use crate::seat::{Seat, seats_of};
 use fw_disk::Volume;
+use fw_group::Answer;
 use fw_recover::Store;
-use fw_threads::{Analyst, Flusher, Naming, Opened, Parts, split};
+use fw_threads::{Analyst, Flusher, Naming, Opened, Parts, Published, split};
 use std::alloc::Global;
 use std::io::Write;
 use std::marker::Brand;
@@ -67,7 +68,7 @@ fn load_as<
     ensures { Loads V.tells V.view store result.0 result.1 }
 {
     let count = job.texts.len();
-    let Ok(places) = places::<J>(alloc, count) else {
+    let Ok(places) = places::<Answer<Published<J>>>(alloc, count) else {
         return (store, Some(LoadFault::NoMemory));
     };
     let currency = store.state().state().currency();
@@ -107,7 +108,7 @@ fn run<J: Naming + Send + Sync, R: Threads + Wait + Sync, V: Volume + Drop, P: P
     flusher: Flusher<J, V>,
     seats: Vec<Seat<'_, J, R>>,
     analysts: Vec<Analyst<J>>,
-    places: &[Place<J>],
+    places: &[Place<Answer<Published<J>>>],
     progress: &mut P,
 ) -> (Store<V>, Option<LoadFault>, u64)
     requires { IsShown flusher }
@@ -156,7 +157,7 @@ fn start_watches<'s, E, J: Naming + Send + Sync, R: Wait + Sync>(
     alloc: Global,
     scope: &Scope<'s, E>,
     analysts: Vec<Analyst<J>>,
-    places: &'s [Place<J>],
+    places: &'s [Place<Answer<Published<J>>>],
 ) -> Vec<JoinHandle<u64>> {
     let mut analysts = analysts;
     let mut watches = Vec::new(alloc);

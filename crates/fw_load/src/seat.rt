@@ -4,7 +4,7 @@ use crate::posting::entry_of;
 use fw_charge::Currency;
 use fw_group::Answer;
 use fw_serve::Reply;
-use fw_threads::{Importer, Naming};
+use fw_threads::{Importer, Naming, Published};
 use std::alloc::Global;
 use std::sync::Wait;
 
@@ -13,7 +13,7 @@ pub(crate) struct Seat<'a, J: Naming, R: Wait> {
     pub(crate) rt: &'a R,
     pub(crate) alloc: Global,
     pub(crate) importer: Importer<J>,
-    pub(crate) place: &'a Place<J>,
+    pub(crate) place: &'a Place<Answer<Published<J>>>,
     pub(crate) currency: Currency,
     /// The prefix of the origin, and the number of the file, counted from 1.
     pub(crate) origin: &'a str,
@@ -67,7 +67,7 @@ pub(crate) fn seats_of<'a, J: Naming, R: Wait>(
     alloc: Global,
     importers: Vec<Importer<J>>,
     texts: Vec<Vec<u8>>,
-    places: &'a [Place<J>],
+    places: &'a [Place<Answer<Published<J>>>],
     currency: Currency,
     origin: &'a str,
 ) -> Vec<Seat<'a, J, R>> {
