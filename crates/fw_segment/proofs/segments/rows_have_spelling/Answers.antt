@@ -1,0 +1,6 @@
+use Rattle.fw_charge.specs.Spelling.{IsRow}
+use Rattle.fw_row_bytes.proofs.Written.{all_more}
+use Rattle.fw_segment.proofs.segments.rows_have_spelling.Goals as goal
+
+pub loop-place-preserved : goal.loop-place-preserved
+loop-place-preserved c = all_more IsRow c.args.columns.now c.loop-place.place c.lent.result c.lent.ensures c.loop-place.invariant c.encoded_len-_len.ensures.valid
