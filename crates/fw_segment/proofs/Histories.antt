@@ -137,7 +137,7 @@ each_spelled [] = refl
 each_spelled (rows ∷ segments) = ap (λ (w : List ℕ). segment Columns rows ++ w) (each_spelled segments)
 
 all_spelled : (segments : List (List Charge)) → listed (λ (s : Kind × List Charge). segment s.0 s.1) (by_column segments) ≡ listed (segment Columns) segments
-all_spelled segments = rw (length-map segments (λ (rows : List Charge). (Columns, rows)), each_spelled segments) refl
+all_spelled segments = rw (length-map {B = Kind × List Charge} segments (λ (rows : List Charge). (Columns, rows)), each_spelled segments) refl
 
 -- the three parts, written one behind the other
 pub spelled_in_turn : (currency : List ℕ) (hs : List HeadValue) (segments : List (List Charge)) (first one two three : List ℕ) → one ≡ first ++ text currency → two ≡ one ++ heads hs → three ≡ two ++ listed (segment Columns) segments

@@ -87,6 +87,8 @@ impl<'a> RowsLeft<'a> {
     {
         match &self.segment {
             Some(columns) => {
+                // Proves that the segment hasn't too many rows.
+                let _len = columns.len();
                 let row = columns.row(self.taken)?;
                 self.taken += 1;
                 Ok(row)

@@ -13,7 +13,7 @@ ghost use Rattle.fw_segment.specs.Replaying.{stepped, state_behind, with_rows, A
 ghost use Rattle.fw_segment.specs.RowsLeft.{rows_given, rows_left};
 ghost use Rattle.fw_segment.specs.Segments.{most_segment_rows, segment};
 ghost use Rattle.fw_segment.specs.States.{Spells, currency_at, followed, parts_at, rows_at, state_at};
-ghost use Rattle.fw_segment.specs.declared.kind.Kind.TheVariants.{Columns};
+ghost use Rattle.fw_segment.specs.declared.kind.Kind.TheVariants as layout;
 
 use crate::heads::{ReadContent, ReadHead, heads_of, put_head};
 use crate::kind::Kind;
@@ -265,7 +265,7 @@ fn put_heads(out: &mut Vec<u8>, state: &State) -> Result<(), AllocError>
 /// Writes segments by column: their number, and each in turn.
 fn put_segments(out: &mut Vec<u8>, segments: &Sequence<Columns>) -> Result<(), AllocError>
     requires { length segments.now ≤ most_rows }
-    ensures spelled { OnOk result (out.new.items ≡ out.old.items ++ listed (segment Columns) segments.now) }
+    ensures spelled { OnOk result (out.new.items ≡ out.old.items ++ listed (segment layout.Columns) segments.now) }
     ensures sized { OnOk result (All (λ rows. (0 < length rows) × (length rows ≤ most_segment_rows)) segments.now) }
 {
     let count = segments.len();

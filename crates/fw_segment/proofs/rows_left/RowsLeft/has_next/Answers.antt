@@ -7,7 +7,7 @@ use Rattle.fw_segment.proofs.rows_left.RowsLeft.has_next.Goals as goal
 pub returns-in-Ok-clause-same : goal.returns-in-Ok-clause-same
 returns-in-Ok-clause-same c =
     let left = c.args.self.now in
-    let none : held left ≡ [] = nil_from_length (held left) (omega (arith, c.held_len.ensures, c.if-self-gt0.false)) in
+    let none : held left ≡ [] = nil_from_length (held left) (omega (arith, c.held_len.ensures, c.if-held_len-gt0.false)) in
     let more : left.segments ≡ suc (left.segments - 1) = omega (arith, c.if-self-eq0.false) in
     begun (held left) left.segments (left.segments - 1) left.bytes.now c.in-Ok.columns c.in-Ok.rest.now none more c.in-Ok.ensures
 
