@@ -1,5 +1,5 @@
 -- Groups and segments: what is read is spelled so, and what is spelled so is read.
-use Rattle.std.proofs.Common.{◌≡◌, ◌∙◌, ℕ, zero, suc, List, [], ◌∷◌, ◌++◌, length, Result, Ok, Err, refl, sym, ap, subst, arith}
+use Rattle.std.proofs.Common.{◌≡◌, ◌∙◌, ℕ, zero, suc, List, [], ◌∷◌, ◌++◌, Result, Ok, Err, refl, sym, ap, subst, arith}
 use Rattle.fw_bytes.specs.Reading.{Reading, ◌>>=◌, seen}
 use Rattle.fw_bytes.specs.Spelling.{listed, FitsList}
 use Rattle.fw_bytes.proofs.Laws.{IsBytes, IsBytes-rest, IsFormat, Takes, Takes-behind, bind_ok, list_format, list_parts, list_fits, ok_is}

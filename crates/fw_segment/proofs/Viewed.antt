@@ -1,5 +1,5 @@
 -- Readings that are seen through a view: fields together, lists, and all of the bytes.
-use Rattle.std.proofs.Common.{◌≡◌, ◌∙◌, ℕ, zero, suc, Bool, true, false, cond, eqb, ltb, List, [], ◌∷◌, length, map, Result, Ok, Err, refl, ap}
+use Rattle.std.proofs.Common.{◌≡◌, ◌∙◌, ℕ, zero, suc, Bool, true, false, cond, eqb, ltb, List, ◌∷◌, length, map, Result, Ok, Err, refl}
 use Rattle.std.specs.Int.{w32}
 use Rattle.fw_bytes.specs.Reading.{Reading, ◌>>=◌, both, number_at, seen, times, list_at}
 use Rattle.fw_entry_bytes.specs.Whole.{whole}

@@ -1,4 +1,4 @@
-use Rattle.std.proofs.Common.{All, length, subst, arith}
+use Rattle.std.proofs.Common.{All, subst, arith}
 use Rattle.std.proofs.lemmas.List.{take_all}
 use Rattle.fw_charge.specs.Spelling.{IsRow}
 use Rattle.fw_row_bytes.proofs.Written.{all_more}

@@ -1,9 +1,9 @@
 use Rattle.std.specs.Prelude.{nat_lt}
-use Rattle.std.proofs.Common.{rules, ◌≡◌, ◌<◌, ◌+◌, ◌∙◌, ◌++◌, [], false, List, length, Ok, sym, ap, append-nil, length-append, arith}
-use Rattle.std.proofs.lemmas.Bool.{lt-ltb, ltb-true}
+use Rattle.std.proofs.Common.{rules, ◌≡◌, ◌<◌, ◌∙◌, ◌++◌, false, List, length, Ok, sym, ap, append-nil, length-append, arith}
+use Rattle.std.proofs.lemmas.Bool.{lt-ltb}
 use Rattle.fw_charge.specs.Charge.{Charge}
 use Rattle.fw_segment.specs.RowsLeft.{behind, held, segments_at}
-use Rattle.fw_segment.proofs.Taking.{held_gone, no_row, none_left, nothing_held}
+use Rattle.fw_segment.proofs.Taking.{held_gone, no_row, none_left}
 use Rattle.fw_segment.proofs.rows_left.RowsLeft.read_out.Goals as goal
 
 pub loop-self-preserved : goal.loop-self-preserved
