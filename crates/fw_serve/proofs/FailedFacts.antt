@@ -482,3 +482,12 @@ pub checkpoints_closed : (before after : Standing) (commands : List PlainCommand
 checkpoints_closed before after commands answers place later answer given lost less sent answered =
     let (held, same, closed) = from_then CheckpointsClosed checkpoint_closed commands before after answers place later checkpoint answer given lost less sent answered in
     closed refl
+
+-- the line of a device that fails is none of the two
+pub device_not_closed : (answer : List ℕ) → answer ≡ store_fault_line store_fault.Device → (answer ≡ store_fault_line store_fault.Failed) ⊎ (answer ≡ no_memory_line) → ⊥
+device_not_closed answer device (inl failed) =
+    let codes = sym device_code ∙ ap store_code (sym device ∙ failed) ∙ failed_code in
+    absurd (omega (arith, codes))
+device_not_closed answer device (inr memory) =
+    let codes = sym device_code ∙ ap store_code (sym device ∙ memory) ∙ memory_silent in
+    absurd (omega (arith, codes))
