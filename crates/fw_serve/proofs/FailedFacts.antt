@@ -1,5 +1,5 @@
 -- Why a store doesn't do what a command asks for, and what it answers once its device has failed.
-use Rattle.std.proofs.Common.{◌≡◌, ◌⊎◌, ◌∙◌, ◌<◌, ◌∷◌, [], ℕ, zero, suc, List, Some, true, false, get_or, slice_get, Ok, Err, refl, sym, ap, subst, inl, inr, arith}
+use Rattle.std.proofs.Common.{◌≡◌, ◌⊎◌, ◌∙◌, ◌<◌, ◌∷◌, [], ℕ, zero, suc, List, Some, true, get_or, slice_get, Ok, Err, refl, sym, ap, subst, inl, inr, arith}
 use Rattle.std.specs.Prelude.{◌==◌, Result, if◌then◌else◌}
 use Rattle.fw_amortise.specs.LineValue.{LineValue}
 use Rattle.fw_commitment.specs.declared.fault.CommitmentFault.{CommitmentFault}
