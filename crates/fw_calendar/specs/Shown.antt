@@ -1,15 +1,16 @@
 -- How hours, days and months are written.
 use Rattle.std.specs.Prelude.{◌≡◌, ◌<◌, ◌≤◌, ◌-◌, ◌/◌, ◌%◌, ◌^◌, ◌++◌, ◌∷◌, ℕ, pos, unsigned_abs, false, List, [], codes}
 use Rattle.std.specs.Fmt.{decimal, padded_integral, format_spec}
+use Rattle.jiff_core.specs.Calendar.{IsCivilDate}
 use Rattle.jiff_core.specs.Date.{epoch_day}
 use Rattle.jiff_core.specs.declared.civil.date.Date.{Date}
 use Rattle.fw_calendar.specs.Times.{last_hour}
 use Rattle.fw_calendar.specs.declared.steps.Step.{Step}
 use Rattle.fw_calendar.specs.declared.steps.Step.TheVariants.{Hour, Day, Month}
 
--- the date of the day in which an hour lies
+-- the date of the day in which an hour lies, which the calendar has
 abbrev pub IsDateOf : ℕ → Date → Type 0
-IsDateOf hour date = epoch_day date ≡ pos (hour / 24)
+IsDateOf hour date = (epoch_day date ≡ pos (hour / 24)) × IsCivilDate date.year date.month date.day
 
 -- a number with at least so many digits, with zeros in front: what the format `{:0width}` writes
 abbrev pub digits : ℕ → ℕ → List ℕ

@@ -1,8 +1,9 @@
 //! How a time reads.
 ghost use Rattle.std.specs.Prelude.{◌≡◌, ◌≤◌, ◌*◌, ℕ, IfOk, IfSome, MatchOption};
 ghost use Rattle.fw_calendar.specs.Times.{IsTimeText, last_hour, tail_of};
-ghost use Rattle.fw_charge.specs.Charge.{last_second};
+ghost use Rattle.fw_charge.specs.Charge.{last_second, seconds_per_hour};
 
+use fw_charge::SECONDS_PER_HOUR;
 use fw_instants::second_of;
 use std::alloc::{AllocError, Global};
 
@@ -11,9 +12,6 @@ const MONTH_LENGTH: usize = 7;
 
 /// The length of a date's text, as 2024-01-31.
 const DATE_LENGTH: usize = 10;
-
-/// How many seconds an hour has.
-const HOUR_SECONDS: u64 = 3_600;
 
 /// The hour at which a time begins, in hours since 1970: of a month, as `2024-01`, its first hour; of a date, as `2024-01-31`, its
 /// first hour; of an instant on a whole hour, as `2024-01-31T14:00Z`, that hour. `None` where the text is none of these, or the time
@@ -33,10 +31,10 @@ pub fn read_time(alloc: Global, text: &str) -> Result<Option<u64>, AllocError>
 // The hour that begins at a second, if one does.
 fn whole_hour(second: u64) -> Option<u64>
     requires { second ≤ last_second }
-    ensures value { MatchOption result ((h : ℕ) → ¬ (second ≡ h * 3600)) (λ h. second ≡ h * 3600) }
+    ensures value { MatchOption result ((h : ℕ) → ¬ (second ≡ h * seconds_per_hour)) (λ h. second ≡ h * seconds_per_hour) }
     ensures in_range { IfSome result (λ h. h ≤ last_hour) }
 {
-    (second % HOUR_SECONDS == 0).then_some(second / HOUR_SECONDS)
+    (second % SECONDS_PER_HOUR == 0).then_some(second / SECONDS_PER_HOUR)
 }
 
 // What makes the text of a month or of a date that of the instant at which it begins.

@@ -1,5 +1,5 @@
 -- Faults as plain values, and how they are counted.
-use Rattle.std.specs.Prelude.{◌≡◌, ◌⊎◌, ℕ, ◌+◌, Bool, ◌&&◌, List, [], ◌∷◌, ◌++◌, length, map, nat_lt, codes, Option, Some, None, IsSome, if◌then◌else◌, string_bytes}
+use Rattle.std.specs.Prelude.{◌≡◌, ◌⊎◌, ℕ, ◌+◌, Bool, ◌&&◌, List, [], ◌∷◌, ◌++◌, length, map, nat_lt, Option, Some, None, IsSome, if◌then◌else◌, string_bytes}
 use Rattle.std.specs.Str.{bytes_eq}
 use Rattle.fw_rows.specs.Columns.{name_of}
 use Rattle.fw_rows.specs.declared.column.Column.{Column}
@@ -9,22 +9,6 @@ use Rattle.fw_rows.specs.declared.fault.RecordFault.TheVariants as fault
 use Rattle.fw_check.specs.Counts.{kept}
 use Rattle.fw_check.specs.declared.findings.Place.{Place}
 use Rattle.fw_check.specs.declared.findings.Finding.{Finding}
-
--- the code and the name of a fault
-unfoldable pub fault_name : RecordFault → List ℕ
-fault_name fault.Fields = codes "V1 Fields"
-fault_name fault.NotUtf8 = codes "V2 NotUtf8"
-fault_name fault.Category = codes "V3 Category"
-fault_name fault.Class = codes "V4 Class"
-fault_name fault.Cost = codes "V5 Cost"
-fault_name fault.Currency = codes "V6 Currency"
-fault_name fault.Time = codes "V7 Time"
-fault_name fault.PeriodOrder = codes "V8 PeriodOrder"
-fault_name fault.Commitment = codes "V9 Commitment"
-fault_name fault.Status = codes "V10 Status"
-fault_name fault.Quantity = codes "V11 Quantity"
-fault_name fault.BadTags = codes "V12 BadTags"
-fault_name fault.TooLong = codes "V13 TooLong"
 
 -- the name of the column of a fault; the empty text where the fault is of the whole record
 abbrev pub column_text : Option Column → List ℕ

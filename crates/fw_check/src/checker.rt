@@ -1,16 +1,17 @@
 //! A text that is checked part by part.
 ghost use Rattle.std.specs.Prelude.{◌≡◌, ◌≤◌, ◌+◌, ℕ, List, OnOk, Ok, Err};
 ghost use Rattle.fw_charge.specs.Charge.{Charge};
+ghost use Rattle.fw_rows.specs.FaultNames.{fault_name};
 ghost use Rattle.fw_rows.specs.Rows.{RowsRead};
 ghost use Rattle.fw_rows.specs.declared.fault.RecordFault.{RecordFault};
 ghost use Rattle.fw_rows.specs.declared.fault.RowFault.TheVariants.{NoRows, Record};
 ghost use Rattle.fw_check.specs.Checks.{checked, nothing_checked, with_currency, with_fault, with_lines, with_read, records_in};
 ghost use Rattle.fw_check.specs.Counts.{kept};
-ghost use Rattle.fw_check.specs.Faults.{column_text, fault_name};
+ghost use Rattle.fw_check.specs.Faults.{column_text};
 
 use crate::fields::{first_record, text_in};
 use crate::findings::{
-    Finding, Place, add_fault, code_of, column_name, column_of, expected_of, shown_value, value_at,
+    Finding, Place, add_fault, column_name, column_of, expected_of, shown_value, value_at,
 };
 use crate::located::{blank, line_feeds};
 use crate::repair::repaired;
@@ -253,7 +254,7 @@ impl Checker {
         add_fault(
             alloc,
             &mut self.findings,
-            code_of(fault),
+            fault.name(),
             column_name(column),
             expected_of(fault),
             place,

@@ -3,7 +3,7 @@ ghost use Rattle.std.specs.Prelude.{◌≡◌, ◌⊎◌, ◌<◌, ◌≤◌, le
 ghost use Rattle.std.specs.List.{position_or_len};
 ghost use Rattle.csv.specs.Records.{fields_of};
 ghost use Rattle.fw_rows.specs.Columns.{name_of};
-ghost use Rattle.fw_check.specs.Faults.{CanStandIn, column_text, fault_name, finding_value, is_of, noted, one_more, place_value};
+ghost use Rattle.fw_check.specs.Faults.{CanStandIn, column_text, finding_value, is_of, noted, one_more, place_value};
 
 use crate::fields::{bytes_in, text_in};
 use csv::ByteRecord;
@@ -106,47 +106,6 @@ const SHORT: [Column; 4] = [
     Column::SubAccountId,
 ];
 
-/// All columns that are read, in their order.
-pub(crate) const ALL: [Column; 15] = [
-    Column::BilledCost,
-    Column::EffectiveCost,
-    Column::BillingCurrency,
-    Column::ChargeCategory,
-    Column::ChargePeriodStart,
-    Column::ChargePeriodEnd,
-    Column::ChargeClass,
-    Column::CommitmentDiscountId,
-    Column::CommitmentDiscountCategory,
-    Column::CommitmentDiscountStatus,
-    Column::ConsumedQuantity,
-    Column::ConsumedUnit,
-    Column::SkuId,
-    Column::SubAccountId,
-    Column::Tags,
-];
-
-/// The code and the name of a fault.
-#[tactic(auto, unfolding(crate::specs::Faults::fault_name))]
-pub(crate) fn code_of(fault: RecordFault) -> &'static str
-    ensures { result.now ≡ fault_name fault }
-{
-    match fault {
-        RecordFault::Fields => "V1 Fields",
-        RecordFault::NotUtf8 => "V2 NotUtf8",
-        RecordFault::Category => "V3 Category",
-        RecordFault::Class => "V4 Class",
-        RecordFault::Cost => "V5 Cost",
-        RecordFault::Currency => "V6 Currency",
-        RecordFault::Time => "V7 Time",
-        RecordFault::PeriodOrder => "V8 PeriodOrder",
-        RecordFault::Commitment => "V9 Commitment",
-        RecordFault::Status => "V10 Status",
-        RecordFault::Quantity => "V11 Quantity",
-        RecordFault::BadTags => "V12 BadTags",
-        RecordFault::TooLong => "V13 TooLong",
-    }
-}
-
 /// What a record must have where it has this fault.
 pub(crate) fn expected_of(fault: RecordFault) -> &'static str {
     match fault {
@@ -221,7 +180,7 @@ pub(crate) fn column_of(
 
 // The first column whose field isn't UTF-8.
 fn first_not_utf8(header: &ByteRecord, record: &ByteRecord) -> Option<Column> {
-    for column in ALL.iter() {
+    for column in Column::ALL.iter() {
         if str::from_utf8(bytes_in(header, record, *column)).is_err() {
             return Some(*column);
         }

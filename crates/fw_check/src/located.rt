@@ -1,14 +1,15 @@
 //! Where a fault of a part stands.
 ghost use Rattle.std.specs.Prelude.{◌≡◌, ◌≤◌, ◌<◌, ◌-◌, length, Option, IfOk};
 ghost use Rattle.fw_check.specs.Checks.{records_in};
-ghost use Rattle.fw_check.specs.Faults.{CanStandIn, column_text, fault_name};
+ghost use Rattle.fw_check.specs.Faults.{CanStandIn, column_text};
 ghost use Rattle.fw_check.specs.Lines.{blank_len, is_content, line_feeds_in, before_record};
 ghost use Rattle.fw_cut.specs.Cutting.{Cuts};
 ghost use Rattle.fw_cut.specs.declared.cutting.Cut.{Cut};
+ghost use Rattle.fw_rows.specs.FaultNames.{fault_name};
 ghost use Rattle.fw_rows.specs.declared.column.Column.{Column as ColumnValue};
 
 use crate::fields::first_record;
-use crate::findings::{code_of, column_name, column_of, expected_of, shown_value, value_at};
+use crate::findings::{column_name, column_of, expected_of, shown_value, value_at};
 use fw_cut::{Part, cut_off};
 use fw_rows::RecordFault;
 use std::alloc::{AllocError, Global};
@@ -83,7 +84,7 @@ pub fn locate(
     let column = column_of(&header, &record, fault);
     Ok(Located {
         lines_before: line_feeds(before),
-        code: code_of(fault),
+        code: fault.name(),
         column: column_name(column),
         value: shown_value(alloc, value_at(&header, &record, column))?,
         expected: expected_of(fault),

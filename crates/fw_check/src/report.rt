@@ -5,10 +5,17 @@ ghost use Rattle.fw_check.specs.Answers.{IsAnswer, IsJsonAnswer, json_head, sums
 use crate::checker::Checker;
 use crate::findings::Finding;
 use crate::statistics::Statistics;
+use fw_charge::Category;
 use std::alloc::{AllocError, Global};
 
-/// The words of the categories, in the order of their counts.
-const CATEGORIES: [&str; 5] = ["Usage", "Purchase", "Tax", "Credit", "Adjustment"];
+/// The categories, in the order of their counts.
+const CATEGORIES: [Category; 5] = [
+    Category::Usage,
+    Category::Purchase,
+    Category::Tax,
+    Category::Credit,
+    Category::Adjustment,
+];
 
 /// What was found in a text, for people.
 pub fn as_text(alloc: Global, name: &str, checker: &Checker) -> Result<String, AllocError>
@@ -79,7 +86,7 @@ fn sums_text(alloc: Global, statistics: &Statistics) -> Result<String, AllocErro
 fn counts_text(alloc: Global, statistics: &Statistics) -> Result<String, AllocError> {
     let mut text = String::new(alloc);
     for place in 0..CATEGORIES.len() {
-        let word = CATEGORIES[place];
+        let word = CATEGORIES[place].word();
         let count = statistics.categories[place];
         write!(text, "category {word} {count}\n")?;
     }
@@ -203,7 +210,7 @@ fn put_json_statistics(
         if place > 0 {
             text.push(',')?;
         }
-        let word = CATEGORIES[place];
+        let word = CATEGORIES[place].word();
         let count = statistics.categories[place];
         write!(text, "\"{word}\":{count}")?;
     }

@@ -86,7 +86,7 @@ command_commits (post rows) known = All-nil IsCommitment
 command_commits (commit c) known = All-cons IsCommitment c [] known.limits (All-nil IsCommitment)
 command_commits (set_policy p) known = All-nil IsCommitment
 
-commitments_keep : (history : List entry.EntryValue) → All IsEntry history → All IsCommitment (commitments_of history)
+pub commitments_keep : (history : List entry.EntryValue) → All IsEntry history → All IsCommitment (commitments_of history)
 unfolding commitments_of
 commitments_keep history each =
     all_flat_map IsCommitment (λ (e : entry.EntryValue). committed e.command) history (λ k d l. command_commits (get_or history k d).command (each k d l).command)

@@ -21,3 +21,5 @@ pub mod BoughtFacts
 mod LineSumFacts
 mod TallyFacts
 mod CoverageFacts
+mod ShareFacts
+mod ExistFacts

@@ -53,6 +53,12 @@ pub fn commitments_are_carried()
     ensures unbilled { (history : List entry.EntryValue) (from to : ℕ) (lines : List LineValue) (place : ℕ) (c : CommitmentValue) → IsLegal history → AreLinesOf history from to lines → slice_get (commitments_of history) place ≡ Some c → All (λ line. shows_share_of c.id line ≡ true → line.billed ≡ pos 0) lines }
 {}
 
+/// There are lines of each range of hours, whatever entries that keep their limits were accepted: so the laws of lines speak of some. By
+/// [`answers_are_one`] they are the only ones. That memory is there to make them no law says.
+pub fn there_are_lines()
+    ensures { (history : List entry.EntryValue) (from to : ℕ) → All IsEntry history → (lines : List LineValue) × AreLinesOf history from to lines }
+{}
+
 /// No row is left out of the lines of its hour, and none is counted twice. The rows of a range are those of its hours, each in one hour; and of each, in
 /// its hour, either one line is it, as it was given, or the quantities of its lines, used and rest, sum to its quantity. Each purchase of an hour is
 /// one line. Each line comes from one purchase, one row, or one commitment.

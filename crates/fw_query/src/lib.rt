@@ -36,7 +36,7 @@ pub use entries::{Entry, Report};
 pub use fault::QueryFault;
 pub use laws::{
     answers_are_one, charged_is_direct, commitments_are_carried, reports_keep_the_total,
-    rows_are_counted_once,
+    rows_are_counted_once, there_are_lines,
 };
 pub use listing::lines_csv;
 pub use query::Query;

@@ -16,7 +16,8 @@ use Rattle.fw_journal.proofs.Spelling.{spelled-none}
 use Rattle.fw_segment.specs.Groups.{group}
 use Rattle.fw_segment.specs.Heads.{heads}
 use Rattle.fw_segment.specs.Segments.{IsSegment}
-use Rattle.fw_segment.specs.States.{Spells, state}
+use Rattle.fw_segment.specs.States.{Spells, state, Cut, cut_rows}
+use Rattle.fw_segment.specs.declared.kind.Kind.{Kind}
 use Rattle.fw_snapshot.specs.Heads.{segment_rows}
 use Rattle.fw_snapshot.specs.History.{History, rows_posted}
 use Rattle.fw_recover.specs.Sides.{magic, made_of, generation_of, IsOpen}
@@ -35,9 +36,12 @@ empty_log side start = record { side = side; start = start; end = start; failed 
 
 -- ---- the body of an empty warehouse has 19 bytes
 
-no_segment : (cut : List (List Charge)) → All IsSegment cut → segment_rows cut ≡ [] → cut ≡ []
+abbrev IsLaid : Kind × List Charge → Type 0
+IsLaid s = IsSegment s.1
+
+no_segment : (cut : Cut) → All IsLaid cut → segment_rows (cut_rows cut) ≡ [] → cut ≡ []
 no_segment [] each rows = refl
-no_segment (c ∷ cut) each rows = absurd (omega (arith, (All-head IsSegment c cut each).some, ap (λ (l : List Charge). length l) rows, length-append c (segment_rows cut)))
+no_segment (s ∷ cut) each rows = absurd (omega (arith, (All-head IsLaid s cut each).some, ap (λ (l : List Charge). length l) rows, length-append s.1 (segment_rows (cut_rows cut))))
 
 none_posted : rows_posted [] ≡ []
 unfolding rows_posted
@@ -50,7 +54,7 @@ spelled_empty currency = omega (arith, length-append currency (0 ∷ 0 ∷ 0 ∷
 pub empty_body : (currency body : List ℕ) → Spells body (empty currency) → length body ≡ 19
 empty_body currency body spells =
     let none = no_segment spells.cut spells.segments (spells.rows ∙ none_posted) in
-    let is : body ≡ state currency [] [] = spells.spelled ∙ ap (λ (cut : List (List Charge)). state currency [] cut) none in
+    let is : body ≡ state currency [] [] = spells.spelled ∙ ap (λ (cut : Cut). state currency [] cut) none in
     omega (arith, ap (λ (l : List ℕ). length l) is, spelled_empty currency, spells.history.currency.0)
 
 pub length_first : (currency body bytes : List ℕ) → Spells body (empty currency) → bytes ≡ made_of One 1 body ++ 0 ∷ [] → length bytes ≡ 44

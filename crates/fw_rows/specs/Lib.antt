@@ -8,3 +8,4 @@ pub mod Refusals
 pub mod Judged
 pub mod Parts
 pub mod Sinks
+pub mod FaultNames

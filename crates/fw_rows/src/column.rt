@@ -50,27 +50,27 @@ pub(crate) const REQUIRED: [Column; 6] = [
     Column::ChargePeriodEnd,
 ];
 
-/// The columns that are read.
-pub(crate) const COLUMNS: [Column; COUNT] = [
-    Column::BilledCost,
-    Column::EffectiveCost,
-    Column::BillingCurrency,
-    Column::ChargeCategory,
-    Column::ChargePeriodStart,
-    Column::ChargePeriodEnd,
-    Column::ChargeClass,
-    Column::CommitmentDiscountId,
-    Column::CommitmentDiscountCategory,
-    Column::CommitmentDiscountStatus,
-    Column::ConsumedQuantity,
-    Column::ConsumedUnit,
-    Column::SkuId,
-    Column::SubAccountId,
-    Column::Tags,
-];
-
 impl Column {
     ghost use Rattle.fw_rows.specs.Columns.{name_of, index_of};
+
+    /// The columns that are read, in their order.
+    pub const ALL: [Column; 15] = [
+        Column::BilledCost,
+        Column::EffectiveCost,
+        Column::BillingCurrency,
+        Column::ChargeCategory,
+        Column::ChargePeriodStart,
+        Column::ChargePeriodEnd,
+        Column::ChargeClass,
+        Column::CommitmentDiscountId,
+        Column::CommitmentDiscountCategory,
+        Column::CommitmentDiscountStatus,
+        Column::ConsumedQuantity,
+        Column::ConsumedUnit,
+        Column::SkuId,
+        Column::SubAccountId,
+        Column::Tags,
+    ];
 
     /// The name that stands in a header.
     #[tactic(auto, unfolding(crate::specs::Columns::name_of))]

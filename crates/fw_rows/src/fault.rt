@@ -53,6 +53,32 @@ pub enum RecordFault {
     TooLong,
 }
 
+impl RecordFault {
+    ghost use Rattle.fw_rows.specs.FaultNames.{fault_name};
+
+    /// The code and the name, as `V5 Cost`.
+    #[tactic(auto, unfolding(crate::specs::FaultNames::fault_name))]
+    pub fn name(self) -> &'static str
+        ensures { result.now ≡ fault_name self }
+    {
+        match self {
+            RecordFault::Fields => "V1 Fields",
+            RecordFault::NotUtf8 => "V2 NotUtf8",
+            RecordFault::Category => "V3 Category",
+            RecordFault::Class => "V4 Class",
+            RecordFault::Cost => "V5 Cost",
+            RecordFault::Currency => "V6 Currency",
+            RecordFault::Time => "V7 Time",
+            RecordFault::PeriodOrder => "V8 PeriodOrder",
+            RecordFault::Commitment => "V9 Commitment",
+            RecordFault::Status => "V10 Status",
+            RecordFault::Quantity => "V11 Quantity",
+            RecordFault::BadTags => "V12 BadTags",
+            RecordFault::TooLong => "V13 TooLong",
+        }
+    }
+}
+
 /// Why no row comes of a record.
 #[derive(Clone, Copy, Debug, Drop, PartialEq, Eq)]
 pub enum Refusal {

@@ -5,7 +5,7 @@ ghost use Rattle.fw_rows.specs.Columns.{Record, is_name, place_in, times, missin
 ghost use Rattle.fw_rows.specs.Rows.{IsHeader, RecordsRead};
 ghost use Rattle.fw_rows.specs.Header.{ArePlaces};
 
-use crate::column::{COLUMNS, COUNT, Column, REQUIRED};
+use crate::column::{COUNT, Column, REQUIRED};
 use crate::fault::RowFault;
 use crate::records::field;
 use csv::ByteRecord;
@@ -64,7 +64,7 @@ fn missing_column(header: &ByteRecord) -> Option<Column>
 fn double_column(header: &ByteRecord) -> Option<Column>
     ensures { result ≡ double_column (fields_of header.now) }
 {
-    COLUMNS
+    Column::ALL
         .iter()
         .find(|column| times(header, **column) > 1)
         .copied()
@@ -77,7 +77,7 @@ impl Places {
     {
         let mut places = [None; COUNT];
         for index in 0..COUNT {
-            places[index] = first_place(header, COLUMNS[index]);
+            places[index] = first_place(header, Column::ALL[index]);
         }
         Places {
             fields: header.len(),

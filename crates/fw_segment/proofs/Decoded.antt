@@ -5,11 +5,15 @@ use Rattle.fw_bytes.specs.Reading.{Fails}
 use Rattle.fw_bytes.specs.declared.fault.ReadError.{ReadError}
 use Rattle.fw_bytes.specs.declared.fault.ReadError.TheVariants as errors
 use Rattle.fw_bytes.proofs.Laws.{IsBytes, IsFormat, ok_is}
+use Rattle.fw_charge.specs.Charge.{Charge}
 use Rattle.fw_entry_bytes.specs.Whole.{whole}
 use Rattle.fw_entry_bytes.proofs.WholeFormat.{whole_takes, whole_again}
 use Rattle.fw_segment.specs.declared.fault.DecodeFault.{DecodeFault}
 use Rattle.fw_segment.specs.Decoding.{IsAt, Decodes}
 use Rattle.fw_segment.specs.FaultPlace.{fault_of}
+use Rattle.fw_segment.specs.Segments.{segment, segment_at, IsSegment}
+use Rattle.fw_segment.specs.declared.kind.Kind.{Kind}
+use Rattle.fw_segment.proofs.SegmentFormat.{segment_whole}
 
 -- a fault of the reading is one of the decoder
 pub is_fault : {Y : Type 0} (total : ℕ) (e : ReadError) (read : Result Y ℕ) → Fails e read → IsAt total (fault_of total e) read
@@ -28,6 +32,12 @@ whole_found {read = read} {spell = spell} {Fits = Fits} view format bytes result
 pub whole_only : {X Y : Type 0} {read : List ℕ → Result (Y × List ℕ) ℕ} {spell : Y → List ℕ} {Fits : Y → Type 0} (view : X → Y) (format : IsFormat read spell Fits) (bytes : List ℕ) (result : Result X DecodeFault) → Decodes view (length bytes) result (whole read bytes) → (y : Y) → Fits y → bytes ≡ spell y → Decodes view (length bytes) result (Ok y)
 whole_only {Y = Y} {read = read} view format bytes result h y fits e =
     subst (λ (r : Result Y ℕ). Decodes view (length bytes) result r) (ap (whole read) e ∙ whole_again format y fits) h
+
+-- a segment is answered for each of its spellings
+pub segment_only : {X : Type 0} (view : X → List Charge) (bytes : List ℕ) (result : Result X DecodeFault) → Decodes view (length bytes) result (whole segment_at bytes)
+    → (kind : Kind) (rows : List Charge) → IsSegment rows → bytes ≡ segment kind rows → Decodes view (length bytes) result (Ok rows)
+segment_only view bytes result h kind rows is e =
+    subst (λ (r : Result (List Charge) ℕ). Decodes view (length bytes) result r) (ap (whole segment_at) e ∙ segment_whole kind rows is) h
 
 -- what is spelled alike is alike
 pub one_spelling : {Y : Type 0} {read : List ℕ → Result (Y × List ℕ) ℕ} {spell spells : Y → List ℕ} {Fits : Y → Type 0} → IsFormat read spell Fits → IsFormat read spells Fits → (a b : Y) → Fits a → Fits b → spell a ≡ spells b → a ≡ b

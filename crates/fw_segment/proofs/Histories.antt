@@ -1,9 +1,10 @@
 -- States: what is read is spelled so, and what is spelled so is read.
-use Rattle.std.proofs.Common.{◌≡◌, ◌<◌, ◌^◌, ◌-◌, ℕ, eqb, length-append, List, [], ◌∷◌, ◌++◌, length, map, slice_get, All, Some, Ok, refl, sym, ap, subst, ◌∙◌, append_assoc, arith}
-use Rattle.std.specs.List.{AllByRecursion}
+use Rattle.std.proofs.Common.{◌≡◌, ◌<◌, ◌≤◌, ◌^◌, ◌-◌, ℕ, eqb, length-append, List, [], ◌∷◌, ◌++◌, length, map, slice_get, All, Some, Ok, refl, sym, ap, subst, ◌∙◌, append_assoc, arith}
+use Rattle.std.specs.List.{flat_map, AllByRecursion}
+use Rattle.std.proofs.Math.Seq.{take-append_seam, drop-append_seam}
 use Rattle.std.proofs.lemmas.Bool.{eqb-true, eq-eqb, ltb-true}
 use Rattle.std.proofs.lemmas.List.{length-map}
-use Rattle.std.proofs.lemmas.List.Elements.{All-from_recursion, All-get_or, All-nil, All-head, All-tail, All-append}
+use Rattle.std.proofs.lemmas.List.Elements.{All-from_recursion, All-get_or, All-nil, All-cons, All-head, All-tail, All-take, All-drop, All-append}
 use Rattle.std.proofs.lemmas.Option.{slice_get_within, get_or_from_slice_get}
 use Rattle.fw_bytes.specs.Spelling.{text, listed, Fits64}
 use Rattle.fw_bytes.proofs.Laws.{IsBytes, bind_ok, ok_is, passed, list_parts, list_fits}
@@ -19,10 +20,11 @@ use Rattle.fw_entry_bytes.proofs.Facts.{name_fits}
 use Rattle.fw_snapshot.specs.Heads.{HeadValue, head_of, content_of, entries_of, row_counts, segment_rows}
 use Rattle.fw_snapshot.specs.History.{History, rows_posted, posted}
 use Rattle.fw_snapshot.proofs.HeadFacts.{row_counts_cons, row_count_back, rows_posted_entries, heads_of_entries, length_entries}
-use Rattle.fw_segment.specs.declared.kind.Kind.TheVariants.{Rows}
-use Rattle.fw_segment.specs.Segments.{segment, IsSegment}
+use Rattle.fw_segment.specs.declared.kind.Kind.{Kind}
+use Rattle.fw_segment.specs.declared.kind.Kind.TheVariants.{Columns}
+use Rattle.fw_segment.specs.Segments.{segment, most_segment_rows, IsSegment}
 use Rattle.fw_segment.specs.Heads.{heads, IsContent, IsHead}
-use Rattle.fw_segment.specs.States.{state, Spells, most_segments, Parts, parts_at, bytes_before_heads, replayed, replayed_state, state_from, state_at}
+use Rattle.fw_segment.specs.States.{state, Spells, most_segments, Cut, cut_rows, Parts, parts_at, bytes_before_heads, replayed, replayed_state, state_from, state_at}
 use Rattle.fw_segment.proofs.HeadFormat.{AreHeads}
 use Rattle.fw_segment.proofs.StateFormat.{FitsCut, parts_taken, parts_again}
 use Rattle.fw_segment.proofs.Replay.{no_row_counts, replay_taken, replay_again}
@@ -51,9 +53,12 @@ head_short es each place h e =
 are_heads : (es : List EntryValue) → Fits64 (length es) → All IsEntry es → AreHeads (map head_of es)
 are_heads es count each = (rw (length-map es head_of) count, heads_are es each)
 
-pub rows_each : (cut : List (List Charge)) → All IsSegment cut → All IsRow (segment_rows cut)
+abbrev pub IsLaid : Kind × List Charge → Type 0
+IsLaid s = IsSegment s.1
+
+pub rows_each : (cut : Cut) → All IsLaid cut → All IsRow (segment_rows (cut_rows cut))
 rows_each [] each = All-nil IsRow
-rows_each (rows ∷ cut) each = All-append IsRow rows (segment_rows cut) (All-head IsSegment rows cut each).each (rows_each cut (All-tail IsSegment rows cut each))
+rows_each (s ∷ cut) each = All-append IsRow s.1 (segment_rows (cut_rows cut)) (All-head IsLaid s cut each).each (rows_each cut (All-tail IsLaid s cut each))
 
 -- ---- a state
 
@@ -74,7 +79,7 @@ state_taken form bytes h is e =
     let p = b.0 in
     let c = parts_taken form bytes p is b.1 in
     let s = parts_state (length bytes) p h b.2 in
-    let fits = list_parts IsSegment 0 most_segments c.cut c.segments in
+    let fits = list_parts IsLaid 0 most_segments c.cut c.segments in
     let heads = All-from_recursion IsHead p.1.0 c.heads.1 in
     let rows = subst (All IsRow) c.rows (rows_each c.cut fits.2) in
     let g = replay_taken (length bytes - bytes_before_heads) [] p.1.0 p.1.1 s.1 s.0 heads rows s.2 in
@@ -110,20 +115,63 @@ from_parts total currency hs rows es many read = rw (many, eq-eqb _ _ refl, read
 pub state_again : (form : Form) (bytes : List ℕ) (h : History) → Spells bytes h → state_at form bytes ≡ Ok h
 unfolding state_at
 state_again form bytes h s =
-    let fits : FitsCut s.cut = list_fits IsSegment 0 most_segments s.cut (omega arith) (omega (arith, ltb-true _ _ s.count)) (omega arith) s.segments in
+    let fits : FitsCut s.cut = list_fits IsLaid 0 most_segments s.cut (omega arith) (omega (arith, ltb-true _ _ s.count)) (omega arith) s.segments in
     let read = ap (whole (parts_at form)) s.spelled ∙ parts_again form h.currency (map head_of h.entries) s.cut s.history.currency (are_heads h.entries s.history.count s.history.each) fits in
     let entries = replay_again (length bytes - bytes_before_heads) [] h.entries s.history.each s.history.legal in
-    let rows : replayed (length bytes - bytes_before_heads) [] (map head_of h.entries) (segment_rows s.cut) ≡ Ok h.entries = rw s.rows entries in
-    let many : length (segment_rows s.cut) ≡ row_counts (map head_of h.entries) = rw s.rows (as_many h.entries) in
-    rw read (from_parts (length bytes) h.currency (map head_of h.entries) (segment_rows s.cut) h.entries many rows)
+    let uncut = segment_rows (cut_rows s.cut) in
+    let rows : replayed (length bytes - bytes_before_heads) [] (map head_of h.entries) uncut ≡ Ok h.entries = rw s.rows entries in
+    let many : length uncut ≡ row_counts (map head_of h.entries) = rw s.rows (as_many h.entries) in
+    rw read (from_parts (length bytes) h.currency (map head_of h.entries) uncut h.entries many rows)
 
 pub states_one : (bytes : List ℕ) (a b : History) → Spells bytes a → Spells bytes b → a ≡ b
 states_one bytes a b s t = ok_is a b (sym (state_again One bytes a s) ∙ state_again One bytes b t)
 
 -- ---- writing
 
+-- segments that are laid out by column
+abbrev pub by_column : List (List Charge) → Cut
+by_column segments = map (λ rows. (Columns, rows)) segments
+
+each_spelled : (segments : List (List Charge)) → flat_map (λ (s : Kind × List Charge). segment s.0 s.1) (by_column segments) ≡ flat_map (segment Columns) segments
+each_spelled [] = refl
+each_spelled (rows ∷ segments) = ap (λ (w : List ℕ). segment Columns rows ++ w) (each_spelled segments)
+
+all_spelled : (segments : List (List Charge)) → listed (λ (s : Kind × List Charge). segment s.0 s.1) (by_column segments) ≡ listed (segment Columns) segments
+all_spelled segments = rw (length-map {B = Kind × List Charge} segments (λ (rows : List Charge). (Columns, rows)), each_spelled segments) refl
+
 -- the three parts, written one behind the other
-pub spelled_in_turn : (currency : List ℕ) (hs : List HeadValue) (cut : List (List Charge)) (first one two three : List ℕ) → one ≡ first ++ text currency → two ≡ one ++ heads hs → three ≡ two ++ listed (segment Rows) cut → three ≡ first ++ state currency hs cut
+pub spelled_in_turn : (currency : List ℕ) (hs : List HeadValue) (segments : List (List Charge)) (first one two three : List ℕ) → one ≡ first ++ text currency → two ≡ one ++ heads hs → three ≡ two ++ listed (segment Columns) segments
+    → three ≡ first ++ state currency hs (by_column segments)
 unfolding state
-spelled_in_turn currency hs cut first one two three a b c =
-    c ∙ (ap (λ (w : List ℕ). w ++ listed (segment Rows) cut) (b ∙ ap (λ (w : List ℕ). w ++ heads hs) a) ∙ (simp append_assoc))
+spelled_in_turn currency hs segments first one two three a b c =
+    let laid : three ≡ two ++ listed (λ (s : Kind × List Charge). segment s.0 s.1) (by_column segments) = c ∙ ap (λ (w : List ℕ). two ++ w) (sym (all_spelled segments)) in
+    laid ∙ (ap (λ (w : List ℕ). w ++ listed (λ (s : Kind × List Charge). segment s.0 s.1) (by_column segments)) (b ∙ ap (λ (w : List ℕ). w ++ heads hs) a) ∙ (simp append_assoc))
+
+pub same_rows : (segments : List (List Charge)) → cut_rows (by_column segments) ≡ segments
+same_rows [] = refl
+same_rows (rows ∷ segments) = ap (λ (others : List (List Charge)). rows ∷ others) (same_rows segments)
+
+-- 1 to 65,536 rows
+abbrev pub IsSized : List Charge → Type 0
+IsSized rows = (0 < length rows) × (length rows ≤ most_segment_rows)
+
+-- segments whose rows are those of entries are segments
+pub are_segments : (segments : List (List Charge)) → All IsSized segments → All IsRow (segment_rows segments) → All IsLaid (by_column segments)
+are_segments [] sized each = All-nil IsLaid
+are_segments (rows ∷ segments) sized each =
+    let others = segment_rows segments in
+    let size = All-head IsSized rows segments sized in
+    let front : All IsRow rows = subst (All IsRow) (take-append_seam rows others) (All-take IsRow (length rows) (rows ++ others) each) in
+    let back : All IsRow others = subst (All IsRow) (drop-append_seam rows others) (All-drop IsRow (length rows) (rows ++ others) each) in
+    let one : IsSegment rows = record { some = size.0; few = size.1; each = front } in
+    All-cons IsLaid (Columns, rows) (by_column segments) one (are_segments segments (All-tail IsSized rows segments sized) back)
+
+posted_each : (c : CommandValue) → IsCommand c → All IsRow (posted c)
+posted_each (post rows) h = h.each
+posted_each (commit c) h = All-nil IsRow
+posted_each (set_policy p) h = All-nil IsRow
+
+pub rows_are : (es : List EntryValue) → All IsEntry es → All IsRow (rows_posted es)
+unfolding rows_posted
+rows_are [] each = All-nil IsRow
+rows_are (e ∷ es) each = All-append IsRow (posted e.command) (rows_posted es) (posted_each e.command (All-head IsEntry e es each).command) (rows_are es (All-tail IsEntry e es each))

@@ -1,22 +1,25 @@
 -- Groups and segments: what is read is spelled so, and what is spelled so is read.
-use Rattle.std.proofs.Common.{◌≡◌, ◌<◌, ◌≤◌, ℕ, zero, suc, cond, ltb, List, [], ◌∷◌, ◌++◌, length, Result, Ok, Err, sym, ap, ◌∙◌, arith}
-use Rattle.std.specs.Int.{w32}
-use Rattle.std.proofs.lemmas.Bool.{ltb-false}
-use Rattle.fw_bytes.specs.Reading.{◌>>=◌, number_at, times, list_at}
+use Rattle.std.proofs.Common.{◌≡◌, ◌∙◌, ℕ, zero, suc, List, [], ◌∷◌, ◌++◌, Result, Ok, Err, refl, sym, ap, subst, arith}
+use Rattle.fw_bytes.specs.Reading.{Reading, ◌>>=◌, seen}
 use Rattle.fw_bytes.specs.Spelling.{listed, FitsList}
-use Rattle.fw_bytes.proofs.Laws.{IsBytes, IsBytes-rest, IsFormat, Takes, Takes-behind, bind_ok, guard_ok, list_format, list_parts, list_fits, ok_is}
+use Rattle.fw_bytes.proofs.Laws.{IsBytes, IsBytes-rest, IsFormat, Takes, Takes-behind, bind_ok, list_format, list_parts, list_fits, ok_is}
 use Rattle.fw_charge.specs.Charge.{Charge}
 use Rattle.fw_charge.specs.Spelling.{row, IsRow}
-use Rattle.fw_row_bytes.specs.Reading.{row_at}
 use Rattle.fw_row_bytes.proofs.RowFormat.{row_format}
+use Rattle.fw_column_bytes.specs.Kept.{AreRows}
+use Rattle.fw_column_bytes.specs.Spelling.{columns}
+use Rattle.fw_column_bytes.proofs.ColumnsAgain.{columns_format}
 use Rattle.fw_entry.specs.Entry.{EntryValue}
 use Rattle.fw_entry.specs.Spelling.{IsEntry}
+use Rattle.fw_entry_bytes.specs.Whole.{whole}
 use Rattle.fw_entry_bytes.specs.declared.form.Form.{Form}
 use Rattle.fw_entry_bytes.proofs.EntryFormat.{entry_format}
+use Rattle.fw_entry_bytes.proofs.WholeFormat.{whole_takes, whole_again}
 use Rattle.fw_segment.specs.declared.kind.Kind.{Kind}
-use Rattle.fw_segment.specs.declared.kind.Kind.TheVariants.{Rows}
+use Rattle.fw_segment.specs.declared.kind.Kind.TheVariants.{Rows, Columns}
 use Rattle.fw_segment.specs.Groups.{group, group_at, IsGroup, most_group_entries}
 use Rattle.fw_segment.specs.Segments.{segment, segment_at, IsSegment, most_segment_rows}
+use Rattle.fw_segment.proofs.Viewed.{answered, whole_viewed}
 
 is_group : (es : List EntryValue) → FitsList 1 most_group_entries IsEntry es → IsGroup es
 is_group es h = let p = list_parts IsEntry 1 most_group_entries es h in record { some = p.0; few = p.1; each = p.2 }
@@ -28,56 +31,89 @@ group_format form = record {
   again = λ es rest h. (list_format 1 most_group_entries (entry_format form)).again es rest (list_fits IsEntry 1 most_group_entries es h.some h.few (omega arith) h.each);
 }
 
+-- ---- segments
+
 is_segment : (rows : List Charge) → FitsList 1 most_segment_rows IsRow rows → IsSegment rows
 is_segment rows h = let p = list_parts IsRow 1 most_segment_rows rows h in record { some = p.0; few = p.1; each = p.2 }
 
-segment_takes : (bytes : List ℕ) (x : List Charge × List ℕ) → IsBytes bytes → segment_at bytes ≡ Ok x → Takes bytes (segment Rows x.0) x.1 × IsSegment x.0
+by_column : (rows : List Charge) → AreRows rows → IsSegment rows
+by_column rows h = record { some = h.some; few = h.few; each = h.each }
+
+-- how the rows of a segment are laid out, as its first byte says
+abbrev kind_at : List ℕ → Kind
+kind_at [] = Rows
+kind_at (zero ∷ rest) = Rows
+kind_at (suc zero ∷ rest) = Rows
+kind_at (suc (suc layout) ∷ rest) = Columns
+
+segment_takes : (bytes : List ℕ) (x : List Charge × List ℕ) → IsBytes bytes → segment_at bytes ≡ Ok x → Takes bytes (segment (kind_at bytes) x.0) x.1 × IsSegment x.0
 unfolding segment_at segment
 segment_takes [] x is e = absurd cc
 segment_takes (zero ∷ rest) x is e = absurd cc
 segment_takes (suc zero ∷ rest) x is e =
     let t = (list_format 1 most_segment_rows row_format).takes rest x (IsBytes-rest 1 rest is) e in
     (Takes-behind 1 rest (listed row x.0) x.1 t.0, is_segment x.0 t.1)
-segment_takes (suc (suc layout) ∷ rest) x is e = absurd cc
+segment_takes (suc (suc zero) ∷ rest) x is e = let t = columns_format.takes (2 ∷ rest) x is e in (t.0, by_column x.0 t.1)
+segment_takes (suc (suc (suc layout)) ∷ rest) x is e = absurd cc
 
-segment_again : (rows : List Charge) (rest : List ℕ) → IsSegment rows → segment_at (segment Rows rows ++ rest) ≡ Ok (rows, rest)
-unfolding segment_at segment
-segment_again rows rest h = (list_format 1 most_segment_rows row_format).again rows rest (list_fits IsRow 1 most_segment_rows rows h.some h.few (omega arith) h.each)
+segment_again : (kind : Kind) (rows : List Charge) (rest : List ℕ) → IsSegment rows → segment_at (segment kind rows ++ rest) ≡ Ok (rows, rest)
+unfolding segment_at segment columns
+segment_again Rows rows rest h = (list_format 1 most_segment_rows row_format).again rows rest (list_fits IsRow 1 most_segment_rows rows h.some h.few (omega arith) h.each)
+segment_again Columns rows rest h = columns_format.again rows rest (record { some = h.some; few = h.few; each = h.each })
 
-rows_format : IsFormat segment_at (segment Rows) IsSegment
-rows_format = record { takes = segment_takes; again = segment_again }
+kind_again : (kind : Kind) (rows : List Charge) (rest : List ℕ) → kind_at (segment kind rows ++ rest) ≡ kind
+unfolding segment columns
+kind_again Rows rows rest = refl
+kind_again Columns rows rest = refl
 
-pub segment_format : (kind : Kind) → IsFormat segment_at (segment kind) IsSegment
-segment_format Rows = rows_format
+abbrev laid : Kind → List Charge × List ℕ → Result ((Kind × List Charge) × List ℕ) ℕ
+laid kind x = Ok ((kind, x.0), x.1)
 
--- ---- how many rows are read
+-- a segment, with its layout
+pub kinded_at : Reading (Kind × List Charge)
+kinded_at bytes = segment_at bytes >>= laid (kind_at bytes)
 
-times_count : {A : Type 0} (read : List ℕ → Result (A × List ℕ) ℕ) (n : ℕ) (bytes : List ℕ) (x : List A × List ℕ) → times read n bytes ≡ Ok x → length x.0 ≡ n
-unfolding times
-times_count {A = A} read zero bytes x e =
-    let made : List A × List ℕ = ([], bytes) in
-    ap (λ (y : List A × List ℕ). length y.0) (sym (ok_is made x e))
-times_count {A = A} read (suc n) bytes x e =
-    let a = bind_ok (read bytes) (λ first. times read n first.1 >>= λ others. Ok (first.0 ∷ others.0, others.1)) x e in
-    let b = bind_ok (times read n a.0.1) (λ others. Ok (a.0.0 ∷ others.0, others.1)) x a.2 in
-    let made : List A × List ℕ = (a.0.0 ∷ b.0.0, b.0.1) in
-    ap (λ (y : List A × List ℕ). length y.0) (sym (ok_is made x b.2)) ∙ ap suc (times_count read n a.0.1 b.0 b.1)
+unlaid : (kind : Kind) (r : Result (List Charge × List ℕ) ℕ) → ((r >>= laid kind) >>= λ x. Ok (x.0.1, x.1)) ≡ r
+unlaid kind (Ok x) = refl
+unlaid kind (Err d) = refl
 
-list_count : {A : Type 0} (least most : ℕ) (read : List ℕ → Result (A × List ℕ) ℕ) (bytes : List ℕ) (x : List A × List ℕ) → list_at least most read bytes ≡ Ok x → (least ≤ length x.0) × (length x.0 ≤ most)
-unfolding list_at
-list_count least most read bytes x e =
-    let n = bind_ok (number_at w32 bytes) (λ n. cond (ltb n.0 least) (Err (length bytes)) (cond (ltb most n.0) (Err (length bytes)) (times read n.0 n.1))) x e in
-    let enough = guard_ok (ltb n.0.0 least) (length bytes) (cond (ltb most n.0.0) (Err (length bytes)) (times read n.0.0 n.0.1)) x n.2 in
-    let few = guard_ok (ltb most n.0.0) (length bytes) (times read n.0.0 n.0.1) x enough.1 in
-    let count = times_count read n.0.0 n.0.1 x few.1 in
-    let low = ltb-false _ _ enough.0 in
-    let high = ltb-false _ _ few.0 in
-    (omega (arith, count, low), omega (arith, count, high))
+pub segment_seen : (bytes : List ℕ) → segment_at bytes ≡ seen (λ s. s.1) kinded_at bytes
+unfolding seen kinded_at
+segment_seen bytes = sym (unlaid (kind_at bytes) (segment_at bytes))
 
--- a segment that is read has 1 to 65,536 rows
-pub segment_count : (bytes : List ℕ) (x : List Charge × List ℕ) → segment_at bytes ≡ Ok x → (0 < length x.0) × (length x.0 ≤ most_segment_rows)
-unfolding segment_at
-segment_count [] x e = absurd cc
-segment_count (zero ∷ rest) x e = absurd cc
-segment_count (suc zero ∷ rest) x e = let p = list_count 1 most_segment_rows row_at rest x e in (omega (arith, p.0), p.1)
-segment_count (suc (suc layout) ∷ rest) x e = absurd cc
+kinded_takes : (bytes : List ℕ) (x : (Kind × List Charge) × List ℕ) → IsBytes bytes → kinded_at bytes ≡ Ok x → Takes bytes (segment x.0.0 x.0.1) x.1 × IsSegment x.0.1
+unfolding kinded_at
+kinded_takes bytes x is e =
+    let b = bind_ok (segment_at bytes) (laid (kind_at bytes)) x e in
+    let t = segment_takes bytes b.0 is b.1 in
+    let made : (Kind × List Charge) × List ℕ = ((kind_at bytes, b.0.0), b.0.1) in
+    subst (λ (y : (Kind × List Charge) × List ℕ). Takes bytes (segment y.0.0 y.0.1) y.1 × IsSegment y.0.1) (ok_is made x b.2) t
+
+kinded_again : (s : Kind × List Charge) (rest : List ℕ) → IsSegment s.1 → kinded_at (segment s.0 s.1 ++ rest) ≡ Ok (s, rest)
+unfolding kinded_at
+kinded_again s rest h = rw (segment_again s.0 s.1 rest h, kind_again s.0 s.1 rest) refl
+
+pub kinded_format : IsFormat kinded_at (λ s. segment s.0 s.1) (λ s. IsSegment s.1)
+kinded_format = record { takes = kinded_takes; again = kinded_again }
+
+-- ---- all of the bytes
+
+whole_segment : (bytes : List ℕ) → whole segment_at bytes ≡ (whole kinded_at bytes >>= answered (λ s. s.1))
+whole_segment bytes = whole_viewed (λ (s : Kind × List Charge). s.1) kinded_at segment_at bytes (segment_seen bytes)
+
+-- what is read of all the bytes as a segment is one, and they spell it in some layout
+pub segment_taken : (bytes : List ℕ) (rows : List Charge) → IsBytes bytes → whole segment_at bytes ≡ Ok rows → IsSegment rows × (kind : Kind) × (bytes ≡ segment kind rows)
+segment_taken bytes rows is e =
+    let b = bind_ok (whole kinded_at bytes) (answered (λ (s : Kind × List Charge). s.1)) rows (sym (whole_segment bytes) ∙ e) in
+    let t = whole_takes kinded_format bytes b.0 is b.1 in
+    subst (λ (r : List Charge). IsSegment r × (kind : Kind) × (bytes ≡ segment kind r)) (ok_is b.0.1 rows b.2) (t.0, b.0.0, t.1)
+
+-- what is spelled in any layout is read of it
+pub segment_whole : (kind : Kind) (rows : List Charge) → IsSegment rows → whole segment_at (segment kind rows) ≡ Ok rows
+segment_whole kind rows h =
+    let read : whole kinded_at (segment kind rows) ≡ Ok (kind, rows) = whole_again kinded_format (kind, rows) h in
+    whole_segment (segment kind rows) ∙ rw read refl
+
+-- bytes spell one segment at most
+pub segment_one : (j k : Kind) (a b : List Charge) → IsSegment a → IsSegment b → segment j a ≡ segment k b → a ≡ b
+segment_one j k a b is also e = ok_is a b (sym (segment_whole j a is) ∙ (ap (whole segment_at) e ∙ segment_whole k b also))

@@ -1,5 +1,5 @@
 -- The parts of a state: what is read is spelled so under some cut of the rows, and what is spelled so under any cut is read.
-use Rattle.std.proofs.Common.{◌≡◌, ◌<◌, ℕ, Bool, true, false, cond, eqb, List, length, Result, Ok, Err, refl, sym, subst, ◌∙◌, arith}
+use Rattle.std.proofs.Common.{◌≡◌, ◌<◌, ℕ, true, eqb, List, length, Ok, refl, sym, subst, ◌∙◌, arith}
 use Rattle.std.specs.List.{list_all}
 use Rattle.std.specs.Char.{is_ascii_uppercase, IsAsciiUppercase}
 use Rattle.std.proofs.lemmas.Bool.{and_parts, eqb-true, lt-ltb}
@@ -16,11 +16,12 @@ use Rattle.fw_entry_bytes.specs.declared.form.Form.{Form}
 use Rattle.fw_entry_bytes.specs.Whole.{whole}
 use Rattle.fw_entry_bytes.proofs.WholeFormat.{whole_takes, whole_again}
 use Rattle.fw_snapshot.specs.Heads.{HeadValue, segment_rows}
-use Rattle.fw_segment.specs.declared.kind.Kind.TheVariants.{Rows}
+use Rattle.fw_segment.specs.declared.kind.Kind.{Kind}
 use Rattle.fw_segment.specs.Segments.{segment, segment_at, IsSegment}
 use Rattle.fw_segment.specs.Heads.{heads, heads_at}
-use Rattle.fw_segment.specs.States.{state, is_currency, currency_at, most_segments, rows_at, Parts, parts_at}
-use Rattle.fw_segment.proofs.SegmentFormat.{segment_format}
+use Rattle.fw_segment.specs.States.{state, is_currency, currency_at, most_segments, rows_at, Cut, cut_rows, Parts, parts_at}
+use Rattle.fw_segment.proofs.Viewed.{answered, second_viewed, both_same, both_seen, list_seen, seen_twice, whole_viewed}
+use Rattle.fw_segment.proofs.SegmentFormat.{kinded_at, kinded_format, segment_seen}
 use Rattle.fw_segment.proofs.HeadFormat.{AreHeads, heads_format}
 
 -- ---- a currency
@@ -58,103 +59,59 @@ currency_format = record {
 -- ---- the parts, with the rows as they are cut
 
 abbrev pub CutParts : Type 0
-CutParts = List ℕ × (List HeadValue × List (List Charge))
+CutParts = List ℕ × (List HeadValue × Cut)
 
-abbrev pub FitsCut : List (List Charge) → Type 0
-FitsCut cut = FitsList 0 most_segments IsSegment cut
+abbrev pub FitsCut : Cut → Type 0
+FitsCut cut = FitsList 0 most_segments (λ (s : Kind × List Charge). IsSegment s.1) cut
 
 abbrev pub FitsParts : CutParts → Type 0
 FitsParts = FitsPair IsCode (FitsPair AreHeads FitsCut)
 
 cut_parts_at : Form → Reading CutParts
-cut_parts_at form = both currency_at (both (heads_at form) (list_at 0 most_segments segment_at))
+cut_parts_at form = both currency_at (both (heads_at form) (list_at 0 most_segments kinded_at))
 
 spelled : CutParts → List ℕ
-spelled = pair text (pair heads (listed (segment Rows)))
+spelled = pair text (pair heads (listed (λ (s : Kind × List Charge). segment s.0 s.1)))
 
 cut_format : (form : Form) → IsFormat (cut_parts_at form) spelled FitsParts
 unfolding cut_parts_at spelled
-cut_format form = both_format currency_format (both_format (heads_format form) (list_format 0 most_segments (segment_format Rows)))
+cut_format form = both_format currency_format (both_format (heads_format form) (list_format 0 most_segments kinded_format))
 
 -- ---- and without the cuts
 
+abbrev uncut : Cut → List Charge
+uncut cut = segment_rows (cut_rows cut)
+
 joined : CutParts → Parts
-joined p = (p.0, (p.1.0, segment_rows p.1.1))
+joined p = (p.0, (p.1.0, uncut p.1.1))
 
-abbrev viewed : {A B : Type 0} → (A → B) → A × List ℕ → Result (B × List ℕ) ℕ
-viewed v x = Ok (v x.0, x.1)
-
-abbrev paired : {A B : Type 0} → A → B × List ℕ → Result ((A × B) × List ℕ) ℕ
-paired a y = Ok ((a, y.0), y.1)
-
-abbrev second_viewed : {A B C : Type 0} → (B → C) → A × B → A × C
-second_viewed v p = (p.0, v p.1)
-
-seen_after : {A B C : Type 0} (v : B → C) (a : A) (r : Result (B × List ℕ) ℕ) → ((r >>= viewed v) >>= paired a) ≡ ((r >>= paired a) >>= viewed (second_viewed v))
-seen_after v a (Ok y) = refl
-seen_after v a (Err d) = refl
-
-seen_second : {A B C : Type 0} (v : B → C) (g : Reading B) (r : Result (A × List ℕ) ℕ)
-    → (r >>= λ x. (g x.1 >>= viewed v) >>= paired x.0) ≡ ((r >>= λ x. g x.1 >>= paired x.0) >>= viewed (second_viewed v))
-seen_second v g (Ok x) = seen_after v x.0 (g x.1)
-seen_second v g (Err d) = refl
-
--- a view of the second of two fields is a view of both
-both_seen : {A B C : Type 0} (v : B → C) (f : Reading A) (g : Reading B) (bytes : List ℕ) → both f (seen v g) bytes ≡ seen (second_viewed v) (both f g) bytes
-unfolding both seen
-both_seen v f g bytes = seen_second v g (f bytes)
-
-same_second : {A B : Type 0} (g h : Reading B) → ((bytes : List ℕ) → g bytes ≡ h bytes) → (r : Result (A × List ℕ) ℕ) → (r >>= λ x. g x.1 >>= paired x.0) ≡ (r >>= λ x. h x.1 >>= paired x.0)
-same_second g h e (Ok x) = rw (e x.1) refl
-same_second g h e (Err d) = refl
-
-both_same : {A B : Type 0} (f : Reading A) (g h : Reading B) → ((bytes : List ℕ) → g bytes ≡ h bytes) → (bytes : List ℕ) → both f g bytes ≡ both f h bytes
-unfolding both
-both_same f g h e bytes = same_second g h e (f bytes)
+rows_seen : (bytes : List ℕ) → rows_at bytes ≡ seen uncut (list_at 0 most_segments kinded_at) bytes
+unfolding rows_at
+rows_seen bytes =
+    seen_twice cut_rows segment_rows (list_at 0 most_segments kinded_at) (list_at 0 most_segments segment_at) bytes
+    (list_seen (λ (s : Kind × List Charge). s.1) kinded_at segment_at segment_seen 0 most_segments bytes)
 
 parts_joined : (form : Form) (bytes : List ℕ) → parts_at form bytes ≡ seen joined (cut_parts_at form) bytes
-unfolding parts_at rows_at cut_parts_at joined
+unfolding parts_at cut_parts_at joined
 parts_joined form bytes =
-    let segments = list_at 0 most_segments segment_at in
-    let inner = both (heads_at form) segments in
-    both_same currency_at (both (heads_at form) (seen segment_rows segments)) (seen (second_viewed segment_rows) inner) (both_seen segment_rows (heads_at form) segments) bytes
-    ∙ both_seen (second_viewed segment_rows) currency_at inner bytes
+    let cuts = list_at 0 most_segments kinded_at in
+    let inner = both (heads_at form) cuts in
+    both_same currency_at (both (heads_at form) rows_at) (both (heads_at form) (seen uncut cuts)) (both_same (heads_at form) rows_at (seen uncut cuts) rows_seen) bytes
+    ∙ (both_same currency_at (both (heads_at form) (seen uncut cuts)) (seen (second_viewed uncut) inner) (both_seen uncut (heads_at form) cuts) bytes
+    ∙ both_seen (second_viewed uncut) currency_at inner bytes)
 
 -- ---- all of the bytes
 
-abbrev ended : {A : Type 0} → A × List ℕ → Result A ℕ
-ended x = cond (eqb (length x.1) 0) (Ok x.0) (Err (length x.1))
-
-abbrev answered : {A B : Type 0} → (A → B) → A → Result B ℕ
-answered v y = Ok (v y)
-
-whole_seen_test : {A B : Type 0} (v : A → B) (b : Bool) (x : A) (d : ℕ) → cond b (answered v x) (Err d) ≡ (cond b (Ok x) (Err d) >>= answered v)
-whole_seen_test v true x d = refl
-whole_seen_test v false x d = refl
-
-whole_seen_on : {A B : Type 0} (v : A → B) (r : Result (A × List ℕ) ℕ) → ((r >>= viewed v) >>= ended) ≡ ((r >>= ended) >>= answered v)
-whole_seen_on v (Ok x) = whole_seen_test v (eqb (length x.1) 0) x.0 (length x.1)
-whole_seen_on v (Err d) = refl
-
-whole_seen : {A B : Type 0} (v : A → B) (f : Reading A) (bytes : List ℕ) → whole (seen v f) bytes ≡ (whole f bytes >>= answered v)
-unfolding whole seen
-whole_seen v f bytes = whole_seen_on v (f bytes)
-
-whole_same : {A : Type 0} (f g : Reading A) (bytes : List ℕ) → f bytes ≡ g bytes → whole f bytes ≡ whole g bytes
-unfolding whole
-whole_same f g bytes e = rw e refl
-
 whole_parts : (form : Form) (bytes : List ℕ) → whole (parts_at form) bytes ≡ (whole (cut_parts_at form) bytes >>= answered joined)
-whole_parts form bytes =
-    whole_same (parts_at form) (seen joined (cut_parts_at form)) bytes (parts_joined form bytes) ∙ whole_seen joined (cut_parts_at form) bytes
+whole_parts form bytes = whole_viewed joined (cut_parts_at form) (parts_at form) bytes (parts_joined form bytes)
 
 -- what is read of all the bytes is spelled so, under some cut
 pub record IsCutOf (bytes : List ℕ) (p : Parts) : Type 0 where
-  pub cut : List (List Charge)
+  pub cut : Cut
   pub code : IsCode p.0
   pub heads : AreHeads p.1.0
   pub segments : FitsCut cut
-  pub rows : segment_rows cut ≡ p.1.1
+  pub rows : segment_rows (cut_rows cut) ≡ p.1.1
   pub is : bytes ≡ state p.0 p.1.0 cut
 
 pub parts_taken : (form : Form) (bytes : List ℕ) (p : Parts) → IsBytes bytes → whole (parts_at form) bytes ≡ Ok p → IsCutOf bytes p
@@ -165,7 +122,7 @@ parts_taken form bytes p is e =
     let t = whole_takes (cut_format form) bytes b.0 is b.1 in
     subst (λ (q : Parts). IsCutOf bytes q) (ok_is (joined b.0) p b.2) (record { cut = b.0.1.1; code = t.0.0; heads = t.0.1.0; segments = t.0.1.1; rows = refl; is = t.1 })
 
-pub parts_again : (form : Form) (currency : List ℕ) (hs : List HeadValue) (cut : List (List Charge)) → IsCode currency → AreHeads hs → FitsCut cut → whole (parts_at form) (state currency hs cut) ≡ Ok (currency, (hs, segment_rows cut))
+pub parts_again : (form : Form) (currency : List ℕ) (hs : List HeadValue) (cut : Cut) → IsCode currency → AreHeads hs → FitsCut cut → whole (parts_at form) (state currency hs cut) ≡ Ok (currency, (hs, segment_rows (cut_rows cut)))
 unfolding joined spelled state
 parts_again form currency hs cut code are fits =
     let read : whole (cut_parts_at form) (state currency hs cut) ≡ Ok (currency, (hs, cut)) = whole_again (cut_format form) (currency, (hs, cut)) (code, (are, fits)) in

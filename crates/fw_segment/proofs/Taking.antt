@@ -1,15 +1,17 @@
 -- Rows that are read, segment by segment, and taken from the front.
-use Rattle.std.proofs.Common.{◌≡◌, ℕ, zero, suc, Bool, true, false, List, [], ◌∷◌, ◌++◌, length, Result, Ok, Err, refl, sym, ap, ◌∙◌, append_assoc}
-use Rattle.std.specs.Prelude.{nat_lt, if◌then◌else◌}
-use Rattle.std.specs.Int.{w32}
-use Rattle.fw_bytes.specs.Reading.{◌>>=◌, Fails, list_at, number_at, seen, times}
+use Rattle.std.proofs.Common.{◌≡◌, ◌∙◌, ◌+◌, ℕ, suc, false, List, [], ◌∷◌, ◌++◌, length, drop, Option, Some, None, Result, Ok, Err, refl, sym, ap, add-one, append_assoc, arith}
+use Rattle.std.specs.Prelude.{nat_lt, slice_get}
+use Rattle.std.proofs.Math.Seq.{drop-cons}
+use Rattle.std.proofs.lemmas.Bool.{ltb-false}
+use Rattle.std.proofs.lemmas.List.{drop_all, nil_from_length}
+use Rattle.std.proofs.lemmas.Option.{slice_get_within, get_or_from_slice_get}
+use Rattle.fw_bytes.specs.Reading.{◌>>=◌, Fails, seen, times}
 use Rattle.fw_bytes.specs.declared.fault.ReadError.{ReadError}
 use Rattle.fw_bytes.specs.declared.fault.ReadError.TheVariants as errors
 use Rattle.fw_charge.specs.Charge.{Charge}
 use Rattle.fw_snapshot.specs.Heads.{segment_rows}
-use Rattle.fw_row_bytes.specs.Reading.{row_at}
-use Rattle.fw_segment.specs.Segments.{count_at, most_segment_rows, row_count_at, segment_at}
-use Rattle.fw_segment.specs.RowsLeft.{behind, left_at, segments_at}
+use Rattle.fw_segment.specs.Segments.{segment_at}
+use Rattle.fw_segment.specs.RowsLeft.{behind, rows_given, segments_at}
 
 abbrev pub Read : Type 0
 Read = Result (List Charge × List ℕ) ℕ
@@ -36,72 +38,63 @@ next_joined : (rows : List Charge) (read : Result (List (List Charge) × List �
 next_joined rows (Ok x) = refl
 next_joined rows (Err left) = refl
 
-pub none_next : (n : ℕ) (bytes : List ℕ) → n ≡ 0 → segments_at n bytes ≡ Ok ([], bytes)
+-- ---- segments in turn
+
+none_next : (n : ℕ) (bytes : List ℕ) → n ≡ 0 → segments_at n bytes ≡ Ok ([], bytes)
 unfolding segments_at seen times
 none_next n bytes none = rw none refl
 
--- ---- a segment is its number of rows, and these rows
+next_read : (n m : ℕ) (bytes : List ℕ) (rows : List Charge) (after : List ℕ) → n ≡ suc m → segment_at bytes ≡ Ok (rows, after) → segments_at n bytes ≡ behind rows (segments_at m after)
+unfolding segments_at seen times
+next_read n m bytes rows after more e = rw (more, e) (next_joined rows (times segment_at m after))
 
-abbrev many : ℕ × List ℕ → Read
-many n = times row_at n.0 n.1
+next_fails : (n m : ℕ) (bytes : List ℕ) (e : ReadError) → n ≡ suc m → Fails e (segment_at bytes) → Fails e (segments_at n bytes)
+unfolding segments_at seen times
+next_fails n m bytes errors.NoMemory more h = tt
+next_fails n m bytes (errors.Corrupt left) more h = rw (more, h) refl
 
-few_or_many : (none past : Bool) (left : ℕ) (n : ℕ × List ℕ) → (if none then Err left else (if past then Err left else many n)) ≡ ((if none then Err left else (if past then Err left else Ok n)) >>= many)
-few_or_many true past left n = refl
-few_or_many false true left n = refl
-few_or_many false false left n = refl
+-- ---- rows that are held, and segments behind them
 
-counted : (bytes : List ℕ) (read : Result (ℕ × List ℕ) ℕ) → (read >>= λ n. if nat_lt n.0 1 then Err (length bytes) else (if nat_lt most_segment_rows n.0 then Err (length bytes) else many n)) ≡ ((read >>= λ n. if nat_lt n.0 1 then Err (length bytes) else (if nat_lt most_segment_rows n.0 then Err (length bytes) else Ok n)) >>= many)
-counted bytes (Ok n) = few_or_many (nat_lt n.0 1) (nat_lt most_segment_rows n.0) (length bytes) n
-counted bytes (Err left) = refl
-
-segment_is : (bytes : List ℕ) → segment_at bytes ≡ (row_count_at bytes >>= many)
-unfolding segment_at row_count_at count_at list_at
-segment_is [] = refl
-segment_is (zero ∷ rest) = refl
-segment_is (suc zero ∷ rest) = counted rest (number_at w32 rest)
-segment_is (suc (suc layout) ∷ rest) = refl
-
--- ---- rows that are left
-
--- where no segment is begun, those that are left are read
-pub none_begun : (rows segments : ℕ) (bytes : List ℕ) → rows ≡ 0 → left_at rows segments bytes ≡ segments_at segments bytes
-unfolding left_at times
-none_begun rows segments bytes none = rw none (behind_nothing (segments_at segments bytes))
+-- where no row is held, all that is left is that of the segments
+pub none_held : (rows : List Charge) (n : ℕ) (bytes : List ℕ) → rows ≡ [] → behind rows (segments_at n bytes) ≡ segments_at n bytes
+none_held rows n bytes none = rw none (behind_nothing (segments_at n bytes))
 
 -- nothing is left but the bytes behind
-pub none_left : (rows segments : ℕ) (bytes : List ℕ) → rows ≡ 0 → segments ≡ 0 → left_at rows segments bytes ≡ Ok ([], bytes)
-none_left rows segments bytes none no_more = none_begun rows segments bytes none ∙ none_next segments bytes no_more
+pub none_left : (rows : List Charge) (n : ℕ) (bytes : List ℕ) → rows ≡ [] → n ≡ 0 → behind rows (segments_at n bytes) ≡ Ok ([], bytes)
+none_left rows n bytes none no_more = none_held rows n bytes none ∙ none_next n bytes no_more
 
-first_joined : (n : ℕ) (read : Read) → ((read >>= λ first. times segment_at n first.1 >>= put_first first.0) >>= as_rows) ≡ (read >>= λ first. behind first.0 (times segment_at n first.1 >>= as_rows))
-first_joined n (Ok first) = next_joined first.0 (times segment_at n first.1)
-first_joined n (Err left) = refl
+-- a segment that is read is held
+pub begun : (rows : List Charge) (n m : ℕ) (bytes : List ℕ) (read : List Charge) (after : List ℕ) → rows ≡ [] → n ≡ suc m → segment_at bytes ≡ Ok (read, after)
+    → behind rows (segments_at n bytes) ≡ behind read (segments_at m after)
+begun rows n m bytes read after none more e = none_held rows n bytes none ∙ next_read n m bytes read after more e
 
--- a segment that is begun, and the others
-pub begun : (n m count : ℕ) (bytes after : List ℕ) → n ≡ suc m → row_count_at bytes ≡ Ok (count, after) → segments_at n bytes ≡ left_at count m after
-unfolding segments_at left_at seen times
-begun n m count bytes after more e = rw (more, segment_is bytes, e) (first_joined m (times row_at count after))
+pub begin_fails : (rows : List Charge) (n m : ℕ) (bytes : List ℕ) (e : ReadError) → n ≡ suc m → Fails e (segment_at bytes) → Fails e (behind rows (segments_at n bytes))
+begin_fails rows n m bytes e more h = behind_fails rows e (segments_at n bytes) (next_fails n m bytes e more h)
 
-pub begin_fails : (n m : ℕ) (bytes : List ℕ) (e : ReadError) → n ≡ suc m → Fails e (row_count_at bytes) → Fails e (segments_at n bytes)
-unfolding segments_at seen times
-begin_fails n m bytes errors.NoMemory more h = tt
-begin_fails n m bytes (errors.Corrupt left) more h = rw (more, segment_is bytes, h) refl
+-- what is left of a list from a place on begins with the item there
+from_place : (rows : List Charge) (n : ℕ) (row : Charge) → slice_get rows n ≡ Some row → drop n rows ≡ row ∷ drop (n + 1) rows
+from_place rows n row there =
+    drop-cons rows n row (slice_get_within rows n row there)
+    ∙ ap (λ y. y ∷ drop (suc n) rows) (get_or_from_slice_get rows n row row there)
+    ∙ ap (λ m. row ∷ drop m rows) (sym (add-one n))
 
-abbrev put_row : Charge → List Charge × List ℕ → Read
-put_row row x = Ok (row ∷ x.0, x.1)
+-- no row is held
+pub no_row : (rows : List Charge) → nat_lt 0 (length rows) ≡ false → rows ≡ []
+no_row rows none = nil_from_length rows (omega (arith, ltb-false _ _ none))
 
-abbrev then_segments : ℕ → List Charge × List ℕ → Read
-then_segments segments x = behind x.0 (segments_at segments x.1)
+-- the next row of those that are held, and the others
+pub row_taken : (rows : List Charge) (n : ℕ) (row : Charge) (read : Read) → slice_get rows n ≡ Some row → behind (drop n rows) read ≡ behind (row ∷ []) (behind (drop (n + 1) rows) read)
+row_taken rows n row read there = rw (from_place rows n row there) (sym (behind_both (row ∷ []) (drop (n + 1) rows) read))
 
-row_joined : (row : Charge) (segments : ℕ) (read : Read) → ((read >>= put_row row) >>= then_segments segments) ≡ behind (row ∷ []) (read >>= then_segments segments)
-row_joined row segments (Ok x) = sym (behind_both (row ∷ []) x.0 (segments_at segments x.1))
-row_joined row segments (Err left) = refl
+-- where none of its rows is taken yet, a segment is taken as it is
+pub whole_taken : (segment : Option (List Charge)) (taken : ℕ) (read : Read) → taken ≡ 0
+    → behind (drop taken (rows_given segment)) read ≡ behind (rows_given segment) (behind (drop taken (rows_given None)) read)
+whole_taken segment taken read none = rw none (ap (behind (rows_given segment)) (sym (behind_nothing read)))
 
--- the next row, and those after it
-pub row_read : (n m segments : ℕ) (bytes : List ℕ) (row : Charge) (after : List ℕ) → n ≡ suc m → row_at bytes ≡ Ok (row, after) → left_at n segments bytes ≡ behind (row ∷ []) (left_at m segments after)
-unfolding left_at times
-row_read n m segments bytes row after more e = rw (more, e) (row_joined row segments (times row_at m after))
+-- of no segment no row is held
+pub nothing_held : (taken : ℕ) → drop taken (rows_given None) ≡ []
+nothing_held taken = drop_all taken [] (omega arith)
 
-pub row_fails : (n m segments : ℕ) (bytes : List ℕ) (e : ReadError) → n ≡ suc m → Fails e (row_at bytes) → Fails e (left_at n segments bytes)
-unfolding left_at times
-row_fails n m segments bytes errors.NoMemory more h = tt
-row_fails n m segments bytes (errors.Corrupt left) more h = rw (more, h) refl
+-- what is held is let go
+pub held_gone : (gone rows : List Charge) (taken : ℕ) (read : Read) → behind gone (behind rows read) ≡ behind (gone ++ rows) (behind (drop taken (rows_given None)) read)
+held_gone gone rows taken read = rw (nothing_held taken) (behind_both gone rows read ∙ ap (behind (gone ++ rows)) (sym (behind_nothing read)))

@@ -1,9 +1,8 @@
 -- The rows of segments that are read one after the other, of which some were taken from the front.
-use Rattle.std.specs.Prelude.{◌≡◌, ◌<◌, ◌≤◌, ◌+◌, ◌*◌, ℕ, Bool, List, [], ◌++◌, length, nat_lt, Result, Ok}
+use Rattle.std.specs.Prelude.{◌≡◌, ◌<◌, ◌≤◌, ◌+◌, ◌*◌, ℕ, Bool, List, [], ◌++◌, length, drop, nat_lt, Option, Some, None, Result, Ok}
 use Rattle.fw_bytes.specs.Reading.{Reading, ◌>>=◌, seen, times}
 use Rattle.fw_charge.specs.Charge.{Charge}
 use Rattle.fw_snapshot.specs.Heads.{segment_rows}
-use Rattle.fw_row_bytes.specs.Reading.{row_at}
 use Rattle.fw_segment.specs.Segments.{most_segment_rows, segment_at}
 use Rattle.fw_segment.specs.declared.rows_left.RowsLeft.{RowsLeft}
 
@@ -15,17 +14,22 @@ behind rows read = read >>= λ x. Ok (rows ++ x.0, x.1)
 unfoldable pub segments_at : ℕ → Reading (List Charge)
 segments_at n = seen segment_rows (times segment_at n)
 
--- so many rows, and those of so many segments behind them
-unfoldable pub left_at : ℕ → ℕ → Reading (List Charge)
-left_at rows segments bytes = times row_at rows bytes >>= λ x. behind x.0 (segments_at segments x.1)
+-- the rows of columns, where there are columns
+abbrev pub rows_given : Option (List Charge) → List Charge
+rows_given None = []
+rows_given (Some rows) = rows
+
+-- the rows of the segment that was read last, without those that are taken
+abbrev pub held : RowsLeft → List Charge
+held r = drop r.taken (rows_given r.segment)
 
 -- the rows that aren't taken yet, in order, and the bytes behind the last segment; or the first fault of what isn't read yet
 abbrev pub rows_left : RowsLeft → Result (List Charge × List ℕ) ℕ
-rows_left r = left_at r.rows r.segments r.bytes.now
+rows_left r = behind (held r) (segments_at r.segments r.bytes.now)
 
 -- no more rows than these are left, however many the segments have
 abbrev pub most_left : RowsLeft → ℕ
-most_left r = r.rows + most_segment_rows * r.segments
+most_left r = length (held r) + most_segment_rows * r.segments
 
 -- of what was left, these rows were taken, so many where there are so many
 pub record AreTaken (count : ℕ) (rows : List Charge) (old new : RowsLeft) : Type 0 where

@@ -1,20 +1,22 @@
 -- Segments: rows that are stored together.
-use Rattle.std.specs.Prelude.{◌<◌, ◌≤◌, ℕ, zero, suc, List, [], ◌∷◌, length, nat_lt, if◌then◌else◌, All, Ok, Err}
-use Rattle.std.specs.Int.{w32}
+use Rattle.std.specs.Prelude.{◌<◌, ◌≤◌, ℕ, zero, suc, List, [], ◌∷◌, length, All, Err}
 use Rattle.fw_bytes.specs.Spelling.{listed}
-use Rattle.fw_bytes.specs.Reading.{Reading, ◌>>=◌, list_at, number_at}
+use Rattle.fw_bytes.specs.Reading.{Reading, list_at}
 use Rattle.fw_charge.specs.Charge.{Charge}
 use Rattle.fw_charge.specs.Spelling.{row, IsRow}
 use Rattle.fw_row_bytes.specs.Reading.{row_at}
+use Rattle.fw_column_bytes.specs.Spelling.{columns}
+use Rattle.fw_column_bytes.specs.Reading.{columns_at}
 use Rattle.fw_segment.specs.declared.kind.Kind.{Kind}
-use Rattle.fw_segment.specs.declared.kind.Kind.TheVariants.{Rows}
+use Rattle.fw_segment.specs.declared.kind.Kind.TheVariants.{Rows, Columns}
 
 abbrev pub most_segment_rows : ℕ
 most_segment_rows = 65536
 
--- a byte for how the rows are laid out, their number, and the rows in this layout: each in turn
+-- a byte for how the rows are laid out, their number, and the rows in this layout: each in turn, or column after column behind their texts
 unfoldable pub segment : Kind → List Charge → List ℕ
 segment Rows rows = 1 ∷ listed row rows
+segment Columns rows = columns rows
 
 -- 1 to 65,536 rows, each of which has a spelling
 pub record IsSegment (rows : List Charge) : Type 0 where
@@ -27,17 +29,5 @@ unfoldable pub segment_at : Reading (List Charge)
 segment_at [] = Err 0
 segment_at (zero ∷ rest) = Err (suc (length rest))
 segment_at (suc zero ∷ rest) = list_at 1 most_segment_rows row_at rest
-segment_at (suc (suc layout) ∷ rest) = Err (suc (length rest))
-
--- how many rows there are: 1 to 65,536
-unfoldable pub count_at : Reading ℕ
-count_at bytes = do
-  n ← number_at w32 bytes
-  if nat_lt n.0 1 then Err (length bytes) else (if nat_lt most_segment_rows n.0 then Err (length bytes) else Ok n)
-
--- the same behind the layout: where the rows of a segment begin
-unfoldable pub row_count_at : Reading ℕ
-row_count_at [] = Err 0
-row_count_at (zero ∷ rest) = Err (suc (length rest))
-row_count_at (suc zero ∷ rest) = count_at rest
-row_count_at (suc (suc layout) ∷ rest) = Err (suc (length rest))
+segment_at (suc (suc zero) ∷ rest) = columns_at (2 ∷ rest)
+segment_at (suc (suc (suc layout)) ∷ rest) = Err (suc (length rest))

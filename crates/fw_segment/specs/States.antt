@@ -1,4 +1,4 @@
--- States: a currency, the heads of the entries, and their rows, cut into segments in any way.
+-- States: a currency, the heads of the entries, and their rows, cut into segments in any way, each of them in any layout.
 use Rattle.std.specs.Prelude.{◌≡◌, ◌-◌, ℕ, Bool, ◌&&◌, List, [], ◌∷◌, ◌++◌, length, take, drop, map, All, Option, Some, None, Result, Ok, Err, nat_le, ◌==◌, if◌then◌else◌}
 use Rattle.std.specs.List.{list_all}
 use Rattle.std.specs.Char.{is_ascii_uppercase}
@@ -14,15 +14,23 @@ use Rattle.fw_snapshot.specs.Heads.{HeadValue, head_of, entry_of, row_count, row
 use Rattle.fw_snapshot.specs.History.{History, rows_posted}
 use Rattle.fw_snapshot.specs.Judging.{judged, IsLegal}
 use Rattle.fw_snapshot.specs.Verdicts.{is_accept}
-use Rattle.fw_segment.specs.declared.kind.Kind.TheVariants.{Rows}
+use Rattle.fw_segment.specs.declared.kind.Kind.{Kind}
 use Rattle.fw_segment.specs.Segments.{segment, segment_at, IsSegment}
 use Rattle.fw_segment.specs.Heads.{head, heads, heads_at}
 
 -- ---- how a state is written
 
+-- rows that are cut into segments, and how each segment is laid out
+abbrev pub Cut : Type 0
+Cut = List (Kind × List Charge)
+
+-- the rows of the segments of a cut
+abbrev pub cut_rows : Cut → List (List Charge)
+cut_rows cut = map (λ s. s.1) cut
+
 -- the currency, the heads, and the segments of this cut: their number, and each in turn
-unfoldable pub state : List ℕ → List HeadValue → List (List Charge) → List ℕ
-state currency hs cut = text currency ++ (heads hs ++ listed (segment Rows) cut)
+unfoldable pub state : List ℕ → List HeadValue → Cut → List ℕ
+state currency hs cut = text currency ++ (heads hs ++ listed (λ s. segment s.0 s.1) cut)
 
 -- the states that there are: each entry is one, and was accepted after those before it
 pub record IsHistory (h : History) : Type 0 where
@@ -33,10 +41,10 @@ pub record IsHistory (h : History) : Type 0 where
 
 -- the bytes spell the state: they are what some cut of the rows that were ever posted gives
 pub record Spells (bytes : List ℕ) (h : History) : Type 0 where
-  pub cut : List (List Charge)
+  pub cut : Cut
   pub count : Fits32 (length cut)
-  pub segments : All IsSegment cut
-  pub rows : segment_rows cut ≡ rows_posted h.entries
+  pub segments : All (λ s. IsSegment s.1) cut
+  pub rows : segment_rows (cut_rows cut) ≡ rows_posted h.entries
   pub history : IsHistory h
   pub spelled : bytes ≡ state h.currency (map head_of h.entries) cut
 

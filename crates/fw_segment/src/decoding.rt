@@ -96,11 +96,12 @@ pub fn decode_group(alloc: Global, form: Form, bytes: &[u8]) -> Result<Vec<Entry
     }
 }
 
-/// The rows of the segment that the bytes spell: 1 to 65,536 of them.
+/// The rows of the segment that the bytes spell, in any layout: 1 to 65,536 of them.
 ///
 /// # Errors
 /// As those of [`decode_entry`]; a layout that isn't known is a fault at offset 0, and a number of rows that is 0 or above 65,536 is one at offset
-/// 1, found before any row is read.
+/// 1, found before any row is read. Of rows by column a fault of a field is at its place in its column, and the rules over several fields come behind
+/// all of them, as faults at offset 0, as does that the names are each text of the rows once, in the order in which it first occurs.
 pub fn decode_segment(alloc: Global, bytes: &[u8]) -> Result<Columns, DecodeFault>
     ensures found { IfOk result (λ rows. IsSegment rows × (kind : Kind) × (bytes.now ≡ segment kind rows)) }
     ensures only { (kind : Kind) (rows : List Charge) → IsSegment rows → bytes.now ≡ segment kind rows → Decodes (λ v. v) (length bytes.now) result (Ok rows) }

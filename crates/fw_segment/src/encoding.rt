@@ -7,7 +7,7 @@ ghost use Rattle.fw_segment.specs.States.{Spells};
 
 use crate::groups::put_group;
 use crate::kind::Kind;
-use crate::segments::put_segment;
+use crate::segments::{put_segment, rows_have_spelling};
 use crate::states::append_state;
 use fw_columns::Columns;
 use fw_entry::Entry;
@@ -39,12 +39,13 @@ pub fn encode_segment(alloc: Global, columns: &Columns, kind: Kind) -> Result<Ve
     ensures spelled { IfOk result (λ bytes. bytes.items ≡ segment kind columns.now) }
     ensures valid { IfOk result (λ _. IsSegment columns.now) }
 {
+    rows_have_spelling(columns);
     let mut out = Vec::new(alloc);
     put_segment(&mut out, columns, kind)?;
     Ok(out)
 }
 
-/// The bytes of a state, each of its segments as one: a spelling of it. The error comes where memory ran out.
+/// The bytes of a state, each of its segments as one, by column: a spelling of it. The error comes where memory ran out.
 pub fn encode_state(alloc: Global, one: &State) -> Result<Vec<u8>, AllocError>
     ensures { IfOk result (λ bytes. Spells bytes.items one.now) }
 {

@@ -5,4 +5,6 @@
 pub enum Kind {
     /// One row after the other.
     Rows,
+    /// One column after the other, each text once.
+    Columns,
 }

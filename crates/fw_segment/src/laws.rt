@@ -9,14 +9,14 @@ ghost use Rattle.fw_segment.specs.Segments.{segment, IsSegment};
 ghost use Rattle.fw_segment.specs.States.{Spells};
 ghost use Rattle.fw_segment.specs.declared.kind.Kind.{Kind};
 
-/// Bytes spell one entry, one group and one segment at most.
+/// Bytes spell one entry, one group and one segment at most, in whichever layout.
 pub fn spellings_are_one()
     ensures entries { (a b : EntryValue) → IsEntry a → IsEntry b → entry a ≡ entry b → a ≡ b }
     ensures groups { (a b : List EntryValue) → IsGroup a → IsGroup b → group a ≡ group b → a ≡ b }
     ensures segments { (j k : Kind) (a b : List Charge) → IsSegment a → IsSegment b → segment j a ≡ segment k b → a ≡ b }
 {}
 
-/// Bytes spell one state at most, however its rows are cut.
+/// Bytes spell one state at most, however its rows are cut and laid out.
 pub fn states_are_one()
     ensures { (bytes : List ℕ) (a b : History) → Spells bytes a → Spells bytes b → a ≡ b }
 {}

@@ -1,7 +1,8 @@
 //! What the warehouse stores, as bytes: entries, groups of entries, segments of rows, and states.
 //!
-//! An entry, a group and a segment each have one spelling. A state has one for each way to cut its rows into segments. A decoder gives a value
-//! exactly for its spellings; for all other bytes it reports where the first fault is, in the order in which they are read.
+//! An entry and a group each have one spelling. A segment has one in each of two layouts: row after row, or column after column. A state has one for
+//! each way to cut its rows into segments and to lay these out; it is written by column. A decoder gives a value exactly for its spellings; for all
+//! other bytes it reports where the first fault is, in the order in which they are read.
 #![tactic(auto)]
 
 mod accepted;

@@ -1,23 +1,24 @@
 //! The rows of segments, read and taken from the front.
-ghost use Rattle.std.specs.Prelude.{◌≡◌, ◌≤◌, ◌+◌, ◌<◌, ◌∷◌, [], false, nat_lt, IfOk, IfErr, OnOk};
+ghost use Rattle.std.specs.Prelude.{◌≡◌, ◌≤◌, ◌<◌, ◌∷◌, ◌==◌, ◌&&◌, [], false, length, nat_lt, IfOk, IfErr, OnOk};
 ghost use Rattle.fw_bytes.specs.Reading.{Fails};
-ghost use Rattle.fw_segment.specs.RowsLeft.{behind, most_left, rows_left, segments_at, AreReadOut, AreTaken};
+ghost use Rattle.fw_segment.specs.RowsLeft.{behind, held, most_left, rows_given, rows_left, segments_at, AreReadOut, AreTaken};
 
-use crate::segments::row_count_of;
+use crate::segments::segment_of;
 use fw_bytes::ReadError;
 use fw_charge::Row;
-use fw_columns::ColumnsBuilder;
-use fw_row_bytes::row_of;
-use std::alloc::Global;
+use fw_columns::{Columns, ColumnsBuilder};
+use std::alloc::{AllocError, Global};
 
-/// The rows of segments that aren't taken yet, in order. A row is read once it is asked for: none is held here.
+/// The rows of segments that aren't taken yet, in order. Of the segments that are read, one at most is held: the last.
 #[derive(Drop)]
 pub struct RowsLeft<'a> {
-    // how many rows of the segment that was begun last aren't read yet
-    rows: u32,
-    // how many segments aren't begun yet
+    // the segment that was read last
+    segment: Option<Columns>,
+    // how many of its rows are taken
+    taken: usize,
+    // how many segments aren't read yet
     segments: u32,
-    // these rows, these segments, and what is behind them
+    // these segments, and what is behind them
     bytes: &'a [u8],
 }
 
@@ -27,7 +28,8 @@ impl<'a> RowsLeft<'a> {
         ensures { rows_left result ≡ segments_at segments bytes.now }
     {
         RowsLeft {
-            rows: 0,
+            segment: None,
+            taken: 0,
             segments,
             bytes,
         }
@@ -40,23 +42,36 @@ impl<'a> RowsLeft<'a> {
         self.bytes
     }
 
-    /// Whether a row is left. Where the segment that was begun last has none, the next one is begun.
-    fn has_next(&mut self) -> Result<bool, ReadError>
+    /// How many rows of the segment that was read last are left.
+    fn held_len(&self) -> usize
+        ensures { result ≡ length (held self.now) }
+    {
+        match &self.segment {
+            Some(columns) => columns.len().saturating_sub(self.taken),
+            None => 0,
+        }
+    }
+
+    /// Whether a row is left. Where none of the segment that was read last is, the next segment is read.
+    fn has_next(&mut self, alloc: Global) -> Result<bool, ReadError>
         ensures same { OnOk result (rows_left self.old ≡ rows_left self.new) }
-        ensures some { IfOk result (λ some. some ≡ nat_lt 0 self.new.rows) }
+        ensures some { IfOk result (λ some. some ≡ nat_lt 0 (length (held self.new))) }
         ensures none { IfOk result (λ some. some ≡ false → self.new.segments ≡ 0) }
         ensures no_more { OnOk result (most_left self.new ≤ most_left self.old) }
         ensures fault { IfErr result (λ e. Fails e (rows_left self.old)) }
     {
-        if self.rows > 0 {
+        if self.held_len() > 0 {
             return Ok(true);
         }
         if self.segments == 0 {
             return Ok(false);
         }
-        match row_count_of(self.bytes) {
-            Ok((count, rest)) => {
-                self.rows = count;
+        match segment_of(alloc, self.bytes) {
+            Ok((columns, rest)) => {
+                // Proves that the segment has rows, and not too many.
+                let _len = columns.len();
+                self.segment = Some(columns);
+                self.taken = 0;
                 self.segments -= 1;
                 self.bytes = rest;
                 Ok(true)
@@ -65,38 +80,68 @@ impl<'a> RowsLeft<'a> {
         }
     }
 
-    /// Reads the next row.
-    fn next_row(&mut self, alloc: Global) -> Result<Row, ReadError>
-        requires { 0 < self.old.rows }
-        ensures row { IfOk result (λ row. rows_left self.old ≡ behind (row ∷ []) (rows_left self.new)) }
-        ensures one_less { OnOk result (most_left self.new + 1 ≡ most_left self.old) }
-        ensures fault { IfErr result (λ e. Fails e (rows_left self.old)) }
+    /// Takes the next row of the segment that was read last.
+    fn next_row(&mut self) -> Result<Row, AllocError>
+        requires { 0 < length (held self.old) }
+        ensures { IfOk result (λ row. rows_left self.old ≡ behind (row ∷ []) (rows_left self.new)) }
     {
-        match row_of(alloc, self.bytes) {
-            Ok((row, rest)) => {
-                self.rows -= 1;
-                self.bytes = rest;
+        match &self.segment {
+            Some(columns) => {
+                // Proves that the segment hasn't too many rows.
+                let _len = columns.len();
+                let row = columns.row(self.taken)?;
+                self.taken += 1;
                 Ok(row)
             }
-            Err(e) => Err(e),
+            None => unreachable!("a row is left"),
         }
     }
 
-    /// Takes so many rows from the front, at most 65,536, or all where there are fewer.
-    pub fn take_front(&mut self, alloc: Global, count: usize) -> Result<ColumnsBuilder, ReadError>
+    /// Whether the rows that are left of the segment that was read last are all of its rows, and so many.
+    fn is_whole(&self, count: usize) -> bool
+        ensures { result ≡ ((self.now.taken == 0) && (length (held self.now) == count)) }
+    {
+        self.taken == 0 && self.held_len() == count
+    }
+
+    /// Takes so many rows from the front, at most 65,536, or all where there are fewer. Each is copied.
+    fn take_each(&mut self, alloc: Global, count: usize) -> Result<ColumnsBuilder, ReadError>
         requires { count ≤ 65536 }
         ensures taken { IfOk result (λ front. AreTaken count front self.old self.new) }
         ensures fault { IfErr result (λ e. Fails e (rows_left self.old)) }
     {
         let mut front = ColumnsBuilder::new(alloc);
         while front.len() < count {
-            if !self.has_next()? {
+            if !self.has_next(alloc)? {
                 return Ok(front);
             }
-            let row = self.next_row(alloc)?;
+            let row = self.next_row()?;
             front.push_row(&row)?;
         }
         Ok(front)
+    }
+
+    /// Takes so many rows from the front, at most 65,536, or all where there are fewer. A segment of just so many rows is taken as it is.
+    pub fn take_front(&mut self, alloc: Global, count: usize) -> Result<Option<Columns>, ReadError>
+        requires { count ≤ 65536 }
+        ensures taken { IfOk result (λ front. AreTaken count (rows_given front) self.old self.new) }
+        ensures fault { IfErr result (λ e. Fails e (rows_left self.old)) }
+    {
+        if count == 0 {
+            return Ok(None);
+        }
+        if !self.has_next(alloc)? {
+            return Ok(None);
+        }
+        if self.is_whole(count) {
+            return Ok(self.segment.take());
+        }
+        let front = self.take_each(alloc, count)?;
+        if front.len() == 0 {
+            return Ok(None);
+        }
+        let columns = front.finish()?;
+        Ok(Some(columns))
     }
 
     /// Reads all rows that are left, and answers whether one was.
@@ -105,8 +150,8 @@ impl<'a> RowsLeft<'a> {
         ensures fault { IfErr result (λ e. Fails e (rows_left self.old)) }
     {
         let mut some = false;
-        while self.has_next()? {
-            self.next_row(alloc)?;
+        while self.has_next(alloc)? {
+            self.segment = None;
             some = true;
         }
         Ok(some)

@@ -1,5 +1,5 @@
 //! The reader and the writer of a state.
-ghost use Rattle.std.specs.Prelude.{◌≡◌, ◌++◌, ◌≤◌, ℕ, List, length, map, All, OnOk, IfOk, IfErr};
+ghost use Rattle.std.specs.Prelude.{◌≡◌, ◌++◌, ◌<◌, ◌≤◌, ℕ, List, length, map, All, OnOk, IfOk, IfErr};
 ghost use Rattle.fw_bytes.specs.Reading.{Fails, Gives};
 ghost use Rattle.fw_bytes.specs.Spelling.{listed, text, Fits64};
 ghost use Rattle.fw_charge.specs.Currencies.{IsCode};
@@ -10,10 +10,10 @@ ghost use Rattle.fw_snapshot.specs.Heads.{command_of, entry_of, head_of, row_cou
 ghost use Rattle.fw_segment.specs.HeadView.{content_view, head_view};
 ghost use Rattle.fw_segment.specs.Heads.{IsContent, IsHead, heads};
 ghost use Rattle.fw_segment.specs.Replaying.{stepped, state_behind, with_rows, AreBehind, AreReplayed};
-ghost use Rattle.fw_segment.specs.RowsLeft.{rows_left};
-ghost use Rattle.fw_segment.specs.Segments.{IsSegment, segment};
+ghost use Rattle.fw_segment.specs.RowsLeft.{rows_given, rows_left};
+ghost use Rattle.fw_segment.specs.Segments.{most_segment_rows, segment};
 ghost use Rattle.fw_segment.specs.States.{Spells, currency_at, followed, parts_at, rows_at, state_at};
-ghost use Rattle.fw_segment.specs.declared.kind.Kind.TheVariants.{Rows};
+ghost use Rattle.fw_segment.specs.declared.kind.Kind.TheVariants as layout;
 
 use crate::heads::{ReadContent, ReadHead, heads_of, put_head};
 use crate::kind::Kind;
@@ -21,7 +21,7 @@ use crate::rows_left::RowsLeft;
 use crate::segments::put_segment;
 use fw_bytes::{ReadError, put_u32, put_u64, str_at, u32_at};
 use fw_charge::Currency;
-use fw_columns::{Columns, ColumnsBuilder};
+use fw_columns::Columns;
 use fw_entry::{Command, Entry, EntryFault};
 use fw_entry_bytes::Form;
 use fw_persistent::Sequence;
@@ -85,15 +85,18 @@ fn parts_of(alloc: Global, form: Form, bytes: &[u8]) -> Result<Parts<'_>, ReadEr
 }
 
 /// The command of a head, with these rows if it is a post.
-fn command_of(content: ReadContent, rows: ColumnsBuilder) -> Result<Command, AllocError>
+fn command_of(content: ReadContent, rows: Option<Columns>) -> Command
     requires content { IsContent (content_view content) }
-    requires rows { length rows ≡ row_count (content_view content) }
-    ensures { IfOk result (λ command. command_view command ≡ command_of (content_view content) rows) }
+    requires rows { length (rows_given rows) ≡ row_count (content_view content) }
+    ensures { command_view result ≡ command_of (content_view content) (rows_given rows) }
 {
     match content {
-        ReadContent::Post(_) => Ok(Command::Post(rows.finish()?)),
-        ReadContent::Commit(commitment) => Ok(Command::Commit(commitment)),
-        ReadContent::SetPolicy(policy) => Ok(Command::SetPolicy(policy)),
+        ReadContent::Post(_) => match rows {
+            Some(columns) => Command::Post(columns),
+            None => unreachable!("a post has rows"),
+        },
+        ReadContent::Commit(commitment) => Command::Commit(commitment),
+        ReadContent::SetPolicy(policy) => Command::SetPolicy(policy),
     }
 }
 
@@ -102,18 +105,18 @@ fn state_after(
     alloc: Global,
     state: &State,
     head: ReadHead,
-    rows: ColumnsBuilder,
+    rows: Option<Columns>,
 ) -> Result<Option<State>, AllocError>
     requires head { IsHead (head_view head) }
-    requires rows { length rows ≡ row_count (content_view head.content) }
-    ensures { IfOk result (λ next. next ≡ followed state.now (entry_of (head_view head) rows)) }
+    requires rows { length (rows_given rows) ≡ row_count (content_view head.content) }
+    ensures { IfOk result (λ next. next ≡ followed state.now (entry_of (head_view head) (rows_given rows))) }
 {
     let ReadHead {
         origin,
         seq,
         content,
     } = head;
-    let command = command_of(content, rows)?;
+    let command = command_of(content, rows);
     let entry = match Entry::new(alloc, origin.as_bytes(), seq, command) {
         Ok(entry) => entry,
         Err(fault) => match fault {
@@ -135,12 +138,12 @@ fn put_behind(
     alloc: Global,
     answer: &mut Result<State, usize>,
     head: ReadHead,
-    rows: ColumnsBuilder,
+    rows: Option<Columns>,
     left: usize,
 ) -> Result<(), AllocError>
     requires head { IsHead (head_view head) }
-    requires rows { length rows ≡ row_count (content_view head.content) }
-    ensures { OnOk result (answer.new ≡ stepped left answer.old (entry_of (head_view head) rows)) }
+    requires rows { length (rows_given rows) ≡ row_count (content_view head.content) }
+    ensures { OnOk result (answer.new ≡ stepped left answer.old (entry_of (head_view head) (rows_given rows))) }
 {
     if let Ok(state) = answer {
         match state_after(alloc, state, head, rows)? {
@@ -149,6 +152,16 @@ fn put_behind(
         }
     }
     Ok(())
+}
+
+/// How many rows are given.
+fn given_len(rows: &Option<Columns>) -> usize
+    ensures { result ≡ length (rows_given rows.now) }
+{
+    match rows {
+        Some(columns) => columns.len(),
+        None => 0,
+    }
 }
 
 /// Puts the entries of heads behind the state, each judged after those before it, and answers whether there were rows for all of them. After
@@ -169,7 +182,7 @@ fn put_all_behind(
         let len = head.encoded_len();
         let count = head.rows();
         let front = rows.take_front(alloc, count)?;
-        if front.len() < count {
+        if given_len(&front) < count {
             return Ok(false);
         }
         put_behind(alloc, answer, head, front, left)?;
@@ -249,21 +262,21 @@ fn put_heads(out: &mut Vec<u8>, state: &State) -> Result<(), AllocError>
     Ok(())
 }
 
-/// Writes segments: their number, and each in turn.
+/// Writes segments by column: their number, and each in turn.
 fn put_segments(out: &mut Vec<u8>, segments: &Sequence<Columns>) -> Result<(), AllocError>
     requires { length segments.now ≤ most_rows }
-    ensures spelled { OnOk result (out.new.items ≡ out.old.items ++ listed (segment Rows) segments.now) }
-    ensures valid { OnOk result (All IsSegment segments.now) }
+    ensures spelled { OnOk result (out.new.items ≡ out.old.items ++ listed (segment layout.Columns) segments.now) }
+    ensures sized { OnOk result (All (λ rows. (0 < length rows) × (length rows ≤ most_segment_rows)) segments.now) }
 {
     let count = segments.len();
     put_u32(out, count as u32)?;
     for place in 0..count {
-        put_segment(out, segments.get(place), Kind::Rows)?;
+        put_segment(out, segments.get(place), Kind::Columns)?;
     }
     Ok(())
 }
 
-/// Appends the bytes of a state, each of its segments as one: a spelling of it, behind what the buffer holds.
+/// Appends the bytes of a state, each of its segments as one, by column: a spelling of it, behind what the buffer holds.
 ///
 /// # Errors
 /// [`AllocError`] where memory ran out. Then nothing is promised of what the buffer holds.

@@ -1,5 +1,5 @@
 -- Lemmas on what single commands are answered.
-use Rattle.std.proofs.Common.{◌≡◌, ◌<◌, ℕ, zero, suc, true, false, List, length, Some, None, Ok, Err, refl, ap, inl, inr, ◌⊎◌, arith}
+use Rattle.std.proofs.Common.{◌≡◌, ◌∙◌, ◌<◌, ℕ, zero, suc, true, false, List, length, Some, None, Ok, Err, refl, sym, ap, subst, inl, inr, ◌⊎◌, arith}
 use Rattle.std.proofs.Math.Dec.{eqb-suc-zero}
 use Rattle.std.proofs.lemmas.Bool.{le-ltb, lt-ltb}
 use Rattle.std.specs.Borrow.{Bor}
@@ -101,6 +101,14 @@ pub Takes-submitted : (before : Standing) (e : EntryValue) (text : List ℕ) (af
 unfolding Takes Makes
 Takes-submitted before e text after keeps (inl given) = inl (rw (made_is e keeps) (keeps, given))
 Takes-submitted before e text after keeps (inr given) = inr given
+
+-- an entry that was made of parts is the one that these make
+pub made_of_parts : (origin : List ℕ) (number : ℕ) (command : CommandValue) (this e : EntryValue) → this ≡ parts_entry origin number command → IsEntry this → e ≡ this
+    → entry_made origin number command ≡ Ok e
+made_of_parts origin number command this e parts keeps same =
+    let own : entry_made origin number command ≡ Ok (parts_entry origin number command) =
+    subst (λ (x : EntryValue). entry_made x.origin x.seq x.command ≡ Ok x) parts (made_is this keeps) in
+    own ∙ ap Ok (sym (same ∙ parts))
 
 -- there is no entry for a reason
 pub Takes-refused : (before : Standing) (origin : List ℕ) (seq : ℕ) (command : CommandValue) (why : EntryFault) → IsRefused origin seq command why

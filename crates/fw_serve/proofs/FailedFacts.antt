@@ -1,5 +1,5 @@
 -- Why a store doesn't do what a command asks for, and what it answers once its device has failed.
-use Rattle.std.proofs.Common.{◌≡◌, ◌⊎◌, ◌∙◌, ◌<◌, ◌∷◌, [], ℕ, zero, suc, List, Some, true, false, get_or, slice_get, Ok, Err, refl, sym, ap, subst, inl, inr, arith}
+use Rattle.std.proofs.Common.{◌≡◌, ◌⊎◌, ◌∙◌, ◌<◌, ◌∷◌, [], ℕ, zero, suc, List, Some, true, get_or, slice_get, Ok, Err, refl, sym, ap, subst, inl, inr, arith}
 use Rattle.std.specs.Prelude.{◌==◌, Result, if◌then◌else◌}
 use Rattle.fw_amortise.specs.LineValue.{LineValue}
 use Rattle.fw_commitment.specs.declared.fault.CommitmentFault.{CommitmentFault}
@@ -482,3 +482,12 @@ pub checkpoints_closed : (before after : Standing) (commands : List PlainCommand
 checkpoints_closed before after commands answers place later answer given lost less sent answered =
     let (held, same, closed) = from_then CheckpointsClosed checkpoint_closed commands before after answers place later checkpoint answer given lost less sent answered in
     closed refl
+
+-- the line of a device that fails is none of the two
+pub device_not_closed : (answer : List ℕ) → answer ≡ store_fault_line store_fault.Device → (answer ≡ store_fault_line store_fault.Failed) ⊎ (answer ≡ no_memory_line) → ⊥
+device_not_closed answer device (inl failed) =
+    let codes = sym device_code ∙ ap store_code (sym device ∙ failed) ∙ failed_code in
+    absurd (omega (arith, codes))
+device_not_closed answer device (inr memory) =
+    let codes = sym device_code ∙ ap store_code (sym device ∙ memory) ∙ memory_silent in
+    absurd (omega (arith, codes))

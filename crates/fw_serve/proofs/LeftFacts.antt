@@ -1,5 +1,5 @@
 -- What a crash leaves: the warehouse that is opened from it.
-use Rattle.std.proofs.Common.{◌≡◌, ◌⊎◌, ◌∙◌, ◌+◌, ◌<◌, ◌≤◌, ◌∷◌, [], ℕ, zero, suc, List, All, Some, true, arith, sym, ap, subst, inl, inr, get_or, length, slice_get}
+use Rattle.std.proofs.Common.{◌≡◌, ◌⊎◌, ◌∙◌, ◌+◌, ◌<◌, ◌≤◌, ◌∷◌, [], ℕ, zero, suc, List, All, Some, true, arith, refl, sym, ap, subst, inl, inr, ⊎_elim, get_or, length, slice_get}
 use Rattle.std.proofs.lemmas.List.Elements.{All-append, All-head, All-nil, All-tail}
 use Rattle.fw_disk.specs.declared.volume.Side.{Side}
 use Rattle.fw_disk.specs.Volume.{Image}
@@ -10,12 +10,22 @@ use Rattle.fw_recover.proofs.Running.{answered, answered_all}
 use Rattle.fw_recover.specs.Committing.{HasAnswered, StandsForFirst, with_first}
 use Rattle.fw_recover.specs.Corrupt.{CorruptAt}
 use Rattle.fw_recover.specs.Stands.{SideTells, StandsFor, StandsForEither, StandsForNone, joined}
+use Rattle.fw_recover.specs.declared.fault.StoreFault.TheVariants as store_fault
+use Rattle.fw_recover.proofs.Standing.{no_more}
+use Rattle.fw_script.specs.Plain.{PlainCommand}
 use Rattle.fw_segment.specs.Groups.{IsGroup}
 use Rattle.fw_snapshot.specs.History.{History}
+use Rattle.fw_snapshot.specs.Judging.{judged}
 use Rattle.fw_snapshot.specs.Verdicts.{taken, with_more}
-use Rattle.fw_serve.specs.Standings.{IsBetween, Leads, Standing}
+use Rattle.fw_snapshot.specs.declared.verdict.Verdict.TheVariants as verdict
+use Rattle.fw_serve.specs.Flight.{IsInFlight}
+use Rattle.fw_serve.specs.Replies.{store_fault_line}
+use Rattle.fw_serve.specs.Runs.{AnswersEach, Sends}
+use Rattle.fw_serve.specs.Standings.{AreInFlight, IsBetween, Leads, Standing}
 use Rattle.fw_serve.specs.Whole.{IsWhole, ReportsAddUp}
+use Rattle.fw_serve.proofs.FailedFacts.{device_not_closed, entries_closed}
 use Rattle.fw_serve.proofs.MoveFacts.{more_twice}
+use Rattle.fw_serve.proofs.OneAnswerFacts.{entry_one}
 use Rattle.fw_serve.proofs.WholeFacts.{whole_adds_up}
 
 -- ---- files that stand for a warehouse
@@ -88,28 +98,89 @@ left_group before found more image left stands =
     (either_found before found more image left stands, whole.0, whole.1)
 
 -- ---- a script
--- the store has what was found and perhaps more; or its device failed, and one entry more than it has was found
-abbrev IsFrontOf : History → Standing → Type 0
-IsFrontOf found after =
-    ((rest : List EntryValue) × (after.history ≡ with_more found rest))
-    ⊎ ((after.failed ≡ true) × ((last : EntryValue) × (found ≡ with_more after.history (last ∷ []))))
+-- this was found: one entry more than the store has, which a command sends that was answered `store S3 Device`
+abbrev HasOneMore : History → Standing → Standing → List PlainCommand → List (List ℕ) → Type 0
+HasOneMore found before after commands answers =
+    (place : ℕ) × (command : PlainCommand) × (last : EntryValue) × (slice_get commands place ≡ Some command) × (slice_get answers place ≡ Some (store_fault_line store_fault.Device))
+    × Sends before.history.currency command last × (judged after.history.entries last ≡ verdict.Accept) × (found ≡ with_more after.history (last ∷ []))
 
-front : (before found : History) (more : List EntryValue) (after : Standing) → found ≡ with_more before more → Leads before more after → IsFrontOf found after
-front before found more after same (inl given) =
-    inl (given.0, given.1 ∙ sym (more_twice before more given.0) ∙ ap (λ (h : History). with_more h given.0) (sym same))
-front before found more after same (inr given) =
-    let (fails, (done, last, is, grows)) = given in
+one_more : (found : History) (before after : Standing) (commands : List PlainCommand) (answers : List (List ℕ)) (e : EntryValue) → IsInFlight before after commands answers e
+    → found ≡ with_more after.history (e ∷ []) → HasOneMore found before after commands answers
+one_more found before after commands answers e flies grows = (flies.place, flies.command, e, flies.asked, flies.fails, flies.sends, flies.accepted, grows)
+
+-- the store has what was found and perhaps more; or its device failed, and one entry more than it has was found
+abbrev IsFrontOf : History → Standing → Standing → List PlainCommand → List (List ℕ) → Type 0
+IsFrontOf found before after commands answers =
+    ((rest : List EntryValue) × (after.history ≡ with_more found rest))
+    ⊎ ((after.failed ≡ true) × HasOneMore found before after commands answers)
+
+front : (before after : Standing) (commands : List PlainCommand) (answers : List (List ℕ)) (found : History) (more : List EntryValue) → found ≡ with_more before.history more
+    → Leads (IsInFlight before after commands answers) before.history more after → IsFrontOf found before after commands answers
+front before after commands answers found more same (inl given) =
+    inl (given.0, given.1 ∙ sym (more_twice before.history more given.0) ∙ ap (λ (h : History). with_more h given.0) (sym same))
+front before after commands answers found more same (inr given) =
+    let (fails, (done, last, flies, is, grows)) = given in
     inr (
       fails,
-      (
-        last,
-        same ∙ ap (λ (l : List EntryValue). with_more before l) is ∙ sym (more_twice before done (last ∷ [])) ∙ ap (λ (h : History). with_more h (last ∷ [])) (sym grows),
-      ),
+      one_more found before after commands answers last flies
+          (
+          same
+          ∙ ap (λ (l : List EntryValue). with_more before.history l) is
+          ∙ sym (more_twice before.history done (last ∷ []))
+          ∙ ap (λ (h : History). with_more h (last ∷ [])) (sym grows)
+          ),
     )
 
-pub left_script : (before found : History) (after : Standing) (image : Image) → IsBetween before after image → StandsFor found image
-    → (more : List EntryValue) × (found ≡ with_more before more) × IsFrontOf found after × IsWhole found.entries × ReportsAddUp found.entries
-left_script before found after image left stands =
-    let same = stands_one image found (with_more before left.more) stands left.stands in
+pub left_script : (before after : Standing) (commands : List PlainCommand) (answers : List (List ℕ)) (found : History) (image : Image)
+    → IsBetween (IsInFlight before after commands answers) before.history after image → StandsFor found image
+    → (more : List EntryValue) × (found ≡ with_more before.history more) × IsFrontOf found before after commands answers × IsWhole found.entries × ReportsAddUp found.entries
+left_script before after commands answers found image left stands =
+    let same = stands_one image found (with_more before.history left.more) stands left.stands in
     let whole = opened found image stands in
-    (left.more, same, front before found left.more after same left.leads, whole.0, whole.1)
+    (left.more, same, front before after commands answers found left.more same left.leads, whole.0, whole.1)
+
+-- after a script whose device failed
+after_found : (before after : Standing) (commands : List PlainCommand) (answers : List (List ℕ)) (found : History) (more : List EntryValue)
+    → AreInFlight (IsInFlight before after commands answers) more → (found ≡ after.history) ⊎ (found ≡ with_more after.history more)
+    → (found ≡ after.history) ⊎ HasOneMore found before after commands answers
+after_found before after commands answers found more flies (inl same) = inl same
+after_found before after commands answers found more (inl none) (inr grows) =
+    inl (grows ∙ ap (λ (l : List EntryValue). with_more after.history l) none ∙ sym (no_more after.history))
+after_found before after commands answers found more (inr (e, is, flies)) (inr grows) =
+    inr (one_more found before after commands answers e flies (grows ∙ ap (λ (l : List EntryValue). with_more after.history l) is))
+
+pub left_after : (before after : Standing) (commands : List PlainCommand) (answers : List (List ℕ)) (more : List EntryValue) (found : History) (image : Image)
+    → AreInFlight (IsInFlight before after commands answers) more → StandsForEither after.history more image → StandsFor found image
+    → ((found ≡ after.history) ⊎ HasOneMore found before after commands answers) × IsWhole found.entries × ReportsAddUp found.entries
+left_after before after commands answers more found image flies either stands =
+    let whole = opened found image stands in
+    (after_found before after commands answers found more flies (either_found after.history found more image either stands), whole.0, whole.1)
+
+-- ---- at most one entry is in flight
+later_not : (before after : Standing) (commands : List PlainCommand) (answers : List (List ℕ)) (e f : EntryValue) → AnswersEach before commands answers after
+    → (a : IsInFlight before after commands answers e) (b : IsInFlight before after commands answers f) → a.place < b.place → ⊥
+later_not before after commands answers e f given a b later =
+    device_not_closed (store_fault_line store_fault.Device) refl
+    (entries_closed before after commands answers a.place b.place b.command (store_fault_line store_fault.Device) f given a.fails later b.asked b.fails b.sends)
+
+same_place : (before after : Standing) (commands : List PlainCommand) (answers : List (List ℕ)) (e f : EntryValue) → AnswersEach before commands answers after
+    → (a : IsInFlight before after commands answers e) (b : IsInFlight before after commands answers f) → (a.place < b.place) ⊎ ((a.place ≡ b.place) ⊎ (b.place < a.place)) → a.place ≡ b.place
+same_place before after commands answers e f given a b (inl later) = absurd (later_not before after commands answers e f given a b later)
+same_place before after commands answers e f given a b (inr (inl same)) = same
+same_place before after commands answers e f given a b (inr (inr earlier)) = absurd (later_not before after commands answers f e given b a earlier)
+
+compared : (m n : ℕ) → (m < n) ⊎ ((m ≡ n) ⊎ (n < m))
+compared zero zero = inr (inl refl)
+compared zero (suc n) = inl (omega arith)
+compared (suc m) zero = inr (inr (omega arith))
+compared (suc m) (suc n) = ⊎_elim (λ less. inl (omega (arith, less))) (λ other. inr (⊎_elim (λ same. inl (ap suc same)) (λ more. inr (omega (arith, more))) other)) (compared m n)
+
+some_one : {A : Type 0} (a b : A) → Some a ≡ Some b → a ≡ b
+some_one a b same = cc
+
+pub flies_one : (before after : Standing) (commands : List PlainCommand) (answers : List (List ℕ)) (e f : EntryValue) → AnswersEach before commands answers after
+    → IsInFlight before after commands answers e → IsInFlight before after commands answers f → e ≡ f
+flies_one before after commands answers e f given a b =
+    let places : a.place ≡ b.place = same_place before after commands answers e f given a b (compared a.place b.place) in
+    let command : a.command ≡ b.command = some_one a.command b.command (sym a.asked ∙ ap (λ n. slice_get commands n) places ∙ b.asked) in
+    entry_one before.history.currency b.command e f (subst (λ (x : PlainCommand). Sends before.history.currency x e) command a.sends) b.sends

@@ -9,6 +9,7 @@ pub mod RunFacts
 pub mod OneAnswerFacts
 pub mod WrittenFacts
 pub mod FailedFacts
+pub mod FlightFacts
 pub mod QuestionFacts
 pub mod WholeFacts
 pub mod LeftFacts

@@ -17,7 +17,7 @@ use Rattle.fw_snapshot.specs.Judging.{judged}
 use Rattle.fw_snapshot.specs.Verdicts.{kept_by}
 use Rattle.fw_snapshot.specs.declared.verdict.Verdict.{Verdict}
 use Rattle.fw_snapshot.specs.declared.verdict.Verdict.TheVariants as verdict
-use Rattle.fw_serve.proofs.MoveFacts.{by_flag, Moves-lost, Moves-checkpoint}
+use Rattle.fw_serve.proofs.MoveFacts.{CountsNow, by_flag, Moves-lost, Moves-checkpoint}
 use Rattle.fw_serve.specs.Answers.{RanOut, Judges, Submits, Checkpoints, last_generation, lost}
 use Rattle.fw_serve.specs.Replies.{verdict_line, store_fault_line, accepted_line, checkpointed_line}
 use Rattle.fw_serve.specs.Standings.{standing_of, Moves}
@@ -90,12 +90,15 @@ pub works_ok : {T : Type 0} (result : Result T StoreFault) (value : T) (flag : B
 works_ok result value flag is failed = by_flag _ flag (λ set. let no = failed.1 set in absurd (cc)) (λ unset. unset)
 
 -- what is left by a call that commits and fails
-pub Moves-failed : {V : Type 0} (tells : Bool) (view : V → View) (old new : StoreState V) (e : EntryValue) (fault : StoreFault) → CommitFails view old new e (Err fault)
+pub Moves-failed : {V : Type 0} (tells : Bool) (view : V → View) (F : EntryValue → Type 0) (old new : StoreState V) (e : EntryValue) (fault : StoreFault) → CommitFails view old new e (Err fault)
+    → ((fault ≡ store_fault.Device) → judged old.history.entries e ≡ verdict.Accept → F e) → CountsNow (view new.volume)
     → (IsTrue tells → old.failed ≡ false → LeavesOnly (view old.volume) (view new.volume) (StandsForEither old.history (kept_by (judged old.history.entries e) e)))
-    → (view old.volume).failures ≤ (view new.volume).failures → Moves tells view old new
-Moves-failed tells view old new e fault why run later =
+    → (view old.volume).failures ≤ (view new.volume).failures → Moves tells view F old new
+Moves-failed tells view F old new e fault why flies counts run later =
     ⊎_elim
-    (λ device. Moves-lost tells view old new (judged old.history.entries e) e (works_by (Err fault) _ (λ is. absurd (cc)) why.failed) (why.gone device) run (why.rose device) later)
+    (λ device.
+    Moves-lost tells view F old new (judged old.history.entries e) e (works_by (Err fault) _ (λ is. absurd (cc)) why.failed) (why.gone device) (why.accepted device)
+    (flies (cc) (why.accepted device)) counts run (why.rose device) later)
     (λ same. inl same) why.unchanged
 
 pub Submits-failed : {V : Type 0} (view : V → View) (old new : StoreState V) (e : EntryValue) (fault : StoreFault) (text : List ℕ) → CommitFails view old new e (Err fault)
@@ -186,11 +189,12 @@ Checkpoints-done tells view old new text works done same limit says =
       ),
     ))
 
-pub Moves-unmade : {V : Type 0} (tells : Bool) (view : V → View) (old new : StoreState V) (fault : StoreFault) → CheckpointFails view old new (Err fault)
+pub Moves-unmade : {V : Type 0} (tells : Bool) (view : V → View) (F : EntryValue → Type 0) (old new : StoreState V) (fault : StoreFault) → CheckpointFails view old new (Err fault)
+    → CountsNow (view new.volume)
     → (IsTrue tells → old.failed ≡ false → LeavesOnly (view old.volume) (view new.volume) (StandsFor old.history))
     → new.history ≡ old.history
-    → (view old.volume).failures ≤ (view new.volume).failures → Moves tells view old new
-Moves-unmade tells view old new fault why run same later =
+    → (view old.volume).failures ≤ (view new.volume).failures → Moves tells view F old new
+Moves-unmade tells view F old new fault why counts run same later =
     ⊎_elim
-    (λ device. Moves-checkpoint tells view old new (works_by (Err fault) _ (λ is. absurd (cc)) why.failed) same run (λ _. why.rose device) later)
+    (λ device. Moves-checkpoint tells view F old new (works_by (Err fault) _ (λ is. absurd (cc)) why.failed) same counts run (λ _. why.rose device) later)
     (λ stays. inl stays) why.unchanged

@@ -5,8 +5,10 @@ use Rattle.std.proofs.lemmas.List.Elements.{All-append, All-cons, All-nil}
 use Rattle.fw_entry.specs.Entry.{CommandValue, EntryValue}
 use Rattle.fw_entry.specs.Spelling.{IsEntry}
 use Rattle.fw_entry.specs.declared.fault.EntryFault.{EntryFault}
-use Rattle.fw_query.proofs.CarriedFacts.{carried_term, purchases_cost_nothing}
-use Rattle.fw_query.proofs.DirectFacts.{charged_direct, direct_lines}
+use Rattle.fw_query.proofs.AccountedFacts.{lines_account}
+use Rattle.fw_query.proofs.BoughtFacts.{bought_between}
+use Rattle.fw_query.proofs.CarriedFacts.{carried_between, carried_term, purchases_cost_nothing, shares_bill_nothing}
+use Rattle.fw_query.proofs.DirectFacts.{billed_lines, charged_direct, direct_lines}
 use Rattle.fw_script.specs.Plain.{PlainCommand, entry, report, lines, state, checkpoint, bad_command, bad_end}
 use Rattle.fw_snapshot.proofs.LegalFacts.{legal_more}
 use Rattle.fw_snapshot.specs.History.{History}
@@ -25,7 +27,12 @@ whole_adds_up entries whole = record {
   charged = λ key from to groups is. charged_direct entries key from to groups whole.each is;
   direct = λ key from to all groups are is. direct_lines entries key from to all groups are is;
   term = λ from to all place c are there early late. carried_term entries from to all place c whole.legal whole.each are there early late;
+  billed = λ key from to all groups are is. billed_lines entries key from to all groups are is;
+  hours = λ from to all place c are there. carried_between entries from to all place c whole.legal are there;
   purchases = λ from to all place c are there. purchases_cost_nothing entries from to all place c whole.legal whole.each are there;
+  bought = λ from to all place c forward are there. bought_between entries from to all place c whole.legal whole.each forward are there;
+  unbilled = λ from to all place c are there. shares_bill_nothing entries from to all place c whole.legal are there;
+  rows = λ from to all forward are. lines_account entries from to all forward are;
 }
 
 -- ---- commands

@@ -7,5 +7,6 @@ pub mod Answers
 pub mod Writing
 pub mod Served
 pub mod Runs
+pub mod Flight
 pub mod Whole
 pub mod Sessions

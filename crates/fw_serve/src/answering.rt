@@ -2,8 +2,10 @@
 ghost use Rattle.std.specs.Prelude.{◌≡◌, ◌⊎◌, Ok};
 ghost use Rattle.fw_entry.specs.Spelling.{HasRowCount, IsEntry};
 ghost use Rattle.fw_entry.specs.View.{command_view};
+ghost use Rattle.fw_script.specs.Plain as plain;
 ghost use Rattle.fw_script.specs.Plain.{plain_command};
 ghost use Rattle.fw_serve.specs.Answers.{Answer, Entered, Takes, Submits, Checkpoints, RanOut};
+ghost use Rattle.fw_serve.specs.Flight.{FailsOnMade, FailsOnSent, FailsOnThis};
 ghost use Rattle.fw_serve.specs.ReplyText.{reply_text};
 ghost use Rattle.fw_serve.specs.Standings.{standing_of, Moves};
 
@@ -20,10 +22,11 @@ use std::alloc::Global;
 /// Runs a command, and returns the reply. Only an entry that is accepted changes the warehouse, and it is on the volume, synced,
 /// before this returns. Where the content of an entry is refused, where it was accepted before, leaves a gap or is refused, where the
 /// volume has no room for it, or out of memory, the store stays as it was. Where the device fails the store has failed from then on: it
-/// still answers questions, from the entries that were accepted by then.
+/// still answers questions, from the entries that were accepted by then. What a crash leaves from then on has these, and perhaps the entry that the
+/// command sends, and no other one.
 pub(crate) fn answer<V: Volume>(alloc: Global, store: &mut Store<V>, command: Command<'_>) -> Reply
     ensures answer { Answer (standing_of V.view store.old) (plain_command command.entry) (reply_text result) (standing_of V.view store.new) }
-    ensures moves { Moves V.tells V.view store.old store.new }
+    ensures moves { Moves V.tells V.view (FailsOnSent (standing_of V.view store.old) (plain_command command.entry) (reply_text result)) store.old store.new }
 {
     match command {
         Command::Entry {
@@ -51,7 +54,7 @@ fn enter<V: Volume>(
     content: &[u8],
 ) -> Reply
     ensures entered { Entered (standing_of V.view store.old) kind origin.now sequence.now content.now (reply_text result) (standing_of V.view store.new) }
-    ensures moves { Moves V.tells V.view store.old store.new }
+    ensures moves { Moves V.tells V.view (FailsOnSent (standing_of V.view store.old) (plain.entry kind origin.now sequence.now content.now) (reply_text result)) store.old store.new }
 {
     let number = sequence_number(sequence).unwrap_or(0);
     match read_content(alloc, kind, content, store.state().state().currency()) {
@@ -71,7 +74,7 @@ fn take<V: Volume>(
     requires { HasRowCount (command_view command) }
     ensures takes { Takes (standing_of V.view store.old) origin.now number (Ok (command_view command)) (reply_text result) (standing_of V.view store.new)
         ⊎ RanOut (standing_of V.view store.old) (reply_text result) (standing_of V.view store.new) }
-    ensures moves { Moves V.tells V.view store.old store.new }
+    ensures moves { Moves V.tells V.view (FailsOnMade (standing_of V.view store.old) origin.now number (command_view command) (reply_text result)) store.old store.new }
 {
     match Entry::new(alloc, origin, number, command) {
         Ok(entry) => submit(alloc, store, &entry),
@@ -83,7 +86,7 @@ fn take<V: Volume>(
 fn submit<V: Volume>(alloc: Global, store: &mut Store<V>, entry: &Entry) -> Reply
     ensures submits { Submits (standing_of V.view store.old) entry.now (reply_text result) (standing_of V.view store.new)
         ⊎ RanOut (standing_of V.view store.old) (reply_text result) (standing_of V.view store.new) }
-    ensures moves { Moves V.tells V.view store.old store.new }
+    ensures moves { Moves V.tells V.view (FailsOnThis (standing_of V.view store.old) entry.now (reply_text result)) store.old store.new }
     ensures valid { IsEntry entry.now }
 {
     let _seq = entry.seq();
@@ -93,10 +96,10 @@ fn submit<V: Volume>(alloc: Global, store: &mut Store<V>, entry: &Entry) -> Repl
     }
 }
 
-// Makes a checkpoint, or answers why not.
+// Makes a checkpoint, or answers why not. No entry is in flight meanwhile.
 fn checkpoint<V: Volume>(alloc: Global, store: &mut Store<V>) -> Reply
     ensures checkpoints { Checkpoints (standing_of V.view store.old) (reply_text result) (standing_of V.view store.new) }
-    ensures moves { Moves V.tells V.view store.old store.new }
+    ensures moves { Moves V.tells V.view (λ e. ⊥) store.old store.new }
 {
     match store.checkpoint(alloc) {
         Ok(()) => Reply::Checkpointed,

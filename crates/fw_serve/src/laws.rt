@@ -19,10 +19,11 @@ ghost use Rattle.fw_recover.specs.declared.fault.StoreFault.{StoreFault};
 ghost use Rattle.fw_recover.specs.declared.fault.StoreFault.TheVariants as store_fault;
 ghost use Rattle.fw_script.specs.Plain.{PlainCommand, checkpoint, lines, report, state};
 ghost use Rattle.fw_serve.specs.Answers.{Answer, Answers, last_generation};
+ghost use Rattle.fw_serve.specs.Flight.{IsInFlight};
 ghost use Rattle.fw_serve.specs.Replies.{accepted_line, already_line, conflict_line, counted, gap_line, no_memory_line, query_fault_line, state_line, store_fault_line};
 ghost use Rattle.fw_serve.specs.Runs.{AnswersEach, AreOne, AreTold, AreUnhindered, IsHindered, LacksRoom, NoneHindered, Sends, StandsAt};
 ghost use Rattle.fw_serve.specs.Sessions.{HasKept, PassesThrough, SessionValue};
-ghost use Rattle.fw_serve.specs.Standings.{IsBetween, Standing};
+ghost use Rattle.fw_serve.specs.Standings.{AreInFlight, IsBetween, Standing};
 ghost use Rattle.fw_serve.specs.Whole.{IsWhole, ReportsAddUp};
 ghost use Rattle.fw_snapshot.specs.History.{History, commitments_of, entries_from, rows_of};
 ghost use Rattle.fw_snapshot.specs.Judging.{IsLegal, judged};
@@ -135,7 +136,8 @@ pub fn a_warehouse_stays_whole()
 /// corrupt (`opens`). What is opened has the accepted ones of the first n entries, where n is `answered` or one more (`run`). After a crash within `Store::run`, which answers all at its end, it has those of some
 /// first entries (`first`). After a crash at any moment of a call that adds a group it is as it was, or has the whole group (`group`). After a crash at
 /// any moment of a script it has what was there before and a front of what the script added, or, only where the device failed, all of this and one
-/// entry more (`script`). After a script it is as the script left it, or, only where the device failed, has what was being written as well (`group`).
+/// entry more: the one that a command sends which was answered `store S3 Device`, and that would have been accepted (`script`). After a script whose
+/// device failed it is as the script left it, or has this entry as well (`after_script`). There is one such entry at most (`one`).
 pub fn what_a_crash_leaves_is_reported_whole()
     ensures between { (before now : History) (entries : List EntryValue) (answered : ℕ) (image : Image) → now ≡ with_first before answered entries → StandsFor now image → HasAnswered before entries answered image }
     ensures within { (before now : History) (entries : List EntryValue) (answered : ℕ) (e : EntryValue) (image : Image) → now ≡ with_first before answered entries → slice_get entries answered ≡ Some e
@@ -148,10 +150,21 @@ pub fn what_a_crash_leaves_is_reported_whole()
         → (n : ℕ) × (found ≡ with_first before n entries) × IsWhole found.entries × ReportsAddUp found.entries }
     ensures group { (before found : History) (more : List EntryValue) (image : Image) → StandsForEither before more image → StandsFor found image
         → ((found ≡ before) ⊎ (found ≡ with_more before more)) × IsWhole found.entries × ReportsAddUp found.entries }
-    ensures script { (before found : History) (after : Standing) (image : Image) → IsBetween before after image → StandsFor found image
-        → (more : List EntryValue) × (found ≡ with_more before more)
-        × (((rest : List EntryValue) × (after.history ≡ with_more found rest)) ⊎ ((after.failed ≡ true) × ((last : EntryValue) × (found ≡ with_more after.history (last ∷ [])))))
+    ensures script { (before after : Standing) (commands : List PlainCommand) (answers : List (List ℕ)) (found : History) (image : Image)
+        → IsBetween (IsInFlight before after commands answers) before.history after image → StandsFor found image
+        → (more : List EntryValue) × (found ≡ with_more before.history more)
+        × (((rest : List EntryValue) × (after.history ≡ with_more found rest))
+        ⊎ ((after.failed ≡ true) × ((place : ℕ) × (command : PlainCommand) × (last : EntryValue) × (slice_get commands place ≡ Some command) × (slice_get answers place ≡ Some (store_fault_line store_fault.Device))
+        × Sends before.history.currency command last × (judged after.history.entries last ≡ verdict.Accept) × (found ≡ with_more after.history (last ∷ [])))))
         × IsWhole found.entries × ReportsAddUp found.entries }
+    ensures after_script { (before after : Standing) (commands : List PlainCommand) (answers : List (List ℕ)) (more : List EntryValue) (found : History) (image : Image)
+        → AreInFlight (IsInFlight before after commands answers) more → StandsForEither after.history more image → StandsFor found image
+        → ((found ≡ after.history)
+        ⊎ ((place : ℕ) × (command : PlainCommand) × (last : EntryValue) × (slice_get commands place ≡ Some command) × (slice_get answers place ≡ Some (store_fault_line store_fault.Device))
+        × Sends before.history.currency command last × (judged after.history.entries last ≡ verdict.Accept) × (found ≡ with_more after.history (last ∷ []))))
+        × IsWhole found.entries × ReportsAddUp found.entries }
+    ensures one { (before after : Standing) (commands : List PlainCommand) (answers : List (List ℕ)) (e f : EntryValue) → AnswersEach before commands answers after
+        → IsInFlight before after commands answers e → IsInFlight before after commands answers f → e ≡ f }
 {}
 
 /// A warehouse outlives its stops, however many. In each session, from an opening to the next stop, entries are committed, one by one or in groups, the

@@ -1,10 +1,11 @@
 //! Scripts that are served: read, run command by command, and answered.
 ghost use Rattle.std.specs.Prelude.{◌≡◌, ◌≢◌, ◌<◌, ◌≤◌, List, false, true, length, OnOk, IfErr, IfSome, IsTrue, Err};
-ghost use Rattle.fw_disk.specs.Volume.{Image, LeavesOnly, Rose};
+ghost use Rattle.fw_disk.specs.Volume.{Image, Rose};
 ghost use Rattle.fw_entry.specs.Entry.{EntryValue};
 ghost use Rattle.fw_recover.specs.Stands.{EachStandsFor, StandsForEither};
+ghost use Rattle.fw_serve.specs.Flight.{CrashLeaves, Runs};
 ghost use Rattle.fw_serve.specs.Served.{IsServed, IsServedInPart, Serves, ServesInPart, most_bytes, most_workers};
-ghost use Rattle.fw_serve.specs.Standings.{standing_of, IsBetween, Moves};
+ghost use Rattle.fw_serve.specs.Standings.{standing_of};
 
 use crate::answering::answer;
 use crate::fault::ServeFault;
@@ -25,8 +26,8 @@ use std::io::{Read, Write};
 ///
 /// An entry is answered `accepted` only when it is on the volume, synced. What a crash leaves at any moment stands for the
 /// warehouse before the call with the entries that were accepted by then; where the device fails in the middle of an entry,
-/// it may have that one too, and every later entry is answered `store S4 Failed`. So after the call, whatever it returns, each image has all that
-/// was answered `accepted`. A store that had failed before stays as it was, and so does its volume.
+/// it may have that one too, the one whose command was answered `store S3 Device`, and every later entry is answered `store S4 Failed`. So after the
+/// call, whatever it returns, each image has all that was answered `accepted`. A store that had failed before stays as it was, and so does its volume.
 ///
 /// There are 1 to 64 workers. Their number has no effect yet.
 pub fn serve<R: Read, W: Write, V: Volume>(
@@ -42,7 +43,7 @@ pub fn serve<R: Read, W: Write, V: Volume>(
     ensures write { result ≡ Err ServeFault.Write → IsServedInPart (R.remaining reader.old) (standing_of V.view store.old) (standing_of V.view store.new) (W.contents writer.old) (W.contents writer.new) }
     ensures untouched { IfErr result (λ why. (why ≢ ServeFault.Write) → (store.new ≡ store.old) × (writer.new ≡ writer.old)) }
     ensures too_long { result ≡ Err ServeFault.TooLong → IfSome (R.remaining reader.old) (λ bytes. most_bytes < length bytes) }
-    ensures any_moment { IsTrue V.tells → store.old.failed ≡ false → LeavesOnly (V.view store.old.volume) (V.view store.new.volume) (IsBetween store.old.history (standing_of V.view store.new)) }
+    ensures any_moment { IsTrue V.tells → store.old.failed ≡ false → CrashLeaves V.view (R.remaining reader.old) store.old store.new (W.contents writer.old) (W.contents writer.new) }
     ensures each { IsTrue V.tells → store.new.failed ≡ false → EachStandsFor store.new.history (V.view store.new.volume) }
     ensures each_once_failed { IsTrue V.tells → store.new.failed ≡ true
         → (more : List EntryValue) × ((c : Image) → (V.view store.new.volume).may_leave c → StandsForEither store.new.history more c) }
@@ -65,7 +66,7 @@ fn answer_all<W: Write, V: Volume>(
 ) -> Result<(), ServeFault>
     ensures done { OnOk result (Serves text.now (standing_of V.view store.old) (standing_of V.view store.new) (W.contents writer.old) (W.contents writer.new)) }
     ensures write { IfErr result (λ why. (why ≡ ServeFault.Write) × ServesInPart text.now (standing_of V.view store.old) (standing_of V.view store.new) (W.contents writer.old) (W.contents writer.new)) }
-    ensures moves { Moves V.tells V.view store.old store.new }
+    ensures runs { Runs V.tells V.view text.now store.old store.new (W.contents writer.old) (W.contents writer.new) }
 {
     let mut script = Script::new(text);
     while let Some(command) = script.next_command() {

@@ -1,6 +1,6 @@
 //! Tests of the crates that write and read bytes, and of persistent lists and counts, over their public calls.
 //!
-//! They stand in a crate of their own so that the crates which they test are proved once. The table of all changes decodes some 130,000 times:
+//! They stand in a crate of their own so that the crates which they test are proved once. The table of all changes decodes some 160,000 times:
 //! `rt try --test`, which checks each step, wants `--seconds 400` for it.
 #![tactic(auto)]
 

@@ -36,8 +36,35 @@ const TWO_POSTS: [u8; 51] = [
     1, 1, 0, 0, 0, 1, 0, 0, 0, b'b', 1, 0, 0, 0, 0, 0, 0, 0, 1, 1, 0, 0, 0,
 ];
 
+/// The same row by column.
+const COLUMNS: [u8; 74] = [
+    2, 1, 0, 0, 0, 0, 0, 0, 0, 1, 0, 0, 0, 0, 0, 0, 0, 1, 0, 0, 0, 0, 0, 0, 0, 3, 0, 0, 0, 0, 0, 0,
+    0, 0, 0, 16, 14, 0, 0, 0, 0, 0, 0, 0, 0, 0, 0, 0, 0, 0, 0, 0, 0, 0, 0, 0, 0, 0, 0, 0, 0, 0, 0,
+    0, 0, 0, 0, 0, 0, 0, 0, 0, 0, 0,
+];
+
 /// The state after the commitment, the two rows and the policy of `crates/focusd/stdin`, as another program spelled it.
-const STORED_RUN: [u8; 404] = [
+const STORED_RUN: [u8; 425] = [
+    3, 0, 0, 0, 85, 83, 68, 3, 0, 0, 0, 0, 0, 0, 0, 7, 0, 0, 0, 98, 105, 108, 108, 105, 110, 103,
+    1, 0, 0, 0, 0, 0, 0, 0, 2, 4, 0, 0, 0, 99, 100, 45, 49, 1, 0, 1, 0, 0, 0, 4, 0, 0, 0, 116, 101,
+    97, 109, 8, 0, 0, 0, 112, 108, 97, 116, 102, 111, 114, 109, 8, 57, 7, 0, 3, 0, 0, 0, 0, 148,
+    53, 119, 0, 0, 0, 0, 5, 0, 0, 0, 72, 111, 117, 114, 115, 1, 0, 0, 0, 2, 0, 0, 0, 118, 109, 1,
+    0, 0, 0, 128, 0, 146, 101, 0, 0, 0, 0, 10, 0, 0, 0, 0, 0, 0, 0, 7, 0, 0, 0, 98, 105, 108, 108,
+    105, 110, 103, 2, 0, 0, 0, 0, 0, 0, 0, 1, 2, 0, 0, 0, 7, 0, 0, 0, 98, 105, 108, 108, 105, 110,
+    103, 3, 0, 0, 0, 0, 0, 0, 0, 3, 4, 0, 0, 0, 116, 101, 97, 109, 1, 0, 0, 0, 8, 0, 0, 0, 112,
+    108, 97, 116, 102, 111, 114, 109, 1, 2, 0, 0, 0, 4, 0, 0, 0, 100, 97, 116, 97, 1, 0, 0, 0, 0,
+    0, 0, 0, 3, 0, 0, 0, 119, 101, 98, 3, 0, 0, 0, 0, 0, 0, 0, 1, 0, 0, 0, 2, 2, 0, 0, 0, 5, 0, 0,
+    0, 5, 0, 0, 0, 72, 111, 117, 114, 115, 2, 0, 0, 0, 118, 109, 4, 0, 0, 0, 116, 101, 97, 109, 3,
+    0, 0, 0, 119, 101, 98, 4, 0, 0, 0, 100, 97, 116, 97, 0, 225, 245, 5, 0, 0, 0, 0, 128, 240, 250,
+    2, 0, 0, 0, 0, 0, 225, 245, 5, 0, 0, 0, 0, 128, 240, 250, 2, 0, 0, 0, 0, 1, 1, 0, 0, 128, 0,
+    146, 101, 0, 0, 0, 0, 128, 0, 146, 101, 0, 0, 0, 0, 144, 14, 146, 101, 0, 0, 0, 0, 144, 14,
+    146, 101, 0, 0, 0, 0, 0, 0, 0, 0, 0, 0, 0, 0, 0, 0, 0, 0, 1, 1, 0, 202, 154, 59, 0, 0, 0, 0, 0,
+    101, 205, 29, 0, 0, 0, 0, 1, 0, 0, 0, 1, 0, 0, 0, 2, 0, 0, 0, 2, 0, 0, 0, 0, 0, 0, 0, 0, 0, 0,
+    0, 1, 0, 0, 0, 3, 0, 0, 0, 4, 0, 0, 0, 1, 0, 0, 0, 3, 0, 0, 0, 5, 0, 0, 0,
+];
+
+/// That state with its rows one by one.
+const STORED_ROWS: [u8; 404] = [
     3, 0, 0, 0, 85, 83, 68, 3, 0, 0, 0, 0, 0, 0, 0, 7, 0, 0, 0, 98, 105, 108, 108, 105, 110, 103,
     1, 0, 0, 0, 0, 0, 0, 0, 2, 4, 0, 0, 0, 99, 100, 45, 49, 1, 0, 1, 0, 0, 0, 4, 0, 0, 0, 116, 101,
     97, 109, 8, 0, 0, 0, 112, 108, 97, 116, 102, 111, 114, 109, 8, 57, 7, 0, 3, 0, 0, 0, 0, 148,
@@ -87,7 +114,11 @@ fn group_again(alloc: Global, bytes: &[u8]) -> Result<Vec<u8>, DecodeFault> {
 
 fn segment_again(alloc: Global, bytes: &[u8]) -> Result<Vec<u8>, DecodeFault> {
     let one = decode_segment(alloc, bytes)?;
-    encode_segment(alloc, &one, Kind::Rows).or(Err(DecodeFault::NoMemory))
+    let kind = match bytes {
+        [2, ..] => Kind::Columns,
+        _ => Kind::Rows,
+    };
+    encode_segment(alloc, &one, kind).or(Err(DecodeFault::NoMemory))
 }
 
 fn state_again(alloc: Global, bytes: &[u8]) -> Result<Vec<u8>, DecodeFault> {
@@ -138,6 +169,7 @@ const SPELLED: &[(What, &[u8])] = &[
     (What::Entry, &ENTRY),
     (What::Group, &GROUP),
     (What::Segment, &SEGMENT),
+    (What::Segment, &COLUMNS),
     (What::State, &EMPTY),
     (What::State, &STORED_RUN),
 ];
@@ -230,7 +262,7 @@ fn changes_of_all(alloc: Global) -> Result<(Option<usize>, usize), AllocError> {
 #[test]
 fn each_change_of_a_byte_is_noticed(rt: HostRuntime) -> Result<(), Fail> {
     let noticed = changes_of_all(rt.alloc())?;
-    assert!(rt; noticed == (None, 133_365), "{noticed:?}");
+    assert!(rt; noticed == (None, 157_590), "{noticed:?}");
     Ok(())
 }
 
@@ -242,15 +274,27 @@ const CHANGED: &[(What, &[u8], usize, u8, usize)] = &[
     (What::Group, &GROUP, 0, 0, 0),
     (What::Group, &GROUP, 0, 65, 0),
     // Another layout, no rows, a row that ends before it starts.
-    (What::Segment, &SEGMENT, 0, 2, 0),
+    (What::Segment, &SEGMENT, 0, 3, 0),
     (What::Segment, &SEGMENT, 1, 0, 1),
     (What::Segment, &SEGMENT, 25, 1, 5),
+    // By column: another layout, no rows, a category of no row, a code of no name, a flag that is none, more tags than a row has.
+    (What::Segment, &COLUMNS, 0, 3, 0),
+    (What::Segment, &COLUMNS, 1, 0, 1),
+    (What::Segment, &COLUMNS, 25, 6, 25),
+    (What::Segment, &COLUMNS, 43, 1, 43),
+    (What::Segment, &COLUMNS, 49, 2, 49),
+    (What::Segment, &COLUMNS, 71, 2, 70),
+    // A row that ends before it starts, a status without an id, an amount where the quantity is null.
+    (What::Segment, &COLUMNS, 29, 1, 0),
+    (What::Segment, &COLUMNS, 48, 1, 0),
+    (What::Segment, &COLUMNS, 50, 1, 0),
     // A small letter in the currency, a head of one row less, a number that was used, a number too great, a segment of another layout.
     (What::State, &STORED_RUN, 6, b'd', 0),
     (What::State, &STORED_RUN, 144, 1, 0),
     (What::State, &STORED_RUN, 135, 1, 124),
     (What::State, &STORED_RUN, 159, 5, 148),
-    (What::State, &STORED_RUN, 232, 2, 232),
+    (What::State, &STORED_RUN, 232, 3, 232),
+    (What::State, &STORED_ROWS, 232, 3, 232),
 ];
 
 /// Bytes that spell nothing, part by part, and the place of the fault.
@@ -266,10 +310,13 @@ const BROKEN: &[(What, &[&[u8]], usize)] = &[
     (What::Group, &[&[255, 255, 255, 255]], 0),
     // 65,537 rows.
     (What::Segment, &[&[1, 1, 0, 1, 0], &TAX], 1),
+    (What::Segment, &[&[2, 1, 0, 1, 0], &COLUMNS], 1),
     // A byte too many.
     (What::Group, &[&GROUP, &[0]], 27),
     (What::Segment, &[&SEGMENT, &[0]], 50),
-    (What::State, &[&STORED_RUN, &[0]], 404),
+    (What::Segment, &[&COLUMNS, &[0]], 74),
+    (What::State, &[&STORED_RUN, &[0]], 425),
+    (What::State, &[&STORED_ROWS, &[0]], 404),
 ];
 
 /// The place of the first of the changes that has no fault or has it elsewhere.
@@ -312,22 +359,49 @@ fn broken_bytes_have_their_faults(rt: HostRuntime) -> Result<(), Fail> {
     Ok(())
 }
 
-/// Whether two posts of one row each, whose rows stand in one segment or in two, are one state, written with a segment for each post.
-fn cuts_are_one_state(alloc: Global) -> Result<bool, AllocError> {
-    let one = joined(
-        alloc,
-        &[&TWO_POSTS, &[1, 0, 0, 0, 1, 2, 0, 0, 0], &TAX, &TAX],
-    )?;
-    let two = joined(alloc, &[&TWO_POSTS, &[2, 0, 0, 0], &SEGMENT, &SEGMENT])?;
-    Ok(
-        is_written_as(alloc, What::State, &two, &two)?
-            && is_written_as(alloc, What::State, &one, &two)?,
-    )
+/// The segments of two posts of one row each, part by part: in one segment or in two, row by row or by column.
+const CUTS: &[&[&[u8]]] = &[
+    &[&[1, 0, 0, 0, 1, 2, 0, 0, 0], &TAX, &TAX],
+    &[&[2, 0, 0, 0], &SEGMENT, &SEGMENT],
+    &[&[2, 0, 0, 0], &COLUMNS, &COLUMNS],
+    &[&[2, 0, 0, 0], &SEGMENT, &COLUMNS],
+    &[&[1, 0, 0, 0], &BOTH],
+];
+
+/// Two rows by column: a tax of 1 nano in the first hour of 1970, twice.
+const BOTH: [u8; 139] = [
+    2, 2, 0, 0, 0, 0, 0, 0, 0, 1, 0, 0, 0, 0, 0, 0, 0, 1, 0, 0, 0, 0, 0, 0, 0, 1, 0, 0, 0, 0, 0, 0,
+    0, 1, 0, 0, 0, 0, 0, 0, 0, 3, 3, 0, 0, 0, 0, 0, 0, 0, 0, 0, 0, 0, 0, 0, 0, 0, 0, 0, 0, 16, 14,
+    0, 0, 0, 0, 0, 0, 16, 14, 0, 0, 0, 0, 0, 0, 0, 0, 0, 0, 0, 0, 0, 0, 0, 0, 0, 0, 0, 0, 0, 0, 0,
+    0, 0, 0, 0, 0, 0, 0, 0, 0, 0, 0, 0, 0, 0, 0, 0, 0, 0, 0, 0, 0, 0, 0, 0, 0, 0, 0, 0, 0, 0, 0, 0,
+    0, 0, 0, 0, 0, 0, 0, 0, 0, 0, 0, 0, 0,
+];
+
+/// How many of the cuts of two posts of one row each are read, and written with a segment for each post, by column.
+fn cuts_of_one_state(alloc: Global) -> Result<usize, AllocError> {
+    let written = joined(alloc, &[&TWO_POSTS, &[2, 0, 0, 0], &COLUMNS, &COLUMNS])?;
+    let mut count = 0_usize;
+    for cut in CUTS {
+        let segments = joined(alloc, cut)?;
+        let bytes = joined(alloc, &[&TWO_POSTS, &segments])?;
+        if is_written_as(alloc, What::State, &bytes, &written)? {
+            count = count.saturating_add(1);
+        }
+    }
+    Ok(count)
 }
 
 #[test]
 fn rows_are_cut_in_any_way(rt: HostRuntime) -> Result<(), Fail> {
-    let are_one = cuts_are_one_state(rt.alloc())?;
-    assert!(rt; are_one);
+    let count = cuts_of_one_state(rt.alloc())?;
+    assert!(rt; count == CUTS.len(), "{count}");
+    Ok(())
+}
+
+/// Whether a state whose rows stand one by one is read, and written by column.
+#[test]
+fn rows_one_by_one_are_read(rt: HostRuntime) -> Result<(), Fail> {
+    let is_read = is_written_as(rt.alloc(), What::State, &STORED_ROWS, &STORED_RUN)?;
+    assert!(rt; is_read);
     Ok(())
 }

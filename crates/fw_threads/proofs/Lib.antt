@@ -1,3 +1,6 @@
+pub mod Captures
 pub mod Fronts
 pub mod Posts
 pub mod Right
+pub mod Sent
+pub mod Snapshots

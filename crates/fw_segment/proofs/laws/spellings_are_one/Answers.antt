@@ -1,6 +1,6 @@
 use Rattle.fw_entry_bytes.specs.declared.form.Form.TheVariants.{One}
 use Rattle.fw_entry_bytes.proofs.EntryFormat.{entry_format}
-use Rattle.fw_segment.proofs.SegmentFormat.{group_format, segment_format}
+use Rattle.fw_segment.proofs.SegmentFormat.{group_format, segment_one}
 use Rattle.fw_segment.proofs.Decoded.{one_spelling}
 use Rattle.fw_segment.proofs.laws.spellings_are_one.Goals as goal
 
@@ -11,4 +11,4 @@ pub returns-clause-groups : goal.returns-clause-groups
 returns-clause-groups c = λ a b is also e. one_spelling (group_format One) (group_format One) a b is also e
 
 pub returns-clause-segments : goal.returns-clause-segments
-returns-clause-segments c = λ j k a b is also e. one_spelling (segment_format j) (segment_format k) a b is also e
+returns-clause-segments c = segment_one

@@ -8,7 +8,7 @@ use Rattle.fw_snapshot.proofs.HeadFacts.{row_counts_cons}
 use Rattle.fw_segment.specs.Heads.{head, IsHead}
 use Rattle.fw_segment.specs.HeadView.{head_view}
 use Rattle.fw_segment.specs.Replaying.{continued}
-use Rattle.fw_segment.specs.RowsLeft.{behind, rows_left}
+use Rattle.fw_segment.specs.RowsLeft.{behind, rows_given, rows_left}
 use Rattle.fw_segment.specs.declared.heads.ReadHead.{ReadHead}
 use Rattle.fw_segment.proofs.Replay.{no_row_counts, continued_step, continued_end}
 use Rattle.fw_segment.proofs.Taking.{behind_both}
@@ -23,14 +23,14 @@ rows-count-requires c = All-head IsHead _ _ (subst (All IsHead) (ap (map head_vi
 pub put_behind-requires-clause-head : goal.put_behind-requires-clause-head
 put_behind-requires-clause-head c = All-head IsHead _ _ (subst (All IsHead) (ap (map head_view) c.in-Some.ensures.steps.0) c.loop-head.invariant.4)
 
-pub returns-then-len-count-clause-behind : goal.returns-then-len-count-clause-behind
-returns-then-len-count-clause-behind c =
+pub returns-then-given_len-count-clause-behind : goal.returns-then-given_len-count-clause-behind
+returns-then-given_len-count-clause-behind c =
     let g = head_view c.in-Some.head in
     let others = map head_view (into_iter_items c.next.new.self) in
     let left : map head_view (into_iter_items c.loop-head.head-iterator) ≡ g ∷ others = ap (map head_view) c.in-Some.ensures.steps.0 in
     let so_far = c.loop-head.invariant.0 in
-    let front = c.in_ok-front.front in
-    let few : length front < c.rows-count.result = omega (arith, c.if-len-count.true, c.len.ensures.count) in
+    let front = rows_given c.in_ok-front.front in
+    let few : length front < c.rows-count.result = omega (arith, c.if-given_len-count.true, c.given_len.ensures) in
     let sum = length-append so_far front in
     let more = row_counts_cons g others in
     let counts = ap row_counts left in
@@ -50,10 +50,10 @@ loop-head-preserved c =
     let others = map head_view (into_iter_items c.next.new.self) in
     let left : map head_view (into_iter_items c.loop-head.head-iterator) ≡ g ∷ others = ap (map head_view) c.in-Some.ensures.steps.0 in
     let so_far = c.loop-head.invariant.0 in
-    let front = c.in_ok-front.front in
+    let front = rows_given c.in_ok-front.front in
     let count = c.rows-count.ensures.count in
     let few = c.in_ok-front.ensures.taken.few in
-    let same : length front ≡ row_count g.content = omega (arith, c.if-len-count.false, c.len.ensures.count, few, count) in
+    let same : length front ≡ row_count g.content = omega (arith, c.if-given_len-count.false, c.given_len.ensures, few, count) in
     let sum = length-append so_far front in
     let more = row_counts_cons g others in
     let counts = ap row_counts left in

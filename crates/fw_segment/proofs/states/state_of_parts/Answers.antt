@@ -40,8 +40,8 @@ returns-in-Ok c =
     = rw (c.saturating_sub-left.ensures, c.empty.ensures) (continued_all (c.args.total - bytes_before_heads) parts.currency hs done.rows) in
     all ∙ (sym start ∙ (done.after even ∙ c.in-Ok.is))
 
-pub returns-in-Err : goal.returns-in-Err
-returns-in-Err c =
+pub returns : goal.returns
+returns c =
     let parts = c.args.parts in
     let hs = map head_view parts.heads.items in
     let done = c.in_ok-even.ensures.replayed in

@@ -1,11 +1,18 @@
 use Rattle.std.proofs.Common.{refl, inl}
 use Rattle.fw_serve.specs.Answers.{Answer}
+use Rattle.fw_serve.proofs.MoveFacts.{Moves-as}
 use Rattle.fw_serve.specs.ReplyText.{reply_text}
 use Rattle.fw_serve.proofs.answering.answer.Goals as goal
 
 pub returns-in-Entry-clause-answer : goal.returns-in-Entry-clause-answer
 unfolding Answer
 returns-in-Entry-clause-answer g c = rw c.in-Entry.is c.enter.ensures.entered
+
+pub returns-in-Entry-clause-moves : goal.returns-in-Entry-clause-moves
+returns-in-Entry-clause-moves g c = rw c.in-Entry.is c.enter.ensures.moves
+
+pub returns-in-Checkpoint-clause-moves : goal.returns-in-Checkpoint-clause-moves
+returns-in-Checkpoint-clause-moves g c = Moves-as _ _ _ _ _ _ c.checkpoint.ensures.moves (λ e none. absurd none)
 
 pub returns-in-Checkpoint-clause-answer : goal.returns-in-Checkpoint-clause-answer
 unfolding Answer

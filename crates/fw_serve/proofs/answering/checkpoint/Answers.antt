@@ -19,7 +19,7 @@ returns-in-Ok-clause-moves g c =
     let clauses = c.checkpoint.ensures in
     let works = works_ok c.checkpoint.result _ c.args.store.now.failed c.in-Ok.is clauses.failed in
     let done = rw c.in-Ok.is at clauses.done in
-    Moves-checkpoint g.V.Volume.tells g.V.Volume.view c.args.store.now c.checkpoint.new.self works clauses.same clauses.any_moment (λ fails. absurd (not_both _ fails done.failed)) clauses.later
+    Moves-checkpoint g.V.Volume.tells g.V.Volume.view _ c.args.store.now c.checkpoint.new.self works clauses.same (g.met.V.Volume.counts_now c.checkpoint.new.self.volume) clauses.any_moment (λ fails. absurd (not_both _ fails done.failed)) clauses.later
 
 fails : (g : given.Over) (c : goal.In-Err g) → CheckpointFails g.V.Volume.view c.args.store.now c.checkpoint.new.self (Err c.in-Err.fault)
 fails g c = record {
@@ -41,5 +41,5 @@ returns-in-Err-clause-checkpoints g c =
 
 pub returns-in-Err-clause-moves : goal.returns-in-Err-clause-moves
 returns-in-Err-clause-moves g c =
-    Moves-unmade g.V.Volume.tells g.V.Volume.view c.args.store.now c.checkpoint.new.self c.in-Err.fault (fails g (goal.at.returns-in-Err-clause-moves g c).In-Err)
-    c.in-Err.ensures.any_moment c.in-Err.ensures.same c.in-Err.ensures.later
+    Moves-unmade g.V.Volume.tells g.V.Volume.view _ c.args.store.now c.checkpoint.new.self c.in-Err.fault (fails g (goal.at.returns-in-Err-clause-moves g c).In-Err)
+    (g.met.V.Volume.counts_now c.checkpoint.new.self.volume) c.in-Err.ensures.any_moment c.in-Err.ensures.same c.in-Err.ensures.later

@@ -1,6 +1,7 @@
-use Rattle.std.proofs.Common.{Err, inl, refl}
+use Rattle.std.proofs.Common.{◌∙◌, Err, ap, inl, refl}
 use Rattle.fw_serve.proofs.MoveFacts.{Moves-committed}
 use Rattle.fw_serve.proofs.StoreFacts.{CommitFails, works_ok, Submits-committed, Submits-failed, Moves-failed}
+use Rattle.fw_serve.specs.Replies.{store_fault_line}
 use Rattle.fw_serve.proofs.answering.submit.Given as given
 use Rattle.fw_serve.proofs.answering.submit.Goals as goal
 use Rattle.fw_serve.proofs.answering.submit.Goals.{In-Err}
@@ -18,7 +19,7 @@ returns-in-Ok-clause-moves g c =
     let clauses = c.commit.ensures in
     let works = works_ok c.commit.result _ c.args.store.now.failed c.in-Ok.is clauses.failed in
     let done = rw c.in-Ok.is at clauses.done in
-    Moves-committed g.V.Volume.tells g.V.Volume.view c.args.store.now c.commit.new.self _ works done.1 clauses.any_moment clauses.later
+    Moves-committed g.V.Volume.tells g.V.Volume.view _ c.args.store.now c.commit.new.self _ works done.1 clauses.any_moment clauses.later
 
 fails : (g : given.Over) (c : goal.In-Err g) → CommitFails g.V.Volume.view c.args.store.now c.commit.new.self c.args.entry.now (Err c.in-Err.fault)
 fails g c = record {
@@ -38,5 +39,6 @@ returns-in-Err-clause-submits g c =
 
 pub returns-in-Err-clause-moves : goal.returns-in-Err-clause-moves
 returns-in-Err-clause-moves g c =
-    Moves-failed g.V.Volume.tells g.V.Volume.view c.args.store.now c.commit.new.self c.args.entry.now c.in-Err.fault (fails g (goal.at.returns-in-Err-clause-moves g c).In-Err)
-    c.in-Err.ensures.any_moment c.in-Err.ensures.later
+    Moves-failed g.V.Volume.tells g.V.Volume.view _ c.args.store.now c.commit.new.self c.args.entry.now c.in-Err.fault (fails g (goal.at.returns-in-Err-clause-moves g c).In-Err)
+    (λ device accepted. (refl, record { says = c.store_reply.ensures ∙ ap store_fault_line device; accepted = accepted }))
+    (g.met.V.Volume.counts_now c.commit.new.self.volume) c.in-Err.ensures.any_moment c.in-Err.ensures.later

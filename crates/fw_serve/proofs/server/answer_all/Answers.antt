@@ -1,6 +1,6 @@
 use Rattle.std.proofs.Common.{refl, inl, inr}
 use Rattle.std.proofs.lemmas.Result.{err_from_is_err_and}
-use Rattle.fw_serve.proofs.MoveFacts.{Moves-then}
+use Rattle.fw_serve.proofs.FlightFacts.{Runs-part, Runs-whole, RunsSoFar-more, RunsSoFar-none}
 use Rattle.fw_serve.proofs.ServedFacts.{ServesSoFar-none, ServesSoFar-more, Serves-whole}
 use Rattle.fw_script.specs.Plain.{plain_command}
 use Rattle.fw_serve.specs.ReplyText.{reply_text}
@@ -10,7 +10,7 @@ use Rattle.fw_serve.proofs.server.answer_all.Goals as goal
 pub loop-command-init : goal.loop-command-init
 loop-command-init g c = record {
   so_far = ServesSoFar-none _ _ _ _ c.new-script.ensures;
-  moves = inl refl;
+  runs = RunsSoFar-none _ _ _ _ _ _ c.new-script.ensures;
 }
 
 pub returns-in_err-write_reply-clause-write : goal.returns-in_err-write_reply-clause-write
@@ -35,19 +35,20 @@ returns-in_err-write_reply-clause-write g c =
       },
     )
 
-pub returns-in_err-write_reply-clause-moves : goal.returns-in_err-write_reply-clause-moves
-returns-in_err-write_reply-clause-moves g c = Moves-then _ _ _ _ _ c.loop-command.invariant.moves c.answer-reply.ensures.moves
+pub returns-in_err-write_reply-clause-runs : goal.returns-in_err-write_reply-clause-runs
+returns-in_err-write_reply-clause-runs g c =
+    Runs-part _ _ _ _ _ _ _ _ _ _ _ _ _ c.loop-command.invariant.runs c.in-Some.ensures.command c.answer-reply.ensures.answer c.answer-reply.ensures.moves c.in_err-write_reply.ensures.part.1
 
 pub loop-command-preserved-in_ok-write_reply : goal.loop-command-preserved-in_ok-write_reply
 loop-command-preserved-in_ok-write_reply g c = record {
   so_far = ServesSoFar-more _ _ _ _ _ _ _ _ _ _ _ c.loop-command.invariant.so_far c.in-Some.ensures.command c.answer-reply.ensures.answer c.in_ok-write_reply.ensures.whole;
-  moves = Moves-then _ _ _ _ _ c.loop-command.invariant.moves c.answer-reply.ensures.moves;
+  runs = RunsSoFar-more _ _ _ _ _ _ _ _ _ _ _ _ _ c.loop-command.invariant.runs c.in-Some.ensures.command c.answer-reply.ensures.answer c.answer-reply.ensures.moves c.in_ok-write_reply.ensures.whole;
 }
 
 pub loop-command-preserved : goal.loop-command-preserved
 loop-command-preserved g c = record {
   so_far = ServesSoFar-more _ _ _ _ _ _ _ _ _ _ _ c.loop-command.invariant.so_far c.in-Some.ensures.command c.answer-reply.ensures.answer c.in_ok-write_reply.ensures.whole;
-  moves = Moves-then _ _ _ _ _ c.loop-command.invariant.moves c.answer-reply.ensures.moves;
+  runs = RunsSoFar-more _ _ _ _ _ _ _ _ _ _ _ _ _ c.loop-command.invariant.runs c.in-Some.ensures.command c.answer-reply.ensures.answer c.answer-reply.ensures.moves c.in_ok-write_reply.ensures.whole;
 }
 
 pub returns-in-Ok-clause-done : goal.returns-in-Ok-clause-done
@@ -64,3 +65,9 @@ returns-in-Err-clause-write g c = (
     last = inl (refl, c.in-Err.ensures.bytes);
   },
 )
+
+pub returns-in-Ok-clause-runs : goal.returns-in-Ok-clause-runs
+returns-in-Ok-clause-runs g c = Runs-whole _ _ _ _ _ _ _ _ _ c.loop-command.invariant.runs c.in-Ok.ensures.bytes
+
+pub returns-in-Err-clause-runs : goal.returns-in-Err-clause-runs
+returns-in-Err-clause-runs g c = Runs-whole _ _ _ _ _ _ _ _ _ c.loop-command.invariant.runs c.in-Err.ensures.bytes

@@ -1,14 +1,28 @@
+use Rattle.std.proofs.Common.{[]}
 use Rattle.fw_recover.proofs.Committing.{each_stands}
-use Rattle.fw_serve.proofs.MoveFacts.{failed_stays, stands_still, moved_at}
+use Rattle.fw_serve.proofs.FlightFacts.{IsRun-none, IsRun-of}
+use Rattle.fw_serve.proofs.MoveFacts.{failed_stays, moved_at, moved_cause, moved_failed, not_both, stands_still}
 use Rattle.fw_serve.proofs.server.serve.Goals as goal
 
 pub returns-in_err-text-clause-any_moment : goal.returns-in_err-text-clause-any_moment
-returns-in_err-text-clause-any_moment g c =
-    stands_still g.V.Volume.tells g.V.Volume.view c.args.store.now c.keeps.ensures (g.met.V.Volume.only_now c.args.store.now.volume)
+returns-in_err-text-clause-any_moment g c = λ told works. record {
+  commands = [];
+  answers = [];
+  run = IsRun-none _ _ _;
+  any_moment = stands_still g.V.Volume.tells g.V.Volume.view _ c.args.store.now c.keeps.ensures (g.met.V.Volume.only_now c.args.store.now.volume) told works;
+  once_failed = λ fails. absurd (not_both _ fails works);
+}
 
 pub returns-clause-any_moment : goal.returns-clause-any_moment
-returns-clause-any_moment g c =
-    moved_at g.V.Volume.tells g.V.Volume.view c.args.store.now c.answer_all-served.new.store c.keeps.ensures (g.met.V.Volume.only_now c.args.store.now.volume) c.answer_all-served.ensures.moves
+returns-clause-any_moment g c = λ told works.
+    let runs = c.answer_all-served.ensures.runs in
+    record {
+      commands = runs.commands;
+      answers = runs.answers;
+      run = IsRun-of _ _ _ _ _ _ _ _ _ c.as_slice.ensures.value (c.in_ok-text.ensures.whole, c.in_ok-text.ensures.short) runs;
+      any_moment = moved_at g.V.Volume.tells g.V.Volume.view _ c.args.store.now c.answer_all-served.new.store c.keeps.ensures (g.met.V.Volume.only_now c.args.store.now.volume) runs.moves told works;
+      once_failed = moved_failed g.V.Volume.tells g.V.Volume.view _ c.args.store.now c.answer_all-served.new.store runs.moves told works;
+    }
 
 -- what each store keeps says what each image has
 pub returns-in_err-text-clause-each : goal.returns-in_err-text-clause-each
@@ -24,4 +38,7 @@ pub returns-clause-each_once_failed : goal.returns-clause-each_once_failed
 returns-clause-each_once_failed g c = c.keeps-2.ensures.lost
 
 pub returns-clause-once_failed : goal.returns-clause-once_failed
-returns-clause-once_failed g c = failed_stays g.V.Volume.tells g.V.Volume.view c.args.store.now c.answer_all-served.new.store c.answer_all-served.ensures.moves
+returns-clause-once_failed g c = failed_stays g.V.Volume.tells g.V.Volume.view _ c.args.store.now c.answer_all-served.new.store c.answer_all-served.ensures.runs.moves
+
+pub returns-clause-cause : goal.returns-clause-cause
+returns-clause-cause g c = moved_cause g.V.Volume.tells g.V.Volume.view _ c.args.store.now c.answer_all-served.new.store c.answer_all-served.ensures.runs.moves

@@ -1,6 +1,6 @@
 use Rattle.std.proofs.Common.{◌≡◌, ◌≤◌, ◌-◌, length}
 use Rattle.fw_segment.specs.RowsLeft.{behind, rows_left}
-use Rattle.fw_segment.proofs.rows_left.RowsLeft.take_front.Given as goal
+use Rattle.fw_segment.proofs.rows_left.RowsLeft.take_each.Given as goal
 
 -- the rows so far, and those that are left behind them, are what was left
 abbrev pub invariant-loop-alloc : goal.invariant-loop-alloc

@@ -1,0 +1,70 @@
+-- That there are lines of each range of hours.
+use Rattle.std.proofs.Common.{◌≡◌, ◌-◌, ◌<◌, ◌++◌, ◌∷◌, [], ℕ, List, All, Some, refl, slice_get, subst, sym}
+use Rattle.std.proofs.lemmas.List.Elements.{All-filter, All-head, All-tail}
+use Rattle.std.proofs.lemmas.Option.{get_or_from_slice_get, slice_get_within}
+use Rattle.std.specs.List.{AllZip, flat_map, range_with_len}
+use Rattle.fw_charge.specs.Charge.{Charge}
+use Rattle.fw_cover.proofs.Within.{commitments_in_order_places}
+use Rattle.fw_cover.specs.Applies.{is_in_term}
+use Rattle.fw_cover.specs.Hour.{hour_cover, takes_of, unused_of}
+use Rattle.fw_cover.specs.Order.{commitments_in_order}
+use Rattle.fw_amortise.proofs.Split.{weights_are_the_capacity}
+use Rattle.fw_amortise.specs.LineValue.{LineValue}
+use Rattle.fw_amortise.specs.Lines.{AreHourLines, AreLines, AreLinesAt, amount_in, given_lines, purchase_lines, rest_lines, rows_in, running, shared_lines, weights_of}
+use Rattle.fw_entry.specs.Entry as entry
+use Rattle.fw_entry.specs.Spelling.{IsEntry}
+use Rattle.fw_snapshot.specs.History.{commitments_of, rows_of}
+use Rattle.fw_terms.specs.Commitment.{CommitmentValue, IsCommitment}
+use Rattle.fw_query.proofs.CarriedFacts.{commitments_keep}
+use Rattle.fw_query.proofs.ShareFacts.{shares_exist}
+use Rattle.fw_query.specs.OfHistory.{AreLinesOf}
+use Rattle.fw_query.specs.RangeLines.{joined}
+
+-- one item for each
+each_has : {A B : Type 0} (R : A → B → Type 0) (Q : A → Type 0) → ((x : A) → Q x → (y : B) × R x y) → (xs : List A) → All Q xs → (ys : List B) × AllZip R xs ys
+each_has R Q some [] all = ([], tt)
+each_has R Q some (x ∷ xs) all =
+    let first = some x (All-head Q x xs all) in
+    let rest = each_has R Q some xs (All-tail Q x xs all) in
+    (first.0 ∷ rest.0, (first.1, rest.1))
+
+-- ---- an hour
+-- a commitment has some capacity, so the weights by which its amount is shared aren't all 0
+commitment_lines : (cs : List CommitmentValue) (rows : List Charge) (hour : ℕ) → All IsCommitment cs → (c : ℕ × CommitmentValue) → slice_get cs c.0 ≡ Some c.1
+    → (lines : List LineValue) × AreLinesAt cs rows (hour_cover cs rows hour) hour c lines
+commitment_lines cs rows hour keep c there =
+    let keeps : IsCommitment c.1 = subst IsCommitment (get_or_from_slice_get cs c.0 c.1 c.1 there) (keep c.0 c.1 (slice_get_within cs c.0 c.1 there)) in
+    let takes = takes_of c.0 (hour_cover cs rows hour) in
+    let shares =
+    shares_exist (amount_in c.1 hour) (weights_of takes (unused_of cs (hour_cover cs rows hour) c.0))
+    (subst (λ (n : ℕ). 0 < n) (sym (weights_are_the_capacity cs rows hour c.0 c.1 there)) keeps.capacity_some) in
+    (shared_lines hour c.1 rows takes shares.0, record { shares = shares.0; are_shares = shares.1; are_lines = refl })
+
+running_there : (cs : List CommitmentValue) (hour : ℕ) → All (λ c. slice_get cs c.0 ≡ Some c.1) (running cs hour)
+unfolding running
+running_there cs hour = All-filter (λ c. is_in_term c.1 hour) (λ c. slice_get cs c.0 ≡ Some c.1) (commitments_in_order cs) (commitments_in_order_places cs)
+
+hour_lines : (cs : List CommitmentValue) (rows : List Charge) (hour : ℕ) → All IsCommitment cs → (lines : List LineValue) × AreHourLines cs rows hour lines
+hour_lines cs rows hour keep =
+    let shared =
+    each_has (AreLinesAt cs rows (hour_cover cs rows hour) hour) (λ c. slice_get cs c.0 ≡ Some c.1) (commitment_lines cs rows hour keep) (running cs hour) (running_there cs hour) in (
+      purchase_lines cs hour ++ given_lines rows hour ++ flat_map (λ ls. ls) shared.0 ++ rest_lines rows (hour_cover cs rows hour) hour,
+      record { shared = shared.0; are_shared = shared.1; are_lines = refl },
+    )
+
+lines_in : (cs : List CommitmentValue) (rows : List Charge) (hour : ℕ) → All IsCommitment cs → (lines : List LineValue) × AreLines cs rows hour lines
+unfolding AreLines
+lines_in cs rows hour keep = hour_lines cs (rows_in hour rows) hour keep
+
+-- ---- a range
+hours_have : (cs : List CommitmentValue) (rows : List Charge) → All IsCommitment cs → (hours : List ℕ) → (hourly : List (List LineValue)) × AllZip (AreLines cs rows) hours hourly
+hours_have cs rows keep [] = ([], tt)
+hours_have cs rows keep (hour ∷ hours) =
+    let first = lines_in cs rows hour keep in
+    let rest = hours_have cs rows keep hours in
+    (first.0 ∷ rest.0, (first.1, rest.1))
+
+pub lines_exist : (history : List entry.EntryValue) (from to : ℕ) → All IsEntry history → (lines : List LineValue) × AreLinesOf history from to lines
+lines_exist history from to each =
+    let hourly = hours_have (commitments_of history) (rows_of history) (commitments_keep history each) (range_with_len from (to - from)) in
+    (joined hourly.0, record { hourly = hourly.0; are_hourly = hourly.1; lines_are = refl })

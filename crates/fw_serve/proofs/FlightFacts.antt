@@ -1,0 +1,179 @@
+-- Runs of commands, and the entry on which the device failed.
+use Rattle.std.proofs.Common.{◌≡◌, ◌∙◌, ◌∷◌, ◌++◌, [], ℕ, zero, suc, List, Bool, Option, Some, length, slice_get, refl, sym, ap, subst, inl, inr, append-nil, append_assoc}
+use Rattle.std.specs.Io.KnownBytes.{Appends, Keeps}
+use Rattle.std.specs.List.{concat}
+use Rattle.std.proofs.KnownBytes.{Appends-kept, Appends-nil, Appends-trans}
+use Rattle.std.proofs.lemmas.List.Folds.{concat-append}
+use Rattle.fw_disk.specs.Volume.{View}
+use Rattle.fw_entry.specs.Entry.{EntryValue}
+use Rattle.fw_recover.specs.Store.{StoreState}
+use Rattle.fw_recover.specs.declared.fault.StoreFault.TheVariants as store_fault
+use Rattle.fw_script.specs.Commands.{FirstCommand, StartsWithCommands}
+use Rattle.fw_script.specs.Plain.{PlainCommand}
+use Rattle.fw_snapshot.specs.History.{History}
+use Rattle.fw_snapshot.specs.Judging.{judged}
+use Rattle.fw_snapshot.specs.declared.verdict.Verdict.TheVariants as verdict
+use Rattle.fw_serve.specs.Answers.{Answer}
+use Rattle.fw_serve.specs.Flight.{FailsOnSent, IsInFlight, IsRun, Runs, RunsSoFar}
+use Rattle.fw_serve.specs.Replies.{store_fault_line}
+use Rattle.fw_serve.specs.Runs.{AnswersEach, Sends}
+use Rattle.fw_serve.specs.Served.{IsScriptOf}
+use Rattle.fw_serve.specs.Standings.{Standing, standing_of, Moves}
+use Rattle.fw_serve.specs.Writing.{WritesPart}
+use Rattle.fw_serve.proofs.FailedFacts.{lost_by_answer}
+use Rattle.fw_serve.proofs.MoveFacts.{Moves-then}
+use Rattle.fw_serve.proofs.RunFacts.{step}
+use Rattle.fw_serve.proofs.ServedFacts.{StartsWithCommands-more}
+use Rattle.fw_serve.proofs.WrittenFacts.{same_currency}
+
+-- ---- places in lists
+get_front : {A : Type 0} (xs ys : List A) (place : ℕ) (x : A) → slice_get xs place ≡ Some x → slice_get (xs ++ ys) place ≡ Some x
+get_front [] ys place x there = absurd (cc)
+get_front (y ∷ xs) ys zero x there = there
+get_front (y ∷ xs) ys (suc place) x there = get_front xs ys place x there
+
+get_last : {A : Type 0} (xs : List A) (x : A) → slice_get (xs ++ x ∷ []) (length xs) ≡ Some x
+get_last [] x = refl
+get_last (y ∷ xs) x = get_last xs x
+
+-- ---- one command more
+same_length : (commands : List PlainCommand) (before after : Standing) (answers : List (List ℕ)) → AnswersEach before commands answers after → length answers ≡ length commands
+unfolding AnswersEach
+same_length [] before after answers given = ap length given.0
+same_length (c ∷ commands) before after answers given = ap length given.5 ∙ ap suc (same_length commands given.1 after given.2 given.4)
+
+kept_currency : (commands : List PlainCommand) (before after : Standing) (answers : List (List ℕ)) → AnswersEach before commands answers after
+    → after.history.currency ≡ before.history.currency
+unfolding AnswersEach
+kept_currency [] before after answers given = ap (λ (s : Standing). s.history.currency) given.1
+kept_currency (c ∷ commands) before after answers given =
+    kept_currency commands given.1 after given.2 given.4 ∙ same_currency before c given.0 given.1 (step before c given.0 given.1 given.3)
+
+each_more : (commands : List PlainCommand) (before middle after : Standing) (answers : List (List ℕ)) (command : PlainCommand) (text : List ℕ) → AnswersEach before commands answers middle
+    → Answer middle command text after → AnswersEach before (commands ++ command ∷ []) (answers ++ text ∷ []) after
+unfolding AnswersEach
+each_more [] before middle after answers command text given answered =
+    (text, after, [], subst (λ (s : Standing). Answer s command text after) given.1 answered, (refl, refl), ap (λ (l : List (List ℕ)). l ++ text ∷ []) given.0)
+each_more (c ∷ commands) before middle after answers command text given answered = (
+  given.0,
+  given.1,
+  given.2 ++ text ∷ [],
+  given.3,
+  each_more commands given.1 middle after given.2 command text given.4 answered,
+  ap (λ (l : List (List ℕ)). l ++ text ∷ []) given.5,
+)
+
+concat_more : (answers : List (List ℕ)) (text : List ℕ) → concat (answers ++ text ∷ []) ≡ concat answers ++ text
+concat_more answers text = concat-append answers (text ∷ []) ∙ ap (λ (l : List ℕ). concat answers ++ l) (append-nil text)
+
+-- ---- the entry in flight
+-- a later command left the store as it was
+flies_on : (before middle after : Standing) (commands : List PlainCommand) (answers : List (List ℕ)) (command : PlainCommand) (text : List ℕ) (e : EntryValue) → after ≡ middle
+    → IsInFlight before middle commands answers e → IsInFlight before after (commands ++ command ∷ []) (answers ++ text ∷ []) e
+flies_on before middle after commands answers command text e same flies = record {
+  place = flies.place;
+  command = flies.command;
+  asked = get_front commands (command ∷ []) flies.place flies.command flies.asked;
+  fails = get_front answers (text ∷ []) flies.place (store_fault_line store_fault.Device) flies.fails;
+  sends = flies.sends;
+  accepted = subst (λ (s : Standing). judged s.history.entries e ≡ verdict.Accept) (sym same) flies.accepted;
+}
+
+-- the last command sends it
+flies_last : (before middle after : Standing) (commands : List PlainCommand) (answers : List (List ℕ)) (command : PlainCommand) (text : List ℕ) (e : EntryValue)
+    → AnswersEach before commands answers middle → Answer middle command text after → FailsOnSent middle command text e
+    → IsInFlight before after (commands ++ command ∷ []) (answers ++ text ∷ []) e
+flies_last before middle after commands answers command text e given answered flies =
+    let fails : Answer middle command (store_fault_line store_fault.Device) after = subst (λ (t : List ℕ). Answer middle command t after) flies.1.says answered in
+    let last : slice_get (answers ++ text ∷ []) (length commands) ≡ Some text =
+    subst (λ n. slice_get (answers ++ text ∷ []) n ≡ Some text) (same_length commands before middle answers given) (get_last answers text) in
+    record {
+      place = length commands;
+      command = command;
+      asked = get_last commands command;
+      fails = last ∙ ap Some flies.1.says;
+      sends = subst (λ (currency : List ℕ). Sends currency command e) (kept_currency commands before middle answers given) flies.0;
+      accepted = subst (λ (h : History). judged h.entries e ≡ verdict.Accept) (sym (lost_by_answer middle after command fails).1) flies.1.accepted;
+    }
+
+moves_more : {V : Type 0} (tells : Bool) (view : V → View) (a b c : StoreState V) (commands : List PlainCommand) (answers : List (List ℕ)) (command : PlainCommand) (text : List ℕ)
+    → AnswersEach (standing_of view a) commands answers (standing_of view b) → Answer (standing_of view b) command text (standing_of view c)
+    → Moves tells view (IsInFlight (standing_of view a) (standing_of view b) commands answers) a b → Moves tells view (FailsOnSent (standing_of view b) command text) b c
+    → Moves tells view (IsInFlight (standing_of view a) (standing_of view c) (commands ++ command ∷ []) (answers ++ text ∷ [])) a c
+moves_more tells view a b c commands answers command text given answered first second =
+    Moves-then tells view (IsInFlight (standing_of view a) (standing_of view b) commands answers) (FailsOnSent (standing_of view b) command text)
+    (IsInFlight (standing_of view a) (standing_of view c) (commands ++ command ∷ []) (answers ++ text ∷ [])) a b c first second
+    (λ same e. flies_on (standing_of view a) (standing_of view b) (standing_of view c) commands answers command text e (ap (standing_of view) same))
+    (λ e. flies_last (standing_of view a) (standing_of view b) (standing_of view c) commands answers command text e given answered)
+
+-- ---- runs
+-- no command was run
+pub RunsSoFar-none : {V : Type 0} (tells : Bool) (view : V → View) (script left : List ℕ) (s : StoreState V) (held : Option (List ℕ)) → left ≡ script → RunsSoFar tells view script left s s held held
+unfolding StartsWithCommands AnswersEach
+RunsSoFar-none tells view script left s held same =
+    record { commands = []; answers = []; reads = same; answered = (refl, refl); writes = Appends-nil held; moves = inl refl }
+
+-- one more command was done, and its answer written
+pub RunsSoFar-more : {V : Type 0} (tells : Bool) (view : V → View) (script left : List ℕ) (command : PlainCommand) (rest : List ℕ) (a b c : StoreState V) (text : List ℕ) (x y z : Option (List ℕ))
+    → RunsSoFar tells view script left a b x y → FirstCommand left command rest → Answer (standing_of view b) command text (standing_of view c)
+    → Moves tells view (FailsOnSent (standing_of view b) command text) b c → Appends y z text → RunsSoFar tells view script rest a c x z
+RunsSoFar-more tells view script left command rest a b c text x y z done first answered moves wrote = record {
+  commands = done.commands ++ command ∷ [];
+  answers = done.answers ++ text ∷ [];
+  reads = StartsWithCommands-more script done.commands left command rest done.reads first;
+  answered = each_more done.commands (standing_of view a) (standing_of view b) (standing_of view c) done.answers command text done.answered answered;
+  writes = subst (Appends x z) (sym (concat_more done.answers text)) (Appends-trans x y z (concat done.answers) text done.writes wrote);
+  moves = moves_more tells view a b c done.commands done.answers command text done.answered answered done.moves moves;
+}
+
+-- one more command was done, and its answer written up to some place
+pub Runs-part : {V : Type 0} (tells : Bool) (view : V → View) (script left : List ℕ) (command : PlainCommand) (rest : List ℕ) (a b c : StoreState V) (text : List ℕ) (x y z : Option (List ℕ))
+    → RunsSoFar tells view script left a b x y → FirstCommand left command rest → Answer (standing_of view b) command text (standing_of view c)
+    → Moves tells view (FailsOnSent (standing_of view b) command text) b c → WritesPart y z text → Runs tells view script a c x z
+Runs-part tells view script left command rest a b c text x y z done first answered moves wrote = record {
+  left = rest;
+  commands = done.commands ++ command ∷ [];
+  answers = done.answers ++ text ∷ [];
+  reads = StartsWithCommands-more script done.commands left command rest done.reads first;
+  answered = each_more done.commands (standing_of view a) (standing_of view b) (standing_of view c) done.answers command text done.answered answered;
+  writes = record {
+    written = concat done.answers ++ wrote.written;
+    unwritten = wrote.unwritten;
+    whole = concat_more done.answers text ∙ ap (λ (l : List ℕ). concat done.answers ++ l) wrote.whole ∙ sym (append_assoc (concat done.answers) wrote.written wrote.unwritten);
+    writes = Appends-trans x y z (concat done.answers) wrote.written done.writes wrote.writes;
+  };
+  moves = moves_more tells view a b c done.commands done.answers command text done.answered answered done.moves moves;
+}
+
+-- no further command was run
+pub Runs-whole : {V : Type 0} (tells : Bool) (view : V → View) (script left : List ℕ) (a b : StoreState V) (x y z : Option (List ℕ)) → RunsSoFar tells view script left a b x y → Keeps y z
+    → Runs tells view script a b x z
+Runs-whole tells view script left a b x y z done kept = record {
+  left = left;
+  commands = done.commands;
+  answers = done.answers;
+  reads = done.reads;
+  answered = done.answered;
+  writes = record {
+    written = concat done.answers;
+    unwritten = [];
+    whole = sym (append-nil (concat done.answers));
+    writes = Appends-kept x y z (concat done.answers) done.writes kept;
+  };
+  moves = done.moves;
+}
+
+-- of the script that a reader had
+pub IsRun-of : {V : Type 0} (tells : Bool) (view : V → View) (bytes : Option (List ℕ)) (items script : List ℕ) (old new : StoreState V) (held holds : Option (List ℕ)) → script ≡ items
+    → IsScriptOf bytes items → (runs : Runs tells view script old new held holds) → IsRun bytes (standing_of view old) (standing_of view new) held holds runs.commands runs.answers
+IsRun-of tells view bytes items script old new held holds same given runs = record {
+  reads = inr (items, runs.left, given, subst (λ (s : List ℕ). StartsWithCommands s runs.commands runs.left) same runs.reads);
+  answered = runs.answered;
+  writes = runs.writes;
+}
+
+-- no script was read
+pub IsRun-none : (bytes : Option (List ℕ)) (before : Standing) (held : Option (List ℕ)) → IsRun bytes before before held held [] []
+unfolding AnswersEach
+IsRun-none bytes before held =
+    record { reads = inl refl; answered = (refl, refl); writes = record { written = []; unwritten = []; whole = refl; writes = Appends-nil held } }

@@ -1,0 +1,79 @@
+-- The entry that was in flight when the device failed: the one that a script was sending.
+use Rattle.std.specs.Prelude.{◌≡◌, ◌⊎◌, ℕ, Bool, true, List, [], Option, Ok, Some, slice_get}
+use Rattle.std.specs.Io.KnownBytes.{Appends}
+use Rattle.std.specs.List.{concat}
+use Rattle.fw_disk.specs.Volume.{LeavesOnly, View}
+use Rattle.fw_entry.specs.Entry.{CommandValue, EntryValue}
+use Rattle.fw_recover.specs.Store.{StoreState}
+use Rattle.fw_recover.specs.declared.fault.StoreFault.TheVariants as store_fault
+use Rattle.fw_script.specs.Commands.{StartsWithCommands}
+use Rattle.fw_script.specs.Plain.{PlainCommand}
+use Rattle.fw_snapshot.specs.Judging.{judged}
+use Rattle.fw_snapshot.specs.declared.verdict.Verdict.TheVariants as verdict
+use Rattle.fw_serve.specs.Answers.{entry_made}
+use Rattle.fw_serve.specs.Replies.{store_fault_line}
+use Rattle.fw_serve.specs.Runs.{AnswersEach, Sends}
+use Rattle.fw_serve.specs.Served.{IsScriptOf}
+use Rattle.fw_serve.specs.Standings.{Standing, standing_of, IsBetween, LeavesInFlight, Moves}
+use Rattle.fw_serve.specs.Writing.{WritesPart}
+
+-- the entry is accepted after those of the warehouse, and the answer says that the device failed
+pub record FailsOn (before : Standing) (answer : List ℕ) (e : EntryValue) : Type 0 where
+  pub says : answer ≡ store_fault_line store_fault.Device
+  pub accepted : judged before.history.entries e ≡ verdict.Accept
+
+-- this entry is that one
+abbrev pub FailsOnThis : Standing → EntryValue → List ℕ → EntryValue → Type 0
+FailsOnThis before this answer e = (e ≡ this) × FailsOn before answer e
+
+-- it is the one that is made of these parts
+abbrev pub FailsOnMade : Standing → List ℕ → ℕ → CommandValue → List ℕ → EntryValue → Type 0
+FailsOnMade before origin number command answer e = (entry_made origin number command ≡ Ok e) × FailsOn before answer e
+
+-- it is the one that the command sends
+abbrev pub FailsOnSent : Standing → PlainCommand → List ℕ → EntryValue → Type 0
+FailsOnSent before command answer e = Sends before.history.currency command e × FailsOn before answer e
+
+-- The entry in flight when the device failed: the one that a command sends which was answered `store S3 Device`. It would have been accepted.
+pub record IsInFlight (before after : Standing) (commands : List PlainCommand) (answers : List (List ℕ)) (e : EntryValue) : Type 0 where
+  pub place : ℕ
+  pub command : PlainCommand
+  pub asked : slice_get commands place ≡ Some command
+  pub fails : slice_get answers place ≡ Some (store_fault_line store_fault.Device)
+  pub sends : Sends before.history.currency command e
+  pub accepted : judged after.history.entries e ≡ verdict.Accept
+
+-- these commands come first in the script and were run, `left` follows them, the writer got their answers, and this is what they left of the store
+pub record RunsSoFar {V : Type 0} (tells : Bool) (view : V → View) (script left : List ℕ) (old new : StoreState V) (held holds : Option (List ℕ)) : Type 0 where
+  pub commands : List PlainCommand
+  pub answers : List (List ℕ)
+  pub reads : StartsWithCommands script commands left
+  pub answered : AnswersEach (standing_of view old) commands answers (standing_of view new)
+  pub writes : Appends held holds (concat answers)
+  pub moves : Moves tells view (IsInFlight (standing_of view old) (standing_of view new) commands answers) old new
+
+-- the same, where the writer got the answers up to some place
+pub record Runs {V : Type 0} (tells : Bool) (view : V → View) (script : List ℕ) (old new : StoreState V) (held holds : Option (List ℕ)) : Type 0 where
+  pub left : List ℕ
+  pub commands : List PlainCommand
+  pub answers : List (List ℕ)
+  pub reads : StartsWithCommands script commands left
+  pub answered : AnswersEach (standing_of view old) commands answers (standing_of view new)
+  pub writes : WritesPart held holds (concat answers)
+  pub moves : Moves tells view (IsInFlight (standing_of view old) (standing_of view new) commands answers) old new
+
+-- no command was run, or these are the first ones of the script that a reader had; these are the answers, one for each, and the writer got them up to
+-- some place
+pub record IsRun (bytes : Option (List ℕ)) (before after : Standing) (held holds : Option (List ℕ)) (commands : List PlainCommand) (answers : List (List ℕ)) : Type 0 where
+  pub reads : (commands ≡ []) ⊎ ((script : List ℕ) × (left : List ℕ) × IsScriptOf bytes script × StartsWithCommands script commands left)
+  pub answered : AnswersEach before commands answers after
+  pub writes : WritesPart held holds (concat answers)
+
+-- What a crash leaves of a run of commands. At any moment of it the files stand for the warehouse before with a front of what was added; or, only where
+-- the device has failed, with all of this and the entry in flight. Once it has failed each image has all of this, and perhaps that entry.
+pub record CrashLeaves {V : Type 0} (view : V → View) (bytes : Option (List ℕ)) (old new : StoreState V) (held holds : Option (List ℕ)) : Type 0 where
+  pub commands : List PlainCommand
+  pub answers : List (List ℕ)
+  pub run : IsRun bytes (standing_of view old) (standing_of view new) held holds commands answers
+  pub any_moment : LeavesOnly (view old.volume) (view new.volume) (IsBetween (IsInFlight (standing_of view old) (standing_of view new) commands answers) old.history (standing_of view new))
+  pub once_failed : new.failed ≡ true → LeavesInFlight (IsInFlight (standing_of view old) (standing_of view new) commands answers) new.history (view new.volume)
