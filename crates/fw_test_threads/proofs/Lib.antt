@@ -1,3 +1,1 @@
-mod Captures
 mod Sent
-mod Snapshots

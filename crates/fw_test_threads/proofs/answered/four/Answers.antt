@@ -5,7 +5,7 @@ use denote.Param.{param}
 use denote.Param.Send.{sendable, shr_send}
 use denote.Ref.{ShrRef}
 use Rattle.fw_test_threads.specs.contracts.seats.Seats as Seats
-use Rattle.fw_test_threads.proofs.Captures.{closure_send}
+use Rattle.fw_threads.proofs.Captures.{closure_send}
 use Rattle.fw_test_threads.proofs.Sent.{seats_sync}
 use Rattle.fw_test_threads.proofs.answered.four.Goals as goal
 

@@ -6,8 +6,8 @@ use denote.Ref.{ShrRef}
 use Rattle.std.proofs.Crossing.{send}
 use Rattle.std.specs.contracts.alloc.Global as Global
 use Rattle.fw_threads.specs.contracts.importer.Importer as Importer
-use Rattle.fw_test_threads.proofs.Captures.{closure_send}
-use Rattle.fw_test_threads.proofs.Sent.{importer_send}
+use Rattle.fw_threads.proofs.Captures.{closure_send}
+use Rattle.fw_threads.proofs.Sent.{importer_send}
 use Rattle.fw_test_threads.proofs.refused.fn.closed.join+arg3.Goals as goal
 
 pub join-requires-send-F : goal.join-requires-send-F
