@@ -1,4 +1,6 @@
 //! What loads answer.
+ghost use Rattle.std.specs.Prelude.{◌≤◌};
+
 use fw_charge::Currency;
 use fw_disk::{Choice, FaultVolume, MemVolume, Mode, Volume};
 use fw_load::{Job, LoadFault, load};
@@ -32,7 +34,9 @@ const SHORT: &[u8] =
 ";
 
 // A volume in memory.
-fn memory(alloc: Global, limit: u64) -> MemVolume {
+fn memory(alloc: Global, limit: u64) -> MemVolume
+    requires { limit ≤ 1048576 }
+{
     MemVolume::new(alloc, limit, Choice::Old)
 }
 
@@ -165,9 +169,10 @@ fn more_files_than_importers(rt: HostRuntime) -> Result<(), Fail> {
     let counts = Some(LoadFault::Split(SplitFault::Counts));
     judged(&rt, written.as_slice(), fault, ("", counts))?;
     let (_, fault, written) = loaded(&rt, rt.alloc(), store, "f", &[SHORT; 64])?;
+    let end = written.len().saturating_sub(23);
     judged(
         &rt,
-        &written[written.len() - 23..],
+        &written[end..],
         fault,
         ("\nstale 0\nstate 0 0 0 0\n", None),
     )
