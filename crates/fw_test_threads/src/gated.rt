@@ -205,7 +205,10 @@ fn times_of<R: Abort>(rt: &R, rest: Option<u64>, seen: Beside) -> Result<Times, 
         return Err(Fail::from("no view was timed"));
     };
     assert_eq!(rt; entries, 0);
-    assert!(rt; beside <= rest.saturating_mul(MOST_TIMES), "{beside} and {rest} ns");
+    assert!(rt;
+        beside <= rest.saturating_mul(MOST_TIMES),
+        "{beside} and {rest} ns"
+    );
     Ok(Times { rest, beside })
 }
 

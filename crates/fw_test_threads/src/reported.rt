@@ -330,7 +330,10 @@ struct Times {
 fn times_of<R: Abort>(rt: &R, rest: Nanos, beside: Nanos) -> Result<Times, Fail> {
     let rest = rest?[REPORTS / 2];
     let beside = beside?[REPORTS / 2];
-    assert!(rt; beside <= rest.saturating_mul(MOST_TIMES), "{beside} and {rest} ns");
+    assert!(rt;
+        beside <= rest.saturating_mul(MOST_TIMES),
+        "{beside} and {rest} ns"
+    );
     Ok(Times { rest, beside })
 }
 
