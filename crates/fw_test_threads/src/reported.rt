@@ -337,6 +337,21 @@ fn times_of<R: Abort>(rt: &R, rest: Nanos, beside: Nanos) -> Result<Times, Fail>
     Ok(Times { rest, beside })
 }
 
+// The times of reports while eight importers post.
+fn report_beside_eight<J: Naming + Send + Sync, R: Threads + Wait + Clock + Sync>(
+    rt: &R,
+    analyst: Analyst<J>,
+    posting: &Posting<J>,
+    text: &[u8],
+) -> Nanos {
+    let ((), nanos) = join(
+        rt,
+        move || eight(rt, posting),
+        move || report_beside(rt, posting.alloc, analyst, &posting.signs, text),
+    );
+    nanos
+}
+
 // Reports at rest, and beside eight importers and the flusher.
 fn reported<J: Naming + Send + Sync, R: Threads + Wait + Abort + Clock + Sync>(
     rt: &R,
@@ -350,16 +365,10 @@ fn reported<J: Naming + Send + Sync, R: Threads + Wait + Abort + Clock + Sync>(
     let rest = report_at_rest(rt, alloc, &mut analyst, &text);
     let shared = &posting;
     let wanted: &[u8] = &text;
-    let (left, ((), beside)) = join(
+    let (left, beside) = join(
         rt,
         move || held.flush(),
-        move || {
-            join(
-                rt,
-                move || eight(rt, shared),
-                move || report_beside(rt, alloc, analyst, &shared.signs, wanted),
-            )
-        },
+        move || report_beside_eight(rt, analyst, shared, wanted),
     );
     judge(rt, &left, &posting.signs)?;
     times_of(rt, rest, beside)
