@@ -380,15 +380,14 @@ pub(crate) fn lent_tags(table: &Table, place: usize) -> LentTags<'_>
     }
 }
 
-/// The row at a place, whose tags are these, lent.
-pub(crate) fn lent_row<'a>(table: &'a Table, tags: LentTags<'a>, place: usize) -> LentRow<'a>
+// The values of the row at a place, whose tags are these, lent.
+fn lent_fields<'a>(table: &'a Table, tags: LentTags<'a>, place: usize) -> LentFields<'a>
     requires row { HasRow table.now place }
-    requires charge { IsCharge (charge_at table.now place) }
     requires tags { tags_lent tags ≡ tags_of table.now.names (list_at table.now place) }
-    ensures { result ≡ charge_at table.now place }
+    ensures { row_lent result ≡ charge_at table.now place }
 {
     let names = &table.names;
-    LentRow::of_fields(LentFields {
+    LentFields {
         billed: amount_at(table.billed.as_slice(), place),
         effective: amount_at(table.effective.as_slice(), place),
         category: category_at(table.categories.as_slice(), place),
@@ -406,5 +405,15 @@ pub(crate) fn lent_row<'a>(table: &'a Table, tags: LentTags<'a>, place: usize) -
         sku: text_lent(names, table.skus[place]),
         sub_account: text_lent(names, table.sub_accounts[place]),
         tags,
-    })
+    }
+}
+
+/// The row at a place, whose tags are these, lent.
+pub(crate) fn lent_row<'a>(table: &'a Table, tags: LentTags<'a>, place: usize) -> LentRow<'a>
+    requires row { HasRow table.now place }
+    requires charge { IsCharge (charge_at table.now place) }
+    requires tags { tags_lent tags ≡ tags_of table.now.names (list_at table.now place) }
+    ensures { result ≡ charge_at table.now place }
+{
+    LentRow::of_fields(lent_fields(table, tags, place))
 }
