@@ -1,21 +1,11 @@
--- Rows that are taken from the front of segments, and entries that take theirs.
-use Rattle.std.proofs.Common.{◌≡◌, ◌∙◌, ◌+◌, ◌-◌, ◌≤◌, ◌<◌, ℕ, suc, List, [], ◌∷◌, ◌++◌, length, length-append, take, drop, get_or, min, refl, sym, ap, subst, add-one, append-nil, append_assoc, arith}
-use Rattle.std.specs.Prelude.{All, Some, slice_get}
-use Rattle.std.proofs.Math.Seq.{drop-cons}
-use Rattle.std.proofs.lemmas.List.{length-take, take_more, take_all, drop_all}
-use Rattle.std.proofs.lemmas.Option.{slice_get_within, get_or_from_slice_get, slice_get-get_or}
-use Rattle.std.proofs.lemmas.List.Elements.{All-get_or}
+-- Rows that are taken from the front of segments.
+use Rattle.std.proofs.Common.{◌≡◌, ◌∙◌, ◌+◌, ◌-◌, ◌≤◌, ◌<◌, ℕ, suc, List, [], ◌∷◌, ◌++◌, length, length-append, take, drop, min, refl, sym, ap, append-nil, append_assoc, arith}
+use Rattle.std.specs.Prelude.{Some, slice_get}
+use Rattle.std.proofs.lemmas.List.{length-take, take_all, drop_all}
 use Rattle.fw_charge.specs.Charge.{Charge}
-use Rattle.fw_entry.specs.Entry.{EntryValue}
-use Rattle.fw_snapshot.specs.Heads.{HeadValue, entries_of, entry_of, row_count, segment_rows}
+use Rattle.fw_snapshot.specs.Heads.{segment_rows}
+use Rattle.fw_import.proofs.Turns.{from_place}
 use Rattle.fw_dump.specs.RowsLeft.{rows_behind}
-
--- what is left of a list from a place on begins with the item there
-pub from_place : {A : Type 0} (xs : List A) (n : ℕ) (x : A) → slice_get xs n ≡ Some x → drop n xs ≡ x ∷ drop (n + 1) xs
-from_place xs n x there =
-    drop-cons xs n x (slice_get_within xs n x there)
-    ∙ ap (λ y. y ∷ drop (suc n) xs) (get_or_from_slice_get xs n x x there)
-    ∙ ap (λ m. x ∷ drop m xs) (sym (add-one n))
 
 -- no row is taken of the first segment
 pub all_left : (segments : List (List Charge)) → rows_behind 0 segments ≡ segment_rows segments
@@ -71,34 +61,3 @@ fewer_rows old new row segments is = let long = ap length is in omega arith
 
 pub fewer_segments : (old new : List Charge) (segment segments : ℕ) → old ≡ new → segment < segments → length new + (segments - (segment + 1)) < length old + (segments - segment)
 fewer_segments old new segment segments is within = let long = ap length is in omega arith
-
--- the entry at a place takes its rows from those that are left, and leaves the others to those behind it
-pub record Next (heads : List HeadValue) (rows : List Charge) (entries : List EntryValue) (place : ℕ) (h : HeadValue) : Type 0 where
-  pub entry : slice_get entries place ≡ Some (entry_of h (take (row_count h.content) rows))
-  pub before : take (place + 1) entries ≡ take place entries ++ entry_of h (take (row_count h.content) rows) ∷ []
-  pub left : entries_of (drop (place + 1) heads) (drop (row_count h.content) rows) ≡ drop (place + 1) entries
-
-split_first : {A : Type 0} (xs : List A) (n : ℕ) (x : A) (rest : List A) → n < length xs → drop n xs ≡ x ∷ rest → (slice_get xs n ≡ Some x) × (take (n + 1) xs ≡ take n xs ++ x ∷ []) × (rest ≡ drop (n + 1) xs)
-split_first xs n x rest within is =
-    let cut : drop n xs ≡ get_or xs n x ∷ drop (suc n) xs = drop-cons xs n x within in
-    let both : get_or xs n x ∷ drop (suc n) xs ≡ x ∷ rest = sym cut ∙ is in
-    let same : get_or xs n x ≡ x = cc in
-    let later : drop (suc n) xs ≡ rest = cc in (
-      slice_get-get_or xs n x within ∙ ap Some same,
-      take_more xs n x within ∙ ap (λ y. take n xs ++ y ∷ []) same,
-      sym later ∙ ap (λ m. drop m xs) (sym (add-one n)),
-    )
-
-pub next_in_turn : (heads : List HeadValue) (rows : List Charge) (entries : List EntryValue) (place : ℕ) (h : HeadValue) → place < length entries → slice_get heads place ≡ Some h
-    → entries_of (drop place heads) rows ≡ drop place entries → Next heads rows entries place h
-unfolding entries_of
-next_in_turn heads rows entries place h within there left =
-    let first = entry_of h (take (row_count h.content) rows) in
-    let rest = entries_of (drop (place + 1) heads) (drop (row_count h.content) rows) in
-    let is : drop place entries ≡ first ∷ rest = sym left ∙ ap (λ hs. entries_of hs rows) (from_place heads place h there) in
-    let parts = split_first entries place first rest within is in
-    record { entry = parts.0; before = parts.1; left = parts.2 }
-
--- what holds of each item holds of the one at a place
-pub holds_there : {A : Type 0} (P : A → Type 0) (xs : List A) (n : ℕ) (x : A) → All P xs → slice_get xs n ≡ Some x → P x
-holds_there P xs n x each there = subst P (get_or_from_slice_get xs n x x there) (All-get_or P xs n x (slice_get_within xs n x there) each)

@@ -1,5 +1,6 @@
 -- What importing a part does.
 use Rattle.std.specs.Prelude.{◌≡◌, ◌⊎◌, ◌≤◌, ℕ, length, Bool, List, [], ◌∷◌, false, IsTrue, Ok}
+use Rattle.std.specs.List.{Contains}
 use Rattle.fw_charge.specs.Charge.{Charge}
 use Rattle.fw_disk.specs.Volume.{View, LeavesOnly}
 use Rattle.fw_entry.specs.Entry.{EntryValue}
@@ -19,10 +20,10 @@ post_of origin number rows = record { origin = origin; seq = number; command = p
 abbrev pub IsPostOf : List ℕ → List ℕ → ℕ → List ℕ → EntryValue → Type 0
 IsPostOf currency origin number text e = (rows : List Charge) × RowsRead currency text (Ok rows) × (e ≡ post_of origin number rows)
 
--- the warehouse has the entry more; or it is as it was
+-- the warehouse has the entry more; or it had it, and is as it was
 abbrev pub Becomes : {V : Type 0} → Outcome → EntryValue → StoreState V → StoreState V → Type 0
 Becomes outcome.Added e old new = new.history ≡ with_more old.history (e ∷ [])
-Becomes outcome.Same e old new = new ≡ old
+Becomes outcome.Same e old new = (new ≡ old) × Contains old.history.entries e
 
 -- the store is as it was; or whatever a crash leaves since then stands for the warehouse as it was, or with one entry more at most
 abbrev pub MayStop : {V : Type 0} → Bool → (V → View) → StoreState V → StoreState V → Type 0

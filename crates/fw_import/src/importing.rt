@@ -1,5 +1,6 @@
 //! A part of a text as the post of an origin.
-ghost use Rattle.std.specs.Prelude.{◌≡◌, length, List, Ok, IfOk, OnErr};
+ghost use Rattle.std.specs.Prelude.{◌≡◌, length, List, Ok, IfOk, OnErr, OnOk};
+ghost use Rattle.std.specs.List.{Contains};
 ghost use Rattle.fw_charge.specs.Charge.{Charge};
 ghost use Rattle.fw_rows.specs.Rows.{RowsRead};
 ghost use Rattle.fw_snapshot.specs.History.{posted};
@@ -114,7 +115,9 @@ fn submit<V: Volume>(
 }
 
 // Compares an entry with the one that was accepted under its number.
-fn compare(alloc: Global, state: &State, entry: &Entry) -> Result<(), ImportFault> {
+fn compare(alloc: Global, state: &State, entry: &Entry) -> Result<(), ImportFault>
+    ensures { OnOk result (Contains state.now.entries entry.now) }
+{
     let Some(rows) = stored_post(alloc, state, entry.origin(), entry.seq())? else {
         return Err(ImportFault::Differs);
     };

@@ -6,8 +6,8 @@ use Rattle.fw_entry.specs.Entry.{EntryValue}
 use Rattle.fw_entry.specs.Spelling.{IsEntry}
 use Rattle.fw_snapshot.specs.Heads.{entries_of, head_of}
 use Rattle.fw_snapshot.proofs.HeadFacts.{entries_back}
+use Rattle.fw_import.proofs.Turns.{holds_there, next_in_turn}
 use Rattle.fw_dump.specs.Dumps.{IsDumpOf, IsTextOf}
-use Rattle.fw_dump.proofs.Left.{holds_there, next_in_turn}
 use Rattle.fw_dump.proofs.Sent.{dump_more, dump_none}
 use Rattle.fw_dump.proofs.dumping.dump.Goals as goal
 
