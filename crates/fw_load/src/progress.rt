@@ -1,12 +1,12 @@
 //! How far a load has come.
 
-/// Who is told how far a load has come.
+/// Shows how far a load has come.
 pub trait Progress {
-    /// So many files have been stored so far. It is told after each group, in the thread that called for the load.
+    /// So many files are stored. It is called after each group, on the thread that called [`load`](crate::load).
     fn stored(&mut self, files: usize);
 }
 
-/// Nobody is told.
+/// Shows nothing.
 impl Progress for () {
     fn stored(&mut self, _files: usize) {}
 }
