@@ -12,11 +12,14 @@ import decimal
 import html.parser
 import io
 import json
+import os
 import pathlib
+import re
 import struct
 import subprocess
 import sys
 import tempfile
+import time
 import unittest
 
 import expected
@@ -555,6 +558,80 @@ class Files(unittest.TestCase):
         self.assertEqual(counted, {group: len(at) for group, at in planted.items()})
         self.assertEqual(places, {group: at[:3] for group, at in planted.items()})
         self.assertEqual((status, found["records"], found["badRecords"], found["faults"]), (1, 4500, 900, 1000))
+
+
+class Progress(unittest.TestCase):
+    """What import and check print to a terminal while they read."""
+
+    ROWS, POST = 250_000, 4_096
+    # Rows, megabytes, and where the files have lengths all megabytes and the share; from the first second on the rate, and then the time left.
+    LINE = re.compile(r"(\d+) rows, (\d+) MB(?: of (\d+) MB, (\d+)%)?(?:, (\d+) MB/s(?:, (\d+) (s|min) left)?)?\x1b\[K")
+
+    @classmethod
+    def setUpClass(cls):
+        made = tempfile.TemporaryDirectory()
+        cls.addClassCleanup(made.cleanup)
+        cls.folder = pathlib.Path(made.name)
+        cls.file = cls.folder / "export.csv"
+        header = b"BilledCost,EffectiveCost,BillingCurrency,ChargeCategory,ChargePeriodStart,ChargePeriodEnd,Tags\n"
+        row = b'0.1,0.1,USD,Usage,2024-01-01T00:00Z,2024-01-01T01:00Z,"{""team"":""web"",""note"":""%s""}"\n' % (b"n" * 150)
+        cls.file.write_bytes(header + row * cls.ROWS)
+        cls.header, cls.row = len(header), len(row)
+
+    def told(self, *words, file=None):
+        """The lines of progress of a run over a terminal, each as its numbers; it has to end well."""
+        ours, terminal = os.openpty()
+        began = time.monotonic()
+        with open(file or os.devnull, "rb") as given:
+            with subprocess.Popen([PROGRAM, *words], stdin=given, stdout=subprocess.PIPE, stderr=terminal) as run:
+                os.close(terminal)
+                text = b""
+                # A terminal that nobody holds any more is read to its end, which is an error.
+                try:
+                    while part := os.read(ours, 65536):
+                        text += part
+                except OSError:
+                    os.close(ours)
+                self.printed = run.stdout.read().decode()
+        self.took = time.monotonic() - began
+        self.assertEqual(run.returncode, 0)
+        if not text:
+            return []
+        first, *lines = text.decode().split("\r")
+        self.assertEqual((first, lines.pop()), ("", "\n"))
+        found = [self.LINE.fullmatch(line) for line in lines]
+        self.assertNotIn(None, found)
+        return [[int(it) if it and it.isdigit() else it for it in line.groups()] for line in found]
+
+    def lines_add_up(self, lines):
+        """Each line has the rows and bytes of the posts so far, and the rate and time left that follow from its time."""
+        total = self.header + self.row * self.ROWS
+        rows = [min(at, self.ROWS) for at in range(0, self.ROWS + self.POST, self.POST)]
+        read = [self.header + self.row * it for it in rows]
+        self.assertEqual([line[0] for line in lines], rows)
+        self.assertEqual([line[1:4] for line in lines], [[it // 10**6, total // 10**6, it * 100 // total] for it in read])
+        timed = [(it, line[4], line[5] * (60 if line[6] == "min" else 1)) for it, line in zip(read, lines) if line[4] is not None]
+        self.assertGreater(len(timed), 2)
+        for it, rate, left in timed:
+            least = it // 10**6 // (rate + 1)
+            self.assertGreaterEqual(rate, it // 10**6 // (int(self.took) + 1))
+            self.assertGreaterEqual(left + 60, (total - it) * least // it)
+            self.assertLessEqual(left, (total - it) * self.took / it)
+        self.assertEqual(timed[-1][2], 0)
+
+    def test_an_import_tells_how_far_it_is(self):
+        words = ("import", "--dir", str(self.folder), "--origin", "aws", "--create")
+        self.lines_add_up(self.told(*words, str(self.file)))
+        self.assertIn(f"imported {self.ROWS} rows, 0 were there already", self.printed)
+        # Standard input has no length, whatever it is.
+        lines = self.told(*words, "-", file=self.file)
+        self.assertEqual([line[0] for line in lines][-1], self.ROWS)
+        self.assertEqual({(line[2], line[3], line[5]) for line in lines}, {(None, None, None)})
+        self.assertEqual(self.told(*words, "--quiet", str(self.file)), [])
+
+    def test_a_check_tells_how_far_it_is(self):
+        self.lines_add_up(self.told("check", str(self.file)))
+        self.assertEqual(self.told("check", "--quiet", str(self.file)), [])
 
 
 class Loads(unittest.TestCase):

@@ -15,6 +15,9 @@ const CURRENCY: &str = "currency";
 /// The id of the option that creates the warehouse.
 pub(crate) const CREATE: &str = "create";
 
+/// The id of the option that prints no progress.
+pub(crate) const QUIET: &str = "quiet";
+
 /// The version, which `--version` prints: the first number changes with what the program reads or writes.
 const VERSION: &str = "0.1.0";
 
@@ -57,6 +60,14 @@ pub(crate) fn create_option<'a>(alloc: Global, help: &'a str) -> Arg<'a> {
         .long("create")
         .action(ArgAction::SetTrue)
         .help(help)
+}
+
+/// The option that prints no progress.
+pub(crate) fn quiet_option<'a>(alloc: Global) -> Arg<'a> {
+    Arg::new(alloc, QUIET)
+        .long("quiet")
+        .action(ArgAction::SetTrue)
+        .help("Prints no progress")
 }
 
 /// The currency that the options name.

@@ -1,6 +1,8 @@
 //! `focusd check`: all faults of CSV exports, and what is in them.
+use crate::command_line::{QUIET, quiet_option};
 use crate::fault::Fault;
 use crate::output::print_answer;
+use crate::progress::Progress;
 use crate::wrong_use;
 use clap::{Arg, ArgAction, ArgMatches, Command};
 use fw_check::{Checker, as_json, as_text};
@@ -54,6 +56,7 @@ pub(crate) fn command<'a>(alloc: Global) -> Result<Command<'a>, AllocError> {
         .after_help(HELP)
         .arg(format)?
         .arg(currency)?
+        .arg(quiet_option(alloc))?
         .arg(files)
 }
 
@@ -64,9 +67,11 @@ pub(crate) fn run(rt: &HostRuntime, options: &ArgMatches<'_>) -> Result<ExitCode
         return Ok(wrong_use(rt, "--currency: it must be three capital letters, e.g. USD"));
     };
     let is_json = options.get_str(FORMAT) == Some("json");
+    let files = options.get_strs(FILES).unwrap_or(&[]);
+    let mut progress = Progress::new(rt, options.get_flag(QUIET), files);
     let mut is_clean = true;
-    for file in options.get_strs(FILES).unwrap_or(&[]) {
-        is_clean = check_named(rt, file, currency, is_json)? && is_clean;
+    for file in files {
+        is_clean = check_named(rt, file, currency, is_json, &mut progress)? && is_clean;
     }
     Ok(if is_clean {
         ExitCode::SUCCESS
@@ -81,12 +86,13 @@ fn check_named(
     file: &str,
     currency: Currency,
     is_json: bool,
+    progress: &mut Progress,
 ) -> Result<bool, Fault> {
     if file == "-" {
-        return check_file(rt, "standard input", rt.stdin(), currency, is_json);
+        return check_file(rt, "standard input", rt.stdin(), currency, is_json, progress);
     }
     match fs::open(rt, file) {
-        Ok(opened) => check_file(rt, file, opened, currency, is_json),
+        Ok(opened) => check_file(rt, file, opened, currency, is_json, progress),
         Err(error) => {
             let _ = eprintln!(rt; "focusd: {file}: {error}");
             Ok(false)
@@ -101,6 +107,7 @@ fn check_file<R: Read + Drop>(
     reader: R,
     currency: Currency,
     is_json: bool,
+    progress: &mut Progress,
 ) -> Result<bool, Fault> {
     let alloc = rt.alloc();
     let mut checker = Checker::new(alloc, currency);
@@ -109,23 +116,32 @@ fn check_file<R: Read + Drop>(
         Err(fault) => return refused(rt, name, fault),
     };
     checker.pass_header(cutter.header());
+    progress.took(rt, 0, cutter.header().len());
     for _ in 0..u64::MAX {
         let part = match cutter.next_part(alloc) {
             Ok(part) => part,
-            Err(fault) => return refused(rt, name, fault),
+            Err(fault) => {
+                progress.end(rt);
+                return refused(rt, name, fault);
+            }
         };
+        let before = checker.records;
         match checker.check(alloc, &part) {
             Ok(()) => {}
             Err(RowFault::NoMemory) => return Err(Fault::NoMemory),
             Err(fault) => {
+                progress.end(rt);
                 let _ = eprintln!(rt; "focusd: {name}: {fault}");
                 return Ok(false);
             }
         }
+        let records = checker.records.saturating_sub(before);
+        progress.took(rt, records, part.text.len().saturating_sub(part.header));
         if part.is_last {
             break;
         }
     }
+    progress.end(rt);
     let answer = if is_json {
         as_json(alloc, name, &checker)?
     } else {

@@ -1,6 +1,8 @@
 //! `focusd import`: CSV exports of any length are taken into a warehouse.
 use crate::advice::advised;
-use crate::command_line::{CREATE, DIR, create_option, currency_option, dir_option, read_currency};
+use crate::command_line::{
+    CREATE, DIR, QUIET, create_option, currency_option, dir_option, quiet_option, read_currency,
+};
 use crate::fault::Fault;
 use crate::progress::Progress;
 use crate::wrong_use;
@@ -22,8 +24,6 @@ const ORIGIN: &str = "origin";
 
 const FILES: &str = "files";
 
-const QUIET: &str = "quiet";
-
 const HELP: &str =
     "The records of each FILE are posted in order, as many as a post can have: 4,096 rows, and 2 MiB of the file. `-` is
 standard input. A file's first record is its header, which may be another one in each file.
@@ -34,6 +34,9 @@ in the order of the files. So give each export an origin of its own, or list all
 An import that was stopped goes on where it stopped: run it again with the same files. Each post that is there already is
 compared with the file; where they differ, as when a file has changed, the import stops and says so. A post is taken whole
 or not at all, and it is on the disk, by the word of the system, before the next one is read.
+
+Progress is printed to standard error where that is a terminal: the rows, the megabytes, and of files also the share that was
+read and the time that is left.
 
 Example: an export into a new warehouse, and one that is compressed
   focusd import --dir costs --create --origin aws-2024-01 january.csv
@@ -55,10 +58,6 @@ pub(crate) fn command<'a>(alloc: Global) -> Result<Command<'a>, AllocError> {
         .num_args(1..)
         .action(ArgAction::Append)
         .help("A CSV with the columns of FOCUS 1.0, or `-` for standard input");
-    let quiet = Arg::new(alloc, QUIET)
-        .long("quiet")
-        .action(ArgAction::SetTrue)
-        .help("Prints no progress");
     Command::new(alloc, "import")
         .about("Takes CSV exports of any length into a warehouse")
         .after_help(HELP)
@@ -73,7 +72,7 @@ pub(crate) fn command<'a>(alloc: Global) -> Result<Command<'a>, AllocError> {
         ))?
         .arg(currency_option(alloc))?
         .arg(origin)?
-        .arg(quiet)?
+        .arg(quiet_option(alloc))?
         .arg(files)
 }
 
@@ -135,8 +134,9 @@ fn import_files(
         added: 0,
         same: 0,
     };
-    let mut progress = Progress::new(rt, options.get_flag(QUIET));
-    for file in options.get_strs(FILES).unwrap_or(&[]) {
+    let files = options.get_strs(FILES).unwrap_or(&[]);
+    let mut progress = Progress::new(rt, options.get_flag(QUIET), files);
+    for file in files {
         if !import_named(rt, &mut store, &mut standing, &mut progress, file)? {
             return Ok(ExitCode::FAILURE);
         }
@@ -188,6 +188,7 @@ fn import_file<R: Read + Drop, V: Volume>(
     };
     let mut line = line_feeds(cutter.header()).saturating_add(1);
     let mut record: u64 = 1;
+    progress.took(rt, 0, cutter.header().len());
     for _ in 0..u64::MAX {
         let part = match cutter.next_part(alloc) {
             Ok(part) => part,
@@ -201,7 +202,7 @@ fn import_file<R: Read + Drop, V: Volume>(
                 }
                 record = record.saturating_add(taken.rows);
                 standing.number = standing.number.saturating_add(1);
-                progress.took(rt, taken.rows, part.text.len());
+                progress.took(rt, taken.rows, body_of(&part).len());
             }
             // What follows the last record, as a line feed, is no post.
             Err(ImportFault::Rows(RowFault::NoRows)) if record > 1 => {}
