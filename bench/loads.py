@@ -1,12 +1,15 @@
 #!/usr/bin/env python3
 """Measures how fast small posts are stored by 1, 8 and 64 importers at once, as Markdown.
 
-    python3 bench/loads.py --date 2026-01-31 --scratch /a/folder/on/the/disk > result.md
+    python3 bench/loads.py --date 2026-01-31 --scratch /a/folder/on/the/disk [--slow-sync 5] > result.md
 
 Each turn is a new folder and one `focusd load` of N files of one row each, each posted from a thread of its own; what waits together is
 stored as one group, with one pair of syncs. The time of a run with an empty script, which creates the same folder, is taken off, so that
 starting the program isn't counted. Beside it: SQLite with a write-ahead log and synchronous=FULL, N rows in transactions of their own, one
 after the other. Each load must answer `accepted` for each file, `stale 0` and the right counts.
+
+How much groups help depends on what a sync costs. With `--slow-sync 5` each sync, of focusd as of SQLite, takes 5 milliseconds longer
+(slow_sync.c, built by `cc`), as on a disk that turns or lies behind a network.
 
 Exit status: 0 all answers are right, 1 one isn't, 2 a wrong command line or a machine on which nothing can be measured.
 """
@@ -96,7 +99,21 @@ class Room:
         return statistics.median(took)
 
 
+def slowed(options):
+    """Starts this program again, with a library that makes each sync of it and of its children slower."""
+    os.makedirs(options.scratch, exist_ok=True)
+    library = os.path.join(os.path.abspath(options.scratch), "slow_sync.so")
+    try:
+        subprocess.run(["cc", "-shared", "-fPIC", "-O2", "-o", library, os.path.join(HERE, "slow_sync.c"), "-ldl"], check=True)
+    except (OSError, subprocess.CalledProcessError) as why:
+        raise Stopped(f"slow_sync.c can't be built: {why}") from why
+    given = dict(os.environ, LD_PRELOAD=library, SLOW_SYNC=str(options.slow_sync))
+    os.execve(sys.executable, [sys.executable, *sys.argv], given)
+
+
 def run(options):
+    if options.slow_sync and os.environ.get("SLOW_SYNC") != str(options.slow_sync):
+        slowed(options)
     if not os.access(options.program, os.X_OK):
         raise Stopped(f"{options.program} isn't there: build it by `examples/run --proved`")
     os.makedirs(options.scratch, exist_ok=True)
@@ -132,6 +149,7 @@ def main():
     parser.add_argument("--turns", type=whole_number, default=21, help="default: 21")
     parser.add_argument("--date", default="", help="the date that the result carries")
     parser.add_argument("--program", default=os.path.join(ROOT, "out", "focusd"), help="default: out/focusd")
+    parser.add_argument("--slow-sync", type=int, default=0, metavar="MS", help="each sync takes so many milliseconds longer (default: 0)")
     parser.add_argument("--scratch", default=os.path.join(HERE, "scratch"), help="default: bench/scratch")
     try:
         return run(parser.parse_args())

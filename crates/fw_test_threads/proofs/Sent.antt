@@ -15,13 +15,19 @@ use Rattle.fw_threads.specs.contracts.importer.Importer as Importer
 use Rattle.fw_threads.specs.declared.naming.Naming as Naming
 use Rattle.fw_threads.proofs.Captures.{closure_send}
 use Rattle.fw_threads.proofs.Sent.{analyst_send, flusher_send, importer_send}
+use Rattle.fw_test_threads.specs.contracts.seats.Posting as Posting
 use Rattle.fw_test_threads.specs.contracts.seats.Seats as Seats
+use Rattle.fw_test_threads.proofs.seats.Signs.TheSendSync as signs
 use Rattle.fw_test_threads.specs.contracts.ends.Held as Held
 
 module _ (J : RattleType) (g : Naming.Ghosts J.Denot) where
   pub seats_sync : IsSync (Seats.the_row J g)
   seats_sync = recorded_sync _ _ _ (Seats.the_type J g).to_one (struct_sync (shape (Seats.the_type J g))
       (search sendable, (Mutex-sync _ (Vec-send (Importer.the_row J g) (importer_send J g)), (search (analyst_send J g, crosses, sendable) depth 20, (search (crosses, sendable) depth 20, tt)))))
+
+  pub posting_sync : IsSync (Posting.the_row J g)
+  posting_sync = recorded_sync _ _ _ (Posting.the_type J g).to_one (struct_sync (shape (Posting.the_type J g))
+      (search sendable, (Mutex-sync _ (Vec-send (Importer.the_row J g) (importer_send J g)), (signs.the_field_sync, tt))))
 
 module _ (κ : NamedLft) (J V R : RattleType) (g : Naming.Ghosts J.Denot) (v : Volume.Ghosts V.Denot) (s : IsSend V) (y : IsSync R) where
   pub held_send : IsSend (Held.the_row κ J V R g v)

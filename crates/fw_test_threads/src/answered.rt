@@ -2,7 +2,7 @@
 ghost use Rattle.std.specs.Prelude.{◌≡◌};
 
 use crate::ends::{Held, Left, created, memory, outcome_of, post};
-use crate::seats::{ALL, Seats, Tally};
+use crate::seats::{ALL, IMPORTERS, Seats, Tally};
 use fw_disk::MemVolume;
 use fw_group::Answer;
 use fw_recover::StoreFault;
@@ -13,9 +13,6 @@ use std::process::Abort;
 use std::sync::{Mutex, Wait};
 use std::test::*;
 use std::thread::{Threads, join};
-
-/// How many importers post at once.
-const IMPORTERS: usize = 8;
 
 /// How many entries each posts.
 const ENTRIES: u8 = 4;
@@ -39,7 +36,7 @@ fn one<J: Naming, R: Wait>(rt: &R, seats: &Seats<J>, origin: u8) {
     };
     let mut importer = importer;
     for place in 0..ENTRIES {
-        let answer = post(rt, seats.alloc, &mut importer, origin, place + 1);
+        let answer = post(rt, seats.alloc, &mut importer, origin, u16::from(place) + 1);
         let viewed = look(rt, seats, &answer);
         seats.tally.lock(rt).note(outcome_of(&answer), viewed);
     }

@@ -11,11 +11,20 @@ use std::alloc::Global;
 use std::sync::Wait;
 
 /// The entry of a number of an origin. It sets a policy.
-pub(crate) fn entry(alloc: Global, origin: u8, seq: u8) -> Result<Entry, StoreFault> {
-    let bytes = [
-        1, 0, 0, 0, origin, seq, 0, 0, 0, 0, 0, 0, 0, 3, 1, 0, 0, 0, 0x74, 0, 0, 0, 0,
-    ];
-    match decode_entry(alloc, Form::One, &bytes) {
+fn entry(alloc: Global, origin: u8, seq: u16) -> Result<Entry, StoreFault> {
+    let low = (seq % 256) as u8;
+    let high = (seq / 256) as u8;
+    decoded(
+        alloc,
+        &[
+            1, 0, 0, 0, origin, low, high, 0, 0, 0, 0, 0, 0, 3, 1, 0, 0, 0, 0x74, 0, 0, 0, 0,
+        ],
+    )
+}
+
+/// The entry of these bytes.
+pub(crate) fn decoded(alloc: Global, bytes: &[u8]) -> Result<Entry, StoreFault> {
+    match decode_entry(alloc, Form::One, bytes) {
         Ok(entry) => Ok(entry),
         Err(_) => Err(StoreFault::NoMemory),
     }
@@ -53,7 +62,7 @@ pub(crate) fn post<J: Naming, R: Wait>(
     alloc: Global,
     importer: &mut Importer<J>,
     origin: u8,
-    seq: u8,
+    seq: u16,
 ) -> Answer<Published<J>> {
     match entry(alloc, origin, seq) {
         Ok(entry) => importer.post(rt, entry),

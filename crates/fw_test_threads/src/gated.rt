@@ -15,9 +15,19 @@ use std::sync::atomic::{AtomicBool, Ordering};
 use std::sync::{Arc, Wait};
 use std::test::*;
 use std::thread::{Threads, join, yield_now};
+use std::time::{Clock, Instant};
 
 /// How often each side looks for the other before it gives up.
 const TURNS: u32 = 1_000_000;
+
+/// Views are timed in so many batches.
+const BATCHES: u32 = 50;
+
+/// How many views a batch has.
+const VIEWS: u64 = 200;
+
+/// A view beside a commit takes at most so many times as long as one at rest.
+const MOST_TIMES: u64 = 10;
 
 /// What the two sides of a gate share.
 #[derive(Drop)]
@@ -82,18 +92,45 @@ impl Gate for Waits {
     }
 }
 
-/// What a thread saw beside a commit: how many entries it viewed while the commit stood before the gate, if it did.
-type Beside = Option<usize>;
+// The nanos that the fastest batch of views took. `None` where nothing can be viewed, or no clock can be read.
+fn fastest<J: Naming, R: Clock>(rt: &R, analyst: &mut Analyst<J>) -> Option<u64> {
+    let mut least = u64::MAX;
+    for _ in 0..BATCHES {
+        least = least.min(batch(rt, analyst)?);
+    }
+    Some(least)
+}
+
+// The nanos that a batch of views took.
+fn batch<J: Naming, R: Clock>(rt: &R, analyst: &mut Analyst<J>) -> Option<u64> {
+    let start = Instant::now(rt).ok()?;
+    for _ in 0..VIEWS {
+        if analyst.view().is_err() {
+            return None;
+        }
+    }
+    let took = start.elapsed(rt).ok()?;
+    u64::try_from(took.as_nanos()).ok()
+}
+
+/// What a thread saw while a commit stood before the gate, if it stood there all the while: how many entries it viewed, and the nanos of
+/// its fastest batch of views.
+type Beside = Option<(usize, u64)>;
 
 // Views once a sync stands before the shut gate, and then opens it.
-fn view_held<J: Naming>(analyst: Analyst<J>, latch: &Latch) -> (Analyst<J>, Beside) {
+fn view_held<J: Naming, R: Clock>(
+    rt: &R,
+    analyst: Analyst<J>,
+    latch: &Latch,
+) -> (Analyst<J>, Beside) {
     let mut analyst = analyst;
     wait_until_held(latch);
-    let seen = analyst.view();
+    let entries = entries_seen(&mut analyst);
+    let nanos = fastest(rt, &mut analyst);
     let held = latch.holds();
     latch.set_open(true);
-    match seen {
-        Ok(seen) if held => (analyst, Some(seen.state().entries())),
+    match nanos {
+        Some(nanos) if held => (analyst, Some((entries, nanos))),
         _ => (analyst, None),
     }
 }
@@ -155,15 +192,36 @@ fn gated_ends<'a, J: Naming, R: Wait>(
     }
 }
 
-fn viewed<J: Naming + Send + Sync, R: Threads + Wait + Abort + Sync>(
+/// How many nanos the fastest batch of views took.
+#[derive(Clone, Copy, Debug, PartialEq, Eq)]
+struct Times {
+    rest: u64,
+    beside: u64,
+}
+
+// The times of views, at rest and beside a commit. The latter have to be of nothing, and not to take many times as long.
+fn times_of<R: Abort>(rt: &R, rest: Option<u64>, seen: Beside) -> Result<Times, Fail> {
+    let (Some(rest), Some((entries, beside))) = (rest, seen) else {
+        return Err(Fail::from("no view was timed"));
+    };
+    assert_eq!(rt; entries, 0);
+    assert!(rt;
+        beside <= rest.saturating_mul(MOST_TIMES),
+        "{beside} and {rest} ns"
+    );
+    Ok(Times { rest, beside })
+}
+
+fn viewed<J: Naming + Send + Sync, R: Threads + Wait + Abort + Clock + Sync>(
     rt: &R,
     alloc: Global,
     opened: Opened,
-) -> Result<(), Fail>
+) -> Result<Times, Fail>
     requires { (opened.fronts ≡ J.fronts) × (opened.posts ≡ J.posts) }
 {
     let latch = Arc::new(alloc, Latch::new())?;
-    let (held, importer, analyst) = gated_ends::<J, R>(rt, alloc, opened, &latch)?;
+    let (held, importer, mut analyst) = gated_ends::<J, R>(rt, alloc, opened, &latch)?;
+    let rest = fastest(rt, &mut analyst);
     latch.set_open(false);
     let watched: &Latch = &latch;
     let (left, (told, (analyst, seen))) = join(
@@ -173,7 +231,7 @@ fn viewed<J: Naming + Send + Sync, R: Threads + Wait + Abort + Sync>(
             join(
                 rt,
                 move || post_one(rt, alloc, importer),
-                move || view_held(analyst, watched),
+                move || view_held(rt, analyst, watched),
             )
         },
     );
@@ -183,19 +241,23 @@ fn viewed<J: Naming + Send + Sync, R: Threads + Wait + Abort + Sync>(
     if told == Told::NoMemory {
         return Err(Fail::from(StoreFault::NoMemory));
     }
-    assert_eq!(rt; (left.entries, told, seen), (1, Told::Accepted(1), Some(0)));
+    assert_eq!(rt; (left.entries, told), (1, Told::Accepted(1)));
     assert!(rt; !latch.gave_up.load(Ordering::SeqCst));
     // The flusher has ended, so there is nothing to view.
     let mut analyst = analyst;
     assert!(rt; analyst.view().is_err());
-    Ok(())
+    times_of(rt, rest, seen)
 }
 
-/// A commit is held in its sync until an analyst on another thread was answered. The view has nothing of the group; the post is accepted
-/// once the gate is open, and the gate never gives up.
+/// A commit is held in its sync until an analyst on another thread was answered, many times over. The view has nothing of the group; the
+/// post is accepted once the gate is open, and the gate never gives up. A view takes about as long as one at rest: both times are printed.
 #[test]
 fn view_while_sync(rt: HostRuntime) -> Result<(), Fail> {
-    viewed::<Brand, _>(&rt, rt.alloc(), Opened::new())
+    let times = viewed::<Brand, _>(&rt, rt.alloc(), Opened::new())?;
+    let rest = times.rest / VIEWS;
+    let beside = times.beside / VIEWS;
+    println!(rt; "views: {rest} ns at rest, {beside} ns while a commit syncs")?;
+    Ok(())
 }
 
 // Commits the first group, and makes a checkpoint that is held at the gate. Then it commits until all importers have left.

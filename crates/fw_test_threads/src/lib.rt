@@ -10,4 +10,6 @@ mod ends;
 mod gated;
 #[cfg(test)]
 mod refused;
+#[cfg(test)]
+mod reported;
 mod seats;

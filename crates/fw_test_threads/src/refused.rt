@@ -27,7 +27,7 @@ fn post_first<J: Naming, R: Wait>(
     let mut importer = importer;
     let mut all = [Told::Other; 2];
     for place in 0..count.min(2) {
-        let answer = post(rt, alloc, &mut importer, origin, place + 1);
+        let answer = post(rt, alloc, &mut importer, origin, u16::from(place) + 1);
         all[usize::from(place)] = outcome_of(&answer);
     }
     importer.leave(rt);
