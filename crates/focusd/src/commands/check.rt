@@ -89,7 +89,14 @@ fn check_named(
     progress: &mut Progress,
 ) -> Result<bool, Fault> {
     if file == "-" {
-        return check_file(rt, "standard input", rt.stdin(), currency, is_json, progress);
+        return check_file(
+            rt,
+            "standard input",
+            rt.stdin(),
+            currency,
+            is_json,
+            progress,
+        );
     }
     match fs::open(rt, file) {
         Ok(opened) => check_file(rt, file, opened, currency, is_json, progress),
