@@ -22,14 +22,17 @@ import sys
 
 from bench import HERE, ROOT, Stopped, Turns, load, machine, measure, say, verdict, whole_number
 
+# How many times as long as at rest a view may take. For a report there is no such goal: with eight importers and a flusher there are more
+# threads than most machines have cores.
 MOST_TIMES = 2
 
 
 class Timed(Turns):
     """A test that prints two times: one at rest, and one beside threads that work."""
 
-    def __init__(self, name, program, test, line, unit):
+    def __init__(self, name, program, test, line, unit, has_goal):
         super().__init__(name)
+        self.has_goal = has_goal
         self.command, self.line, self.unit = [program, test], re.compile(line), unit
         self.pairs = []
 
@@ -68,6 +71,7 @@ def tests_of(program):
             "gated::view_while_sync",
             r"views: (\d+) ns at rest, (\d+) ns while a commit syncs",
             "ns",
+            has_goal=True,
         ),
         Timed(
             "a report of 65,536 rows while eight importers post",
@@ -75,6 +79,7 @@ def tests_of(program):
             "reported::a_report_beside_importers",
             r"reports: (\d+) us at rest, (\d+) us while 8 importers post",
             "us",
+            has_goal=False,
         ),
     ]
 
@@ -92,7 +97,7 @@ def table(tests):
 
 
 def goals(tests):
-    for test in tests:
+    for test in (it for it in tests if it.has_goal):
         goal = f"Goal, {test.name}: at most {MOST_TIMES} times as long as at rest"
         if test.fault:
             yield f"{goal}: not judged, the test {test.fault}"

@@ -17,7 +17,6 @@ use Rattle.fw_threads.proofs.Captures.{closure_send}
 use Rattle.fw_threads.proofs.Sent.{analyst_send, flusher_send, importer_send}
 use Rattle.fw_test_threads.specs.contracts.seats.Posting as Posting
 use Rattle.fw_test_threads.specs.contracts.seats.Seats as Seats
-use Rattle.fw_test_threads.proofs.seats.Signs.TheSendSync as signs
 use Rattle.fw_test_threads.specs.contracts.ends.Held as Held
 
 module _ (J : RattleType) (g : Naming.Ghosts J.Denot) where
@@ -27,7 +26,7 @@ module _ (J : RattleType) (g : Naming.Ghosts J.Denot) where
 
   pub posting_sync : IsSync (Posting.the_row J g)
   posting_sync = recorded_sync _ _ _ (Posting.the_type J g).to_one (struct_sync (shape (Posting.the_type J g))
-      (search sendable, (Mutex-sync _ (Vec-send (Importer.the_row J g) (importer_send J g)), (signs.the_field_sync, tt))))
+      (search sendable, (Mutex-sync _ (Vec-send (Importer.the_row J g) (importer_send J g)), (search (crosses, sendable) depth 20, tt))))
 
 module _ (κ : NamedLft) (J V R : RattleType) (g : Naming.Ghosts J.Denot) (v : Volume.Ghosts V.Denot) (s : IsSend V) (y : IsSync R) where
   pub held_send : IsSend (Held.the_row κ J V R g v)
