@@ -25,7 +25,7 @@ use Rattle.fw_cover.specs.Offers.{OfferValue, offer_for, offers_by, offers_of, o
 use Rattle.fw_cover.specs.declared.offers.Offer.{Offer}
 use Rattle.fw_cover.specs.declared.pair.Pair.{Pair}
 use Rattle.fw_cover.proofs.Sorting.{two_ways, in_order_stable}
-use Rattle.fw_cover.specs.declared.pair.RankedPair.{RankedPair}
+use Rattle.fw_cover.specs.Ranked.{RankedPair}
 use Rattle.fw_cover.proofs.ByCommitment.{ranked, ranked_for, ranked_at, filter_none}
 use Rattle.fw_cover.proofs.Listing.{no_pairs}
 

@@ -3,6 +3,7 @@ pub mod Sorting
 pub mod Ranks
 pub mod Within
 pub mod ByCommitment
+pub mod ByRank
 pub mod Listing
 pub mod Index
 pub mod RosterFacts

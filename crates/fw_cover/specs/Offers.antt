@@ -12,7 +12,7 @@ use Rattle.fw_cover.specs.Applies.{Listing, listings, fits, is_open}
 use Rattle.fw_cover.specs.Order.{in_order}
 use Rattle.fw_cover.specs.PlacedView.{placed_of}
 use Rattle.fw_cover.specs.declared.offers.Offer.{Offer}
-use Rattle.fw_cover.specs.declared.pair.RankedPair.{RankedPair}
+use Rattle.fw_cover.specs.Ranked.{RankedPair}
 
 -- a SKU, its rate, and the commitment that lists it, beside its places in the order and in the list
 pub record OfferValue : Type 0 where

@@ -118,7 +118,7 @@ impl<'a> Roster<'a> {
         ensures row_left { IfOk result (λ h. (r : ℕ) → taken_of_row r h.taken.items + slice_index h.row_left.items r ≡ slice_index (quantities_of (map (λ r. r.now) rows.now)) r) }
         ensures unused { IfOk result (λ h. (c : ℕ) → used_of c h.taken.items + slice_index h.unused.items c ≡ slice_index (capacities_of self.now.commitments) c) }
     {
-        let pairs = pairs_in_order(alloc, &self.index, rows, hour)?;
+        let pairs = pairs_in_order(alloc, &self.index, self.order.len(), rows, hour)?;
         let billed = billed_costs(alloc, rows)?;
         let quantities = quantities(alloc, rows)?;
         cover_pairs(alloc, &pairs, &billed, &quantities, &self.capacities)
