@@ -12,11 +12,12 @@ use Rattle.std.proofs.lemmas.List.Elements.{All-filter, All-head, All-nil, All-t
 use Rattle.std.proofs.lemmas.List.FromFn.{length-map-range_with_len, get_or-map-range_with_len, map-range_with_len_more}
 use Rattle.fw_charge.specs.Charge.{Charge}
 use Rattle.fw_cover.specs.Applies.{fits, is_open}
-use Rattle.fw_cover.specs.Offers.{OfferValue, offered, pair_by, pairs_with}
+use Rattle.fw_cover.specs.Offers.{OfferValue, list_for, offered_in, pair_by, pairs_with}
 use Rattle.fw_cover.specs.Order.{in_order, has_lower_rate}
 use Rattle.fw_cover.specs.Ranked.{RankedPair, by_rank, compare_ranked, of_rank, ranked_before}
 use Rattle.fw_cover.specs.declared.pair.Pair.{Pair}
 use Rattle.fw_cover.proofs.ByCommitment.{filter_every, filter_none, one_rank, parted, ranked}
+use Rattle.fw_cover.proofs.Lists.{all_at, filter_both, put_in}
 use Rattle.fw_cover.proofs.Sorting.{two_ways}
 use Rattle.fw_cover.proofs.Within.{all_filter_map, all_flat_map}
 
@@ -32,35 +33,11 @@ of_rank-own all q rank same = of_rank-more all q rank ∙ (rw (eq-eqb q.rank ran
 of_rank-other : (all : List RankedPair) (q : RankedPair) (rank : ℕ) → q.rank ≢ rank → of_rank (all ++ q ∷ []) rank ≡ of_rank all rank
 of_rank-other all q rank other = of_rank-more all q rank ∙ (rw (ne_eqb q.rank rank other) (append-nil (of_rank all rank)))
 
-pub put_in : (ranks : ℕ) (all : List RankedPair) (q : RankedPair) (old new : List (List Pair)) → q.rank < ranks → old ≡ by_rank ranks all → new ≡ set old q.rank (get_or old q.rank [] ++ q.pair ∷ [])
+pub put_pair : (ranks : ℕ) (all : List RankedPair) (q : RankedPair) (old new : List (List Pair)) → q.rank < ranks → old ≡ by_rank ranks all → new ≡ set old q.rank (get_or old q.rank [] ++ q.pair ∷ [])
     → new ≡ by_rank ranks (all ++ q ∷ [])
-put_in ranks all q old new within was put =
-    let pushed : List Pair = get_or old q.rank [] ++ q.pair ∷ [] in
-    let long : length old ≡ ranks = ap length was ∙ length-map-range_with_len (of_rank all) 0 ranks in
-    let longer : length new ≡ ranks = ap length put ∙ length-set old q.rank pushed ∙ long in
-    ext_get_or [] new (by_rank ranks (all ++ q ∷ [])) (longer ∙ sym (length-map-range_with_len (of_rank (all ++ q ∷ [])) 0 ranks))
-    (λ j l.
-    let inside : j < ranks = omega (arith, l, longer) in
-    let now : get_or (by_rank ranks (all ++ q ∷ [])) j [] ≡ of_rank (all ++ q ∷ []) j = get_or-map-range_with_len (of_rank (all ++ q ∷ [])) 0 ranks j j [] inside (omega arith) in
-    let before : get_or old j [] ≡ of_rank all j = ap (λ x. get_or x j []) was ∙ get_or-map-range_with_len (of_rank all) 0 ranks j j [] inside (omega arith) in
-    let written : get_or new j [] ≡ get_or (set old q.rank pushed) j [] = ap (λ x. get_or x j []) put in
-    ⊎_elim
-    (λ (same : q.rank ≡ j).
-    let here : get_or (set old q.rank pushed) j [] ≡ pushed = rw (← same) (get_or-set_same old q.rank pushed [] (omega (arith, within, long))) in
-    let was_here : get_or old q.rank [] ≡ of_rank all j = ap (λ x. get_or old x []) same ∙ before in
-    written ∙ here ∙ ap (λ l. l ++ q.pair ∷ []) was_here ∙ sym (of_rank-own all q j same) ∙ sym now)
-    (λ (other : q.rank ≢ j).
-    let apart : j ≢ q.rank = λ e. other (sym e) in
-    written ∙ get_or-set_other old q.rank j pushed [] apart ∙ before ∙ sym (of_rank-other all q j other) ∙ sym now)
-    (cases_eq q.rank j))
+put_pair ranks all q old new within was put = put_in ranks q.rank (of_rank all) (of_rank (all ++ q ∷ [])) q.pair (of_rank-own all q) (of_rank-other all q) old new within was put
 
 -- ---- the lists one after another
-filter_both : {X : Type 0} (p q r : X → Bool) → ((x : X) → (p x && q x) ≡ r x) → (xs : List X) → filter q (filter p xs) ≡ filter r xs
-filter_both p q r both [] = refl
-filter_both p q r both (x ∷ xs) = two_ways (p x)
-    (λ holds. let same : q x ≡ r x = sym (ap (λ b. b && q x) holds) ∙ both x in rw (holds, same, filter_both p q r both xs) refl)
-    (λ fails. let none : false ≡ r x = sym (ap (λ b. b && q x) fails) ∙ both x in rw (fails, ← none) (filter_both p q r both xs))
-
 abbrev is_below : ℕ → RankedPair → Bool
 is_below n q = nat_lt q.rank n
 
@@ -136,17 +113,18 @@ rank_of_pair n hour row o is q h = two_ways (fits o.standing.1.1 hour row.1)
     (λ holds. let e : Some (ranked o.standing.0 (record { commitment = o.standing.1.0; row = row.0; rate = o.rate })) ≡ Some q = rw holds at h in subst (λ p. IfSome p (λ q. q.rank < n)) e is)
     (λ fails. absurd (let e : None ≡ Some q = rw fails at h in cc))
 
-ranks_of_row : (n hour : ℕ) (index : List OfferValue) (row : ℕ × Charge) → All (IsOfRank n) index → All (λ q. q.rank < n) (pairs_with hour index row)
+ranks_of_row : (n hour : ℕ) (table : List (List OfferValue)) (row : ℕ × Charge) → All (All (IsOfRank n)) table → All (λ q. q.rank < n) (pairs_with hour table row)
 unfolding pairs_with
-ranks_of_row n hour index row all = two_ways (is_open hour row.1) (λ holds. rw holds (of_sku row.1.sku)) (λ fails. rw fails (All-nil (λ q. q.rank < n)))
+ranks_of_row n hour table row all = two_ways (is_open hour row.1) (λ holds. rw holds (of_sku row.1.sku)) (λ fails. rw fails (All-nil (λ q. q.rank < n)))
   where
-    of_sku : (sku : Option (List ℕ)) → All (λ q. q.rank < n) (option_map_or (λ sku. filter_map (pair_by hour row) (offered sku index)) sku [])
+    of_sku : (sku : Option (List ℕ)) → All (λ q. q.rank < n) (option_map_or (λ sku. filter_map (pair_by hour row) (offered_in sku table)) sku [])
     of_sku None = All-nil (λ q. q.rank < n)
-    of_sku (Some sku) = all_filter_map (λ q. q.rank < n) (pair_by hour row) (offered sku index)
-        (λ k d lt q h. rank_of_pair n hour row (get_or (offered sku index) k d) (All-filter (λ o. bytes_eq o.sku sku) (IsOfRank n) index all k d lt) q h)
+    of_sku (Some sku) = all_filter_map (λ q. q.rank < n) (pair_by hour row) (offered_in sku table)
+        (λ k d lt q h. rank_of_pair n hour row (get_or (offered_in sku table) k d)
+        (All-filter (λ o. bytes_eq o.sku sku) (IsOfRank n) (get_or table (list_for (length table) sku) []) (all_at (IsOfRank n) table (list_for (length table) sku) all) k d lt) q h)
 
-pub ranks_within : (n hour : ℕ) (index : List OfferValue) (rows : List (ℕ × Charge)) → All (λ o. o.standing.0 < n) index → All (λ q. q.rank < n) (flat_map (pairs_with hour index) rows)
-ranks_within n hour index rows all = all_flat_map (λ q. q.rank < n) (pairs_with hour index) rows (λ k d lt. ranks_of_row n hour index (get_or rows k d) all)
+pub ranks_within : (n hour : ℕ) (table : List (List OfferValue)) (rows : List (ℕ × Charge)) → All (All (λ o. o.standing.0 < n)) table → All (λ q. q.rank < n) (flat_map (pairs_with hour table) rows)
+ranks_within n hour table rows all = all_flat_map (λ q. q.rank < n) (pairs_with hour table) rows (λ k d lt. ranks_of_row n hour table (get_or rows k d) all)
 
 -- a lower rate goes first
 pub rate_before : (λ (p q : Pair). is_lt (nat_cmp (unwrap_or p.rate 0) (unwrap_or q.rate 0))) ≡ has_lower_rate

@@ -1,11 +1,11 @@
 //! The pairs of an hour: which commitments apply to which rows, and in which order.
-ghost use Rattle.std.specs.Prelude.{◌≡◌, ◌<◌, ◌++◌, ◌∷◌, [], List, All, OnOk, IfOk, map, unwrap_or, vec_len};
+ghost use Rattle.std.specs.Prelude.{◌≡◌, ◌<◌, ◌++◌, ◌∷◌, [], List, All, OnOk, IfOk, length, map, unwrap_or, vec_len};
 ghost use Rattle.std.specs.List.{cons_option, filter_map, flat_map, enumerate_from};
 ghost use Rattle.std.specs.List.Sorted.{IsSortedBy};
 ghost use Rattle.std.specs.Ordering.{nat_cmp};
 ghost use Rattle.fw_terms.specs.TermsView.{terms_view};
 ghost use Rattle.fw_cover.specs.Applies.{allows, has_unit, is_text, fits, is_open};
-ghost use Rattle.fw_cover.specs.Offers.{offer_of, offer_before, pair_by, pairs_with};
+ghost use Rattle.fw_cover.specs.Offers.{offer_of, offer_before, pair_by, pairs_with, table_view};
 ghost use Rattle.fw_cover.specs.Order.{has_lower_rate, in_order};
 ghost use Rattle.fw_cover.specs.Ranked.{RankedPair, by_rank, ranked_before};
 
@@ -127,21 +127,22 @@ fn add_pairs(
 /// Adds the pairs of a row.
 fn add_row(
     lists: &mut Vec<Vec<Pair>>,
-    index: &[Offer],
+    table: &[Vec<Offer>],
     hour: u32,
     at: usize,
     row: &LentRow<'_>,
 ) -> Result<(), AllocError>
-    requires sorted { IsSortedBy (λ a b. offer_before (offer_of a) (offer_of b)) index.now }
-    requires ranks { All (λ o. o.standing.0 < vec_len lists.old) (map offer_of index.now) }
-    ensures pairs { OnOk result ((all : List RankedPair) → map (λ l. l.items) lists.old.items ≡ by_rank (vec_len lists.old) all → map (λ l. l.items) lists.new.items ≡ by_rank (vec_len lists.old) (all ++ pairs_with hour (map offer_of index.now) (at, row.now))) }
+    requires some { 0 < length table.now }
+    requires sorted { All (IsSortedBy offer_before) (table_view table.now) }
+    requires ranks { All (All (λ o. o.standing.0 < vec_len lists.old)) (table_view table.now) }
+    ensures pairs { OnOk result ((all : List RankedPair) → map (λ l. l.items) lists.old.items ≡ by_rank (vec_len lists.old) all → map (λ l. l.items) lists.new.items ≡ by_rank (vec_len lists.old) (all ++ pairs_with hour (table_view table.now) (at, row.now))) }
     ensures many { vec_len lists.new ≡ vec_len lists.old }
 {
     if !is_open(row, hour) {
         return Ok(());
     }
     match row.sku() {
-        Some(sku) => add_pairs(lists, offered(index, sku), hour, at, row),
+        Some(sku) => add_pairs(lists, offered(table, sku), hour, at, row),
         None => Ok(()),
     }
 }
@@ -149,18 +150,19 @@ fn add_row(
 /// The pairs of the rows, those of each commitment of the order in a list of their own, in the order of the rows.
 fn pairs_by_rank(
     alloc: Global,
-    index: &[Offer],
+    table: &[Vec<Offer>],
     ranks: usize,
     rows: &[&LentRow<'_>],
     hour: u32,
 ) -> Result<Vec<Vec<Pair>>, AllocError>
-    requires sorted { IsSortedBy (λ a b. offer_before (offer_of a) (offer_of b)) index.now }
-    requires ranks { All (λ o. o.standing.0 < ranks) (map offer_of index.now) }
-    ensures { IfOk result (λ v. map (λ l. l.items) v.items ≡ by_rank ranks (flat_map (pairs_with hour (map offer_of index.now)) (enumerate_from 0 (map (λ r. r.now) rows.now)))) }
+    requires some { 0 < length table.now }
+    requires sorted { All (IsSortedBy offer_before) (table_view table.now) }
+    requires ranks { All (All (λ o. o.standing.0 < ranks)) (table_view table.now) }
+    ensures { IfOk result (λ v. map (λ l. l.items) v.items ≡ by_rank ranks (flat_map (pairs_with hour (table_view table.now)) (enumerate_from 0 (map (λ r. r.now) rows.now)))) }
 {
     let mut lists = no_pairs(alloc, ranks)?;
     for (at, row) in rows.iter().enumerate() {
-        add_row(&mut lists, index, hour, at, row)?;
+        add_row(&mut lists, table, hour, at, row)?;
     }
     Ok(lists)
 }
@@ -198,15 +200,16 @@ fn joined(alloc: Global, lists: &[Vec<Pair>]) -> Result<Vec<Pair>, AllocError>
 /// The pairs of an hour in their order. None of them is compared with one of another commitment: each finds the list of its own.
 pub(crate) fn pairs_in_order(
     alloc: Global,
-    index: &[Offer],
+    table: &[Vec<Offer>],
     ranks: usize,
     rows: &[&LentRow<'_>],
     hour: u32,
 ) -> Result<Vec<Pair>, AllocError>
-    requires sorted { IsSortedBy (λ a b. offer_before (offer_of a) (offer_of b)) index.now }
-    requires ranks { All (λ o. o.standing.0 < ranks) (map offer_of index.now) }
-    ensures { IfOk result (λ v. v.items ≡ map (λ q. q.pair) (in_order ranked_before (flat_map (pairs_with hour (map offer_of index.now)) (enumerate_from 0 (map (λ r. r.now) rows.now))))) }
+    requires some { 0 < length table.now }
+    requires sorted { All (IsSortedBy offer_before) (table_view table.now) }
+    requires ranks { All (All (λ o. o.standing.0 < ranks)) (table_view table.now) }
+    ensures { IfOk result (λ v. v.items ≡ map (λ q. q.pair) (in_order ranked_before (flat_map (pairs_with hour (table_view table.now)) (enumerate_from 0 (map (λ r. r.now) rows.now))))) }
 {
-    let lists = pairs_by_rank(alloc, index, ranks, rows, hour)?;
+    let lists = pairs_by_rank(alloc, table, ranks, rows, hour)?;
     joined(alloc, &lists)
 }

@@ -1,7 +1,7 @@
 use Rattle.std.proofs.Common.{◌∙◌, map, take}
 use Rattle.std.specs.List.{enumerate_from, flat_map}
 use Rattle.std.proofs.lemmas.List.{take_all}
-use Rattle.fw_cover.specs.Offers.{offer_of, pairs_with}
+use Rattle.fw_cover.specs.Offers.{pairs_with, table_view}
 use Rattle.fw_cover.proofs.Listing.{rows_more}
 use Rattle.fw_cover.proofs.matching.pairs_by_rank.Goals as goal
 
@@ -10,7 +10,7 @@ loop-at-init c = record { pairs = c.in_ok-lists.ensures.empty; many = c.in_ok-li
 
 pub loop-at-preserved : goal.loop-at-preserved
 loop-at-preserved c =
-    let f = pairs_with c.args.hour (map offer_of c.args.index.now) in
+    let f = pairs_with c.args.hour (table_view c.args.table.now) in
     let d = c.index-rows-at.result in
     let many = c.loop-at.invariant.many in
     let before = flat_map f (enumerate_from 0 (map (λ r. r.now) (take c.loop-at.at c.args.rows.now))) in

@@ -1,13 +1,13 @@
 use Rattle.std.proofs.Common.{◌∙◌, sym, ap, map}
 use Rattle.std.specs.List.{enumerate_from, flat_map}
-use Rattle.fw_cover.specs.Offers.{offer_of, pairs_with}
+use Rattle.fw_cover.specs.Offers.{pairs_with, table_view}
 use Rattle.fw_cover.specs.Order.{has_lower_rate, in_order}
 use Rattle.fw_cover.proofs.ByRank.{ranks_in_order, ranks_within}
 use Rattle.fw_cover.proofs.matching.pairs_in_order.Goals as goal
 
 pub returns : goal.returns
 returns c =
-    let index = map offer_of c.args.index.now in
+    let table = table_view c.args.table.now in
     let rows = enumerate_from 0 (map (λ r. r.now) c.args.rows.now) in
-    let all = flat_map (pairs_with c.args.hour index) rows in
-    rw (ranks_in_order c.args.ranks all (ranks_within c.args.ranks c.args.hour index rows c.requires.ranks), ← c.in_ok-lists.ensures, ← c.deref.ensures.value) c.joined.ensures
+    let all = flat_map (pairs_with c.args.hour table) rows in
+    rw (ranks_in_order c.args.ranks all (ranks_within c.args.ranks c.args.hour table rows c.requires.ranks), ← c.in_ok-lists.ensures, ← c.deref.ensures.value) c.joined.ensures

@@ -12,7 +12,7 @@ cover_pairs-requires-clause-pairs c =
     let cs = r.commitments in
     let rows = map (λ r. r.now) c.args.rows.now in
     let pairs : c.deref-2.result.now ≡ pairs_of cs rows c.args.hour = c.deref-2.ensures.value ∙ c.in_ok-pairs.ensures
-    ∙ (rw c.deref.ensures.value (pairs_are r c.self.inside.order.items c.self.inside.capacities.items c.self.inside.index.items rows c.args.hour c.self.invariant (rw c.self.view_is c.requires))) in
+    ∙ (rw c.deref.ensures.value (pairs_are r c.self.inside.order.items c.self.inside.capacities.items c.self.inside.table.items rows c.args.hour c.self.invariant (rw c.self.view_is c.requires))) in
     let billed : c.deref-3.result.now ≡ billed_of rows = c.deref-3.ensures.value ∙ c.in_ok-billed.ensures.values in
     let quantities : c.deref-4.result.now ≡ quantities_of rows = c.deref-4.ensures.value ∙ c.in_ok-quantities.ensures.values in
     let capacities : c.deref-5.result.now ≡ capacities_of cs = c.deref-5.ensures.value ∙ c.self.invariant.capacities in
@@ -25,7 +25,7 @@ returns-clause-taken c =
     let cs = r.commitments in
     let rows = map (λ r. r.now) c.args.rows.now in
     let pairs : c.deref-2.result.now ≡ pairs_of cs rows c.args.hour = c.deref-2.ensures.value ∙ c.in_ok-pairs.ensures
-    ∙ (rw c.deref.ensures.value (pairs_are r c.self.inside.order.items c.self.inside.capacities.items c.self.inside.index.items rows c.args.hour c.self.invariant (rw c.self.view_is c.requires))) in
+    ∙ (rw c.deref.ensures.value (pairs_are r c.self.inside.order.items c.self.inside.capacities.items c.self.inside.table.items rows c.args.hour c.self.invariant (rw c.self.view_is c.requires))) in
     let billed : c.deref-3.result.now ≡ billed_of rows = c.deref-3.ensures.value ∙ c.in_ok-billed.ensures.values in
     let quantities : c.deref-4.result.now ≡ quantities_of rows = c.deref-4.ensures.value ∙ c.in_ok-quantities.ensures.values in
     let capacities : c.deref-5.result.now ≡ capacities_of cs = c.deref-5.ensures.value ∙ c.self.invariant.capacities in
@@ -35,4 +35,10 @@ pub pairs_in_order-requires-clause-ranks : goal.pairs_in_order-requires-clause-r
 pairs_in_order-requires-clause-ranks c =
     let r : RosterValue = record { commitments = c.self.inside.commitments.now; from = c.self.inside.from; to = c.self.inside.to } in
     let many : c.len.result ≡ length c.self.inside.order.items = omega arith in
-    rw (c.deref.ensures.value, many) (roster_ranks r c.self.inside.order.items c.self.inside.capacities.items c.self.inside.index.items c.self.invariant)
+    rw (c.deref.ensures.value, many) (roster_ranks r c.self.inside.order.items c.self.inside.capacities.items c.self.inside.table.items c.self.invariant)
+
+pub pairs_in_order-requires-clause-some : goal.pairs_in_order-requires-clause-some
+pairs_in_order-requires-clause-some c = rw c.deref.ensures.value c.self.invariant.some
+
+pub pairs_in_order-requires-clause-sorted : goal.pairs_in_order-requires-clause-sorted
+pairs_in_order-requires-clause-sorted c = rw c.deref.ensures.value c.self.invariant.sorted
