@@ -1,5 +1,5 @@
 -- Lists of lists: each element goes to the end of the list that its number names.
-use Rattle.std.proofs.Common.{◌≡◌, ◌≢◌, ◌∙◌, ℕ, zero, suc, ◌+◌, ◌<◌, Bool, ◌&&◌, false, List, [], ◌∷◌, ◌++◌, length, get_or, set, map, filter, All, refl, sym, ap, arith, ⊎_elim}
+use Rattle.std.proofs.Common.{◌≡◌, ◌≢◌, ◌∙◌, ℕ, zero, suc, ◌<◌, Bool, ◌&&◌, false, List, [], ◌∷◌, ◌++◌, length, get_or, set, map, filter, All, refl, sym, ap, arith, ⊎_elim}
 use Rattle.std.specs.List.{range_with_len}
 use Rattle.std.proofs.lemmas.Bool.{cases_eq}
 use Rattle.std.proofs.lemmas.List.{ext_get_or, length-set, get_or-set_same, get_or-set_other}

@@ -1,5 +1,5 @@
 -- Offers in lists, each in the one of its SKU.
-use Rattle.std.proofs.Common.{◌≡◌, ◌≢◌, ◌∙◌, ℕ, ◌+◌, ◌<◌, ◌==◌, ◌%◌, Bool, true, false, ◌&&◌, List, [], ◌∷◌, ◌++◌, length, get_or, set, map, filter, cond, All, refl, sym, ap, arith, append-nil}
+use Rattle.std.proofs.Common.{◌≡◌, ◌≢◌, ◌∙◌, ℕ, ◌+◌, ◌<◌, ◌==◌, Bool, true, ◌&&◌, List, [], ◌∷◌, ◌++◌, length, get_or, set, map, filter, All, refl, ap, arith, append-nil}
 use Rattle.std.specs.Cmp.{IsStrictWeakOrder}
 use Rattle.std.specs.List.{range_with_len}
 use Rattle.std.specs.List.Sorted.{IsSortedBy}
@@ -12,7 +12,7 @@ use Rattle.std.proofs.lemmas.List.Elements.{All-filter, All-map, filter-append}
 use Rattle.std.proofs.lemmas.List.FromFn.{length-map-range_with_len, get_or-map-range_with_len}
 use Rattle.std.proofs.lemmas.List.Kept.{IsSortedBy-filter}
 use Rattle.std.proofs.lemmas.List.Sorted.{ranks_by}
-use Rattle.fw_cover.specs.Offers.{OfferValue, list_for, of_list, offer_before, offered, offered_in, table_of, text_number}
+use Rattle.fw_cover.specs.Offers.{OfferValue, list_for, of_list, offer_before, offered, offered_in, table_of}
 use Rattle.fw_cover.proofs.Lists.{filter_both, put_in}
 use Rattle.fw_cover.proofs.Sorting.{two_ways}
 

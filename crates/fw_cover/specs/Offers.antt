@@ -1,4 +1,5 @@
--- The SKUs that the commitments of an order list, put in the order of their bytes. The private functions that look a row's SKU up cite it.
+-- The SKUs that the commitments of an order list, put in the order of their bytes, and in lists by a number of the SKU. The private functions that
+-- look a row's SKU up cite it.
 use Rattle.std.specs.Prelude.{ℕ, ◌+◌, ◌*◌, ◌%◌, ◌==◌, Bool, List, [], Option, Some, None, Vec, if◌then◌else◌, fold, length, map, filter, slice_index_or}
 use Rattle.std.specs.declared.alloc.Global.{Global}
 use Rattle.std.specs.Option.{option_map_or}

@@ -57,7 +57,7 @@ pub(crate) fn cover_pairs(
 {
     let mut row_left = quantities.to_vec(alloc)?;
     let mut capacity_left = capacities.to_vec(alloc)?;
-    let mut taken = Vec::new(alloc);
+    let mut taken = Vec::with_capacity(alloc, pairs.len())?;
     for pair in pairs {
         let part = pair.part(
             billed[pair.row],

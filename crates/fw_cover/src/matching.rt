@@ -185,11 +185,11 @@ fn by_rate(alloc: Global, pairs: &[Pair]) -> Result<Vec<Pair>, AllocError>
     Ok(pairs)
 }
 
-/// The pairs of each commitment in turn, each commitment's in the order of their rates.
-fn joined(alloc: Global, lists: &[Vec<Pair>]) -> Result<Vec<Pair>, AllocError>
+/// The pairs of each commitment in turn, each commitment's in the order of their rates; `expected` is about how many there are.
+fn joined(alloc: Global, lists: &[Vec<Pair>], expected: usize) -> Result<Vec<Pair>, AllocError>
     ensures { IfOk result (λ v. v.items ≡ flat_map (in_order has_lower_rate) (map (λ l. l.items) lists.now)) }
 {
-    let mut pairs = Vec::new(alloc);
+    let mut pairs = Vec::with_capacity(alloc, expected)?;
     for list in lists {
         let ordered = by_rate(alloc, list)?;
         pairs.extend_from_slice(&ordered)?;
@@ -211,5 +211,5 @@ pub(crate) fn pairs_in_order(
     ensures { IfOk result (λ v. v.items ≡ map (λ q. q.pair) (in_order ranked_before (flat_map (pairs_with hour (table_view table.now)) (enumerate_from 0 (map (λ r. r.now) rows.now))))) }
 {
     let lists = pairs_by_rank(alloc, table, ranks, rows, hour)?;
-    joined(alloc, &lists)
+    joined(alloc, &lists, rows.len())
 }

@@ -1,4 +1,4 @@
-//! The SKUs that commitments list, in the order of their bytes, so that a row finds the commitments that list its own.
+//! The SKUs that commitments list, in a table in which a row finds the commitments that list its own.
 ghost use Rattle.std.specs.Prelude.{◌≡◌, ◌++◌, ◌∷◌, [], ◌≤◌, ◌<◌, List, All, length, map, string_bytes, vec_len, OnOk, IfOk};
 ghost use Rattle.std.specs.Ordering.{nat_cmp};
 ghost use Rattle.std.specs.Cmp.Lexicographic.{slice_cmp};
@@ -142,8 +142,8 @@ fn list_for(sku: &str, lists: usize) -> usize
     (text_number(sku) % lists as u64) as usize
 }
 
-/// What the commitments of an order list, in one list more than there are offers. A SKU's offers are in the list that its number names, so
-/// most lists are short; each is in the order of [`index`].
+/// What the commitments of an order list, in one list more than there are offers. The offers of a SKU are in the list that its number
+/// names, so most lists are short. Each is in the order of `index`, so that a long one can be searched.
 pub(crate) fn table<'a>(
     alloc: Global,
     ordered: &[Placed<'a>],

@@ -29,7 +29,8 @@ pub loop-pair-init : goal.loop-pair-init
 loop-pair-init c =
     let rows : c.in_ok-row_left.row_left.items ≡ c.args.quantities.now = search rules in
     let commitments : c.in_ok-capacity_left.capacity_left.items ≡ c.args.capacities.now = search rules in
-    rw (rows, commitments, c.new-taken.ensures.items) (covered_none c.args.billed.now c.args.quantities.now c.args.capacities.now)
+    let none : c.in_ok-taken.taken.items ≡ [] = search rules in
+    rw (rows, commitments, none) (covered_none c.args.billed.now c.args.quantities.now c.args.capacities.now)
 
 pub returns : goal.returns
 unfolding cover_of

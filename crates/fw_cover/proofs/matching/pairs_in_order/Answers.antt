@@ -1,7 +1,6 @@
-use Rattle.std.proofs.Common.{◌∙◌, sym, ap, map}
+use Rattle.std.proofs.Common.{map}
 use Rattle.std.specs.List.{enumerate_from, flat_map}
 use Rattle.fw_cover.specs.Offers.{pairs_with, table_view}
-use Rattle.fw_cover.specs.Order.{has_lower_rate, in_order}
 use Rattle.fw_cover.proofs.ByRank.{ranks_in_order, ranks_within}
 use Rattle.fw_cover.proofs.matching.pairs_in_order.Goals as goal
 

@@ -1,6 +1,5 @@
 use Rattle.std.proofs.Common.{◌≡◌, ◌∙◌, [], Vec, ap, arith, get_or, length, map, sym}
 use Rattle.std.specs.declared.alloc.Global.{Global}
-use Rattle.std.specs.List.Sorted.{IsSortedBy}
 use Rattle.std.proofs.lemmas.List.{get_or-map, length-map}
 use Rattle.fw_cover.specs.Offers.{list_for, offer_before, offer_of, table_view}
 use Rattle.fw_cover.specs.declared.offers.Offer.{Offer}

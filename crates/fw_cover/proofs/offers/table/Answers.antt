@@ -1,4 +1,4 @@
-use Rattle.std.proofs.Common.{◌≡◌, ◌∙◌, ◌++◌, ◌∷◌, [], All, ap, arith, length, map, subst, sym, take, vec_len}
+use Rattle.std.proofs.Common.{◌≡◌, ◌∙◌, All, ap, arith, length, map, subst, sym, take, vec_len}
 use Rattle.std.specs.List.Sorted.{IsSortedBy}
 use Rattle.std.proofs.lemmas.List.{map-append, take_all, take_more}
 use Rattle.fw_cover.specs.Offers.{index_of, offer_before, offer_of, table_of, table_view}

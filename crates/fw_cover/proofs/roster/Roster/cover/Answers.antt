@@ -1,4 +1,4 @@
-use Rattle.std.proofs.Common.{◌≡◌, ap, arith, length, ◌∙◌, map}
+use Rattle.std.proofs.Common.{◌≡◌, arith, length, ◌∙◌, map}
 use Rattle.fw_cover.specs.Order.{pairs_of}
 use Rattle.fw_cover.specs.Hour.{hour_cover, billed_of, quantities_of, capacities_of}
 use Rattle.fw_cover.specs.RosterView.{RosterValue}
