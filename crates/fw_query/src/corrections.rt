@@ -1,6 +1,6 @@
 //! What corrects the sums of an hour's rows, where commitments took of them.
-ghost use Rattle.std.specs.Prelude.{◌≡◌, ◌-ℤ◌, ◌+◌, ◌<◌, ◌≤◌, ◌++◌, false, int_lt, length, map, pos, slice_index, unsigned_abs, List, OnOk};
-ghost use Rattle.fw_cover.specs.Hour.{quantities_of, quantity_of};
+ghost use Rattle.std.specs.Prelude.{◌≡◌, ◌<◌, ◌++◌, false, int_lt, length, pos, slice_index, List, OnOk};
+ghost use Rattle.fw_cover.specs.Hour.{quantity_of};
 ghost use Rattle.fw_query.specs.Corrections.{correction_of, corrections, cost_lost};
 ghost use Rattle.fw_query.specs.Costs.{Cost};
 ghost use Rattle.fw_query.specs.Sums.{Counts};
