@@ -14,3 +14,4 @@ pub mod Accounting
 pub mod Beside
 pub mod Split
 pub mod Costs
+pub mod Tagged

@@ -160,6 +160,12 @@ pub record AreHourLines (cs : List CommitmentValue) (rows : List Charge) (hour :
   pub are_shared : AllZip (AreLinesAt cs rows (hour_cover cs rows hour) hour) (running cs hour) shared
   pub are_lines : lines ≡ purchase_lines cs hour ++ given_lines rows hour ++ flat_map (λ ls. ls) shared ++ rest_lines rows (hour_cover cs rows hour) hour
 
+-- those of them that no row is or leaves: the purchases, and the lines of each commitment that runs
+pub record AreOwnLines (cs : List CommitmentValue) (rows : List Charge) (hour : ℕ) (lines : List LineValue) : Type 0 where
+  pub shared : List (List LineValue)
+  pub are_shared : AllZip (AreLinesAt cs rows (hour_cover cs rows hour) hour) (running cs hour) shared
+  pub are_lines : lines ≡ purchase_lines cs hour ++ flat_map (λ ls. ls) shared
+
 -- the rows of an hour
 unfoldable pub rows_in : ℕ → List Charge → List Charge
 rows_in hour rows = filter (is_of_hour hour) rows

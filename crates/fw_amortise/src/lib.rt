@@ -14,10 +14,11 @@ mod shared;
 mod single;
 
 pub use amount::{amounts_are_the_total, hour_amount};
-pub use hour::{lines, lines_by_roster, lines_of_hour};
+pub use hour::{OwnLines, lines, lines_by_roster, lines_of_hour, own_lines_by_roster};
 pub use laws::{
     lines_are_known_by_their_text, lines_are_one, lines_carry_the_amount,
     lines_carry_the_purchases, lines_share_the_amount, no_rest_stands_beside_unused_capacity,
     purchases_cost_nothing, rows_are_accounted_for, rows_are_billed_for_what_is_left,
 };
 pub use line::{Line, LineDiscount, LineFields, LineKind};
+pub use single::{cost_left, quantity_of};

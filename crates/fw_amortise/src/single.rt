@@ -142,8 +142,8 @@ pub(crate) fn unused_line<'a>(commitment: &'a Commitment, share: u128, hour: u32
     })
 }
 
-/// The quantity of a row, or 0 where it has none.
-fn quantity_of(row: &LentRow<'_>) -> u64
+/// The quantity of a row, in nanos as its absolute value, or 0 where it has none.
+pub fn quantity_of(row: &LentRow<'_>) -> u64
     ensures value { result ≡ quantity_of row.now }
     ensures bound { result ≤ 10 ^ 17 }
 {
@@ -153,16 +153,28 @@ fn quantity_of(row: &LentRow<'_>) -> u64
     }
 }
 
-/// The part of a cost that falls to what is left of a quantity, rounded down. The product stays within 128 bits: a cost is at most 10^17
-/// nanos, which is below 2^57, and what is left is below 2^64.
+/// The part of a cost that falls to what is left of a quantity, rounded down: all of it where all is left, which divides nothing. The
+/// product stays within 128 bits: a cost is at most 10^17 nanos, which is below 2^57, and what is left is below 2^64.
 fn part_of(cost: Nanos, left: u64, quantity: u64) -> Nanos
     requires some { 0 < quantity }
     requires left { left ≤ quantity }
     ensures { result ≡ pos (in_proportion (unsigned_abs cost) quantity left) }
 {
-    let cost = u128::from(cost.count().unsigned_abs());
-    let part = cost * u128::from(left) / u128::from(quantity);
+    let cost = cost.count().unsigned_abs();
+    if left == quantity {
+        return Nanos::of_fields(cost as i64);
+    }
+    let part = u128::from(cost) * u128::from(left) / u128::from(quantity);
     Nanos::of_fields(part as i64)
+}
+
+/// What of a cost of a row falls to what is left of its quantity, rounded down: all of it where all is left.
+pub fn cost_left(row: &LentRow<'_>, cost: Nanos, left: u64) -> Nanos
+    requires some { 0 < quantity_of row.now }
+    requires left { left ≤ quantity_of row.now }
+    ensures { result ≡ pos (in_proportion (unsigned_abs cost) (quantity_of row.now) left) }
+{
+    part_of(cost, left, quantity_of(row))
 }
 
 /// What is left of a row.

@@ -7,9 +7,8 @@ use Rattle.std.proofs.lemmas.List.Elements.{All-nil, All-cons, All-head, filter-
 use Rattle.fw_charge.specs.Charge.{Charge}
 use Rattle.fw_terms.specs.Commitment.{CommitmentValue}
 use Rattle.fw_cover.specs.Order.{insert_by, in_order, pair_for, has_lower_rate, pairs_of_commitment}
-use Rattle.fw_cover.specs.Ranked.{compare_ranked, ranked_before}
+use Rattle.fw_cover.specs.Ranked.{RankedPair, compare_ranked, ranked_before}
 use Rattle.fw_cover.specs.declared.pair.Pair.{Pair}
-use Rattle.fw_cover.specs.declared.pair.RankedPair.{RankedPair}
 use Rattle.fw_cover.proofs.Sorting.{two_ways, map_in_order}
 use Rattle.fw_cover.proofs.Within.{all_in_order}
 
@@ -30,7 +29,7 @@ not_true true h = sym h
 not_true false h = refl
 
 -- where all that pass a test go before all that fail it, those that pass stand first
-parted : {X : Type 0} (before : X → X → Bool) (p : X → Bool) → ((x y : X) → p x ≡ true → p y ≡ false → before x y ≡ true) → ((x y : X) → p x ≡ true → p y ≡ false → before y x ≡ false) → (xs : List X)
+pub parted : {X : Type 0} (before : X → X → Bool) (p : X → Bool) → ((x y : X) → p x ≡ true → p y ≡ false → before x y ≡ true) → ((x y : X) → p x ≡ true → p y ≡ false → before y x ≡ false) → (xs : List X)
     → in_order before xs ≡ in_order before (filter p xs) ++ in_order before (filter (λ x. not (p x)) xs)
 parted before p goes stays [] = refl
 parted {X} before p goes stays (x ∷ xs) =
@@ -91,7 +90,7 @@ pairs_again : (n : ℕ) (ps : List Pair) → map (λ q. q.pair) (map (ranked n) 
 pairs_again n [] = refl
 pairs_again n (p ∷ ps) = ap (λ l. p ∷ l) (pairs_again n ps)
 
-one_rank : (n : ℕ) (ps : List Pair) → map (λ q. q.pair) (in_order ranked_before (map (ranked n) ps)) ≡ in_order has_lower_rate ps
+pub one_rank : (n : ℕ) (ps : List Pair) → map (λ q. q.pair) (in_order ranked_before (map (ranked n) ps)) ≡ in_order has_lower_rate ps
 one_rank n ps =
     let alike : (λ p q. ranked_before (ranked n p) (ranked n q)) ≡ has_lower_rate = λ i p q. same_rank n p q i in
     ap (map (λ q. q.pair)) (sym (map_in_order (ranked n) ranked_before ps)) ∙ (pairs_again n (in_order (λ p q. ranked_before (ranked n p) (ranked n q)) ps) ∙ ap (λ before. in_order before ps) alike)

@@ -14,20 +14,24 @@ use Rattle.std.specs.Cmp.Lexicographic.{slice_cmp}
 use Rattle.std.specs.Str.{bytes_eq}
 use Rattle.std.proofs.lemmas.Cmp.{nat_list_cmp_total, nat_list_eq_equiv}
 use Rattle.std.proofs.lemmas.Map.Text.{is_eq-slice_cmp}
-use Rattle.std.proofs.lemmas.List.Sorted.{ranks_by, searchable_from_sorted, IsPartitionedBy-ltb}
-use Rattle.std.proofs.lemmas.List.Elements.{filter-append, filter_map-append, filter_agree, All-head, All-tail}
+use Rattle.std.proofs.lemmas.Slice.Eq.{bytes_eq-Decides}
+use Rattle.std.proofs.lemmas.Option.{get_or_from_slice_get}
+use Rattle.std.specs.Prelude.{slice_get}
+use Rattle.std.proofs.lemmas.List.Sorted.{ranks_by, sorted_far, searchable_from_sorted, IsPartitionedBy-ltb}
+use Rattle.std.proofs.lemmas.List.Elements.{filter-append, filter_map-append, filter_agree, All-head, All-map, All-tail}
 use Rattle.fw_charge.specs.Charge.{Charge}
 use Rattle.fw_terms.specs.Commitment.{CommitmentValue, TermsValue, RateValue, IsCommitment, IsTerms}
 use Rattle.fw_terms.specs.Commitment.TermsValue.{usage, spend}
 use Rattle.fw_cover.specs.Applies.{Listing, listings, fits, applied, is_open}
 use Rattle.fw_cover.specs.Order.{in_order, pair_for}
-use Rattle.fw_cover.specs.Offers.{OfferValue, offer_for, offers_by, offers_of, offer_before, index_of, offered, pair_by, pairs_with, offer_of, standing_to}
+use Rattle.fw_cover.specs.Offers.{OfferValue, offer_for, offers_by, offers_of, offer_before, index_of, offered, offered_in, pair_by, pairs_with, offer_of, standing_to, table_of}
 use Rattle.fw_cover.specs.declared.offers.Offer.{Offer}
 use Rattle.fw_cover.specs.declared.pair.Pair.{Pair}
 use Rattle.fw_cover.proofs.Sorting.{two_ways, in_order_stable}
-use Rattle.fw_cover.specs.declared.pair.RankedPair.{RankedPair}
-use Rattle.fw_cover.proofs.ByCommitment.{ranked, ranked_for, ranked_at, filter_none}
+use Rattle.fw_cover.specs.Ranked.{RankedPair}
+use Rattle.fw_cover.proofs.ByCommitment.{ranked, ranked_for, ranked_at, filter_every, filter_none}
 use Rattle.fw_cover.proofs.Listing.{no_pairs}
+use Rattle.fw_cover.proofs.Tables.{offered_table, offers_weak}
 
 -- ---- a SKU stands once among rising ones
 later_other : (x y sku : List ℕ) → bytes_eq x sku ≡ true → slice_cmp nat_cmp x y ≡ Less → bytes_eq y sku ≡ false
@@ -101,9 +105,6 @@ tie_of Greater = refl
 tie_is : (a b : List ℕ) → (not (is_lt (slice_cmp nat_cmp a b)) && not (is_lt (slice_cmp nat_cmp b a))) ≡ bytes_eq b a
 tie_is a b = rw (nat_list_cmp_total.antisymm a b) (tie_of (slice_cmp nat_cmp b a) ∙ is_eq-slice_cmp b a)
 
-pub offers_weak : IsStrictWeakOrder offer_before
-offers_weak = ranks_by nat_list_cmp_total (λ o. o.sku)
-
 offered_in_order : (sku : List ℕ) (offers : List OfferValue) → offered sku (in_order offer_before offers) ≡ offered sku offers
 offered_in_order sku [] = refl
 offered_in_order sku (o ∷ offers) = let probe : OfferValue = record o { sku = sku } in
@@ -117,40 +118,41 @@ unfolding pair_for applied
 without hour row [] has = refl
 without hour row (c ∷ cs) has = two_ways (is_open hour row.1 && fits c.1.1 hour row.1) (λ holds. rw (holds, has) (without hour row cs has)) (λ fails. rw fails (without hour row cs has))
 
--- ---- the pairs of a row by an index
-pub with_none : (hour : ℕ) (index : List OfferValue) (row : ℕ × Charge) → is_open hour row.1 ≡ false → pairs_with hour index row ≡ []
+-- ---- the pairs of a row by a table
+pub with_none : (hour : ℕ) (table : List (List OfferValue)) (row : ℕ × Charge) → is_open hour row.1 ≡ false → pairs_with hour table row ≡ []
 unfolding pairs_with
-with_none hour index row closed = rw closed refl
+with_none hour table row closed = rw closed refl
 
-with_sku : (hour : ℕ) (index : List OfferValue) (row : ℕ × Charge) (sku : Option (List ℕ)) → is_open hour row.1 ≡ true → row.1.sku ≡ sku
-    → pairs_with hour index row ≡ option_map_or (λ sku. filter_map (pair_by hour row) (offered sku index)) sku []
+with_sku : (hour : ℕ) (table : List (List OfferValue)) (row : ℕ × Charge) (sku : Option (List ℕ)) → is_open hour row.1 ≡ true → row.1.sku ≡ sku
+    → pairs_with hour table row ≡ option_map_or (λ sku. filter_map (pair_by hour row) (offered_in sku table)) sku []
 unfolding pairs_with
-with_sku hour index row sku open_row has = let F : List ℕ → List RankedPair = λ sku. filter_map (pair_by hour row) (offered sku index) in
-    let e : pairs_with hour index row ≡ option_map_or F row.1.sku [] = rw open_row refl in
+with_sku hour table row sku open_row has = let F : List ℕ → List RankedPair = λ sku. filter_map (pair_by hour row) (offered_in sku table) in
+    let e : pairs_with hour table row ≡ option_map_or F row.1.sku [] = rw open_row refl in
     e ∙ ap (λ s. option_map_or F s []) has
 
-pub with_some : (hour : ℕ) (index : List OfferValue) (row : ℕ × Charge) (sku : List ℕ) → is_open hour row.1 ≡ true → row.1.sku ≡ Some sku → pairs_with hour index row ≡ filter_map (pair_by hour row) (offered sku index)
-with_some hour index row sku open_row has = with_sku hour index row (Some sku) open_row has
+pub with_some : (hour : ℕ) (table : List (List OfferValue)) (row : ℕ × Charge) (sku : List ℕ) → is_open hour row.1 ≡ true → row.1.sku ≡ Some sku → pairs_with hour table row ≡ filter_map (pair_by hour row) (offered_in sku table)
+with_some hour table row sku open_row has = with_sku hour table row (Some sku) open_row has
 
-pub with_no_sku : (hour : ℕ) (index : List OfferValue) (row : ℕ × Charge) → is_open hour row.1 ≡ true → row.1.sku ≡ None → pairs_with hour index row ≡ []
-with_no_sku hour index row open_row has = with_sku hour index row None open_row has
+pub with_no_sku : (hour : ℕ) (table : List (List OfferValue)) (row : ℕ × Charge) → is_open hour row.1 ≡ true → row.1.sku ≡ None → pairs_with hour table row ≡ []
+with_no_sku hour table row open_row has = with_sku hour table row None open_row has
 
 -- they are its pairs
-by_sku : (hour : ℕ) (row : ℕ × Charge) (cs : List (ℕ × CommitmentValue)) (sku : Option (List ℕ)) → row.1.sku ≡ sku → is_open hour row.1 ≡ true → All (λ c. IsCommitment c.1.1) (enumerate_from 0 cs)
-    → pairs_with hour (index_of cs) row ≡ ranked_at hour 0 cs row
+by_sku : (n hour : ℕ) (row : ℕ × Charge) (cs : List (ℕ × CommitmentValue)) (sku : Option (List ℕ)) → 0 < n → row.1.sku ≡ sku → is_open hour row.1 ≡ true → All (λ c. IsCommitment c.1.1) (enumerate_from 0 cs)
+    → pairs_with hour (table_of n (index_of cs)) row ≡ ranked_at hour 0 cs row
 unfolding index_of
-by_sku hour row cs None has open_row all = with_no_sku hour (index_of cs) row open_row has ∙ sym (without hour row (enumerate_from 0 cs) has)
-by_sku hour row cs (Some sku) has open_row all = with_some hour (index_of cs) row sku open_row has
-    ∙ (ap (filter_map (pair_by hour row)) (offered_in_order sku (offers_of cs)) ∙ offers_pairs hour row sku (enumerate_from 0 cs) open_row has all)
+by_sku n hour row cs None some has open_row all = with_no_sku hour (table_of n (index_of cs)) row open_row has ∙ sym (without hour row (enumerate_from 0 cs) has)
+by_sku n hour row cs (Some sku) some has open_row all = with_some hour (table_of n (index_of cs)) row sku open_row has
+    ∙ (ap (filter_map (pair_by hour row)) (offered_table n (index_of cs) sku some ∙ offered_in_order sku (offers_of cs)) ∙ offers_pairs hour row sku (enumerate_from 0 cs) open_row has all)
 
-pub pairs_by_index : (hour : ℕ) (row : ℕ × Charge) (cs : List (ℕ × CommitmentValue)) → All (λ c. IsCommitment c.1.1) (enumerate_from 0 cs) → pairs_with hour (index_of cs) row ≡ ranked_at hour 0 cs row
-pairs_by_index hour row cs all = two_ways (is_open hour row.1)
-    (λ holds. by_sku hour row cs row.1.sku refl holds all)
-    (λ fails. with_none hour (index_of cs) row fails ∙ sym (no_pairs hour 0 row cs fails))
+pub pairs_by_table : (n hour : ℕ) (row : ℕ × Charge) (cs : List (ℕ × CommitmentValue)) → 0 < n → All (λ c. IsCommitment c.1.1) (enumerate_from 0 cs) → pairs_with hour (table_of n (index_of cs)) row ≡ ranked_at hour 0 cs row
+pairs_by_table n hour row cs some all = two_ways (is_open hour row.1)
+    (λ holds. by_sku n hour row cs row.1.sku some refl holds all)
+    (λ fails. with_none hour (table_of n (index_of cs)) row fails ∙ sym (no_pairs hour 0 row cs fails))
 
-pub pairs_by_row_index : (hour : ℕ) (rows : List (ℕ × Charge)) (cs : List (ℕ × CommitmentValue)) → All (λ c. IsCommitment c.1.1) (enumerate_from 0 cs) → flat_map (pairs_with hour (index_of cs)) rows ≡ flat_map (ranked_at hour 0 cs) rows
-pairs_by_row_index hour [] cs all = refl
-pairs_by_row_index hour (r ∷ rows) cs all = rw (pairs_by_index hour r cs all, pairs_by_row_index hour rows cs all) refl
+pub pairs_by_row_table : (n hour : ℕ) (rows : List (ℕ × Charge)) (cs : List (ℕ × CommitmentValue)) → 0 < n → All (λ c. IsCommitment c.1.1) (enumerate_from 0 cs)
+    → flat_map (pairs_with hour (table_of n (index_of cs))) rows ≡ flat_map (ranked_at hour 0 cs) rows
+pairs_by_row_table n hour [] cs some all = refl
+pairs_by_row_table n hour (r ∷ rows) cs some all = rw (pairs_by_table n hour r cs some all, pairs_by_row_table n hour rows cs some all) refl
 
 -- ---- what a commitment offers
 map_map : {X Y Z : Type 0} (f : X → Y) (g : Y → Z) (xs : List X) → map g (map f xs) ≡ map (λ x. g (f x)) xs
@@ -282,3 +284,20 @@ offers_run sku xs from n sorted below run =
     (λ k d lt l. upto.0 k d (omega arith) lt)
     (λ k d le l. upto.1 k d le l) in
     ap (map offer_of) mid ∙ sym (filter_map_of offer_of (λ o. bytes_eq o.sku sku) xs)
+
+-- ---- a sorted list whose first and last offers are of one SKU
+-- has offers of this SKU alone
+pub one_sku : (sku : List ℕ) (xs : List Offer) (a b : Offer) → IsSortedBy (λ a b. offer_before (offer_of a) (offer_of b)) xs → slice_get xs 0 ≡ Some a → slice_get xs (length xs - 1) ≡ Some b
+    → bytes_eq a.sku.now sku ≡ true → bytes_eq b.sku.now sku ≡ true → map offer_of xs ≡ offered sku (map offer_of xs)
+one_sku sku xs a b sorted first last first_is last_is =
+    let before : Offer → Offer → Bool = λ a b. offer_before (offer_of a) (offer_of b) in
+    let weak : IsStrictWeakOrder before = ranks_by nat_list_cmp_total (λ o. o.sku.now) in
+    let from : a.sku.now ≡ sku = (bytes_eq-Decides a.sku.now sku).0 first_is in
+    let upto : b.sku.now ≡ sku = (bytes_eq-Decides b.sku.now sku).0 last_is in
+    sym (filter_every (λ o. bytes_eq o.sku sku) (map offer_of xs) (All-map (λ o. bytes_eq o.sku sku ≡ true) offer_of xs
+    (λ k e lt.
+    let low : before (get_or xs k e) a ≡ false = rw (get_or_from_slice_get xs 0 a e first) at (sorted_far before weak xs sorted 0 k e (omega arith) lt) in
+    let high : before b (get_or xs k e) ≡ false = rw (get_or_from_slice_get xs (length xs - 1) b e last) at (sorted_far before weak xs sorted k (length xs - 1) e (omega (arith, lt)) (omega (arith, lt))) in
+    let not_below : is_lt (slice_cmp nat_cmp (get_or xs k e).sku.now sku) ≡ false = rw (← from) low in
+    let not_above : is_lt (slice_cmp nat_cmp sku (get_or xs k e).sku.now) ≡ false = rw (← upto) high in
+    sym (tie_is sku (get_or xs k e).sku.now) ∙ (rw (not_above, not_below) refl))))

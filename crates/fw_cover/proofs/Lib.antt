@@ -3,6 +3,9 @@ pub mod Sorting
 pub mod Ranks
 pub mod Within
 pub mod ByCommitment
+pub mod Lists
+pub mod Tables
+pub mod ByRank
 pub mod Listing
 pub mod Index
 pub mod RosterFacts

@@ -13,7 +13,7 @@ use Rattle.fw_cover.specs.Offers.{OfferValue, offer_of}
 use Rattle.fw_cover.specs.declared.offers.Offer.{Offer}
 use Rattle.fw_cover.specs.PlacedView.{placed_of}
 use Rattle.fw_cover.specs.declared.order.Placed.{Placed}
-use Rattle.fw_cover.specs.declared.pair.RankedPair.{RankedPair}
+use Rattle.fw_cover.specs.Ranked.{RankedPair}
 use Rattle.fw_cover.proofs.ByCommitment.{ranked_at}
 
 pub enumerate_push : {X : Type 0} (n k : ℕ) (xs : List X) (x : X) → k ≡ n + length xs → enumerate_from n (xs ++ x ∷ []) ≡ enumerate_from n xs ++ (k, x) ∷ []

@@ -1,22 +1,25 @@
 -- What a roster gives for its hours: the commitments that it leaves out don't run in them, so they have no pairs and take nothing.
-use Rattle.std.proofs.Common.{◌≡◌, ◌∙◌, ℕ, ◌+◌, ◌==◌, Bool, true, false, cond, nat_lt, nat_le, List, [], ◌∷◌, ◌++◌, All, None, Some, filter, map, slice_get, ap, refl, arith}
+use Rattle.std.proofs.Common.{◌≡◌, ◌∙◌, ℕ, ◌+◌, ◌==◌, Bool, true, false, cond, nat_lt, nat_le, List, [], ◌∷◌, ◌++◌, All, None, Some, filter, get_or, length, map, slice_get, ap, refl, arith, ◌<◌, Vec}
+use Rattle.std.specs.declared.alloc.Global.{Global}
 use Rattle.std.specs.List.{enumerate_from, filter_map, flat_map}
 use Rattle.std.proofs.lemmas.Bool.{lt-ltb, ltb-true, leb-true}
-use Rattle.std.proofs.lemmas.List.Elements.{All-filter}
+use Rattle.std.proofs.lemmas.List.Elements.{All-filter, All-map}
+use Rattle.std.proofs.lemmas.List.{length-map}
 use Rattle.fw_charge.specs.Charge.{Charge}
 use Rattle.fw_terms.specs.Commitment.{CommitmentValue, IsCommitment}
-use Rattle.fw_cover.specs.Applies.{applied, fits, is_in_term, is_open}
+use Rattle.fw_cover.specs.Applies.{applied, fits, is_in_term, is_open, listings}
 use Rattle.fw_cover.specs.Hour.{hour_cover, takes_of}
-use Rattle.fw_cover.specs.Offers.{offer_of, pairs_with}
+use Rattle.fw_cover.specs.Offers.{OfferValue, index_of, offer_before, offer_for, offers_by, offers_of, pairs_with, table_view}
 use Rattle.fw_cover.specs.Order.{commitments_in_order, has_lower_rate, in_order, pair_for, pairs_of, pairs_of_commitment}
 use Rattle.fw_cover.specs.Ranked.{ranked_before}
 use Rattle.fw_cover.specs.RosterView.{HasHour, IsRoster, RosterValue, roster_order, runs_between}
 use Rattle.fw_cover.specs.declared.offers.Offer.{Offer}
 use Rattle.fw_cover.proofs.ByCommitment.{pairs_in_turn}
 use Rattle.fw_cover.proofs.Grouping.{PlacesApart, grouped_by, order_places_apart}
-use Rattle.fw_cover.proofs.Index.{pairs_by_row_index}
+use Rattle.fw_cover.proofs.Index.{pairs_by_row_table}
+use Rattle.fw_cover.proofs.Tables.{all_in_table}
 use Rattle.fw_cover.proofs.Sorting.{two_ways}
-use Rattle.fw_cover.proofs.Within.{all_enumerate, commitments_in_order_places, ordered_valid}
+use Rattle.fw_cover.proofs.Within.{all_enumerate, all_flat_map, all_in_order, commitments_in_order_places, ordered_valid}
 
 -- ---- lists without some of their elements
 -- where these have nothing to give
@@ -94,12 +97,23 @@ unfolding roster_order
 roster_valid r valid = all_enumerate (λ c. IsCommitment c.1.1) (roster_order r)
     (All-filter (λ c. runs_between r.from r.to c.1) (λ c. IsCommitment c.1) (commitments_in_order r.commitments) (ordered_valid r.commitments valid))
 
+-- the offers of its table are of these commitments
+pub roster_ranks : (r : RosterValue) (places ks : List ℕ) (table : List (Vec Offer Global)) → IsRoster r places ks table → All (All (λ o. o.standing.0 < length places)) (table_view table)
+unfolding index_of
+roster_ranks r places ks table is =
+    let cs : List (ℕ × CommitmentValue) = roster_order r in
+    let IsOf : OfferValue → Type 0 = λ o. o.standing.0 < length places in
+    let long : length places ≡ length cs = ap length is.order ∙ length-map cs (λ c. c.0) in
+    let placed : All (λ c. c.0 < length places) (enumerate_from 0 cs) = all_enumerate (λ c. c.0 < length places) cs (λ k d lt. omega (arith, lt, long)) in
+    rw is.table_is (all_in_table (length table) IsOf (index_of cs) (all_in_order offer_before IsOf (offers_of cs) (all_flat_map IsOf offers_by (enumerate_from 0 cs)
+    (λ k d lt. All-map IsOf (offer_for (get_or (enumerate_from 0 cs) k d)) (listings (get_or (enumerate_from 0 cs) k d).1.1.terms) (λ j e l. placed k d lt)))))
+
 -- ---- what it gives of an hour
-pub pairs_are : (r : RosterValue) (places ks : List ℕ) (index : List Offer) (rows : List Charge) (hour : ℕ) → IsRoster r places ks index → HasHour r hour
-    → map (λ q. q.pair) (in_order ranked_before (flat_map (pairs_with hour (map offer_of index)) (enumerate_from 0 rows))) ≡ pairs_of r.commitments rows hour
-pairs_are r places ks index rows hour is has =
-    ap (λ i. map (λ q. q.pair) (in_order ranked_before (flat_map (pairs_with hour i) (enumerate_from 0 rows)))) is.index_is
-    ∙ (ap (λ l. map (λ q. q.pair) (in_order ranked_before l)) (pairs_by_row_index hour (enumerate_from 0 rows) (roster_order r) (roster_valid r is.valid))
+pub pairs_are : (r : RosterValue) (places ks : List ℕ) (table : List (Vec Offer Global)) (rows : List Charge) (hour : ℕ) → IsRoster r places ks table → HasHour r hour
+    → map (λ q. q.pair) (in_order ranked_before (flat_map (pairs_with hour (table_view table)) (enumerate_from 0 rows))) ≡ pairs_of r.commitments rows hour
+pairs_are r places ks table rows hour is has =
+    ap (λ i. map (λ q. q.pair) (in_order ranked_before (flat_map (pairs_with hour i) (enumerate_from 0 rows)))) is.table_is
+    ∙ (ap (λ l. map (λ q. q.pair) (in_order ranked_before l)) (pairs_by_row_table (length table) hour (enumerate_from 0 rows) (roster_order r) is.some (roster_valid r is.valid))
     ∙ (pairs_in_turn (roster_order r) rows hour ∙ roster_pairs r rows hour has))
 
 -- what was taken stands commitment by commitment in the roster's order

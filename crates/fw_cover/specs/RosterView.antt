@@ -1,10 +1,11 @@
 -- A roster as a value: commitments, and the hours in which they are asked.
-use Rattle.std.specs.Prelude.{◌≡◌, ◌<◌, ◌≤◌, ◌+◌, ◌&&◌, ℕ, Bool, List, All, filter, map, nat_lt}
+use Rattle.std.specs.Prelude.{◌≡◌, ◌<◌, ◌≤◌, ◌+◌, ◌&&◌, ℕ, Bool, List, All, Vec, filter, length, map, nat_lt}
+use Rattle.std.specs.declared.alloc.Global.{Global}
 use Rattle.std.specs.List.Sorted.{IsSortedBy}
 use Rattle.fw_terms.specs.Commitment.{CommitmentValue, IsCommitment}
 use Rattle.fw_cover.specs.Hour.{capacities_of}
 use Rattle.fw_cover.specs.Order.{commitments_in_order}
-use Rattle.fw_cover.specs.Offers.{offer_of, offer_before, index_of}
+use Rattle.fw_cover.specs.Offers.{offer_before, index_of, table_of, table_view}
 use Rattle.fw_cover.specs.declared.offers.Offer.{Offer}
 
 -- commitments, and the hours from `from` up to, and not including, `to`
@@ -27,10 +28,11 @@ unfoldable pub roster_order : RosterValue → List (ℕ × CommitmentValue)
 roster_order r = filter (λ c. runs_between r.from r.to c.1) (commitments_in_order r.commitments)
 
 -- what a roster's fields keep: the commitments keep their limits, the places are those of the ones that run in the hours, ks are the
--- capacities of all, and the index has what those that run list
-pub record IsRoster (r : RosterValue) (places ks : List ℕ) (index : List Offer) : Type 0 where
+-- capacities of all, and the table has what those that run list
+pub record IsRoster (r : RosterValue) (places ks : List ℕ) (table : List (Vec Offer Global)) : Type 0 where
   pub valid : All IsCommitment r.commitments
   pub order : places ≡ map (λ c. c.0) (roster_order r)
   pub capacities : ks ≡ capacities_of r.commitments
-  pub sorted : IsSortedBy (λ a b. offer_before (offer_of a) (offer_of b)) index
-  pub index_is : map offer_of index ≡ index_of (roster_order r)
+  pub some : 0 < length table
+  pub sorted : All (IsSortedBy offer_before) (table_view table)
+  pub table_is : table_view table ≡ table_of (length table) (index_of (roster_order r))

@@ -1,10 +1,10 @@
 //! What each pair takes.
-ghost use Rattle.std.specs.Prelude.{◌≡◌, ℕ, ◌^◌, ◌<◌, ◌≤◌, length, All, IfOk, IfSome, OnOk, [], ◌∷◌, ◌++◌, filter, map, ◌+◌, slice_index};
+ghost use Rattle.std.specs.Prelude.{◌≡◌, ℕ, ◌^◌, ◌<◌, ◌≤◌, length, All, IfOk, IfSome, OnOk, [], ◌∷◌, ◌++◌, filter, ◌+◌, slice_index};
 ghost use Rattle.fw_cover.specs.Cover.{IsPairWithin, IsTakeWithin, cover_of, taken_of_row, used_of, takes_something};
 ghost use Rattle.fw_cover.specs.Part.{part_of};
 
 use crate::hour::HourCover;
-use crate::pair::{Pair, RankedPair};
+use crate::pair::Pair;
 use crate::part::{Part, spend_part, usage_part};
 use crate::taken::Taken;
 use std::alloc::{AllocError, Global};
@@ -41,14 +41,14 @@ fn keep(all: &mut Vec<Taken>, taken: Taken) -> Result<(), AllocError>
 /// What each pair takes, one after another, and what is left; `billed` and `quantities` are of the rows, `capacities` of the commitments.
 pub(crate) fn cover_pairs(
     alloc: Global,
-    pairs: &[RankedPair],
+    pairs: &[Pair],
     billed: &[u64],
     quantities: &[u64],
     capacities: &[u64],
 ) -> Result<HourCover, AllocError>
     requires one_each { length billed.now ≡ length quantities.now }
-    requires pairs { All (λ p. IsPairWithin billed.now quantities.now capacities.now p.pair) pairs.now }
-    ensures taken { IfOk result (λ h. h.taken.items ≡ cover_of billed.now quantities.now capacities.now (map (λ p. p.pair) pairs.now)) }
+    requires pairs { All (IsPairWithin billed.now quantities.now capacities.now) pairs.now }
+    ensures taken { IfOk result (λ h. h.taken.items ≡ cover_of billed.now quantities.now capacities.now pairs.now) }
     ensures rows { IfOk result (λ h. length h.row_left.items ≡ length quantities.now) }
     ensures commitments { IfOk result (λ h. length h.unused.items ≡ length capacities.now) }
     ensures takes { IfOk result (λ h. All (IsTakeWithin (length capacities.now) (length quantities.now)) h.taken.items) }
@@ -57,9 +57,8 @@ pub(crate) fn cover_pairs(
 {
     let mut row_left = quantities.to_vec(alloc)?;
     let mut capacity_left = capacities.to_vec(alloc)?;
-    let mut taken = Vec::new(alloc);
-    for ranked in pairs {
-        let pair = ranked.pair;
+    let mut taken = Vec::with_capacity(alloc, pairs.len())?;
+    for pair in pairs {
         let part = pair.part(
             billed[pair.row],
             quantities[pair.row],

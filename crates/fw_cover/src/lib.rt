@@ -6,11 +6,12 @@
 //! `specs/Applies.antt` says which commitment applies to which row, `specs/Order.antt` in which order they meet, and `specs/Part.antt` and
 //! `specs/Cover.antt` what is taken.
 //!
-//! The cost of an hour grows as the rows and the pairs of a row and a commitment that lists its SKU do, times a logarithm: what the
-//! commitments list is sorted by SKU once, each row finds its own SKU there, and the pairs are sorted once. A [`Roster`] keeps what is
-//! sorted for the hours that follow. What was taken stands commitment by commitment ([`takes_stand_by_commitment`]), a commitment takes
-//! what it can ([`commitments_take_what_they_can`]), and a row that no commitment applies to changes nothing
-//! ([`untouched_rows_change_nothing`]).
+//! The cost of an hour grows as the rows do, the commitments, and the pairs of a row and a commitment that lists its SKU. What the
+//! commitments list is put into a table by SKU once, where each row finds its own SKU; a [`Roster`] keeps the table for the hours that
+//! follow. The pairs of each commitment go into a list of their own, in the order of the rows, and only such a list is sorted, by rate.
+//!
+//! What was taken stands commitment by commitment ([`takes_stand_by_commitment`]), a commitment takes what it can
+//! ([`commitments_take_what_they_can`]), and a row that no commitment applies to changes nothing ([`untouched_rows_change_nothing`]).
 #![tactic(auto)]
 
 mod covering;

@@ -1,17 +1,18 @@
 //! The pairs of an hour: which commitments apply to which rows, and in which order.
-ghost use Rattle.std.specs.Prelude.{◌≡◌, ◌++◌, [], OnOk, IfOk, map};
+ghost use Rattle.std.specs.Prelude.{◌≡◌, ◌<◌, ◌++◌, ◌∷◌, [], List, All, OnOk, IfOk, length, map, unwrap_or, vec_len};
 ghost use Rattle.std.specs.List.{cons_option, filter_map, flat_map, enumerate_from};
 ghost use Rattle.std.specs.List.Sorted.{IsSortedBy};
+ghost use Rattle.std.specs.Ordering.{nat_cmp};
 ghost use Rattle.fw_terms.specs.TermsView.{terms_view};
 ghost use Rattle.fw_cover.specs.Applies.{allows, has_unit, is_text, fits, is_open};
-ghost use Rattle.fw_cover.specs.Offers.{offer_of, offer_before, pair_by, pairs_with};
-ghost use Rattle.fw_cover.specs.Order.{in_order};
-ghost use Rattle.fw_cover.specs.Ranked.{compare_ranked, ranked_before};
+ghost use Rattle.fw_cover.specs.Offers.{offer_of, offer_before, pair_by, pairs_with, table_view};
+ghost use Rattle.fw_cover.specs.Order.{has_lower_rate, in_order};
+ghost use Rattle.fw_cover.specs.Ranked.{RankedPair, by_rank, ranked_before};
 
 use crate::eligible::is_eligible;
 use crate::offers::{Offer, offered};
 use crate::order::is_in_term;
-use crate::pair::{Pair, RankedPair};
+use crate::pair::Pair;
 use fw_columns::LentRow;
 use fw_terms::{Commitment, Terms};
 use std::alloc::{AllocError, Global};
@@ -52,34 +53,49 @@ fn fits(commitment: &Commitment, hour: u32, row: &LentRow<'_>) -> bool
     is_in_term(commitment, hour) && allows(commitment, row) && has_unit(commitment.terms(), row)
 }
 
-/// Keeps a pair, where there is one.
-fn keep(pairs: &mut Vec<RankedPair>, pair: Option<RankedPair>) -> Result<(), AllocError>
-    ensures { OnOk result (pairs.new.items ≡ pairs.old.items ++ cons_option pair []) }
+/// A list for each commitment of an order, with nothing in it.
+fn no_pairs(alloc: Global, ranks: usize) -> Result<Vec<Vec<Pair>>, AllocError>
+    ensures empty { IfOk result (λ v. map (λ l. l.items) v.items ≡ by_rank ranks []) }
+    ensures many { IfOk result (λ v. vec_len v ≡ ranks) }
 {
-    if let Some(pair) = pair {
-        pairs.push(pair)?;
+    let mut lists = Vec::with_capacity(alloc, ranks)?;
+    for _rank in 0..ranks {
+        lists.push(Vec::new(alloc))?;
     }
+    Ok(lists)
+}
+
+/// Adds a pair to the list of its commitment.
+fn push_at(lists: &mut Vec<Vec<Pair>>, rank: usize, pair: Pair) -> Result<(), AllocError>
+    requires { rank < vec_len lists.old }
+    ensures pairs { OnOk result ((all : List RankedPair) → map (λ l. l.items) lists.old.items ≡ by_rank (vec_len lists.old) all → map (λ l. l.items) lists.new.items ≡ by_rank (vec_len lists.old) (all ++ record { rank = rank; pair = pair } ∷ [])) }
+    ensures many { vec_len lists.new ≡ vec_len lists.old }
+{
+    lists[rank].push(pair)?;
     Ok(())
 }
 
-impl<'a> Offer<'a> {
-    /// The pair that the offer makes with a row of its SKU, where the commitment takes the row.
-    fn pair(&self, hour: u32, at: usize, row: &LentRow<'_>) -> Option<RankedPair>
-        ensures { result ≡ pair_by hour (at, row.now) (offer_of self.now) }
-    {
-        if fits(self.placed.commitment, hour, row) {
-            Some(RankedPair {
-                rank: self.rank,
-                pair: Pair {
-                    commitment: self.placed.place,
-                    row: at,
-                    rate: self.rate,
-                },
-            })
-        } else {
-            None
-        }
+/// Adds the pair that an offer makes with a row of its SKU, where the commitment takes the row.
+fn add_pair(
+    lists: &mut Vec<Vec<Pair>>,
+    offer: &Offer,
+    hour: u32,
+    at: usize,
+    row: &LentRow<'_>,
+) -> Result<(), AllocError>
+    requires { offer.now.rank < vec_len lists.old }
+    ensures pairs { OnOk result ((all : List RankedPair) → map (λ l. l.items) lists.old.items ≡ by_rank (vec_len lists.old) all → map (λ l. l.items) lists.new.items ≡ by_rank (vec_len lists.old) (all ++ cons_option (pair_by hour (at, row.now) (offer_of offer.now)) [])) }
+    ensures many { vec_len lists.new ≡ vec_len lists.old }
+{
+    if fits(offer.placed.commitment, hour, row) {
+        let pair = Pair {
+            commitment: offer.placed.place,
+            row: at,
+            rate: offer.rate,
+        };
+        push_at(lists, offer.rank, pair)?;
     }
+    Ok(())
 }
 
 /// Whether commitments may cover a row in an hour.
@@ -92,81 +108,108 @@ fn is_open(row: &LentRow<'_>, hour: u32) -> bool
 
 /// Adds the pairs that offers make with a row of their SKU.
 fn add_pairs(
-    pairs: &mut Vec<RankedPair>,
+    lists: &mut Vec<Vec<Pair>>,
     offers: &[Offer],
     hour: u32,
     at: usize,
     row: &LentRow<'_>,
 ) -> Result<(), AllocError>
-    ensures { OnOk result (pairs.new.items ≡ pairs.old.items ++ filter_map (pair_by hour (at, row.now)) (map offer_of offers.now)) }
+    requires { All (λ o. o.standing.0 < vec_len lists.old) (map offer_of offers.now) }
+    ensures pairs { OnOk result ((all : List RankedPair) → map (λ l. l.items) lists.old.items ≡ by_rank (vec_len lists.old) all → map (λ l. l.items) lists.new.items ≡ by_rank (vec_len lists.old) (all ++ filter_map (pair_by hour (at, row.now)) (map offer_of offers.now))) }
+    ensures many { vec_len lists.new ≡ vec_len lists.old }
 {
     for offer in offers {
-        keep(pairs, offer.pair(hour, at, row))?;
+        add_pair(lists, offer, hour, at, row)?;
     }
     Ok(())
 }
 
 /// Adds the pairs of a row.
 fn add_row(
-    pairs: &mut Vec<RankedPair>,
-    index: &[Offer],
+    lists: &mut Vec<Vec<Pair>>,
+    table: &[Vec<Offer>],
     hour: u32,
     at: usize,
     row: &LentRow<'_>,
 ) -> Result<(), AllocError>
-    requires sorted { IsSortedBy (λ a b. offer_before (offer_of a) (offer_of b)) index.now }
-    ensures { OnOk result (pairs.new.items ≡ pairs.old.items ++ pairs_with hour (map offer_of index.now) (at, row.now)) }
+    requires some { 0 < length table.now }
+    requires sorted { All (IsSortedBy offer_before) (table_view table.now) }
+    requires ranks { All (All (λ o. o.standing.0 < vec_len lists.old)) (table_view table.now) }
+    ensures pairs { OnOk result ((all : List RankedPair) → map (λ l. l.items) lists.old.items ≡ by_rank (vec_len lists.old) all → map (λ l. l.items) lists.new.items ≡ by_rank (vec_len lists.old) (all ++ pairs_with hour (table_view table.now) (at, row.now))) }
+    ensures many { vec_len lists.new ≡ vec_len lists.old }
 {
     if !is_open(row, hour) {
         return Ok(());
     }
     match row.sku() {
-        Some(sku) => add_pairs(pairs, offered(index, sku), hour, at, row),
+        Some(sku) => add_pairs(lists, offered(table, sku), hour, at, row),
         None => Ok(()),
     }
 }
 
-/// The pairs of the rows in turn, each row's in the order of the commitments.
-fn pairs_by_row(
+/// The pairs of the rows, those of each commitment of the order in a list of their own, in the order of the rows.
+fn pairs_by_rank(
     alloc: Global,
-    index: &[Offer],
+    table: &[Vec<Offer>],
+    ranks: usize,
     rows: &[&LentRow<'_>],
     hour: u32,
-) -> Result<Vec<RankedPair>, AllocError>
-    requires sorted { IsSortedBy (λ a b. offer_before (offer_of a) (offer_of b)) index.now }
-    ensures { IfOk result (λ v. v.items ≡ flat_map (pairs_with hour (map offer_of index.now)) (enumerate_from 0 (map (λ r. r.now) rows.now))) }
+) -> Result<Vec<Vec<Pair>>, AllocError>
+    requires some { 0 < length table.now }
+    requires sorted { All (IsSortedBy offer_before) (table_view table.now) }
+    requires ranks { All (All (λ o. o.standing.0 < ranks)) (table_view table.now) }
+    ensures { IfOk result (λ v. map (λ l. l.items) v.items ≡ by_rank ranks (flat_map (pairs_with hour (table_view table.now)) (enumerate_from 0 (map (λ r. r.now) rows.now)))) }
 {
-    let mut pairs = Vec::new(alloc);
+    let mut lists = no_pairs(alloc, ranks)?;
     for (at, row) in rows.iter().enumerate() {
-        add_row(&mut pairs, index, hour, at, row)?;
+        add_row(&mut lists, table, hour, at, row)?;
     }
-    Ok(pairs)
+    Ok(lists)
 }
 
-impl RankedPair {
-    /// How two pairs stand in the order: by commitment, then by rate.
-    #[tactic(auto, unfolding(crate::specs::Ranked::compare_ranked))]
-    fn compare(&self, other: &RankedPair) -> Ordering
-        ensures { result ≡ compare_ranked self.now other.now }
+impl Pair {
+    /// How two pairs of one commitment stand in the order: by rate.
+    fn compare(&self, other: &Pair) -> Ordering
+        ensures { result ≡ nat_cmp (unwrap_or self.now.rate 0) (unwrap_or other.now.rate 0) }
     {
-        let (rate, other_rate) = (self.pair.rate, other.pair.rate);
-        self.rank
-            .cmp(&other.rank)
-            .then(rate.unwrap_or(0).cmp(&other_rate.unwrap_or(0)))
+        self.rate.unwrap_or(0).cmp(&other.rate.unwrap_or(0))
     }
 }
 
-/// The pairs of an hour in their order.
-pub(crate) fn pairs_in_order(
-    alloc: Global,
-    index: &[Offer],
-    rows: &[&LentRow<'_>],
-    hour: u32,
-) -> Result<Vec<RankedPair>, AllocError>
-    requires sorted { IsSortedBy (λ a b. offer_before (offer_of a) (offer_of b)) index.now }
-    ensures { IfOk result (λ v. v.items ≡ in_order ranked_before (flat_map (pairs_with hour (map offer_of index.now)) (enumerate_from 0 (map (λ r. r.now) rows.now)))) }
+/// The pairs of a commitment in the order of their rates; pairs at one rate keep their order.
+fn by_rate(alloc: Global, pairs: &[Pair]) -> Result<Vec<Pair>, AllocError>
+    ensures { IfOk result (λ v. v.items ≡ in_order has_lower_rate pairs.now) }
 {
-    let mut pairs = pairs_by_row(alloc, index, rows, hour)?;
+    let mut pairs = pairs.to_vec(alloc)?;
     pairs.sort_by(|p, q| p.compare(q))?;
     Ok(pairs)
+}
+
+/// The pairs of each commitment in turn, each commitment's in the order of their rates; `expected` is about how many there are.
+fn joined(alloc: Global, lists: &[Vec<Pair>], expected: usize) -> Result<Vec<Pair>, AllocError>
+    ensures { IfOk result (λ v. v.items ≡ flat_map (in_order has_lower_rate) (map (λ l. l.items) lists.now)) }
+{
+    let mut pairs = Vec::with_capacity(alloc, expected)?;
+    for list in lists {
+        let ordered = by_rate(alloc, list)?;
+        pairs.extend_from_slice(&ordered)?;
+    }
+    Ok(pairs)
+}
+
+/// The pairs of an hour in their order. None of them is compared with one of another commitment: each finds the list of its own.
+pub(crate) fn pairs_in_order(
+    alloc: Global,
+    table: &[Vec<Offer>],
+    ranks: usize,
+    rows: &[&LentRow<'_>],
+    hour: u32,
+) -> Result<Vec<Pair>, AllocError>
+    requires some { 0 < length table.now }
+    requires sorted { All (IsSortedBy offer_before) (table_view table.now) }
+    requires ranks { All (All (λ o. o.standing.0 < ranks)) (table_view table.now) }
+    ensures { IfOk result (λ v. v.items ≡ map (λ q. q.pair) (in_order ranked_before (flat_map (pairs_with hour (table_view table.now)) (enumerate_from 0 (map (λ r. r.now) rows.now))))) }
+{
+    let lists = pairs_by_rank(alloc, table, ranks, rows, hour)?;
+    joined(alloc, &lists, rows.len())
 }

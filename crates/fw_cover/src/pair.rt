@@ -10,10 +10,3 @@ pub(crate) struct Pair {
     /// The share of the row's cost that a commitment to a cost charges, in parts per million; `None` for a commitment to a quantity.
     pub(crate) rate: Option<u32>,
 }
-
-/// A pair beside its commitment's place in the order of the commitments.
-#[derive(Clone, Copy, Debug)]
-pub(crate) struct RankedPair {
-    pub(crate) rank: usize,
-    pub(crate) pair: Pair,
-}

@@ -9,14 +9,14 @@ use crate::covering::cover_pairs;
 use crate::hour::HourCover;
 use crate::matching::pairs_in_order;
 use crate::numbers::{billed_costs, capacities, quantities};
-use crate::offers::{Offer, index};
+use crate::offers::{Offer, table};
 use crate::order::{Placed, ordered, places};
 use fw_columns::LentRow;
 use fw_terms::Commitment;
 use std::alloc::{AllocError, Global};
 use std::marker::Model;
 
-/// Commitments made ready to cover a range of hours. Those that run in the range are put in order and indexed by what they list; the others
+/// Commitments made ready to cover a range of hours. Those that run in the range are put in order, and what they list into a table by SKU; the others
 /// take nothing in it. A roster is made once, for a report, and then covers the rows of one hour after another. Contracts see the list of
 /// all the commitments, and the range.
 #[derive(Debug, Drop)]
@@ -26,7 +26,7 @@ pub struct Roster<'a> {
     to: u64,
     order: Vec<usize>,
     capacities: Vec<u64>,
-    index: Vec<Offer<'a>>,
+    table: Vec<Vec<Offer<'a>>>,
 }
 
 impl<'a> Model for Roster<'a> {
@@ -36,7 +36,7 @@ impl<'a> Model for Roster<'a> {
 
     ghost view = { λ r. record { commitments = r.commitments.now; from = r.from; to = r.to } };
 
-    ghost invariant = { λ r. IsRoster (record { commitments = r.commitments.now; from = r.from; to = r.to }) r.order.items r.capacities.items r.index.items };
+    ghost invariant = { λ r. IsRoster (record { commitments = r.commitments.now; from = r.from; to = r.to }) r.order.items r.capacities.items r.table.items };
 }
 
 /// Whether a commitment runs in one of the hours from `from` up to, and not including, `to`.
@@ -75,7 +75,7 @@ impl<'a> Roster<'a> {
     {
         let running = running(alloc, commitments, from, to)?;
         let order = places(alloc, &running)?;
-        let index = index(alloc, &running)?;
+        let table = table(alloc, &running)?;
         let capacities = capacities(alloc, commitments)?;
         Ok(Roster {
             commitments,
@@ -83,7 +83,7 @@ impl<'a> Roster<'a> {
             to,
             order,
             capacities,
-            index,
+            table,
         })
     }
 
@@ -118,7 +118,7 @@ impl<'a> Roster<'a> {
         ensures row_left { IfOk result (λ h. (r : ℕ) → taken_of_row r h.taken.items + slice_index h.row_left.items r ≡ slice_index (quantities_of (map (λ r. r.now) rows.now)) r) }
         ensures unused { IfOk result (λ h. (c : ℕ) → used_of c h.taken.items + slice_index h.unused.items c ≡ slice_index (capacities_of self.now.commitments) c) }
     {
-        let pairs = pairs_in_order(alloc, &self.index, rows, hour)?;
+        let pairs = pairs_in_order(alloc, &self.table, self.order.len(), rows, hour)?;
         let billed = billed_costs(alloc, rows)?;
         let quantities = quantities(alloc, rows)?;
         cover_pairs(alloc, &pairs, &billed, &quantities, &self.capacities)

@@ -1,10 +1,10 @@
 -- Lemmas on rows that are summed by the codes of their groups.
-use Rattle.std.proofs.Common.{◌≡◌, ◌∙◌, ℕ, zero, suc, ◌+◌, ◌*◌, ◌^◌, ◌<◌, ◌≤◌, ◌==◌, ◌&&◌, ◌||◌, nat_lt, ℤ, pos, ◌+ℤ◌, nat_abs, Bool, true, false, cond, List, [], ◌∷◌, ◌++◌, length, map, filter, fold, get_or, All, IfSome, Some, None, sym, ap, refl, subst, arith, true≢false, append-nil, append_assoc}
+use Rattle.std.proofs.Common.{◌≡◌, ◌∙◌, ℕ, suc, ◌+◌, ◌^◌, ◌<◌, ◌≤◌, ◌==◌, ◌&&◌, ◌||◌, nat_lt, ℤ, pos, ◌+ℤ◌, nat_abs, Bool, true, false, cond, List, [], ◌∷◌, ◌++◌, length, map, filter, fold, get_or, All, IfSome, sym, ap, refl, subst, arith, true≢false, append-nil, append_assoc}
 use Rattle.std.proofs.lemmas.Bool.{MatchBool-at_false, MatchBool-at_true}
 use Rattle.std.proofs.lemmas.Bool.Decides.{nat_tests}
 use Rattle.std.proofs.lemmas.Int.{ints}
 use Rattle.std.proofs.lemmas.List.{get_or-map, length-map, map-append}
-use Rattle.std.proofs.lemmas.List.Elements.{All-get_or, filter-append, recursion_from_All}
+use Rattle.std.proofs.lemmas.List.Elements.{filter-append, recursion_from_All}
 use Rattle.std.proofs.lemmas.List.Folds.{list_any-append}
 use Rattle.std.proofs.lemmas.List.Sorted.{IsPermutation-append_right, IsPermutation-map}
 use Rattle.std.proofs.lemmas.List.Sums.{fold-append}
@@ -12,14 +12,12 @@ use Rattle.std.specs.List.{AllByRecursion, list_any}
 use Rattle.std.specs.List.Sorted.{IsPermutation}
 use Rattle.std.specs.Prelude.{MatchBool}
 use Rattle.std.specs.Str.{bytes_eq}
-use Rattle.std.proofs.lemmas.Slice.Eq.{bytes_eq-Decides}
 use Rattle.fw_charge.specs.Charge.{Charge}
-use Rattle.fw_charge.specs.Tags.{group_of}
 use Rattle.fw_columns.specs.Codes.{tag_code}
 use Rattle.fw_columns.specs.Names.{Text}
 use Rattle.fw_columns.specs.Texts.{names_of}
 use Rattle.fw_cover.proofs.Sorting.{two_ways}
-use Rattle.fw_lanes.specs.Masked.{is_at_code, kept_of, mask_of_code, masked_sum_of}
+use Rattle.fw_lanes.specs.Masked.{is_at_code, mask_of_code, masked_sum_of}
 use Rattle.fw_money.specs.Amount.{most_nanos}
 use Rattle.fw_query.specs.CodeSums.{AreCodeSums, code_cost, code_text, codes_of}
 use Rattle.fw_query.specs.Costs.{Cost, groups_of, lines_in, sum_in}
@@ -35,7 +33,7 @@ use Rattle.fw_query.proofs.SumFacts.{AreSmall-more, AreSmall-same, AreSums-more,
 -- ---- costs of one group count as one cost with their sums
 
 -- the sum of an amount
-abbrev total : (Cost → ℤ) → List Cost → ℤ
+abbrev pub total : (Cost → ℤ) → List Cost → ℤ
 total amount costs = fold ◌+ℤ◌ (pos 0) (map amount costs)
 
 from_zero : (start z rest : ℤ) → (start +ℤ z) +ℤ rest ≡ start +ℤ ((pos 0 +ℤ z) +ℤ rest)
@@ -64,7 +62,7 @@ lines_elsewhere : (g t : Text) (xs : List Cost) → AreOf t xs → bytes_eq g t 
 lines_elsewhere g t [] of other = refl
 lines_elsewhere g t (x ∷ xs) of other = let there : bytes_eq g x.group ≡ false = ap (bytes_eq g) of.0 ∙ other in rw there (lines_elsewhere g t xs of.1 other)
 
-sum_behind : (amount : Cost → ℤ) (costs xs : List Cost) (g : Text) → sum_in amount (costs ++ xs) g ≡ sum_in amount costs g +ℤ total amount (lines_in g xs)
+pub sum_behind : (amount : Cost → ℤ) (costs xs : List Cost) (g : Text) → sum_in amount (costs ++ xs) g ≡ sum_in amount costs g +ℤ total amount (lines_in g xs)
 unfolding sum_in
 sum_behind amount costs xs g =
     ap (λ l. fold ◌+ℤ◌ (pos 0) (map amount l)) (filter-append (λ c. bytes_eq g c.group) costs xs)

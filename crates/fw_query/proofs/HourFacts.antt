@@ -1,5 +1,5 @@
 -- Lemmas on rows by hour.
-use Rattle.std.proofs.Common.{◌≡◌, ◌≢◌, ◌∙◌, ℕ, zero, suc, ◌+◌, ◌<◌, ◌==◌, true, false, All, Bor, List, [], ◌∷◌, ◌++◌, length, map, filter, take, get_or, set, Some, Vec, sym, ap, refl, arith, append-nil, append_assoc, ⊎_elim}
+use Rattle.std.proofs.Common.{◌≡◌, ◌≢◌, ◌∙◌, ℕ, zero, suc, ◌+◌, ◌<◌, ◌==◌, true, false, All, Bor, List, [], ◌∷◌, ◌++◌, length, map, filter, take, get_or, set, Some, Vec, sym, ap, refl, arith, append-nil, ⊎_elim}
 use Rattle.std.specs.Prelude.{slice_get}
 use Rattle.std.specs.declared.alloc.Global.{Global}
 use Rattle.std.proofs.lemmas.Bool.{cases_eq}

@@ -7,6 +7,8 @@ pub mod HourFacts
 pub mod MarkFacts
 pub mod CodeFacts
 pub mod CodeSumFacts
+pub mod SameFacts
+pub mod CorrectionFacts
 pub mod CountedFacts
 mod FindFacts
 pub mod MovedFacts

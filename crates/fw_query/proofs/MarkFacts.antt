@@ -1,9 +1,9 @@
 -- Lemmas on marked hours.
-use Rattle.std.proofs.Common.{◌≡◌, ◌≢◌, ◌∙◌, ℕ, zero, suc, ◌+◌, ◌-◌, ◌<◌, ◌≤◌, ◌^◌, ◌==◌, ◌&&◌, not, nat_le, cond, Bool, true, false, List, [], ◌∷◌, ◌++◌, length, map, filter, drop, take, get_or, replicate, sym, ap, refl, subst, arith, ⊎_elim, inl, inr, true≢false, append-nil}
+use Rattle.std.proofs.Common.{◌≡◌, ◌≢◌, ◌∙◌, ℕ, zero, suc, ◌+◌, ◌-◌, ◌<◌, ◌≤◌, ◌^◌, ◌==◌, ◌&&◌, nat_le, cond, Bool, true, false, List, [], ◌∷◌, ◌++◌, length, map, drop, take, get_or, replicate, sym, ap, refl, subst, arith, ⊎_elim, true≢false, append-nil}
 use Rattle.std.proofs.lemmas.Bool.{cases_order}
 use Rattle.std.proofs.lemmas.Bool.Decides.{nat_tests}
-use Rattle.std.proofs.lemmas.List.{drop_more, get_or-map, get_or-replicate, get_or_default, get_or_past, length-map}
-use Rattle.std.proofs.lemmas.List.Elements.{filter-append, filter_agree, filter_more}
+use Rattle.std.proofs.lemmas.List.{drop_more, get_or-replicate, get_or_past, length-replicate}
+use Rattle.std.proofs.lemmas.List.Elements.{filter_more}
 use Rattle.std.proofs.lemmas.List.FromFn.{get_or-map-range_with_len, length-map-range_with_len, map-range_with_len_more}
 use Rattle.std.specs.List.{list_any, range_with_len}
 use Rattle.std.specs.List.Sorted.{IsPermutation}
@@ -75,16 +75,7 @@ pub no_marks : (rows : List Charge) (from : ℕ) → rows_marked [] from rows �
 no_marks [] from = refl
 no_marks (row ∷ rows) from = rw (no_mark from (hour_of row.start)) (no_marks rows from)
 
--- where the first hour isn't marked
-pub rows_later : (marks : List Bool) (from : ℕ) (rows : List Charge) → rows_marked (false ∷ marks) from rows ≡ rows_marked marks (from + 1) rows
-rows_later marks from rows = filter_agree (λ row. is_marked (false ∷ marks) from (hour_of row.start)) (λ row. is_marked marks (from + 1) (hour_of row.start)) (λ row. same (hour_of row.start)) rows
-  where
-    same : (hour : ℕ) → is_marked (false ∷ marks) from hour ≡ is_marked marks (from + 1) hour
-    same hour = two_ways (hour == from)
-        (λ here. let at : hour ≡ from = grind (arith, nat_tests) in marked_first false marks from hour at ∙ sym (marked_before marks (from + 1) hour (omega arith)))
-        (λ other. let apart : hour ≢ from = grind (arith, nat_tests) in marked_later false marks from hour apart)
-
--- where it is
+-- where the first hour is marked
 pub rows_first : (marks : List Bool) (from : ℕ) (rows : List Charge) → IsPermutation (rows_in from rows ++ rows_marked marks (from + 1) rows) (rows_marked (true ∷ marks) from rows)
 unfolding rows_in is_of_hour
 rows_first marks from rows = either_passes (is_of_hour from) (λ row. is_marked marks (from + 1) (hour_of row.start)) (λ row. is_marked (true ∷ marks) from (hour_of row.start))
@@ -169,7 +160,6 @@ touched_more cs from n marks mark are is early = record {
         let rest : from + ((at + 1) + k) < 2 ^ 32 = by ms (at + 1) (omega arith) (λ j g. let b : from + (at + suc j) < 2 ^ 32 = before (suc j) g in omega (arith, b)) k h in
         omega (arith, rest)
 
--- the hours that aren't marked, from a place on
-pub others_at : (marks : List Bool) (i : ℕ) → i < length marks → drop i (map not marks) ≡ not (get_or marks i false) ∷ drop (i + 1) (map not marks)
-others_at marks i below =
-    drop_more (map not marks) i true (rw (length-map marks not) below) ∙ ap (λ b. b ∷ drop (i + 1) (map not marks)) (get_or-map not marks i false true below)
+-- where every hour is marked, those from a place on
+pub every_at : (n i : ℕ) → i < n → drop i (replicate n true) ≡ true ∷ drop (i + 1) (replicate n true)
+every_at n i below = drop_more (replicate n true) i true (rw (length-replicate n true) below) ∙ ap (λ b. b ∷ drop (i + 1) (replicate n true)) (get_or-replicate n i true true below)

@@ -134,12 +134,12 @@ some_quantity (Some (pos (suc n))) h = omega arith
 some_quantity (Some (negsuc n)) h = absurd (cc)
 
 -- of a row that commitments may cover
-record IsWhole (row : Charge) : Type 0 where
-  quantity : 0 < quantity_of row
-  billed : pos (unsigned_abs row.billed) ≡ row.billed
-  effective : pos (unsigned_abs row.effective) ≡ row.effective
+pub record IsWhole (row : Charge) : Type 0 where
+  pub quantity : 0 < quantity_of row
+  pub billed : pos (unsigned_abs row.billed) ≡ row.billed
+  pub effective : pos (unsigned_abs row.effective) ≡ row.effective
 
-is_whole : (row : Charge) → is_eligible row ≡ true → IsWhole row
+pub is_whole : (row : Charge) → is_eligible row ≡ true → IsWhole row
 unfolding is_eligible
 is_whole row h =
     let measured = (both_true _ _ h).1 in
@@ -176,7 +176,7 @@ lefts_whole before (row ∷ after) =
     let long : length (before ++ row ∷ []) ≡ length before + 1 = length-append before (row ∷ []) in
     (left_whole before after row, rw (same, long) at (lefts_whole (before ++ row ∷ []) after))
 
-positive : (n : ℕ) → 0 < n → nat_lt 0 n ≡ true
+pub positive : (n : ℕ) → 0 < n → nat_lt 0 n ≡ true
 positive n h = grind (arith, nat_tests)
 
 -- where nothing was taken of the rows, what is left brings what the rows bring
@@ -216,7 +216,7 @@ are_plain cs rows hour h = record {
   are_lines = rw (no_purchases cs hour h, no_cover cs rows hour h) (sym (ap (λ l. l ++ rest_lines rows [] hour) (append-nil (given_lines rows hour))));
 }
 
-given_part : (key : List ℕ) (rows : List Charge) (hour : ℕ) → costs_of key (given_lines rows hour) ≡ map (row_cost key) (filter (λ row. not (is_eligible row)) rows)
+pub given_part : (key : List ℕ) (rows : List Charge) (hour : ℕ) → costs_of key (given_lines rows hour) ≡ map (row_cost key) (filter (λ row. not (is_eligible row)) rows)
 unfolding given_lines
 given_part key rows hour = given_costs key hour (filter (λ row. not (is_eligible row)) rows)
 

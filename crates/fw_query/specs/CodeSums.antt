@@ -1,5 +1,5 @@
 -- What the rows of a segment bring, by the codes of their groups. The private functions of the report cite it.
-use Rattle.std.specs.Prelude.{◌<◌, ◌≤◌, ◌^◌, ℕ, zero, suc, ℤ, pos, nat_abs, Bool, List, [], length, map, slice_index_or, All}
+use Rattle.std.specs.Prelude.{◌<◌, ◌≤◌, ◌^◌, ℕ, zero, suc, pos, nat_abs, Bool, List, [], length, map, slice_index_or, All}
 use Rattle.fw_charge.specs.Charge.{Charge}
 use Rattle.fw_columns.specs.Names.{Text}
 use Rattle.fw_columns.specs.Texts.{names_of}

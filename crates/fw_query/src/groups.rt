@@ -1,5 +1,5 @@
 //! Sums by group, as they grow line by line.
-ghost use Rattle.std.specs.Prelude.{◌≡◌, ◌+ℤ◌, ◌+◌, ◌<◌, ◌^◌, length, ◌++◌, ◌∷◌, List, [], map, not, All, IfOk, IfSome, MatchBool, OnOk};
+ghost use Rattle.std.specs.Prelude.{◌≡◌, ◌+ℤ◌, ◌+◌, ◌<◌, ◌^◌, length, ◌++◌, ◌∷◌, List, [], map, replicate, true, All, IfOk, IfSome, MatchBool, OnOk};
 ghost use Rattle.std.specs.Bool.{OnTrue};
 ghost use Rattle.std.specs.List.{range_with_len};
 ghost use Rattle.fw_amortise.specs.Lines.{rows_in};
@@ -12,9 +12,9 @@ ghost use Rattle.fw_query.specs.Sums.{AddsLine, AreAmounts, AreEntries, AreSums,
 
 use crate::entries::Entry;
 use crate::hours::{RowPlace, rows_by_hour};
-use crate::marks::{other_hours, touched_hours};
+use crate::marks::{every_hour, touched_hours};
 use crate::segments::rows_at;
-use fw_amortise::{Line, lines_by_roster};
+use fw_amortise::{Line, own_lines_by_roster};
 use fw_columns::{Columns, LentRow};
 use fw_cover::{Roster, references};
 use fw_money::Nanos;
@@ -81,8 +81,8 @@ impl Groups {
         }
     }
 
-    // The sums of the lines of so many hours from this one on. Where no commitment has a line in an hour, the lines bring what the rows do: such
-    // rows are summed by column, and only those of other hours are sorted by hour.
+    // The sums of the lines of so many hours from this one on. The rows of all of them are summed by column first. Where no commitment has a
+    // line in an hour, its lines bring what its rows do; so only the rows of other hours are sorted by hour.
     pub(crate) fn of_hours<'a>(
         alloc: Global,
         key: &str,
@@ -96,10 +96,10 @@ impl Groups {
         ensures { IfOk result (λ groups. CountsHours groups [] key.now roster.now.commitments (map (λ h. rows_in h (all_rows (lent segments.now))) (range_with_len from hours)) from) }
     {
         let touched = touched_hours(alloc, roster.commitments(), from, hours)?;
-        let untouched = other_hours(alloc, touched.as_slice())?;
+        let every = every_hour(alloc, hours)?;
         let by_hour = rows_by_hour(alloc, segments, from, touched.as_slice())?;
         let mut groups = Groups::new(alloc);
-        groups.add_segments(key, segments, from, untouched.as_slice())?;
+        groups.add_segments(key, segments, from, every.as_slice())?;
         groups.add_hours(
             key,
             segments,
@@ -111,8 +111,8 @@ impl Groups {
         Ok(groups)
     }
 
-    // Counts the lines of the touched hours, whose rows are at these places, where the rows of the untouched hours are counted. The first place
-    // of either list is of this hour.
+    // Counts the lines of the hours, where their rows are counted; those of the touched hours are at these places. The first place of either list
+    // is of this hour.
     fn add_hours<'a>(
         &mut self,
         key: &str,
@@ -127,7 +127,7 @@ impl Groups {
         requires many { length touched.now ≡ length by_hour.now }
         requires touched { AreTouched roster.now.commitments from (length by_hour.now) touched.now }
         requires by_hour { AreByHour (lent segments.now) (rows_marked touched.now from (all_rows (lent segments.now))) from (length by_hour.now) by_hour.now }
-        requires counts { Counts self.old (map (row_cost key.now) (rows_marked (map not touched.now) from (all_rows (lent segments.now)))) }
+        requires counts { Counts self.old (map (row_cost key.now) (rows_marked (replicate (length by_hour.now) true) from (all_rows (lent segments.now)))) }
         ensures { OnOk result (CountsHours self.new [] key.now roster.now.commitments (map (λ h. rows_in h (all_rows (lent segments.now))) (range_with_len from (length by_hour.now))) from) }
     {
         let mut hour = from;
@@ -139,7 +139,7 @@ impl Groups {
         Ok(())
     }
 
-    // Counts the lines of an hour whose rows are at these places, where the hour is touched.
+    // Counts the lines of an hour whose rows are at these places and are counted, where the hour is touched.
     fn add_hour<'a>(
         &mut self,
         key: &str,
@@ -154,7 +154,7 @@ impl Groups {
         requires there { All (IsThere (lent segments.now)) places.now }
         requires of_hour { All (λ r. hour_of r.start ≡ hour) (rows_at (lent segments.now) places.now) }
         requires early { OnTrue is_touched (hour < 2 ^ 32) }
-        ensures { OnOk result (MatchBool is_touched ((costs : List Cost) → Counts self.old costs → CountsHour self.new costs key.now roster.now.commitments (rows_at (lent segments.now) places.now) hour) (self.new ≡ self.old)) }
+        ensures { OnOk result (MatchBool is_touched ((costs : List Cost) → Counts self.old (costs ++ map (row_cost key.now) (rows_at (lent segments.now) places.now)) → CountsHour self.new costs key.now roster.now.commitments (rows_at (lent segments.now) places.now) hour) (self.new ≡ self.old)) }
     {
         if !is_touched {
             return Ok(());
@@ -163,7 +163,8 @@ impl Groups {
         self.add_touched(key, roster, rows.as_slice(), hour as u32)
     }
 
-    // Counts the lines of an hour whose rows are these.
+    // Counts the lines of an hour whose rows are these and are counted: the commitments' own lines, and what corrects the rows that they took
+    // of.
     fn add_touched<'a>(
         &mut self,
         key: &str,
@@ -174,11 +175,12 @@ impl Groups {
         requires counts { (costs : List Cost) × Counts self.old costs }
         requires hour { HasHour roster.now hour }
         requires of_hour { All (λ r. hour_of r.start ≡ hour) rows.now }
-        ensures { OnOk result ((costs : List Cost) → Counts self.old costs → CountsHour self.new costs key.now roster.now.commitments rows.now hour) }
+        ensures { OnOk result ((costs : List Cost) → Counts self.old (costs ++ map (row_cost key.now) rows.now) → CountsHour self.new costs key.now roster.now.commitments rows.now hour) }
     {
-        let rows = references(self.alloc, rows)?;
-        let lines = lines_by_roster(self.alloc, roster, rows.as_slice(), hour)?;
-        self.add_lines(key, lines.as_slice())
+        let each = references(self.alloc, rows)?;
+        let own = own_lines_by_roster(self.alloc, roster, each.as_slice(), hour)?;
+        self.add_lines(key, own.lines.as_slice())?;
+        self.correct_rows(key, rows, own.left.as_slice())
     }
 
     // Counts lines.
@@ -192,8 +194,13 @@ impl Groups {
         Ok(())
     }
 
-    // Counts a line in its group. More lines than 2^64, which no memory holds, are answered as out of memory.
-    fn add(&mut self, group: &str, billed: Nanos, effective: Nanos) -> Result<(), AllocError>
+    // Counts a line, or a correction, in its group. More of them than 2^64, which no memory holds, are answered as out of memory.
+    pub(crate) fn add(
+        &mut self,
+        group: &str,
+        billed: Nanos,
+        effective: Nanos,
+    ) -> Result<(), AllocError>
         requires { (costs : List Cost) × Counts self.old costs }
         ensures { OnOk result ((costs : List Cost) → Counts self.old costs → Counts self.new (costs ++ record { group = group.now; billed = billed; effective = effective } ∷ [])) }
     {

@@ -9,6 +9,7 @@
 #![tactic(auto)]
 
 mod charges;
+mod corrections;
 mod coverage_laws;
 mod covered;
 mod covering;

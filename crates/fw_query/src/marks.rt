@@ -1,5 +1,5 @@
 //! Marked hours: a mark for each of some hours in turn, and the rows of those that are marked.
-ghost use Rattle.std.specs.Prelude.{◌≡◌, ◌+◌, ◌<◌, ◌^◌, length, map, nat_abs, not, replicate, true, IfOk};
+ghost use Rattle.std.specs.Prelude.{◌≡◌, ◌+◌, ◌<◌, ◌^◌, length, map, nat_abs, replicate, true, IfOk};
 ghost use Rattle.std.specs.List.{list_any};
 ghost use Rattle.fw_charge.specs.Charge.{hour_of};
 ghost use Rattle.fw_query.specs.Hours.{AreTouched, IsMarkedPlace, is_marked};
@@ -31,17 +31,6 @@ pub(crate) fn touched_hours(
         marks.push(is_touched(commitments, from + place as u64))?;
     }
     Ok(marks)
-}
-
-// The marks of the hours that aren't marked.
-pub(crate) fn other_hours(alloc: Global, marks: &[bool]) -> Result<Vec<bool>, AllocError>
-    ensures { IfOk result (λ others. others.items ≡ map not marks.now) }
-{
-    let mut others = Vec::with_capacity(alloc, marks.len())?;
-    for place in 0..marks.len() {
-        others.push(!marks[place])?;
-    }
-    Ok(others)
 }
 
 // The place of a second's hour among the hours of the marks, of which this one is the first, where it is marked.

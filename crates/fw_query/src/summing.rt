@@ -1,4 +1,4 @@
-//! Rows that are summed by column: in an hour in which no commitment has a line, the lines bring what the rows do.
+//! Rows that are summed by column.
 ghost use Rattle.std.specs.Prelude.{◌≡◌, ◌<◌, ◌≤◌, ◌^◌, ◌++◌, length, List, map, nat_abs, pos, false, slice_index_or, IfOk, IfSome, MatchBool, OnOk};
 ghost use Rattle.fw_query.specs.CodeSums.{AreCodeSums, code_cost, code_text};
 ghost use Rattle.fw_query.specs.Costs.{Cost};

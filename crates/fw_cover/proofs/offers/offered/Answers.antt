@@ -1,20 +1,32 @@
-use Rattle.std.proofs.Common.{◌≡◌, ◌∙◌, ap, drop, map, rules, take}
-use Rattle.std.specs.List.{prefix_len}
-use Rattle.std.specs.Ordering.{is_lt}
-use Rattle.std.specs.Str.{bytes_eq}
-use Rattle.std.proofs.lemmas.List.Sorted.{IsPartitionPoint-from_clause}
-use Rattle.fw_cover.specs.Offers.{offer_of, standing_to}
+use Rattle.std.proofs.Common.{◌≡◌, ◌∙◌, [], Vec, ap, arith, get_or, length, map, sym}
+use Rattle.std.specs.declared.alloc.Global.{Global}
+use Rattle.std.proofs.lemmas.List.{get_or-map, length-map}
+use Rattle.fw_cover.specs.Offers.{list_for, offer_before, offer_of, table_view}
 use Rattle.fw_cover.specs.declared.offers.Offer.{Offer}
-use Rattle.fw_cover.proofs.Index.{parted_below, offers_run}
+use Rattle.fw_cover.proofs.Index.{one_sku}
+use Rattle.fw_cover.proofs.Tables.{sorted_under}
 use Rattle.fw_cover.proofs.offers.offered.Goals as goal
 
-pub returns : goal.returns
-returns c =
+pub run_in-requires : goal.run_in-requires
+run_in-requires c =
+    let view = λ (list : Vec Offer Global). map offer_of list.items in
+    let table = c.args.table.now in
+    let at = c.list_for.result in
+    let own = c.index-table-list_for.result in
+    let here : get_or (table_view table) at [] ≡ map offer_of c.as_slice-list.result.now =
+    get_or-map view table at own [] c.list_for.ensures.within ∙ sym (ap view c.index-table-list_for.is) ∙ sym (ap (map offer_of) c.as_slice-list.ensures.value) in
+    sorted_under offer_of offer_before c.as_slice-list.result.now (rw here at (c.requires.sorted at [] (omega (arith, c.list_for.ensures.within, length-map table view))))
+
+pub returns-in-Some-Some : goal.returns-in-Some-Some
+returns-in-Some-Some c =
+    let view = λ (list : Vec Offer Global). map offer_of list.items in
+    let table = c.args.table.now in
     let sku = c.args.sku.now in
-    let xs = c.args.index.now in
-    let from = c.partition_point-from.result in
-    let below = IsPartitionPoint-from_clause (λ o. is_lt (standing_to sku o)) xs from c.partition_point-from.ensures.partitioned (parted_below sku xs c.requires) (λ a r q k. search rules) in
-    let back : c.split_at.result.1.now ≡ drop from xs = c.split_at.ensures.back in
-    let run : c.run_of.result ≡ prefix_len (λ (o : Offer). bytes_eq o.sku.now sku) (drop from xs) = c.run_of.ensures.run ∙ ap (prefix_len (λ (o : Offer). bytes_eq o.sku.now sku)) back in
-    let front : c.split_at-2.result.0.now ≡ take c.run_of.result (drop from xs) = c.split_at-2.ensures.front ∙ ap (take c.run_of.result) back in
-    ap (map offer_of) front ∙ offers_run sku xs from c.run_of.result c.requires below run
+    let at = c.list_for.result in
+    let own = c.index-table-list_for.result in
+    let here : get_or (table_view table) at [] ≡ map offer_of c.as_slice-list.result.now =
+    get_or-map view table at own [] c.list_for.ensures.within ∙ sym (ap view c.index-table-list_for.is) ∙ sym (ap (map offer_of) c.as_slice-list.ensures.value) in
+    let sorted = sorted_under offer_of offer_before c.as_slice-list.result.now (rw here at (c.requires.sorted at [] (omega (arith, c.list_for.ensures.within, length-map table view)))) in
+    let named : list_for (length (table_view table)) sku ≡ at = ap (λ n. list_for n sku) (length-map table view) ∙ sym c.list_for.ensures.value in
+    rw (named, here) (one_sku sku c.as_slice-list.result.now c.in-Some-Some.first.now c.in-Some-Some.last.now sorted (sym c.in-Some-Some.ensures.value) (sym c.in-Some-Some.ensures'.value)
+    (sym c.eq.ensures ∙ c.if-eq.true) (sym c.eq-then-eq.ensures ∙ c.if-eq-2.true))

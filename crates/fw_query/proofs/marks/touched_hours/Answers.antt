@@ -1,4 +1,3 @@
-use Rattle.std.proofs.Common.{◌≡◌, ◌+◌, ◌<◌, ◌^◌, arith, refl, true}
 use Rattle.std.proofs.lemmas.Bool.{OnTrue_at}
 use Rattle.fw_query.proofs.MarkFacts.{touched_more, touched_none}
 use Rattle.fw_query.proofs.marks.touched_hours.Goals as goal

@@ -1,4 +1,4 @@
-use Rattle.std.proofs.Common.{◌≡◌, ◌-◌, [], List, refl, arith}
+use Rattle.std.proofs.Common.{◌-◌, [], List, refl, arith}
 use Rattle.std.proofs.lemmas.Result.{IfOk-weaker}
 use Rattle.fw_query.specs.Costs.{Cost}
 use Rattle.fw_query.specs.Hours.{all_rows, lent}

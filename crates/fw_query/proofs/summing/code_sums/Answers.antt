@@ -1,6 +1,4 @@
-use Rattle.std.proofs.Common.{◌≡◌, ◌∙◌, ◌<◌, ◌≤◌, All, ap, length, map, nat_abs, sym, arith}
-use Rattle.std.proofs.lemmas.List.{length-map}
-use Rattle.fw_charge.specs.Charge.{Charge}
+use Rattle.std.proofs.Common.{◌≡◌, ◌∙◌, length, sym}
 use Rattle.fw_query.specs.CodeSums.{codes_of}
 use Rattle.fw_query.proofs.CodeSumFacts.{rows_of_amounts}
 use Rattle.fw_query.proofs.summing.code_sums.Goals as goal

@@ -7,6 +7,7 @@ invariant_of-result c = record {
   order = c.in_ok-order.ensures ∙ (rw (c.deref.ensures.value, map_places c.in_ok-running.running.items, c.in_ok-running.ensures) refl);
   valid = c.in_ok-capacities.ensures.in_limits;
   capacities = c.in_ok-capacities.ensures.values;
-  sorted = c.in_ok-index.ensures.sorted;
-  index_is = c.in_ok-index.ensures.value ∙ (rw (c.deref-2.ensures.value, c.in_ok-running.ensures) refl);
+  some = c.in_ok-table.ensures.some;
+  sorted = c.in_ok-table.ensures.sorted;
+  table_is = c.in_ok-table.ensures.value ∙ (rw (c.deref-2.ensures.value, c.in_ok-running.ensures) refl);
 }

@@ -1,4 +1,3 @@
-use Rattle.std.proofs.Common.{◌≡◌}
 use Rattle.fw_query.proofs.groups.Groups.add_hour.Goals as goal
 
 pub add_touched-requires-clause-of_hour : goal.add_touched-requires-clause-of_hour

@@ -1,9 +1,9 @@
-use Rattle.std.proofs.Common.{◌≡◌, ◌∙◌, ◌+◌, ◌-◌, ◌<◌, ◌^◌, All, List, MatchBool, ap, arith, false, get_or, length, refl, sym, true}
+use Rattle.std.proofs.Common.{◌≡◌, ◌∙◌, ◌+◌, ◌++◌, ◌-◌, ◌<◌, ◌^◌, All, List, MatchBool, ap, arith, false, get_or, length, map}
 use Rattle.std.proofs.lemmas.Bool.{OnTrue_from}
 use Rattle.fw_charge.specs.Charge.{Charge, hour_of}
 use Rattle.fw_amortise.specs.Lines.{rows_in}
 use Rattle.fw_query.specs.Costs.{Cost}
-use Rattle.fw_query.specs.Hours.{AreThere, all_rows, lent, rows_at, rows_marked, rows_of_list}
+use Rattle.fw_query.specs.Hours.{AreThere, all_rows, lent, row_cost, rows_at, rows_marked, rows_of_list}
 use Rattle.fw_query.specs.Sums.{Counts, CountsHour}
 use Rattle.fw_query.proofs.CountedFacts.{all_hours, next_hour, no_hour_yet}
 use Rattle.fw_query.proofs.HourFacts.{has_hour, rows_of_hour}
@@ -53,14 +53,15 @@ loop-places-preserved c =
     let here : rows_at segments c.as_slice.result.now ≡ rows_in (c.args.from + i) (rows_marked c.args.touched.now c.args.from rows) =
     ap (rows_at segments) c.as_slice.ensures.value
     ∙ rows_of_hour segments (rows_marked c.args.touched.now c.args.from rows) c.args.by_hour.now c.args.from i c.places-item.result c.requires.by_hour c.loop-places-test.true c.places-item.is in
-    let step : MatchBool (get_or c.args.touched.now i false) ((costs : List Cost) → Counts c.loop-places.self costs → CountsHour c.add_hour.new.self costs key cs (rows_in (c.args.from + i) (rows_marked c.args.touched.now c.args.from rows)) (c.args.from + i)) (c.add_hour.new.self ≡ c.loop-places.self) =
+    let step : MatchBool (get_or c.args.touched.now i false)
+    ((costs : List Cost) → Counts c.loop-places.self (costs ++ map (row_cost key) (rows_in (c.args.from + i) (rows_marked c.args.touched.now c.args.from rows))) → CountsHour c.add_hour.new.self costs key cs (rows_in (c.args.from + i) (rows_marked c.args.touched.now c.args.from rows)) (c.args.from + i)) (c.add_hour.new.self ≡ c.loop-places.self) =
     rw (here, place, kept.at) at c.in_ok-add_hour.ensures in
     record {
-      counted = next_hour c.loop-places.self c.add_hour.new.self key cs rows c.args.touched.now c.args.from (length c.args.by_hour.now) i c.loop-places-test.true c.requires.many c.requires.touched kept.counted step;
+      counted = next_hour c.loop-places.self c.add_hour.new.self key cs rows c.args.touched.now c.args.from (length c.args.by_hour.now) i c.loop-places-test.true c.requires.touched kept.counted step;
       at = let h = kept.at in omega arith;
     }
 
 pub returns : goal.returns
 returns c =
     let end : c.loop-places.places-index ≡ length c.args.by_hour.now = omega arith in
-    all_hours c.loop-places.self c.args.key.now c.args.roster.now.commitments (all_rows (lent c.args.segments.now)) c.args.touched.now c.args.from (length c.args.by_hour.now) c.loop-places.places-index end c.requires.many c.loop-places.invariant.counted
+    all_hours c.loop-places.self c.args.key.now c.args.roster.now.commitments (all_rows (lent c.args.segments.now)) c.args.from (length c.args.by_hour.now) c.loop-places.places-index end c.loop-places.invariant.counted

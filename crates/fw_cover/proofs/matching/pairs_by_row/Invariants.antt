@@ -1,7 +1,0 @@
-use Rattle.std.proofs.Common.{◌≡◌, map, take}
-use Rattle.std.specs.List.{enumerate_from, flat_map}
-use Rattle.fw_cover.specs.Offers.{offer_of, pairs_with}
-use Rattle.fw_cover.proofs.matching.pairs_by_row.Given as goal
-
-abbrev pub invariant-loop-at : goal.invariant-loop-at
-invariant-loop-at l = l.pairs.items ≡ flat_map (pairs_with l.hour (map offer_of l.index)) (enumerate_from 0 (map (λ r. r.now) (take l.at l.rows)))
