@@ -32,6 +32,7 @@ complete -c focusd -n '__fish_seen_subcommand_from load' -l help -d 'Print help'
 complete -c focusd -n '__fish_seen_subcommand_from load' -F
 complete -c focusd -n '__fish_seen_subcommand_from check' -l format -x -a 'text json' -d 'How the answer is written'
 complete -c focusd -n '__fish_seen_subcommand_from check' -l currency -x -d 'The currency that all costs must have: three capital letters'
+complete -c focusd -n '__fish_seen_subcommand_from check' -l quiet -d 'Prints no progress'
 complete -c focusd -n '__fish_seen_subcommand_from check' -l help -d 'Print help'
 complete -c focusd -n '__fish_seen_subcommand_from check' -F
 complete -c focusd -n '__fish_seen_subcommand_from report' -l dir -r -F -d 'The folder of the warehouse'
