@@ -6,6 +6,7 @@
 
 mod adding;
 mod builder;
+mod checking;
 mod codes;
 mod columns;
 mod grouping;
@@ -16,7 +17,9 @@ mod lengths;
 mod lists;
 mod names;
 mod naming;
+mod parts;
 mod reading;
+mod row_lists;
 mod row_view;
 mod table;
 
@@ -24,4 +27,6 @@ pub use builder::ColumnsBuilder;
 pub use columns::Columns;
 pub use lending::{LentDiscount, LentRow, LentTag, LentTags};
 pub use names::Names;
+pub use parts::Parts;
+pub use row_lists::RowLists;
 pub use row_view::RowView;
