@@ -1,7 +1,6 @@
 //! The reader of rows whose columns are taken over as they stand, without a row made.
-ghost use Rattle.std.specs.Prelude.{◌≡◌, ◌≤◌, [], ◌∷◌, Ok, length, map, nat_abs, string_bytes, IfErr, IfOk, IfSome};
+ghost use Rattle.std.specs.Prelude.{◌≡◌, ◌≤◌, Ok, map, nat_abs, string_bytes, IfErr, IfOk, IfSome};
 ghost use Rattle.fw_bytes.specs.Reading.{Fails, Gives, times};
-ghost use Rattle.fw_columns.specs.Names.{Text};
 ghost use Rattle.fw_column_bytes.specs.Direct.{AreColumnsOf, whole_body_view, whole_view};
 ghost use Rattle.fw_column_bytes.specs.Fits.{FitParts};
 ghost use Rattle.fw_column_bytes.specs.Reading.{body_at, columns_at, parts_at, place_at, tag_places_at};

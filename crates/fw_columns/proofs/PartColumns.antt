@@ -163,7 +163,7 @@ module _ (t : Table) (n : ℕ) (size : HaveLength t n) (numbered : AreNumbered t
       ∙ ap (with_texts []) (sym (flat_map-map all (texts_there t) places) ∙ (ap (flat_map all) (sym same) ∙ (flat_map-map all made places ∙ sym (flat_map-map texts_of (charge_at t) places))))
 
   lists_are : lists_there t.lists t.tags.items ≡ lists_of t.names rows
-  unfolding lists_of
+  unfolding lists_of list_at charge_at tags_of
   lists_are =
       let there = λ (place : ℕ). get_or t.lists place [] in
       column (λ c. tag_places t.names c.tags) (lists_there t.lists t.tags.items) [] (length-map t.tags.items there ∙ size.tags)

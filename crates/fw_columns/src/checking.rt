@@ -1,6 +1,5 @@
 //! Whether columns that were put together elsewhere are those of rows.
-ghost use Rattle.std.specs.Prelude.{◌≡◌, ◌<◌, ◌≤◌, ◌^◌, true, [], ◌∷◌, ℕ, length, map, pos, nat_abs, option_to_list, slice_index_or, All, IfSome, IsTrue};
-ghost use Rattle.fw_charge.specs.Charge.{IsShortText, last_second};
+ghost use Rattle.std.specs.Prelude.{◌≡◌, ◌<◌, ◌≤◌, true, [], ◌∷◌, length, map, pos, nat_abs, option_to_list, slice_index_or, All, IfSome, IsTrue};
 ghost use Rattle.fw_charge.specs.Codes.{category_code, class_code};
 ghost use Rattle.fw_charge.specs.Tags.{longest_tag_text};
 ghost use Rattle.fw_money.specs.Amount.{most_nanos};

@@ -13,4 +13,4 @@ pub returns-clause-columns : goal.returns-clause-columns
 returns-clause-columns c = λ h.
     let t = c.args.table.now in
     let few : length t.billed.items ≤ 65536 = omega (arith, c.if-count-gt65536.false, c.len-count.ensures) in
-    are_columns_of_rows t (c.have_length.ensures c.if-not-have_length.false) c.requires.numbered (c.are_tag_lists.ensures c.if-not-are_tag_lists.false) (c.have_rows.ensures h) c.len-_names.ensures.each_once few c.requires.few
+    are_columns_of_rows t (c.have_length.ensures c.if-not-have_length.false) c.requires.numbered (c.are_tag_lists.ensures c.if-not-are_tag_lists.false) (c.have_rows.ensures h) c.len-names.ensures.each_once few c.requires.few
