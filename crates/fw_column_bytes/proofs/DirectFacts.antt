@@ -1,6 +1,6 @@
 -- Columns that are taken over are those of the rows.
-use Rattle.std.proofs.Common.{◌≡◌, ℕ, Bool, ℤ, List, length, map, All, refl, sym, ap, ◌∙◌}
-use Rattle.std.specs.Prelude.{pos, nat_abs, is_some, string_bytes}
+use Rattle.std.proofs.Common.{◌≡◌, ℕ, Bool, ℤ, List, length, map, All, Option, Some, None, refl, sym, ap, ◌∙◌}
+use Rattle.std.specs.Prelude.{pos, nat_abs, is_some, string_bytes, IfSome}
 use Rattle.std.proofs.lemmas.List.{length-map}
 use Rattle.std.proofs.lemmas.Simd.{map-map}
 use Rattle.fw_charge.specs.Charge.{Charge, IsCharge}
@@ -65,3 +65,7 @@ columns_match p w rows fit read k =
             ),
           ));
     }
+
+pub columns_match_if : (p : Parts) (w : WholeRead) → FitParts (whole_view w) → AreReadIn p w → (r : Option (List Charge)) → IfSome r (λ rows. AreParts p rows) → IfSome r (λ rows. AreColumnsOf (whole_view w) rows)
+columns_match_if p w fit read None h = tt
+columns_match_if p w fit read (Some rows) h = columns_match p w rows fit read h

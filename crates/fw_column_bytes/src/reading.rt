@@ -108,7 +108,11 @@ pub fn front_of(alloc: Global, bytes: &[u8]) -> Result<(FrontRead, &[u8]), ReadE
 }
 
 #[tactic(auto, unfolding(crate::specs::Reading::amounts_at, fw_bytes::specs::Reading::both))]
-pub fn amounts_of(alloc: Global, count: u32, bytes: &[u8]) -> Result<(AmountsRead, &[u8]), ReadError>
+pub fn amounts_of(
+    alloc: Global,
+    count: u32,
+    bytes: &[u8],
+) -> Result<(AmountsRead, &[u8]), ReadError>
     ensures { Gives (λ x. (amounts_view x.0, x.1.now)) result (amounts_at count bytes.now) }
 {
     let (billed, rest) = amounts_after(alloc, count, bytes)?;
@@ -125,7 +129,11 @@ pub fn amounts_of(alloc: Global, count: u32, bytes: &[u8]) -> Result<(AmountsRea
 }
 
 #[tactic(auto, unfolding(crate::specs::Reading::periods_at, fw_bytes::specs::Reading::both))]
-pub fn periods_of(alloc: Global, count: u32, bytes: &[u8]) -> Result<(PeriodsRead, &[u8]), ReadError>
+pub fn periods_of(
+    alloc: Global,
+    count: u32,
+    bytes: &[u8],
+) -> Result<(PeriodsRead, &[u8]), ReadError>
     ensures { Gives (λ x. (periods_view x.0, x.1.now)) result (periods_at count bytes.now) }
 {
     let (starts, rest) = seconds_after(alloc, count, bytes)?;

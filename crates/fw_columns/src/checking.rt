@@ -11,7 +11,9 @@ use crate::lists::Lists;
 use crate::names::Names;
 use crate::reading::category_at;
 use crate::table::Table;
-use fw_charge::{Category, DiscountKind, DiscountStatus, LAST_SECOND, Tag, Tags, class_from_code, is_short_text};
+use fw_charge::{
+    Category, DiscountKind, DiscountStatus, LAST_SECOND, Tag, Tags, class_from_code, is_short_text,
+};
 use fw_money::Nanos;
 
 /// Whether columns are those of rows, 1 to 65,536 of them.
@@ -240,13 +242,23 @@ fn has_values(table: &Table, place: usize) -> bool
     }
     let category = category_at(table.categories.as_slice(), place);
     let id = table.discounts[place];
-    if !is_discount(&table.names, category, id, table.kinds[place], table.statuses[place]) {
+    if !is_discount(
+        &table.names,
+        category,
+        id,
+        table.kinds[place],
+        table.statuses[place],
+    ) {
         return false;
     }
     if !is_amount(table.quantities.as_slice(), place) {
         return false;
     }
-    if !is_quantity(table.quantities.as_slice(), place, table.has_quantity[place]) {
+    if !is_quantity(
+        table.quantities.as_slice(),
+        place,
+        table.has_quantity[place],
+    ) {
         return false;
     }
     has_texts(table, place)

@@ -16,3 +16,8 @@ pub columns_with-requires : goal.columns_with-requires
 columns_with-requires c =
     let p : Parts × List ℕ = (whole_view c.in_ok-whole.whole, c.in_ok-whole.rest.now) in
     (parts_format.takes c.args.bytes.now p (λ i. omega (arith, c.type_inv.bytes i)) c.in_ok-whole.ensures).1
+
+pub returns-in-Some-clause-found : goal.returns-in-Some-clause-found
+returns-in-Some-clause-found c =
+    let p : Parts × List ℕ = (whole_view c.in_ok-whole.whole, c.in_ok-whole.rest.now) in
+    direct_taken c.args.bytes.now p c.in-Some.rows (λ i. omega (arith, c.type_inv.bytes i)) c.in_ok-whole.ensures c.in-Some.ensures

@@ -18,7 +18,6 @@ below Less e = refl
 below Equal e = absurd cc
 below Greater e = absurd cc
 
-
 -- the first key, and the keys behind it
 begins : (names : List Text) (list : List ℕ) (last : Text) → 2 ≤ length list → last ≡ get_or names (get_or list 0 0) [] → rise_from last (map (λ t. t.key) (tags_of names (drop 2 list))) ≡ true → rise (map (λ t. t.key) (tags_of names list)) ≡ true
 unfolding tag_of text_at
@@ -37,11 +36,13 @@ loop-rest-init c =
     let names = c.args.names.now in
     let list = c.args.list.now in
     let Rising : List ℕ → Type 0 = λ rest. AreRising names c.text-last.result.now rest list in
-    let here : c.text-last.result.now ≡ get_or names (get_or list 0 0) [] = sym (get_or_from_slice_get names (get_or list 0 0) _ [] c.text-last.ensures) in
-    (subst Rising (sym (behind_two list)) (record {
-      rising = begins names list c.text-last.result.now c.in-len2-up.len_at_least here;
-      within = All-drop (λ place. place < length names) 2 list c.requires;
-    }), c.text-last.utf8)
+    let here : c.text-last.result.now ≡ get_or names (get_or list 0 0) [] = sym (get_or_from_slice_get names (get_or list 0 0) _ [] c.text-last.ensures) in (
+      subst Rising (sym (behind_two list)) (record {
+        rising = begins names list c.text-last.result.now c.in-len2-up.len_at_least here;
+        within = All-drop (λ place. place < length names) 2 list c.requires;
+      }),
+      c.text-last.utf8,
+    )
 
 pub loop-rest-preserved : goal.loop-rest-preserved
 loop-rest-preserved c =
@@ -50,11 +51,13 @@ loop-rest-preserved c =
     let rest = c.loop-rest.rest.now in
     let Rising : List ℕ → Type 0 = λ rest. AreRising names c.text-key.result.now rest list in
     let here : c.text-key.result.now ≡ get_or names (get_or rest 0 0) [] = sym (get_or_from_slice_get names (get_or rest 0 0) _ [] c.text-key.ensures) in
-    let lt : is_before c.loop-rest.last.now c.text-key.result.now ≡ true = below (slice_cmp nat_cmp c.loop-rest.last.now c.text-key.result.now) (sym c.ge.ensures ∙ c.if-ge.false) in
-    (subst Rising (sym (behind_two rest)) (record {
-      rising = λ e. c.loop-rest.invariant.0.rising (goes_on names rest c.loop-rest.last.now c.text-key.result.now c.in-len2-up-rest.len_at_least here lt e);
-      within = All-drop (λ place. place < length names) 2 rest c.loop-rest.invariant.0.within;
-    }), c.text-key.utf8)
+    let lt : is_before c.loop-rest.last.now c.text-key.result.now ≡ true = below (slice_cmp nat_cmp c.loop-rest.last.now c.text-key.result.now) (sym c.ge.ensures ∙ c.if-ge.false) in (
+      subst Rising (sym (behind_two rest)) (record {
+        rising = λ e. c.loop-rest.invariant.0.rising (goes_on names rest c.loop-rest.last.now c.text-key.result.now c.in-len2-up-rest.len_at_least here lt e);
+        within = All-drop (λ place. place < length names) 2 rest c.loop-rest.invariant.0.within;
+      }),
+      c.text-key.utf8,
+    )
 
 pub returns : goal.returns
 returns c = λ h.
