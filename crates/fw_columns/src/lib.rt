@@ -1,7 +1,7 @@
 //! Charge rows kept by column, each of their texts and each of their lists of tags once.
 //!
-//! Columns are made row by row by a builder and never change after it, so copies share them. They lend their rows: a lent row has its texts and
-//! tags where the columns keep them, and knows how many bytes it is written in.
+//! Columns are made row by row by a builder, or of parts that are the columns of rows, and never change after it, so copies share them. They lend
+//! their rows: a lent row has its texts and tags where the columns keep them, and knows how many bytes it is written in.
 #![tactic(auto)]
 
 mod adding;
