@@ -66,6 +66,6 @@ columns_match p w rows fit read k =
           ));
     }
 
-pub columns_match_if : (p : Parts) (w : WholeRead) → FitParts (whole_view w) → AreReadIn p w → (r : Option (List Charge)) → IfSome r (λ rows. AreParts p rows) → IfSome r (λ rows. AreColumnsOf (whole_view w) rows)
-columns_match_if p w fit read None h = tt
-columns_match_if p w fit read (Some rows) h = columns_match p w rows fit read h
+pub columns_match_if : (p : Parts) (w : WholeRead) → FitParts (whole_view w) → (r : Option (List Charge)) → IfSome r (λ rows. AreParts p rows) → AreReadIn p w → IfSome r (λ rows. AreColumnsOf (whole_view w) rows)
+columns_match_if p w fit None h read = tt
+columns_match_if p w fit (Some rows) h read = columns_match p w rows fit read h

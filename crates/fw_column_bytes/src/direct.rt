@@ -160,33 +160,39 @@ fn columns_with(alloc: Global, whole: WholeRead) -> Result<Option<Columns>, Allo
     requires { FitParts (whole_view whole) }
     ensures { IfOk result (λ made. IfSome made (λ rows. AreColumnsOf (whole_view whole) rows)) }
 {
-    let Some(names) = Names::of_texts(alloc, whole.front.names.as_slice())? else {
-        return Ok(None);
-    };
-    let Some(starts) = signed_of(alloc, whole.body.periods.starts.as_slice())? else {
-        return Ok(None);
-    };
-    let Some(has_quantity) = flags_of(alloc, whole.body.quantities.are_there.as_slice())? else {
-        return Ok(None);
-    };
+    let front = whole.front;
     let body = whole.body;
+    let amounts = body.amounts;
+    let periods = body.periods;
+    let discounts = body.discounts;
+    let quantities = body.quantities;
+    let texts = body.texts;
+    let Some(names) = Names::of_texts(alloc, front.names.as_slice())? else {
+        return Ok(None);
+    };
+    let Some(starts) = signed_of(alloc, periods.starts.as_slice())? else {
+        return Ok(None);
+    };
+    let Some(has_quantity) = flags_of(alloc, quantities.are_there.as_slice())? else {
+        return Ok(None);
+    };
     let parts = Parts {
         names,
         tags: body.tags,
-        billed: body.amounts.billed,
-        effective: body.amounts.effective,
-        categories: body.amounts.categories,
-        classes: body.amounts.classes,
+        billed: amounts.billed,
+        effective: amounts.effective,
+        categories: amounts.categories,
+        classes: amounts.classes,
         starts,
-        ends: body.periods.ends,
-        discounts: body.discounts.ids,
-        kinds: body.discounts.kinds,
-        statuses: body.discounts.statuses,
-        quantities: body.quantities.counts,
+        ends: periods.ends,
+        discounts: discounts.ids,
+        kinds: discounts.kinds,
+        statuses: discounts.statuses,
+        quantities: quantities.counts,
         has_quantity,
-        units: body.texts.units,
-        skus: body.texts.skus,
-        sub_accounts: body.texts.sub_accounts,
+        units: texts.units,
+        skus: texts.skus,
+        sub_accounts: texts.sub_accounts,
     };
     let columns = Columns::of_parts(alloc, parts)?;
     Ok(columns)
