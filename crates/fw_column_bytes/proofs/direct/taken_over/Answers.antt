@@ -20,4 +20,5 @@ columns_with-requires c =
 pub returns-in-Some-clause-found : goal.returns-in-Some-clause-found
 returns-in-Some-clause-found c =
     let p : Parts × List ℕ = (whole_view c.in_ok-whole.whole, c.in_ok-whole.rest.now) in
-    direct_taken c.args.bytes.now p c.in-Some.rows (λ i. omega (arith, c.type_inv.bytes i)) c.in_ok-whole.ensures c.in-Some.ensures
+    let are = rw c.in-Some.is at c.in_ok-rows.ensures in
+    direct_taken c.args.bytes.now p c.in-Some.rows (λ i. omega (arith, c.type_inv.bytes i)) c.in_ok-whole.ensures are
