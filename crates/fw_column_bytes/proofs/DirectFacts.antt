@@ -1,17 +1,12 @@
 -- Columns that are taken over are those of the rows.
-use Rattle.std.proofs.Common.{◌≡◌, ℕ, Bool, ℤ, List, length, map, All, Option, Some, None, refl, sym, ap, ◌∙◌}
+use Rattle.std.proofs.Common.{◌≡◌, List, length, map, Option, Some, None, sym, ap, ◌∙◌}
 use Rattle.std.specs.Prelude.{pos, nat_abs, is_some, string_bytes, IfSome}
 use Rattle.std.proofs.lemmas.List.{length-map}
 use Rattle.std.proofs.lemmas.Simd.{map-map}
-use Rattle.fw_charge.specs.Charge.{Charge, IsCharge}
-use Rattle.fw_charge.specs.Codes.{category_code, class_code}
-use Rattle.fw_columns.specs.Codes.{text_code}
-use Rattle.fw_columns.specs.Lists.{lists_of}
+use Rattle.fw_charge.specs.Charge.{Charge}
 use Rattle.fw_columns.specs.PartsView.{AreParts}
-use Rattle.fw_columns.specs.Table.{id_kept, kind_kept, status_kept, quantity_kept}
-use Rattle.fw_columns.specs.Texts.{names_of}
 use Rattle.fw_columns.specs.declared.parts.Parts.{Parts}
-use Rattle.fw_column_bytes.specs.Direct.{fields_of_rows, AreColumnsOf, whole_view}
+use Rattle.fw_column_bytes.specs.Direct.{AreColumnsOf, whole_view}
 use Rattle.fw_column_bytes.specs.Fits.{FitParts}
 use Rattle.fw_column_bytes.specs.Spelling.{flag, layout}
 use Rattle.fw_column_bytes.specs.declared.direct.WholeRead.{WholeRead}

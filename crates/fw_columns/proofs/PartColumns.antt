@@ -3,13 +3,13 @@ use Rattle.std.proofs.Common.{◌≡◌, ℕ, zero, suc, ◌+◌, ◌*◌, ◌/�
 use Rattle.std.specs.Prelude.{All, option_map, option_to_list, is_some, pos, nat_abs}
 use Rattle.std.specs.List.{flat_map, range_with_len}
 use Rattle.std.proofs.lemmas.List.{get_or-map, length-map, get_or_default}
-use Rattle.std.proofs.lemmas.List.Elements.{All-nil, All-cons, All-head, All-tail, All-map}
+use Rattle.std.proofs.lemmas.List.Elements.{All-head, All-tail, All-map}
 use Rattle.std.proofs.lemmas.List.Folds.{flat_map-map}
 use Rattle.std.proofs.lemmas.List.FromFn.{fill_by_all, length-range_with_len, get_or-range_with_len, length-map-range_with_len, get_or-map-range_with_len}
 use Rattle.std.proofs.lemmas.Simd.{map-map}
 use Rattle.fw_money.specs.Amount.{most_nanos}
 use Rattle.fw_charge.specs.Tags.{TagText, most_tags}
-use Rattle.fw_charge.specs.Charge.{Charge, DiscountText, IsCharge}
+use Rattle.fw_charge.specs.Charge.{Charge, IsCharge}
 use Rattle.fw_charge.specs.Codes.{category_code, class_code}
 use Rattle.fw_columns.specs.declared.table.Table.{Table}
 use Rattle.fw_columns.specs.Names.{Text, AreDistinct, place_of, with_text}
@@ -17,7 +17,7 @@ use Rattle.fw_columns.specs.Texts.{with_texts, texts_of_tags, texts_of, names_of
 use Rattle.fw_columns.specs.Lists.{tag_places, lists_of}
 use Rattle.fw_columns.specs.Codes.{text_code}
 use Rattle.fw_columns.specs.Table.{AreColumns, id_kept, kind_kept, status_kept, quantity_kept, text_at, text_of, discount_of, quantity_of, tag_of, tags_of, list_at, charge_at, rows_of}
-use Rattle.fw_columns.specs.Parts.{AreNumbered, lists_there, HaveLength, IsTagList, HasValues, HaveRows, texts_there}
+use Rattle.fw_columns.specs.Parts.{AreNumbered, lists_there, HaveLength, IsTagList, HaveRows, texts_there}
 use Rattle.fw_columns.proofs.NameFacts.{place_at}
 use Rattle.fw_columns.proofs.TextFacts.{AreKnown, AreKnown-seen, with_text_adds_one}
 use Rattle.fw_columns.proofs.ListFacts.{places-within}

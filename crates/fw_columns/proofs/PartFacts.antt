@@ -1,19 +1,19 @@
 -- Columns that were put together elsewhere and were checked are those of rows.
-use Rattle.std.proofs.Common.{◌≡◌, ℕ, zero, suc, ◌+◌, ◌-◌, ◌*◌, ◌/◌, ◌<◌, ◌≤◌, ℤ, Bool, true, false, List, [], ◌∷◌, ◌++◌, length, get_or, map, take, drop, Option, Some, None, refl, sym, ap, subst, ◌∙◌, arith, true≢false, append_assoc, length-append, ltb}
-use Rattle.std.specs.Prelude.{All, slice_get, option_to_list, is_some, pos, negsuc, nat_abs, IsTrue, IsSome, IfSome}
+use Rattle.std.proofs.Common.{◌≡◌, ℕ, zero, suc, ◌+◌, ◌-◌, ◌<◌, ◌≤◌, ℤ, Bool, true, false, List, [], ◌∷◌, ◌++◌, length, get_or, map, take, drop, Option, Some, None, refl, sym, ap, subst, ◌∙◌, arith, ltb}
+use Rattle.std.specs.Prelude.{All, slice_get, option_to_list, is_some, pos, negsuc, nat_abs, IfSome}
 use Rattle.std.specs.List.{list_any, position_or_len, flat_map, range_with_len}
 use Rattle.std.specs.Str.{bytes_eq}
 use Rattle.std.specs.Cmp.Lexicographic.{bytes_decides}
-use Rattle.std.proofs.lemmas.List.{take_more, take_all, get_or-take, length-take-le, take-append-drop, map_push}
+use Rattle.std.proofs.lemmas.List.{take_more, take_all, get_or-take, length-take-le, take-append-drop}
 use Rattle.std.proofs.lemmas.List.Elements.{All-nil, All-cons, All-head, All-tail, All-push}
-use Rattle.std.proofs.lemmas.Bool.{ltb-true, ltb-false, and_from}
+use Rattle.std.proofs.lemmas.Bool.{ltb-true, ltb-false}
 use Rattle.std.proofs.lemmas.List.{append-nil}
 use Rattle.std.proofs.lemmas.List.Folds.{flat_map-map}
 use Rattle.std.proofs.lemmas.List.FromFn.{map-range_with_len_more}
 use Rattle.std.proofs.lemmas.Grind.{flat_map-append}
-use Rattle.fw_charge.specs.Tags.{TagText, IsTagSized, longest_tag_text}
+use Rattle.fw_charge.specs.Tags.{IsTagSized, longest_tag_text}
 use Rattle.std.proofs.lemmas.Option.{get_or_from_slice_get}
-use Rattle.fw_charge.specs.Charge.{IsShortText, IsDiscountOf}
+use Rattle.fw_charge.specs.Charge.{IsShortText}
 use Rattle.fw_charge.specs.Codes.{category_code, category_of, class_code, class_of, kind_code, kind_of, status_code, status_of}
 use Rattle.fw_charge.specs.declared.category.Category.{Category}
 use Rattle.fw_charge.specs.declared.category.Category.TheVariants as category
@@ -23,7 +23,7 @@ use Rattle.fw_columns.specs.Table.{category_at, class_at, kind_at, kind_kept, st
 use Rattle.fw_columns.specs.Parts.{IsStatusOf, IsShortCode, IsDiscountKept, HaveSeen, AreNumbered, lists_there}
 use Rattle.fw_columns.proofs.NameFacts.{place-kept, place-there, place_at, text_at_place}
 use Rattle.fw_columns.proofs.TextFacts.{IsKnown, AreKnown, AreKnown-seen, known_adds_nothing, with_texts-append}
-use Rattle.fw_columns.proofs.ListFacts.{AreListed, listed_more}
+use Rattle.fw_columns.proofs.ListFacts.{listed_more}
 
 -- ---- codes that are there
 

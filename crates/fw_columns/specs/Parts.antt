@@ -2,7 +2,7 @@
 use Rattle.std.specs.Prelude.{◌≡◌, ◌<◌, ◌≤◌, ◌*◌, ◌/◌, ◌++◌, ℕ, ℤ, pos, nat_abs, false, List, [], length, map, take, slice_index_or, option_to_list, IfSome, IsSome, All}
 use Rattle.std.specs.List.{flat_map, range_with_len}
 use Rattle.fw_money.specs.Amount.{most_nanos}
-use Rattle.fw_charge.specs.Charge.{DiscountText, IsShortText, IsDiscountOf, last_second}
+use Rattle.fw_charge.specs.Charge.{IsShortText, IsDiscountOf, last_second}
 use Rattle.fw_charge.specs.Codes.{category_code, class_code, status_code, status_of}
 use Rattle.fw_charge.specs.declared.category.Category.{Category}
 use Rattle.fw_charge.specs.declared.category.Category.TheVariants as category

@@ -1,5 +1,5 @@
 use Rattle.std.proofs.Common.{◌≡◌, ◌≤◌, ◌-◌, ℕ, List, length}
-use Rattle.std.specs.Prelude.{map, string_bytes, Result}
+use Rattle.std.specs.Prelude.{map, string_bytes}
 use Rattle.fw_bytes.specs.Reading.{times}
 use Rattle.fw_bytes.proofs.Loop.{with_front}
 use Rattle.fw_columns.specs.Names.{Text}

@@ -1,4 +1,4 @@
-use Rattle.std.proofs.Common.{◌≡◌, ◌≤◌, List, ℕ, length, arith}
+use Rattle.std.proofs.Common.{◌≤◌, length, arith}
 use Rattle.fw_columns.specs.Parts.{lists_there}
 use Rattle.fw_columns.proofs.PartColumns.{lists_within, some_rows, are_columns_of_rows}
 use Rattle.fw_columns.proofs.checking.are_columns.Goals as goal

@@ -1,4 +1,4 @@
-use Rattle.std.proofs.Common.{◌≡◌, ◌≤◌, ◌<◌, List, ℕ, [], get_or, length, subst, sym, arith}
+use Rattle.std.proofs.Common.{◌≤◌, ◌<◌, [], length, subst, sym, arith}
 use Rattle.std.proofs.lemmas.Option.{get_or_from_slice_get}
 use Rattle.fw_charge.specs.Tags.{longest_tag_text}
 use Rattle.fw_columns.specs.Names.{Text}

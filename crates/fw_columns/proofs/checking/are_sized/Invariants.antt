@@ -1,4 +1,4 @@
-use Rattle.std.proofs.Common.{◌≤◌, List, length, take}
+use Rattle.std.proofs.Common.{◌≤◌, length, take}
 use Rattle.std.specs.Prelude.{All}
 use Rattle.fw_charge.specs.Tags.{longest_tag_text}
 use Rattle.fw_columns.proofs.checking.are_sized.Given as goal

@@ -1,4 +1,4 @@
-use Rattle.std.proofs.Common.{List, take}
+use Rattle.std.proofs.Common.{take}
 use Rattle.std.specs.Prelude.{All}
 use Rattle.fw_columns.specs.Parts.{IsTagList}
 use Rattle.fw_columns.proofs.checking.are_tag_lists.Given as goal

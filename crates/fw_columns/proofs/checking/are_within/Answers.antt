@@ -1,4 +1,4 @@
-use Rattle.std.proofs.Common.{◌≡◌, ◌≤◌, ◌<◌, ℕ, length, arith}
+use Rattle.std.proofs.Common.{◌<◌, ℕ, length, arith}
 use Rattle.fw_columns.proofs.PartFacts.{all_more, all_taken}
 use Rattle.fw_columns.proofs.checking.are_within.Goals as goal
 

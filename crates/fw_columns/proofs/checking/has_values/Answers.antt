@@ -1,4 +1,4 @@
-use Rattle.std.proofs.Common.{◌≡◌, ◌≤◌, ◌<◌, ℕ, ℤ, List, length, get_or, subst, sym, ap, ◌∙◌, arith, false}
+use Rattle.std.proofs.Common.{◌≡◌, ◌≤◌, ◌<◌, ℕ, ℤ, List, length, get_or, subst, ap, ◌∙◌, arith, false}
 use Rattle.std.specs.Prelude.{pos, nat_abs}
 use Rattle.std.proofs.lemmas.List.{get_or_read}
 use Rattle.fw_money.specs.Amount.{most_nanos}

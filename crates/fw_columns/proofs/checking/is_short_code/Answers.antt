@@ -1,4 +1,4 @@
-use Rattle.std.proofs.Common.{◌≤◌, ◌<◌, length, sym, ap, ◌∙◌, arith}
+use Rattle.std.proofs.Common.{◌<◌, length, arith}
 use Rattle.fw_columns.proofs.PartFacts.{short_null, short_there}
 use Rattle.fw_columns.proofs.checking.is_short_code.Goals as goal
 

@@ -1,4 +1,4 @@
-use Rattle.std.proofs.Common.{◌≡◌, ◌≤◌, ◌*◌, ◌/◌, ◌%◌, List, length, map, arith}
+use Rattle.std.proofs.Common.{◌≡◌, ◌≤◌, ◌/◌, ◌%◌, List, length, map, arith}
 use Rattle.fw_bytes.proofs.Rising.{sorted_from_rise}
 use Rattle.fw_charge.specs.Tags.{most_tags}
 use Rattle.fw_columns.specs.Names.{Text}

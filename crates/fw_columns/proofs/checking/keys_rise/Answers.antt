@@ -1,11 +1,10 @@
-use Rattle.std.proofs.Common.{◌≡◌, ◌-◌, ◌<◌, ◌≤◌, ◌∷◌, ◌∙◌, ℕ, Bool, true, false, List, [], length, get_or, map, take, drop, refl, sym, ap, subst, arith, is_ge, Ordering, Less, Equal, Greater}
+use Rattle.std.proofs.Common.{◌≡◌, ◌<◌, ◌≤◌, ◌∙◌, ℕ, true, false, List, [], length, get_or, map, drop, refl, sym, subst, arith, is_ge, Ordering, Less, Equal, Greater}
 use Rattle.std.specs.Ordering.{nat_cmp, is_lt}
 use Rattle.std.specs.Cmp.Lexicographic.{slice_cmp}
 use Rattle.std.proofs.lemmas.Bool.{and_from}
 use Rattle.std.proofs.lemmas.List.Elements.{All-drop}
 use Rattle.std.proofs.lemmas.Option.{get_or_from_slice_get}
 use Rattle.fw_bytes.specs.Order.{is_before, rise_from, rise}
-use Rattle.fw_charge.specs.Tags.{TagText}
 use Rattle.fw_columns.specs.Names.{Text}
 use Rattle.fw_columns.specs.Table.{tag_of, tags_of, text_at}
 use Rattle.fw_columns.proofs.ListFacts.{behind_two}

@@ -1,5 +1,5 @@
-use Rattle.std.proofs.Common.{get_or, map, take, subst, sym, ap, ◌∙◌, ◌∷◌, []}
-use Rattle.std.proofs.lemmas.List.{map_more, take_all}
+use Rattle.std.proofs.Common.{get_or, map, take, subst, sym, ◌∷◌, []}
+use Rattle.std.proofs.lemmas.List.{map_more}
 use Rattle.fw_columns.specs.Table.{text_at}
 use Rattle.fw_columns.specs.Parts.{HaveSeen}
 use Rattle.fw_columns.proofs.PartFacts.{seen_none, seen_then}

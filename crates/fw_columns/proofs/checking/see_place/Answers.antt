@@ -1,4 +1,4 @@
-use Rattle.std.proofs.Common.{◌≡◌, ◌<◌, ◌+◌, ◌∷◌, [], ℕ, List, length, subst, sym, arith}
+use Rattle.std.proofs.Common.{◌≡◌, ◌<◌, ◌+◌, ◌∷◌, [], ℕ, length, subst, sym, arith}
 use Rattle.fw_columns.specs.Table.{text_at}
 use Rattle.fw_columns.specs.Parts.{HaveSeen}
 use Rattle.fw_columns.proofs.PartFacts.{seen_again, seen_new}

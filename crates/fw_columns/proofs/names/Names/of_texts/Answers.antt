@@ -1,4 +1,4 @@
-use Rattle.std.proofs.Common.{◌≡◌, ◌≤◌, ◌<◌, ◌∙◌, ◌++◌, ◌∷◌, [], get_or, length, map, take, string_bytes, sym, ap, arith}
+use Rattle.std.proofs.Common.{◌≡◌, ◌<◌, ◌∙◌, ◌++◌, ◌∷◌, [], get_or, length, map, string_bytes, sym, ap, arith}
 use Rattle.std.proofs.lemmas.List.{length-map, length-take-le, take_more, get_or-map}
 use Rattle.fw_columns.specs.Names.{place_of, with_text}
 use Rattle.fw_columns.proofs.PartFacts.{text_is_new}
