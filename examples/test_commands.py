@@ -563,7 +563,7 @@ class Files(unittest.TestCase):
 class Progress(unittest.TestCase):
     """What import and check print to a terminal while they read."""
 
-    ROWS, POST = 250_000, 4_096
+    ROWS, POST = 1_500_000, 4_096
     # Rows, megabytes, and where the files have lengths all megabytes and the share; from the first second on the rate, and then the time left.
     LINE = re.compile(r"(\d+) rows, (\d+) MB(?: of (\d+) MB, (\d+)%)?(?:, (\d+) MB/s(?:, (\d+) (s|min) left)?)?\x1b\[K")
 
@@ -611,13 +611,16 @@ class Progress(unittest.TestCase):
         self.assertEqual([line[0] for line in lines], rows)
         self.assertEqual([line[1:4] for line in lines], [[it // 10**6, total // 10**6, it * 100 // total] for it in read])
         timed = [(it, line[4], line[5] * (60 if line[6] == "min" else 1)) for it, line in zip(read, lines) if line[4] is not None]
-        self.assertGreater(len(timed), 2)
+        # A fast machine reads all within a second, and then tells no rate.
+        if self.took > 2:
+            self.assertGreater(len(timed), 2)
         for it, rate, left in timed:
             least = it // 10**6 // (rate + 1)
             self.assertGreaterEqual(rate, it // 10**6 // (int(self.took) + 1))
             self.assertGreaterEqual(left + 60, (total - it) * least // it)
             self.assertLessEqual(left, (total - it) * self.took / it)
-        self.assertEqual(timed[-1][2], 0)
+        if timed:
+            self.assertEqual(timed[-1][2], 0)
 
     def test_an_import_tells_how_far_it_is(self):
         words = ("import", "--dir", str(self.folder), "--origin", "aws", "--create")
