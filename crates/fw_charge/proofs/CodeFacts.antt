@@ -1,7 +1,7 @@
 -- Each code stands for one category, class, kind or status, and each of them has one code; no two of them have one word.
-use Rattle.std.proofs.Common.{◌≡◌, ℕ, zero, suc, Bool, true, false, Some, length, get_or, refl, sym, ap, ◌∙◌, arith}
+use Rattle.std.proofs.Common.{◌≡◌, ◌≤◌, ℕ, zero, suc, Bool, true, false, Some, length, get_or, refl, sym, ap, ◌∙◌, arith}
 use Rattle.std.specs.Prelude.{if◌then◌else◌, ◌==◌}
-use Rattle.fw_charge.specs.Codes.{category_word, category_code, category_of, class_word, class_code, class_of, kind_word, kind_code, kind_of, status_word, status_code, status_of}
+use Rattle.fw_charge.specs.Codes.{category_word, category_code, category_count, category_of, class_word, class_code, class_of, kind_word, kind_code, kind_of, status_word, status_code, status_of}
 use Rattle.fw_charge.specs.declared.category.Category.{Category}
 use Rattle.fw_charge.specs.declared.category.Category.TheVariants as category
 use Rattle.fw_charge.specs.declared.discount.DiscountKind.{DiscountKind}
@@ -30,6 +30,14 @@ category_there category.Purchase = refl
 category_there category.Tax = refl
 category_there category.Credit = refl
 category_there category.Adjustment = refl
+
+pub category_within : (k : Category) → (1 ≤ category_code k) × (category_code k ≤ category_count)
+unfolding category_code
+category_within category.Usage = (omega arith, omega arith)
+category_within category.Purchase = (omega arith, omega arith)
+category_within category.Tax = (omega arith, omega arith)
+category_within category.Credit = (omega arith, omega arith)
+category_within category.Adjustment = (omega arith, omega arith)
 
 pub class_back : (b : ℕ) (x : Bool) → class_of b ≡ Some x → class_code x ≡ b
 unfolding class_code

@@ -58,6 +58,14 @@ pub record IsCharge (c : Charge) : Type 0 where
 abbrev pub seconds_per_hour : ℕ
 seconds_per_hour = 3600
 
+-- the last hour of the year 9999
+abbrev pub last_hour : ℕ
+last_hour = 70389527
+
 -- the hour of a second; hour 0 begins with 1970
 unfoldable pub hour_of : ℕ → ℕ
 hour_of second = second / seconds_per_hour
+
+-- the most rows of a post: rows that are sent together, and are accepted or refused together
+abbrev pub most_post_rows : ℕ
+most_post_rows = 4096

@@ -24,6 +24,10 @@ category_code category.Tax = 3
 category_code category.Credit = 4
 category_code category.Adjustment = 5
 
+-- how many categories there are; their codes are 1 to this
+abbrev pub category_count : ℕ
+category_count = 5
+
 -- the category with a code
 abbrev pub category_of : ℕ → Option Category
 category_of zero = None

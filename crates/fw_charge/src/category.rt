@@ -20,6 +20,21 @@ impl Category {
     ghost use Rattle.fw_charge.specs.Codes.{category_word, category_code, category_of};
     ghost use Rattle.fw_charge.specs.declared.category.Category.{Category};
 
+    /// How many categories there are. Their codes are 1 to this.
+    pub const COUNT: usize = 5;
+
+    /// The greatest code of a category. The least is 1.
+    pub const LAST_CODE: u8 = Category::COUNT as u8;
+
+    /// The categories, in the order of their codes.
+    pub const ALL: [Category; Category::COUNT] = [
+        Category::Usage,
+        Category::Purchase,
+        Category::Tax,
+        Category::Credit,
+        Category::Adjustment,
+    ];
+
     /// The word of the category in the column ChargeCategory.
     #[tactic(auto, unfolding(crate::specs::Codes::category_word))]
     pub fn word(self) -> &'static str
@@ -49,7 +64,7 @@ impl Category {
         }
     }
 
-    /// The code of the category where rows are kept: 1 to 5.
+    /// The code of the category where rows are kept: 1 to [`Category::LAST_CODE`].
     #[tactic(auto, unfolding(crate::specs::Codes::category_code))]
     pub fn code(self) -> u8
         ensures { result ≡ category_code self }

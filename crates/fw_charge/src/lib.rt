@@ -23,13 +23,13 @@ pub use category::Category;
 pub use class::{class_code, class_from_code, class_from_word};
 pub use currency::Currency;
 pub use discount::{Discount, DiscountKind, DiscountStatus};
-pub use laws::limits_agree;
-pub use lengths::{optional_text_len, row_len, tags_len};
-pub use row::{Row, RowFields};
+pub use laws::{categories_are_counted, limits_agree};
+pub use lengths::{optional_text_len, tags_len};
+pub use row::{MOST_POST_ROWS, Row, RowFields};
 pub use short_text::{LONGEST_SHORT_TEXT, is_short_text};
 pub use spelled::{
-    nanos_has_spelling, optional_nanos_has_spelling, optional_text_has_spelling, row_has_spelling,
+    nanos_has_spelling, optional_nanos_has_spelling, optional_text_has_spelling,
     short_text_has_spelling, tags_have_spelling,
 };
 pub use tags::{Tag, Tags};
-pub use time::{LAST_SECOND, SECONDS_PER_HOUR, hour_of};
+pub use time::{LAST_HOUR, LAST_SECOND, SECONDS_PER_HOUR, hour_of};

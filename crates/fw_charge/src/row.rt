@@ -9,6 +9,9 @@ use fw_money::Nanos;
 use std::alloc::{AllocError, Global};
 use std::marker::Model;
 
+/// The most rows of a post: rows that are sent together, and are accepted or refused together.
+pub const MOST_POST_ROWS: usize = 4_096;
+
 /// The fields of a charge row. An `Option` is `None` where the column is null.
 #[derive(Debug, Drop)]
 pub struct RowFields {

@@ -1,11 +1,10 @@
-//! Proof-only functions: each row, and each of its fields, has a spelling.
+//! Proof-only functions: each field of a row has a spelling.
 ghost use Rattle.std.specs.Prelude.{option_copied, IfSome};
 ghost use Rattle.fw_bytes.specs.Spelling.{FitsOptional};
 ghost use Rattle.fw_charge.specs.Charge.{IsShortText};
 ghost use Rattle.fw_charge.specs.Tags.{IsTagSized};
-ghost use Rattle.fw_charge.specs.Spelling.{FitsNanos, FitsShortText, FitsTag, FitsTags, FitsDiscount, IsRow};
+ghost use Rattle.fw_charge.specs.Spelling.{FitsNanos, FitsShortText, FitsTag, FitsTags};
 
-use crate::row::Row;
 use crate::tags::{Tag, Tags};
 use fw_money::Nanos;
 
@@ -51,29 +50,4 @@ pub fn tags_have_spelling(all: &Tags)
     for one in all.as_slice() {
         tag_has_spelling(one);
     }
-}
-
-/// A discount of a row has a spelling.
-fn discount_has_spelling(one: &Row)
-    ensures { FitsOptional FitsDiscount one.now.discount }
-{
-    if let Some(discount) = one.discount() {
-        short_text_has_spelling(discount.id());
-    }
-}
-
-/// Each row has a spelling, so it is read from what is written of it. Looks at each of its tags.
-pub fn row_has_spelling(one: &Row)
-    ensures { IsRow one.now }
-{
-    // Proves that the row keeps its rules.
-    let _start = one.start();
-    nanos_has_spelling(one.billed());
-    nanos_has_spelling(one.effective());
-    optional_nanos_has_spelling(one.quantity());
-    discount_has_spelling(one);
-    optional_text_has_spelling(one.unit());
-    optional_text_has_spelling(one.sku());
-    optional_text_has_spelling(one.sub_account());
-    tags_have_spelling(one.tags());
 }

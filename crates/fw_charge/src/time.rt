@@ -5,6 +5,9 @@ ghost use Rattle.fw_charge.specs.Charge.{hour_of};
 /// The last second that a charge period or a purchase may have: that before the year 10000.
 pub const LAST_SECOND: u64 = 253_402_300_799;
 
+/// The last hour that a charge period may end in: that before the year 10000.
+pub const LAST_HOUR: u32 = 70_389_527;
+
 /// How many seconds an hour has.
 pub const SECONDS_PER_HOUR: u64 = 3600;
 

@@ -1,8 +1,8 @@
 -- What is in the rows that were seen.
-use Rattle.std.specs.Prelude.{ℕ, ℤ, pos, ◌+◌, ◌-◌, ◌+ℤ◌, List, [], ◌∷◌, map, nat_eq, slice_index, slice_set}
+use Rattle.std.specs.Prelude.{ℕ, ℤ, pos, ◌+◌, ◌-◌, ◌+ℤ◌, List, [], ◌∷◌, map, nat_eq, replicate, slice_index, slice_set}
 use Rattle.std.specs.Int.{saturate_signed, w128}
 use Rattle.fw_charge.specs.Charge.{Charge, hour_of}
-use Rattle.fw_charge.specs.Codes.{category_code}
+use Rattle.fw_charge.specs.Codes.{category_code, category_count}
 use Rattle.fw_check.specs.Counts.{kept, counted, counted_all, text_counts}
 use Rattle.fw_check.specs.declared.statistics.Statistics.{Statistics}
 
@@ -33,7 +33,7 @@ nothing_seen = record {
   rows = 0;
   billed = pos 0;
   effective = pos 0;
-  categories = 0 ∷ 0 ∷ 0 ∷ 0 ∷ 0 ∷ [];
+  categories = replicate category_count 0;
   hours = [];
   currencies = [];
   tags = [];

@@ -8,15 +8,6 @@ use crate::statistics::Statistics;
 use fw_charge::Category;
 use std::alloc::{AllocError, Global};
 
-/// The categories, in the order of their counts.
-const CATEGORIES: [Category; 5] = [
-    Category::Usage,
-    Category::Purchase,
-    Category::Tax,
-    Category::Credit,
-    Category::Adjustment,
-];
-
 /// What was found in a text, for people.
 pub fn as_text(alloc: Global, name: &str, checker: &Checker) -> Result<String, AllocError>
     ensures { IfOk result (λ text. IsAnswer name.now checker.now (string_bytes text)) }
@@ -85,8 +76,8 @@ fn sums_text(alloc: Global, statistics: &Statistics) -> Result<String, AllocErro
 // The counts by category, currency and tag.
 fn counts_text(alloc: Global, statistics: &Statistics) -> Result<String, AllocError> {
     let mut text = String::new(alloc);
-    for place in 0..CATEGORIES.len() {
-        let word = CATEGORIES[place].word();
+    for place in 0..Category::COUNT {
+        let word = Category::ALL[place].word();
         let count = statistics.categories[place];
         write!(text, "category {word} {count}\n")?;
     }
@@ -206,11 +197,11 @@ fn put_json_statistics(
         text,
         "\"rows\":{rows},\"hours\":{hours},\"billed\":\"{billed}\",\"effective\":\"{effective}\",\"categories\":{{"
     )?;
-    for place in 0..CATEGORIES.len() {
+    for place in 0..Category::COUNT {
         if place > 0 {
             text.push(',')?;
         }
-        let word = CATEGORIES[place].word();
+        let word = Category::ALL[place].word();
         let count = statistics.categories[place];
         write!(text, "\"{word}\":{count}")?;
     }

@@ -1,6 +1,6 @@
 //! What is in a text.
 ghost use Rattle.std.specs.Prelude.{◌≡◌, ◌-◌, ◌<◌, map, nat_eq, OnOk};
-ghost use Rattle.fw_charge.specs.Codes.{category_code};
+ghost use Rattle.fw_charge.specs.Codes.{category_code, category_count};
 ghost use Rattle.fw_check.specs.Counts.{counted, counted_all, text_counts};
 ghost use Rattle.fw_check.specs.Seen.{seen_in, nothing_seen, with_row, with_rows};
 ghost use Rattle.std.specs.Str.{bytes_eq};
@@ -25,8 +25,8 @@ pub struct Statistics {
     pub billed: i128,
     /// EffectiveCost of all rows, in nanos.
     pub effective: i128,
-    /// How many rows there are of each category, in the order of `Category::code`, from 1 on.
-    pub categories: [u64; 5],
+    /// How many rows there are of each category, in the order of `Category::ALL`.
+    pub categories: [u64; Category::COUNT],
     /// The hours in which rows start, counted from 1970, each with the number of its rows.
     pub hours: IndexMap<u32, u64>,
     /// The currencies of all records.
@@ -82,7 +82,7 @@ impl Statistics {
             rows: 0,
             billed: 0,
             effective: 0,
-            categories: [0; 5],
+            categories: [0; Category::COUNT],
             hours: IndexMap::new(alloc),
             currencies: IndexMap::new(alloc),
             tags: Coverage {
@@ -119,16 +119,10 @@ impl Statistics {
 }
 
 // The place of a category among all.
-#[tactic(auto, unfolding(fw_charge::specs::Codes::category_code))]
+#[tactic(auto, using(fw_charge::proofs::CodeFacts::category_within))]
 fn place_of(category: Category) -> usize
     ensures place { result ≡ category_code category - 1 }
-    ensures within { result < 5 }
+    ensures within { result < category_count }
 {
-    match category {
-        Category::Usage => 0,
-        Category::Purchase => 1,
-        Category::Tax => 2,
-        Category::Credit => 3,
-        Category::Adjustment => 4,
-    }
+    usize::from(category.code() - 1)
 }

@@ -19,7 +19,7 @@ use Rattle.fw_columns.specs.Texts.{with_texts, texts_of, texts_of_tags, names_of
 use Rattle.fw_columns.specs.Lists.{tag_places, lists_of}
 use Rattle.fw_columns.specs.Codes.{text_code}
 use Rattle.fw_charge.specs.Codes.{category_code, class_code}
-use Rattle.fw_columns.specs.Table.{AreColumns, id_kept, kind_kept, status_kept, quantity_kept, charge_at}
+use Rattle.fw_columns.specs.Table.{most_column_rows, AreColumns, id_kept, kind_kept, status_kept, quantity_kept, charge_at}
 use Rattle.fw_columns.specs.RowViews.{charge_with, discount_with, tags_at}
 use Rattle.fw_columns.specs.Adding.{texts_of_view, AreCodesOf, HasMore}
 use Rattle.fw_columns.proofs.TextFacts.{IsKnown, AreKnown, AreKnown-left, AreKnown-right, AreKnown-seen, IsKnown-more, IsRowKnown, known_adds_nothing, with_texts-append, with_texts-grows}
@@ -162,7 +162,7 @@ module _ (t u : Table) (rows : List Charge) (columns : AreColumns t rows) (row :
       subst (AreListed [] u.lists (t.tags.items ++ place ∷ [])) lists
       (listed_more [] t.lists t.tags.items (lists_of t.names rows) (record { seen = columns.lists; places = columns.tags }) u.lists list place (t.tags.items ++ place ∷ []) lists_are place_is refl)
 
-  pub pushed_columns : IsCharge (charge_with row tags) → length rows < 65536 → length u.names ≤ length t.names + most_texts → length u.lists ≤ length t.lists + 1 → (names : List Text) (lists : List (List ℕ))
+  pub pushed_columns : IsCharge (charge_with row tags) → length rows < most_column_rows → length u.names ≤ length t.names + most_texts → length u.lists ≤ length t.lists + 1 → (names : List Text) (lists : List (List ℕ))
       → HasMore (renamed t names lists) u row codes place → AreColumns u (rows ++ charge_with row tags ∷ [])
   pushed_columns valid room names_grew lists_grew names lists more =
       let c = charge_with row tags in
@@ -211,7 +211,7 @@ module _ (t : Table) (rows : List Charge) (columns : AreColumns t rows) (i : ℕ
   tags_there = rw (slice_get-get_or rows i (charge_at t i) h) refl
 
   pub pushed_like : (u : Table) (row : RowView) (codes : TextCodes) (seen : List Text) (place : ℕ) → seen ≡ with_texts t.names (texts_of_view row) → AreCodesOf seen row codes → place ≡ get_or t.tags.items i 0
-      → IsCharge (charge_with row (tags_at rows i)) → length rows < 65536 → length seen ≤ length t.names + 4 → HasMore (renamed t seen t.lists) u row codes place
+      → IsCharge (charge_with row (tags_at rows i)) → length rows < most_column_rows → length seen ≤ length t.names + 4 → HasMore (renamed t seen t.lists) u row codes place
       → AreColumns u (rows ++ charge_with row (tags_at rows i) ∷ [])
   unfolding tag_places
   pushed_like u row codes seen place seen_is codes_are place_is valid room grew more =

@@ -14,7 +14,7 @@ use Rattle.fw_columns.specs.Names.{Text, place_of}
 use Rattle.fw_columns.specs.Texts.{texts_of_tags, most_texts}
 use Rattle.fw_columns.specs.Lists.{tag_places, lists_of}
 use Rattle.fw_columns.specs.Codes.{group_code, tag_code, AgreeWithGroups}
-use Rattle.fw_columns.specs.Table.{AreColumns, text_at, text_of}
+use Rattle.fw_columns.specs.Table.{most_column_rows, AreColumns, text_at, text_of}
 use Rattle.fw_columns.specs.Joining.{replaced}
 use Rattle.fw_columns.specs.Grouping.{found_code, group_at}
 use Rattle.fw_columns.proofs.NameFacts.{text_at_place}
@@ -69,7 +69,7 @@ groups_shown t rows columns key =
 -- places are few
 pub lists_few : (t : Table) (rows : List Charge) → AreColumns t rows → All (λ list. All (λ place. place < 2 ^ 30) list) t.lists
 lists_few t rows columns =
-    let few : length t.names ≤ 2 ^ 30 = (let a : length t.names ≤ most_texts * length rows = columns.names_few in let b : length rows ≤ 65536 = columns.few in omega (arith, a, b)) in
+    let few : length t.names ≤ 2 ^ 30 = (let a : length t.names ≤ most_texts * length rows = columns.names_few in let b : length rows ≤ most_column_rows = columns.few in omega (arith, a, b)) in
     let weaker = λ (list : List ℕ) (within : All (λ place. place < length t.names) list). All-weaker (λ place. place < length t.names) (λ place. place < 2 ^ 30) (λ place h. omega (arith, h, few)) list within in
     All-weaker (λ list. All (λ place. place < length t.names) list) (λ list. All (λ place. place < 2 ^ 30) list) weaker t.lists (lists_within t rows columns)
 

@@ -13,7 +13,7 @@ use Rattle.fw_columns.specs.Names.{Text, place_of}
 use Rattle.fw_columns.specs.Texts.{texts_of_tags, names_of, with_texts, most_texts}
 use Rattle.fw_columns.specs.Lists.{tag_places, lists_of}
 use Rattle.fw_columns.specs.Codes.{text_code}
-use Rattle.fw_columns.specs.Table.{AreColumns}
+use Rattle.fw_columns.specs.Table.{most_column_rows, AreColumns}
 use Rattle.fw_columns.specs.Joining.{replaced, replaced_code, AreCodesBelow, AreListsBelow, ArePlainOf, AreCodedOf, AreListsOf}
 use Rattle.fw_columns.proofs.NameFacts.{text_at_place}
 use Rattle.fw_columns.proofs.TextFacts.{AreKnown, IsRowKnown, names_of-append, images_in_turn}
@@ -91,7 +91,7 @@ module _ (a b : Table) (ra rb : List Charge) (ca : AreColumns a ra) (cb : AreCol
       let y = lists_again b.names names two of_b rb (rows_known b rb cb) in
       (λ j. x j ++ y j) ∙ sym (lists_of-append names ra rb)
 
-  pub joined_columns : length ra + length rb ≤ 65536 → names ≡ with_texts (with_texts [] a.names) b.names → length names ≤ length a.names + length b.names
+  pub joined_columns : length ra + length rb ≤ most_column_rows → names ≡ with_texts (with_texts [] a.names) b.names → length names ≤ length a.names + length b.names
       → (p : Plain) (k : Coded) (g : Listed) → ArePlainOf p a b → AreCodedOf k a b one two → AreListsOf g a b one two
       → AreColumns (record {
         names = names;

@@ -1,7 +1,8 @@
 -- The rows of the columns of rows are these rows.
-use Rattle.std.proofs.Common.{◌≡◌, ℕ, suc, ◌+◌, ◌<◌, ◌≤◌, Bool, List, [], ◌∷◌, length, get_or, drop, Option, Some, None, refl, sym, ap, ◌∙◌, subst, arith}
+use Rattle.std.proofs.Common.{◌≡◌, ℕ, suc, ◌+◌, ◌<◌, ◌≤◌, Bool, List, [], ◌∷◌, ◌++◌, length, get_or, drop, append_assoc, Option, Some, None, refl, sym, ap, ◌∙◌, subst, arith}
 use Rattle.std.specs.Prelude.{option_map, option_to_list, is_some, ℤ, pos, nat_abs, false, All}
-use Rattle.std.proofs.lemmas.List.{get_or-map, length-map}
+use Rattle.std.proofs.lemmas.List.{append-nil, get_or-map, length-map}
+use Rattle.std.proofs.lemmas.List.Elements.{All-drop}
 use Rattle.std.proofs.lemmas.List.FromFn.{fill_by_all}
 use Rattle.fw_charge.specs.Tags.{TagText}
 use Rattle.fw_charge.proofs.ChargeFacts.{equal_fields}
@@ -71,6 +72,25 @@ unfolding tags_of
 tags_nowhere names [] h = refl
 tags_nowhere names (key ∷ []) h = refl
 tags_nowhere names (key ∷ value ∷ places) h = absurd (omega arith)
+
+-- the tags so far, and the places of those that are to come
+pub record AreSplit (names : List Text) (tags : List TagText) (rest list : List ℕ) : Type 0 where
+  pub split : tags ++ tags_of names rest ≡ tags_of names list
+  pub within : All (λ place. place < length names) rest
+
+-- one tag more, from the first two places
+pub one_tag_more : (names : List Text) (tags : List TagText) (rest list : List ℕ) → 2 ≤ length rest → AreSplit names tags rest list
+    → AreSplit names (tags ++ tag_of names (get_or rest 0 0) (get_or rest 1 0) ∷ []) (drop 2 rest) list
+one_tag_more names tags rest list some h =
+    let tag = tag_of names (get_or rest 0 0) (get_or rest 1 0) in
+    record {
+      split = append_assoc tags (tag ∷ []) (tags_of names (drop 2 rest)) ∙ (ap (λ ts. tags ++ ts) (sym (tags_step names rest some)) ∙ h.split);
+      within = All-drop (λ place. place < length names) 2 rest h.within;
+    }
+
+-- where no two places are left, these are the tags
+pub no_tag_more : (names : List Text) (tags : List TagText) (rest list : List ℕ) → length rest < 2 → AreSplit names tags rest list → tags ≡ tags_of names list
+no_tag_more names tags rest list few h = sym (append-nil tags) ∙ (ap (λ ts. tags ++ ts) (sym (tags_nowhere names rest few)) ∙ h.split)
 
 -- the lists of the columns of rows
 module _ (t : Table) (rows : List Charge) (columns : AreColumns t rows) where

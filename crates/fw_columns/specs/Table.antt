@@ -1,4 +1,4 @@
--- The columns of rows, and the rows of columns. The private functions of the crate cite it.
+-- The columns of rows, and the rows of columns.
 use Rattle.std.specs.Prelude.{◌≡◌, ◌≤◌, ◌*◌, ℕ, zero, suc, ℤ, pos, nat_abs, Bool, true, false, List, [], ◌∷◌, length, map, slice_index_or, Option, Some, None, option_map, is_some, unwrap_or, All}
 use Rattle.std.specs.List.{range_with_len}
 use Rattle.fw_money.specs.Amount.{most_nanos}
@@ -32,9 +32,13 @@ unfoldable pub quantity_kept : Option ℤ → ℤ
 quantity_kept None = pos 0
 quantity_kept (Some quantity) = quantity
 
+-- the most rows of columns
+abbrev pub most_column_rows : ℕ
+most_column_rows = 65536
+
 -- the columns of rows
 pub record AreColumns (t : Table) (rows : List Charge) : Type 0 where
-  pub few : length rows ≤ 65536
+  pub few : length rows ≤ most_column_rows
   pub charges : All IsCharge rows
   pub names : t.names ≡ names_of rows
   pub names_few : length t.names ≤ most_texts * length rows

@@ -6,7 +6,7 @@ ghost use Rattle.fw_columns.specs.Texts.{with_texts};
 ghost use Rattle.fw_columns.specs.Joining.{AreCodesBelow};
 ghost use Rattle.fw_columns.specs.RowViews.{charge_with, tags_at};
 ghost use Rattle.fw_columns.specs.Adding.{texts_of_view, AreCodesWithin, AreCodesOf, HasMore};
-ghost use Rattle.fw_columns.specs.Table.{AreColumns, rows_of};
+ghost use Rattle.fw_columns.specs.Table.{most_column_rows, rows_of, AreColumns};
 
 use crate::codes::{kind_kept, quantity_kept, status_kept};
 use crate::names::Names;
@@ -33,7 +33,7 @@ pub fn add_row(
     tags: &Tags,
 ) -> Result<(), AllocError>
     requires columns { AreColumns table.old (rows_of table.old) }
-    requires few { length (rows_of table.old) < 65536 }
+    requires few { length (rows_of table.old) < most_column_rows }
     requires valid { IsCharge (charge_with row.now tags.now) }
     ensures { OnOk result (AreColumns table.new (rows_of table.old ++ charge_with row.now tags.now ∷ [])) }
 {
@@ -48,7 +48,7 @@ pub fn add_row(
 /// Adds a row with the tags of the row at a place.
 pub fn add_row_like(table: &mut Table, row: &RowView<'_>, place: usize) -> Result<(), AllocError>
     requires columns { AreColumns table.old (rows_of table.old) }
-    requires few { length (rows_of table.old) < 65536 }
+    requires few { length (rows_of table.old) < most_column_rows }
     requires place { place < length (rows_of table.old) }
     requires valid { IsCharge (charge_with row.now (tags_at (rows_of table.old) place)) }
     ensures { OnOk result (AreColumns table.new (rows_of table.old ++ charge_with row.now (tags_at (rows_of table.old) place) ∷ [])) }

@@ -2,6 +2,7 @@
 ghost use Rattle.std.specs.Prelude.{◌≡◌, ◌<◌, ◌≤◌, ◌++◌, [], ◌∷◌, length, OnErr, OnOk, IfOk};
 ghost use Rattle.fw_charge.specs.Charge.{IsCharge};
 ghost use Rattle.fw_columns.specs.RowViews.{charge_with, tags_at};
+ghost use Rattle.fw_columns.specs.Table.{most_column_rows};
 
 use crate::adding::{add_row, add_row_like};
 use crate::columns::Columns;
@@ -11,7 +12,7 @@ use fw_charge::{Row, Tags};
 use std::alloc::{AllocError, Global};
 use std::marker::Model;
 
-/// Columns to which rows are added one by one, at most 65,536. A contract sees the list of the rows.
+/// Columns to which rows are added one by one, at most [`Columns::MOST_ROWS`]. A contract sees the list of the rows.
 #[derive(Drop)]
 pub struct ColumnsBuilder {
     table: Table,
@@ -42,17 +43,17 @@ impl ColumnsBuilder {
         }
     }
 
-    /// How many rows there are: at most 65,536.
+    /// How many rows there are: at most [`Columns::MOST_ROWS`].
     pub fn len(&self) -> usize
         ensures count { result ≡ length self.now }
-        ensures few { result ≤ 65536 }
+        ensures few { result ≤ most_column_rows }
     {
         self.table.billed.len()
     }
 
     /// Adds a row with these values and these tags, which together keep the rules of a row. Where memory is refused, no rows are left.
     pub fn push(&mut self, row: &RowView<'_>, tags: &Tags) -> Result<(), AllocError>
-        requires few { length self.old < 65536 }
+        requires few { length self.old < most_column_rows }
         requires valid { IsCharge (charge_with row.now tags.now) }
         ensures added { OnOk result (self.new ≡ self.old ++ charge_with row.now tags.now ∷ []) }
         ensures refused { OnErr result (self.new ≡ []) }
@@ -69,7 +70,7 @@ impl ColumnsBuilder {
     /// Adds a row with these values and the tags of the row at a place, counted from 0, which together keep the rules of a row. No text of a tag is
     /// looked at. Where memory is refused, no rows are left.
     pub fn push_like(&mut self, row: &RowView<'_>, place: usize) -> Result<(), AllocError>
-        requires few { length self.old < 65536 }
+        requires few { length self.old < most_column_rows }
         requires place { place < length self.old }
         requires valid { IsCharge (charge_with row.now (tags_at self.old place)) }
         ensures added { OnOk result (self.new ≡ self.old ++ charge_with row.now (tags_at self.old place) ∷ []) }
@@ -86,7 +87,7 @@ impl ColumnsBuilder {
 
     /// Adds a row. Where memory is refused, no rows are left.
     pub fn push_row(&mut self, row: &Row) -> Result<(), AllocError>
-        requires { length self.old < 65536 }
+        requires { length self.old < most_column_rows }
         ensures added { OnOk result (self.new ≡ self.old ++ row.now ∷ []) }
         ensures refused { OnErr result (self.new ≡ []) }
     {

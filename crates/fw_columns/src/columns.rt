@@ -2,7 +2,7 @@
 ghost use Rattle.std.specs.Prelude.{◌≡◌, ◌<◌, ◌≤◌, ◌+◌, ◌++◌, Some, length, map, nat_abs, pos, slice_get, All, IfOk};
 ghost use Rattle.fw_charge.specs.Charge.{Charge};
 ghost use Rattle.fw_money.specs.Amount.{most_nanos};
-ghost use Rattle.fw_columns.specs.Table.{rows_of, AreColumns};
+ghost use Rattle.fw_columns.specs.Table.{most_column_rows, rows_of, AreColumns};
 ghost use Rattle.fw_columns.specs.Texts.{names_of};
 ghost use Rattle.fw_charge.specs.Codes.{category_code, class_code};
 ghost use Rattle.fw_columns.specs.Codes.{tag_code, AgreeWithGroups};
@@ -19,7 +19,7 @@ use std::alloc::{AllocError, Global};
 use std::marker::Model;
 use std::sync::Arc;
 
-/// 1 to 65,536 charge rows kept by column, each of their texts and each of their lists of tags once. A contract sees the list of the rows.
+/// 1 to [`Columns::MOST_ROWS`] charge rows kept by column, each of their texts and each of their lists of tags once. A contract sees the list of the rows.
 ///
 /// Columns are never changed, so a [copy](Columns::copy) shares them.
 #[derive(Drop)]
@@ -40,6 +40,9 @@ impl Model for Columns {
 }
 
 impl Columns {
+    /// The most rows of columns.
+    pub const MOST_ROWS: usize = 65_536;
+
     /// The columns of the rows of a table, of which there is one at least.
     pub(crate) fn of_table(alloc: Global, table: Table) -> Result<Columns, AllocError>
         requires some { 0 < length (rows_of table) }
@@ -69,10 +72,10 @@ impl Columns {
         })
     }
 
-    /// The columns of 1 to 65,536 rows.
+    /// The columns of 1 to [`Columns::MOST_ROWS`] rows.
     pub fn from_rows(alloc: Global, rows: &[Row]) -> Result<Columns, AllocError>
         requires some { 0 < length rows.now }
-        requires few { length rows.now ≤ 65536 }
+        requires few { length rows.now ≤ most_column_rows }
         ensures { IfOk result (λ columns. columns ≡ rows.now) }
     {
         let mut builder = ColumnsBuilder::new(alloc);
@@ -83,11 +86,11 @@ impl Columns {
         Ok(columns)
     }
 
-    /// How many rows there are: 1 to 65,536.
+    /// How many rows there are: 1 to [`Columns::MOST_ROWS`].
     pub fn len(&self) -> usize
         ensures count { result ≡ length self.now }
         ensures some { 0 < result }
-        ensures few { result ≤ 65536 }
+        ensures few { result ≤ most_column_rows }
     {
         self.table().billed.len()
     }
@@ -157,9 +160,9 @@ impl Columns {
         self.table().classes.as_slice()
     }
 
-    /// The rows of one and then those of another, together at most 65,536.
+    /// The rows of one and then those of another, together at most [`Columns::MOST_ROWS`].
     pub fn concat(alloc: Global, first: &Columns, second: &Columns) -> Result<Columns, AllocError>
-        requires { length first.now + length second.now ≤ 65536 }
+        requires { length first.now + length second.now ≤ most_column_rows }
         ensures { IfOk result (λ columns. columns ≡ first.now ++ second.now) }
     {
         let joined = joined(alloc, first.table(), second.table())?;

@@ -2,7 +2,7 @@
 ghost use Rattle.std.specs.Prelude.{◌≡◌, ◌≤◌, ◌<◌, ◌+◌, ◌++◌, ◌^◌, length, map, All, IfOk, OnOk};
 ghost use Rattle.fw_columns.specs.Names.{place_of};
 ghost use Rattle.fw_columns.specs.Texts.{with_texts};
-ghost use Rattle.fw_columns.specs.Table.{AreColumns, rows_of};
+ghost use Rattle.fw_columns.specs.Table.{most_column_rows, rows_of, AreColumns};
 ghost use Rattle.fw_columns.specs.Joining.{replaced, replaced_code, AreCodesBelow, AreListsBelow, ArePlainOf, AreCodedOf, AreListsOf};
 
 use crate::lists::Lists;
@@ -45,7 +45,7 @@ pub struct Listed {
 pub fn joined(alloc: Global, first: &Table, second: &Table) -> Result<Table, AllocError>
     requires first { AreColumns first.now (rows_of first.now) }
     requires second { AreColumns second.now (rows_of second.now) }
-    requires few { length (rows_of first.now) + length (rows_of second.now) ≤ 65536 }
+    requires few { length (rows_of first.now) + length (rows_of second.now) ≤ most_column_rows }
     ensures { IfOk result (λ table. AreColumns table (rows_of first.now ++ rows_of second.now)) }
 {
     let names = joined_names(alloc, &first.names, &second.names)?;

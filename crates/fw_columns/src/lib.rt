@@ -11,6 +11,7 @@ mod columns;
 mod grouping;
 mod joining;
 mod kept;
+mod laws;
 mod lending;
 mod lengths;
 mod lists;
@@ -22,6 +23,7 @@ mod table;
 
 pub use builder::ColumnsBuilder;
 pub use columns::Columns;
+pub use laws::limits_agree;
 pub use lending::{LentDiscount, LentRow, LentTag, LentTags};
 pub use names::Names;
 pub use row_view::RowView;

@@ -7,7 +7,7 @@ use Rattle.csv.specs.Machine.{next_record}
 use Rattle.csv.specs.Reading.{strip_bom, is_bom, records_from}
 use Rattle.fw_cut.specs.Records.{all_records, records_in, mark_len, IsWhole}
 use Rattle.fw_cut.specs.Cutting.{Cuts, HasNoEnd}
-use Rattle.fw_cut.specs.Parts.{CutterState, left_of, IsHeader, IsCutter, HeaderThen, BeginsWith, RecordsThen, IsPart, CanEnd}
+use Rattle.fw_cut.specs.Parts.{CutterState, left_of, IsHeader, IsCutter, HeaderThen, BeginsWith, RecordsThen, most_records, IsPart, CanEnd}
 use Rattle.fw_cut.specs.declared.cutter.Part.{Part}
 use Rattle.fw_cut.specs.declared.cutting.Cut.{Cut}
 use Rattle.fw_cut.proofs.RecordFacts.{none-of-none, no-end-few}
@@ -103,17 +103,17 @@ part-from-2 ho hm hn a b c d part e f j k p = part-from ho hn a c d part (e ∙ 
 
 -- ---- where a part can end
 
-few-more : (text : List ℕ) (cut : Cut) → Cuts text 4096 cut → cut.records < 4096 → length (all_records text) ≤ 4096
+few-more : (text : List ℕ) (cut : Cut) → Cuts text most_records cut → cut.records < most_records → length (all_records text) ≤ most_records
 few-more text cut c lt = by c.all
   where
     split : length (all_records text) ≡ length (all_records (take cut.end text)) + length (all_records (drop cut.end text))
     split = ap (λ l. length (all_records l)) (sym (take-append-drop cut.end text)) ∙ ap length (c.whole (drop cut.end text)) ∙ length-append (all_records (take cut.end text)) (all_records (drop cut.end text))
 
-    by : (cut.records ≡ 4096) ⊎ HasNoEnd (drop cut.end text) → length (all_records text) ≤ 4096
+    by : (cut.records ≡ most_records) ⊎ HasNoEnd (drop cut.end text) → length (all_records text) ≤ most_records
     by (inl e) = absurd (omega (arith, e, lt))
     by (inr h) = let one = no-end-few (drop cut.end text) h.to h.fields h.field h.fed in omega (arith, one, split, c.count, lt)
 
-pub ends-all : {R : Type 0} (c : CutterState R) (cut : Cut) → Cuts c.buffer 4096 cut → cut.records < 4096 → c.at_end ≡ true → CanEnd c (length c.buffer) (take (length c.buffer) c.buffer)
+pub ends-all : {R : Type 0} (c : CutterState R) (cut : Cut) → Cuts c.buffer most_records cut → cut.records < most_records → c.at_end ≡ true → CanEnd c (length c.buffer) (take (length c.buffer) c.buffer)
 ends-all c cut cuts lt at_end =
     let all : take (length c.buffer) c.buffer ≡ c.buffer = take_all (length c.buffer) c.buffer (omega arith) in
     record {
@@ -122,7 +122,7 @@ ends-all c cut cuts lt at_end =
       whole = inr (at_end, refl);
     }
 
-pub ends-cut : {R : Type 0} (c : CutterState R) (cut : Cut) → Cuts c.buffer 4096 cut → CanEnd c cut.end (take cut.end c.buffer)
+pub ends-cut : {R : Type 0} (c : CutterState R) (cut : Cut) → Cuts c.buffer most_records cut → CanEnd c cut.end (take cut.end c.buffer)
 ends-cut c cut cuts = record {
   within = cuts.within;
   few = omega (arith, cuts.count, cuts.few);

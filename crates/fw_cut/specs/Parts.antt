@@ -1,6 +1,7 @@
 -- A text that is read and cut into parts.
 use Rattle.std.specs.Prelude.{◌≡◌, ◌⊎◌, ◌≤◌, ℕ, Bool, true, List, ◌++◌, Option, Some, None, length, ⊤}
 use Rattle.std.specs.Io.KnownBytes.{IsAtEnd, prepend_known}
+use Rattle.fw_charge.specs.Charge.{most_post_rows}
 use Rattle.fw_cut.specs.Records.{all_records, records_in, IsWhole}
 use Rattle.fw_cut.specs.declared.cutter.Part.{Part}
 
@@ -40,9 +41,9 @@ RecordsThen None bytes new = ⊤
 RecordsThen (Some old) bytes None = ⊥
 RecordsThen (Some old) bytes (Some new) = (old ≡ bytes ++ new) × (all_records old ≡ all_records bytes ++ all_records new)
 
--- the most records of a part
+-- the most records of a part: as many as the rows that a post may have
 abbrev pub most_records : ℕ
-most_records = 4096
+most_records = most_post_rows
 
 -- A part of a text: the header, and the bytes that are next. Its records are that of the header and those that are next.
 pub record IsPart (header : List ℕ) (old new : Option (List ℕ)) (part : Part) : Type 0 where

@@ -7,6 +7,7 @@ ghost use Rattle.fw_cut.specs.Parts.{left_of, BeginsWith, IsPart, CanEnd};
 use crate::cutting::cut_off;
 use crate::fault::CutFault;
 use crate::input::fill;
+use fw_charge::MOST_POST_ROWS;
 use std::alloc::{AllocError, Global};
 use std::io::Read;
 use std::marker::Model;
@@ -47,8 +48,8 @@ impl<R: Read> Model for Cutter<R> {
     ghost invariant = { λ c. IsCutter R.remaining (record { reader = c.reader; header = c.header.items; buffer = c.buffer.items; at_end = c.at_end }) };
 }
 
-/// The most records of a part.
-const MOST_RECORDS: usize = 4096;
+/// The most records of a part: as many as the rows that a post may have.
+const MOST_RECORDS: usize = MOST_POST_ROWS;
 
 /// How many bytes are looked at for a part, and the most bytes of a header.
 const PART_BYTES: usize = 2 * 1024 * 1024;
@@ -130,7 +131,7 @@ impl<R: Read> Cutter<R> {
         &self.header
     }
 
-    /// The next part: the header, and the records that are next, as many as there are within 2 MiB and at most 4,096. The last part has all
+    /// The next part: the header, and the records that are next, as many as there are within 2 MiB and at most [`MOST_POST_ROWS`]. The last part has all
     /// that is left, which may be no record. A record that is longer is in a part of its own or with those behind it within 4 MiB.
     ///
     /// # Errors

@@ -7,25 +7,6 @@ use fw_money::Nanos;
 use fw_rows::Column;
 use std::alloc::{AllocError, Global};
 
-/// The columns, in their order.
-const COLUMNS: [Column; 15] = [
-    Column::BilledCost,
-    Column::EffectiveCost,
-    Column::BillingCurrency,
-    Column::ChargeCategory,
-    Column::ChargePeriodStart,
-    Column::ChargePeriodEnd,
-    Column::ChargeClass,
-    Column::CommitmentDiscountId,
-    Column::CommitmentDiscountCategory,
-    Column::CommitmentDiscountStatus,
-    Column::ConsumedQuantity,
-    Column::ConsumedUnit,
-    Column::SkuId,
-    Column::SubAccountId,
-    Column::Tags,
-];
-
 /// The CSV of rows: a header with each column that is read, and a record for each row, whose costs are in this currency.
 pub(crate) fn rows_csv(
     alloc: Global,
@@ -47,14 +28,14 @@ fn write_records(
     currency: Currency,
     rows: &Columns,
 ) -> Result<(), AllocError> {
-    for column in COLUMNS {
+    for column in Column::ALL {
         write_field(writer, column.name().as_bytes())?;
     }
     end_record(writer)?;
     let mut cell = Vec::new(alloc);
     for place in 0..rows.len() {
         let row = rows.lent(place);
-        for column in COLUMNS {
+        for column in Column::ALL {
             cell.clear();
             push_cell(alloc, &mut cell, currency, &row, column)?;
             write_field(writer, cell.as_slice())?;

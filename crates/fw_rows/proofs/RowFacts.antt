@@ -72,7 +72,7 @@ none_broken currency header (b ∷ body) (r ∷ rows) are (suc k) d lt = none_br
 
 -- what the records of a text read as is what the text reads as
 pub text_reads : (currency text : List ℕ) (header : Record) (body : List Record) (r : Result (List Charge) RowFault)
-    → records_from default_config 4098 st.StartRecord (strip_bom text) ≡ header ∷ body → RecordsRead currency header body r → RowsRead currency text r
+    → records_from default_config (most_rows + 2) st.StartRecord (strip_bom text) ≡ header ∷ body → RecordsRead currency header body r → RowsRead currency text r
 unfolding RowsRead records_of
 text_reads currency text header body r all reads = rw all reads
 
@@ -80,14 +80,14 @@ text_reads currency text header body r all reads = rw all reads
 pub nothing_reads : (currency text : List ℕ) (new : Reader (Bor (List ℕ))) (f : Record) → Finds new st.StartRecord (strip_bom text) f false
     → RowsRead currency text (Err (fault.MissingColumn column.BilledCost))
 unfolding RowsRead records_of missing_column place_in
-nothing_reads currency text new f finds = rw (records_end 4098 st.StartRecord (strip_bom text) finds) refl
+nothing_reads currency text new f finds = rw (records_end (most_rows + 2) st.StartRecord (strip_bom text) finds) refl
 
 -- a header's fault
 pub header_reads : (currency text : List ℕ) (new : Reader (Bor (List ℕ))) (f : Record) (e : RowFault) → Finds new st.StartRecord (strip_bom text) f true
     → ((currency : List ℕ) (body : List Record) → RecordsRead currency f body (Err e)) → RowsRead currency text (Err e)
 header_reads currency text new f e finds bad =
-    text_reads currency text f (records_from default_config 4097 finds.0 finds.1) (Err e) (records_more 4097 st.StartRecord finds.0 (strip_bom text) finds.1 f finds.3)
-    (bad currency (records_from default_config 4097 finds.0 finds.1))
+    text_reads currency text f (records_from default_config (most_rows + 1) finds.0 finds.1) (Err e) (records_more (most_rows + 1) st.StartRecord finds.0 (strip_bom text) finds.1 f finds.3)
+    (bad currency (records_from default_config (most_rows + 1) finds.0 finds.1))
 
 -- memory may run out at any place
 pub memory_reads : (currency text : List ℕ) → RowsRead currency text (Err fault.NoMemory)
@@ -113,7 +113,7 @@ read-start currency text new f places finds stand whole = record {
 
 -- a record more was read, and stands for a row
 read-row : (currency text : List ℕ) (old new : Reader (Bor (List ℕ))) (places : Places) (rows : List Charge) (f : Record) (row : Charge) (r : Read currency text old places rows)
-    → ((s : State) (y : List ℕ) → At old s y → Finds new s y f true) → RecordReads currency r.header f (Ok row) → length rows < 4096 → Read currency text new places (rows ++ row ∷ [])
+    → ((s : State) (y : List ℕ) → At old s y → Finds new s y f true) → RecordReads currency r.header f (Ok row) → length rows < most_rows → Read currency text new places (rows ++ row ∷ [])
 read-row currency text old new places rows f row r finds reads few =
     let m = finds r.state r.rest r.at in
     record {
@@ -132,7 +132,7 @@ read-row currency text old new places rows f row r finds reads few =
 
 -- a record more was read, and its row was added
 pub read-more : (currency text : List ℕ) (old new : Reader (Bor (List ℕ))) (places : Places) (rows now : List Charge) (f : Record) → Read currency text old places rows
-    → ((s : State) (y : List ℕ) → At old s y → Finds new s y f true) → ((header : Record) → ArePlaces header places → Judged currency header f rows now (Ok tt)) → length rows < 4096
+    → ((s : State) (y : List ℕ) → At old s y → Finds new s y f true) → ((header : Record) → ArePlaces header places → Judged currency header f rows now (Ok tt)) → length rows < most_rows
     → Read currency text new places now × (length now ≡ length rows + 1)
 read-more currency text old new places rows now f r finds reads few =
     let judged = reads r.header r.stand in
@@ -142,43 +142,43 @@ read-more currency text old new places rows now f r finds reads few =
 
 -- a record more was read, and breaks a rule
 read-fault : (currency text : List ℕ) (old new : Reader (Bor (List ℕ))) (places : Places) (rows : List Charge) (f : Record) (number : ℕ) (e : RecordFault) → Read currency text old places rows
-    → ((s : State) (y : List ℕ) → At old s y → Finds new s y f true) → ((header : Record) → ArePlaces header places → FirstBroken (rules_of currency header f) e) → length rows < 4096
+    → ((s : State) (y : List ℕ) → At old s y → Finds new s y f true) → ((header : Record) → ArePlaces header places → FirstBroken (rules_of currency header f) e) → length rows < most_rows
     → number ≡ length rows + 1 → RowsRead currency text (Err (fault.Record number e))
 read-fault currency text old new places rows f number e r finds reads few is =
     let m = finds r.state r.rest r.at in
-    let k = 4096 - length r.body in
+    let k = most_rows - length r.body in
     let after = records_from default_config k m.0 m.1 in
-    let all = whole_more 4098 k r.state m.0 (strip_bom text) r.rest m.1 r.header f r.body r.reached (omega (arith, r.counted)) m.3 in
+    let all = whole_more (most_rows + 2) k r.state m.0 (strip_bom text) r.rest m.1 r.header f r.body r.reached (omega (arith, r.counted)) m.3 in
     text_reads currency text r.header (r.body ++ (f ∷ after)) (Err (fault.Record number e)) all
     (r.whole, r.body, f, after, refl, omega (arith, r.counted), omega (arith, r.counted), none_broken currency r.header r.body rows r.are, fault-reads currency r.header f e (reads r.header r.stand))
 
 -- a record more was read, and no row comes of it
 pub read-refused : (currency text : List ℕ) (old new : Reader (Bor (List ℕ))) (places : Places) (rows now : List Charge) (f : Record) (number : ℕ) (e : Refusal) → Read currency text old places rows
-    → ((s : State) (y : List ℕ) → At old s y → Finds new s y f true) → ((header : Record) → ArePlaces header places → Judged currency header f rows now (Err e)) → length rows < 4096
+    → ((s : State) (y : List ℕ) → At old s y → Finds new s y f true) → ((header : Record) → ArePlaces header places → Judged currency header f rows now (Err e)) → length rows < most_rows
     → number ≡ length rows + 1 → RowsRead currency text (Err (fault_at number e))
 read-refused currency text old new places rows now f number (refusal.Broken e) r finds reads few is = read-fault currency text old new places rows f number e r finds reads few is
 read-refused currency text old new places rows now f number refusal.NoMemory r finds reads few is = memory_reads currency text
 
 -- a record more was read than a text may have
 pub read-full : (currency text : List ℕ) (old new : Reader (Bor (List ℕ))) (places : Places) (rows : List Charge) (f : Record) → Read currency text old places rows
-    → ((s : State) (y : List ℕ) → At old s y → Finds new s y f true) → length rows ≡ 4096 → RowsRead currency text (Err fault.TooManyRows)
+    → ((s : State) (y : List ℕ) → At old s y → Finds new s y f true) → length rows ≡ most_rows → RowsRead currency text (Err fault.TooManyRows)
 read-full currency text old new places rows f r finds full =
     let m = finds r.state r.rest r.at in
-    let all = whole_last 4098 r.state m.0 (strip_bom text) r.rest m.1 r.header f r.body r.reached (omega (arith, r.counted)) m.3 in
+    let all = whole_last (most_rows + 2) r.state m.0 (strip_bom text) r.rest m.1 r.header f r.body r.reached (omega (arith, r.counted)) m.3 in
     text_reads currency text r.header (r.body ++ (f ∷ [])) (Err fault.TooManyRows) all (r.whole, r.body, f, refl, r.counted ∙ full, none_broken currency r.header r.body rows r.are)
 
 -- no record is left behind the header
 pub read-none : (currency text : List ℕ) (old new : Reader (Bor (List ℕ))) (places : Places) (rows : List Charge) (f : Record) → Read currency text old places rows
     → ((s : State) (y : List ℕ) → At old s y → Finds new s y f false) → length rows ≡ 0 → RowsRead currency text (Err fault.NoRows)
 read-none currency text old new places rows f r finds none =
-    let k = 4097 - length r.body in
-    let all = whole_end 4098 k r.state (strip_bom text) r.rest r.header r.body r.reached (omega (arith, r.counted, r.few)) (finds r.state r.rest r.at) in
+    let k = most_rows + 1 - length r.body in
+    let all = whole_end (most_rows + 2) k r.state (strip_bom text) r.rest r.header r.body r.reached (omega (arith, r.counted, r.few)) (finds r.state r.rest r.at) in
     text_reads currency text r.header r.body (Err fault.NoRows) all (r.whole, no_rows r.body (r.counted ∙ none))
 
 -- no record is left behind the rows
 pub read-all : (currency text : List ℕ) (old new : Reader (Bor (List ℕ))) (places : Places) (rows : List Charge) (f : Record) → Read currency text old places rows
     → ((s : State) (y : List ℕ) → At old s y → Finds new s y f false) → 0 < length rows → RowsRead currency text (Ok rows)
 read-all currency text old new places rows f r finds some =
-    let k = 4097 - length r.body in
-    let all = whole_end 4098 k r.state (strip_bom text) r.rest r.header r.body r.reached (omega (arith, r.counted, r.few)) (finds r.state r.rest r.at) in
+    let k = most_rows + 1 - length r.body in
+    let all = whole_end (most_rows + 2) k r.state (strip_bom text) r.rest r.header r.body r.reached (omega (arith, r.counted, r.few)) (finds r.state r.rest r.at) in
     text_reads currency text r.header r.body (Ok rows) all (r.whole, omega (arith, r.counted), r.few, r.are)

@@ -3,15 +3,15 @@ use Rattle.std.specs.Prelude.{◌≡◌, ◌+◌, ◌<◌, ◌≤◌, ℕ, List,
 use Rattle.std.specs.List.{AllZip}
 use Rattle.csv.specs.Reading.{default_config, records_from, strip_bom}
 use Rattle.csv.specs.declared.parser.State.TheVariants as st
-use Rattle.fw_charge.specs.Charge.{Charge}
+use Rattle.fw_charge.specs.Charge.{Charge, most_post_rows}
 use Rattle.fw_rows.specs.Columns.{Record, missing_column, double_column}
 use Rattle.fw_rows.specs.Rules.{RecordReads, BreaksNoRule}
 use Rattle.fw_rows.specs.declared.fault.RowFault.{RowFault}
 use Rattle.fw_rows.specs.declared.fault.RowFault.TheVariants as fault
 
--- the greatest number of rows of a text
+-- the greatest number of rows of a text: as many as a post may have
 abbrev pub most_rows : ℕ
-most_rows = 4096
+most_rows = most_post_rows
 
 -- the records of a text: the header, and those after it up to the one after the last row that a text may have; a record after that
 -- changes no answer. A byte order mark at the start is part of no field

@@ -4,7 +4,7 @@ ghost use Rattle.csv.specs.Records.{fields_of};
 ghost use Rattle.fw_rows.specs.Columns.{Record, text_in};
 ghost use Rattle.fw_rows.specs.Header.{ArePlaces};
 ghost use Rattle.fw_rows.specs.Judged.{JudgedWithin};
-ghost use Rattle.fw_rows.specs.Rows.{RowsRead};
+ghost use Rattle.fw_rows.specs.Rows.{most_rows, RowsRead};
 ghost use Rattle.fw_rows.specs.Rules.{rules_of};
 ghost use Rattle.fw_rows.specs.Shown.{rows_shown};
 ghost use Rattle.fw_rows.specs.Sinks.{AddsRow, rows_in};
@@ -16,11 +16,11 @@ use crate::header::Places;
 use crate::records::{advance, open};
 use crate::sink::{RowSink, Rows};
 use csv::ByteRecord;
-use fw_charge::{Currency, Row};
+use fw_charge::{Currency, MOST_POST_ROWS, Row};
 use std::alloc::Global;
 
-/// The greatest number of rows of a text.
-const MOST_ROWS: usize = 4096;
+/// The greatest number of rows of a text: as many as a post may have.
+const MOST_ROWS: usize = MOST_POST_ROWS;
 
 /// Reads the rows of a CSV text whose first record is its header; a byte order mark may stand before it. Costs are in `currency`.
 ///
@@ -80,7 +80,7 @@ fn add_record<S: RowSink>(
     currency: Currency,
 ) -> Result<(), Refusal>
     requires ready { S.is_ready sink.old }
-    requires room { length (S.rows sink.old) < 4096 }
+    requires room { length (S.rows sink.old) < most_rows }
     ensures row { (header : Record) → ArePlaces header places.now → JudgedWithin (rules_of currency header (fields_of fields.now)) (λ _. AddsRow (text_in header (fields_of fields.now)) (S.rows sink.old) (S.rows sink.new)) result }
     ensures ready { OnOk result (S.is_ready sink.new) }
 {

@@ -3,6 +3,7 @@ ghost use Rattle.std.specs.Prelude.{◌<◌, ◌++◌, [], ◌∷◌, ◌≡◌,
 ghost use Rattle.fw_charge.specs.Charge.{Charge};
 ghost use Rattle.fw_rows.specs.Judged.{JudgedWithin};
 ghost use Rattle.fw_rows.specs.Parts.{texts_of};
+ghost use Rattle.fw_rows.specs.Rows.{most_rows};
 ghost use Rattle.fw_rows.specs.Rules.{text_rules};
 ghost use Rattle.fw_rows.specs.Sinks.{AddsRow};
 
@@ -23,7 +24,7 @@ pub trait RowSink {
     /// Adds the row that a record stands for, if its texts break no rule; else it answers the first that they break. Costs are in `currency`.
     fn add(&mut self, cells: &Cells<'_>, currency: Currency) -> Result<(), Refusal>
         requires ready { is_ready self.old }
-        requires room { length (rows self.old) < 4096 }
+        requires room { length (rows self.old) < most_rows }
         ensures row { let at = texts_of cells.now in JudgedWithin (text_rules currency at) (λ _. AddsRow at (rows self.old) (rows self.new)) result }
         ensures ready { OnOk result (is_ready self.new) };
 }

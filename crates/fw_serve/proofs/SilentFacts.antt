@@ -13,6 +13,7 @@ use Rattle.fw_query.specs.declared.fault.QueryFault.{QueryFault}
 use Rattle.fw_query.specs.declared.fault.QueryFault.TheVariants as query_fault
 use Rattle.fw_recover.specs.declared.fault.StoreFault.{StoreFault}
 use Rattle.fw_recover.specs.declared.fault.StoreFault.TheVariants as store_fault
+use Rattle.fw_rows.specs.FaultNames.{fault_name}
 use Rattle.fw_rows.specs.declared.fault.RecordFault.{RecordFault}
 use Rattle.fw_rows.specs.declared.fault.RecordFault.TheVariants as record_fault
 use Rattle.fw_rows.specs.declared.fault.RowFault.{RowFault}
@@ -26,7 +27,7 @@ use Rattle.fw_snapshot.specs.declared.verdict.Verdict.{Verdict}
 use Rattle.fw_snapshot.specs.declared.verdict.Verdict.TheVariants as verdict
 use Rattle.fw_serve.specs.Contents.{ContentReads}
 use Rattle.fw_serve.specs.Questions.{ReportAnswer, LinesAnswer, report_answer, lines_answer}
-use Rattle.fw_serve.specs.Replies.{refused, detail, record_fault_name, row_fault_line, commitment_fault_line, policy_fault_line, entry_fault_line, conflict_line, query_fault_line, store_line, store_fault_line, checkpointed_line, accepted_line, already_line, gap_line, verdict_line, counts_line, state_line, counted, no_memory_line, bad_command_line, bad_end_line}
+use Rattle.fw_serve.specs.Replies.{refused, detail, row_fault_line, commitment_fault_line, policy_fault_line, entry_fault_line, conflict_line, query_fault_line, store_line, store_fault_line, checkpointed_line, accepted_line, already_line, gap_line, verdict_line, counts_line, state_line, counted, no_memory_line, bad_command_line, bad_end_line}
 use Rattle.fw_serve.specs.Runs.{IsHindered}
 
 -- whether a text begins as the line of a verdict: with the `a` of `accepted` and `already`, the `g` of `gap`, or `refused J`
@@ -50,8 +51,8 @@ verdict_speaks count (verdict.Gap expected) = refl
 verdict_speaks count (verdict.Refused why) = conflict_speaks why
 
 -- ---- no other answer does
-record_silent : (number : ℕ) (why : RecordFault) → speaks (refused (record_fault_name why ++ detail (decimal number))) ≡ false
-unfolding record_fault_name
+record_silent : (number : ℕ) (why : RecordFault) → speaks (refused (fault_name why ++ detail (decimal number))) ≡ false
+unfolding fault_name
 record_silent number record_fault.Fields = refl
 record_silent number record_fault.NotUtf8 = refl
 record_silent number record_fault.Category = refl

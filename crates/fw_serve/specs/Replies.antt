@@ -3,8 +3,7 @@ use Rattle.std.specs.Prelude.{ℕ, List, [], ◌∷◌, ◌++◌, length, codes,
 use Rattle.fw_terms.specs.Policy.{PolicyValue}
 use Rattle.fw_script.specs.Lines.{line_feed}
 use Rattle.fw_rows.specs.Columns.{name_of}
-use Rattle.fw_rows.specs.declared.fault.RecordFault.{RecordFault}
-use Rattle.fw_rows.specs.declared.fault.RecordFault.TheVariants as record_fault
+use Rattle.fw_rows.specs.FaultNames.{fault_name}
 use Rattle.fw_rows.specs.declared.fault.RowFault.{RowFault}
 use Rattle.fw_rows.specs.declared.fault.RowFault.TheVariants as fault
 use Rattle.fw_commitment.specs.FieldNames as commitment_field
@@ -40,27 +39,11 @@ detail text = codes " " ++ text
 unfoldable pub no_memory_line : List ℕ
 no_memory_line = line (codes "no memory")
 
--- the code and the name of a record's fault
-unfoldable pub record_fault_name : RecordFault → List ℕ
-record_fault_name record_fault.Fields = codes "V1 Fields"
-record_fault_name record_fault.NotUtf8 = codes "V2 NotUtf8"
-record_fault_name record_fault.Category = codes "V3 Category"
-record_fault_name record_fault.Class = codes "V4 Class"
-record_fault_name record_fault.Cost = codes "V5 Cost"
-record_fault_name record_fault.Currency = codes "V6 Currency"
-record_fault_name record_fault.Time = codes "V7 Time"
-record_fault_name record_fault.PeriodOrder = codes "V8 PeriodOrder"
-record_fault_name record_fault.Commitment = codes "V9 Commitment"
-record_fault_name record_fault.Status = codes "V10 Status"
-record_fault_name record_fault.Quantity = codes "V11 Quantity"
-record_fault_name record_fault.BadTags = codes "V12 BadTags"
-record_fault_name record_fault.TooLong = codes "V13 TooLong"
-
 -- why rows were not accepted: the code, the name, and the column or the record's number
 unfoldable pub row_fault_line : RowFault → List ℕ
 row_fault_line (fault.MissingColumn column) = refused (codes "H1 MissingColumn" ++ detail (name_of column))
 row_fault_line (fault.DoubleColumn column) = refused (codes "H2 DoubleColumn" ++ detail (name_of column))
-row_fault_line (fault.Record number why) = refused (record_fault_name why ++ detail (decimal number))
+row_fault_line (fault.Record number why) = refused (fault_name why ++ detail (decimal number))
 row_fault_line fault.NoRows = refused (codes "V14 NoRows")
 row_fault_line fault.TooManyRows = refused (codes "V15 TooManyRows")
 row_fault_line fault.NoMemory = no_memory_line

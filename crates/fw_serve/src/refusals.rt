@@ -1,6 +1,6 @@
 //! Faults as replies.
 ghost use Rattle.std.specs.Prelude.{◌≡◌, ◌++◌, length};
-ghost use Rattle.fw_serve.specs.Replies.{row_fault_line, record_fault_name, commitment_fault_line, policy_fault_line, entry_fault_line, conflict_line, query_fault_line, store_fault_line, verdict_line, refused};
+ghost use Rattle.fw_serve.specs.Replies.{row_fault_line, commitment_fault_line, policy_fault_line, entry_fault_line, conflict_line, query_fault_line, store_fault_line, verdict_line, refused};
 ghost use Rattle.fw_serve.specs.ReplyText.{reply_text, detail_text};
 
 use crate::reply::{Detail, Refusal, Reply};
@@ -9,7 +9,7 @@ use fw_entry::EntryFault;
 use fw_policy::PolicyFault;
 use fw_query::QueryFault;
 use fw_recover::StoreFault;
-use fw_rows::{RecordFault, RowFault};
+use fw_rows::RowFault;
 use fw_snapshot::{Conflict, Snapshot, Verdict};
 
 /// The reply to rows that have a fault.
@@ -20,35 +20,10 @@ pub fn row_reply(fault: RowFault) -> Reply
     match fault {
         RowFault::MissingColumn(column) => refused("H1 MissingColumn", Detail::Word(column.name())),
         RowFault::DoubleColumn(column) => refused("H2 DoubleColumn", Detail::Word(column.name())),
-        RowFault::Record { number, fault } => refused(
-            record_fault_name(fault),
-            Detail::Number(number),
-        ),
+        RowFault::Record { number, fault } => refused(fault.name(), Detail::Number(number)),
         RowFault::NoRows => refused("V14 NoRows", Detail::None),
         RowFault::TooManyRows => refused("V15 TooManyRows", Detail::None),
         RowFault::NoMemory => Reply::NoMemory,
-    }
-}
-
-/// The code and the name of a record's fault.
-#[tactic(auto, unfolding(crate::specs::Replies::record_fault_name))]
-fn record_fault_name(fault: RecordFault) -> &'static str
-    ensures { result.now ≡ record_fault_name fault }
-{
-    match fault {
-        RecordFault::Fields => "V1 Fields",
-        RecordFault::NotUtf8 => "V2 NotUtf8",
-        RecordFault::Category => "V3 Category",
-        RecordFault::Class => "V4 Class",
-        RecordFault::Cost => "V5 Cost",
-        RecordFault::Currency => "V6 Currency",
-        RecordFault::Time => "V7 Time",
-        RecordFault::PeriodOrder => "V8 PeriodOrder",
-        RecordFault::Commitment => "V9 Commitment",
-        RecordFault::Status => "V10 Status",
-        RecordFault::Quantity => "V11 Quantity",
-        RecordFault::BadTags => "V12 BadTags",
-        RecordFault::TooLong => "V13 TooLong",
     }
 }
 

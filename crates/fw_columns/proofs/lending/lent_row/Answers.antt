@@ -1,6 +1,7 @@
 use Rattle.std.proofs.Common.{◌≡◌, ◌∙◌, ap, sym, subst, get_or, ℕ, List, false}
 use Rattle.std.specs.Prelude.{ℤ, pos, nat_abs, option_copied, unwrap_or}
 use Rattle.std.proofs.lemmas.List.{get_or_read}
+use Rattle.fw_charge.proofs.ChargeFacts.{equal_fields}
 use Rattle.fw_charge.specs.Charge.{Charge, IsCharge}
 use Rattle.fw_charge.specs.Codes.{kind_of, status_of}
 use Rattle.fw_charge.specs.declared.discount.DiscountKind.TheVariants as kinds
@@ -9,9 +10,26 @@ use Rattle.fw_columns.specs.Table.{charge_at, category_at, class_at, text_of, qu
 use Rattle.fw_columns.proofs.LendingFacts.{discount_kept}
 use Rattle.fw_columns.proofs.lending.lent_row.Goals as goal
 
-pub of_fields-requires : goal.of_fields-requires
-unfolding charge_at list_at
-of_fields-requires c =
+-- the charge that the values show
+given : goal.After-text_lent-4 → Charge
+given c = record {
+  billed = c.amount_at.result;
+  effective = c.amount_at-2.result;
+  category = c.category_at.result;
+  is_correction = c.class_at.result;
+  start = c.second_at.result;
+  end = c.index.result.now;
+  discount = discount_shown (option_copied c.text_lent.result) c.unwrap_or.result c.from_code-2.result;
+  quantity = c.quantity_of.result;
+  unit = option_copied c.text_lent-2.result;
+  sku = option_copied c.text_lent-3.result;
+  sub_account = option_copied c.text_lent-4.result;
+  tags = tags_lent c.args.tags;
+}
+
+shown : (c : goal.After-text_lent-4) → given c ≡ charge_at c.args.table.now c.args.place
+unfolding given charge_at list_at
+shown c =
     let t = c.args.table.now in
     let i = c.args.place in
     let there = λ (xs : List ℤ). get_or xs i (pos 0) in
@@ -32,85 +50,12 @@ of_fields-requires c =
     let e10 = c.text_lent-3.ensures ∙ ap (text_of t.names) (get_or_read t.skus.items i _ c.requires.row.skus c.index-7.ensures 0) in
     let e11 = c.text_lent-4.ensures ∙ ap (text_of t.names) (get_or_read t.sub_accounts.items i _ c.requires.row.sub_accounts c.index-8.ensures 0) in
     let e12 = c.requires.tags in
-    let given : Charge = record {
-      billed = c.amount_at.result;
-      effective = c.amount_at-2.result;
-      category = c.category_at.result;
-      is_correction = c.class_at.result;
-      start = c.second_at.result;
-      end = c.index.result.now;
-      discount = discount_shown (option_copied c.text_lent.result) c.unwrap_or.result c.from_code-2.result;
-      quantity = c.quantity_of.result;
-      unit = option_copied c.text_lent-2.result;
-      sku = option_copied c.text_lent-3.result;
-      sub_account = option_copied c.text_lent-4.result;
-      tags = tags_lent c.args.tags;
-    } in
-    let shown : given ≡ charge_at t i = λ j. record {
-      billed = e1 j;
-      effective = e2 j;
-      category = e3 j;
-      is_correction = e4 j;
-      start = e5 j;
-      end = e6 j;
-      discount = e7 j;
-      quantity = e8 j;
-      unit = e9 j;
-      sku = e10 j;
-      sub_account = e11 j;
-      tags = e12 j;
-    } in
-    subst IsCharge (sym shown) c.requires.charge
+    equal_fields _ _ e1 e2 e3 e4 e5 e6 e7 e8 e9 e10 e11 e12
+
+pub of_fields-requires : goal.of_fields-requires
+unfolding given
+of_fields-requires c = subst IsCharge (sym (shown c)) c.requires.charge
 
 pub returns : goal.returns
-unfolding charge_at list_at
-returns c =
-    let t = c.args.table.now in
-    let i = c.args.place in
-    let there = λ (xs : List ℤ). get_or xs i (pos 0) in
-    let e1 = c.amount_at.ensures ∙ ap there c.as_slice.ensures.value in
-    let e2 = c.amount_at-2.ensures ∙ ap there c.as_slice-2.ensures.value in
-    let e3 = c.category_at.ensures ∙ ap (λ (codes : List ℕ). category_at (get_or codes i 0)) c.as_slice-3.ensures.value in
-    let e4 = c.class_at.ensures ∙ ap (λ (codes : List ℕ). class_at (get_or codes i 0)) c.as_slice-4.ensures.value in
-    let e5 = c.second_at.ensures ∙ ap nat_abs (ap there c.as_slice-5.ensures.value) in
-    let e6 = get_or_read t.ends.items i _ c.requires.row.ends c.index.ensures 0 in
-    let id = c.text_lent.ensures ∙ ap (text_of t.names) (get_or_read t.discounts.items i _ c.requires.row.discounts c.index-2.ensures 0) in
-    let kind = c.unwrap_or.ensures ∙ ap (λ k. unwrap_or k kinds.Usage) (c.from_code.ensures ∙ ap kind_of (get_or_read t.kinds.items i _ c.requires.row.kinds c.index-3.ensures 0)) in
-    let status = c.from_code-2.ensures ∙ ap status_of (get_or_read t.statuses.items i _ c.requires.row.statuses c.index-4.ensures 0) in
-    let is_there = get_or_read t.has_quantity.items i _ c.requires.row.has_quantity c.index-5.ensures false in
-    let count = c.amount_at-3.ensures ∙ ap there c.as_slice-6.ensures.value in
-    let e7 = (λ j. discount_shown (id j) (kind j) (status j)) ∙ discount_kept (text_of t.names (get_or t.discounts.items i 0)) (get_or t.kinds.items i 0) (get_or t.statuses.items i 0) in
-    let e8 = c.quantity_of.ensures ∙ (λ j. quantity_of (is_there j) (count j)) in
-    let e9 = c.text_lent-2.ensures ∙ ap (text_of t.names) (get_or_read t.units.items i _ c.requires.row.units c.index-6.ensures 0) in
-    let e10 = c.text_lent-3.ensures ∙ ap (text_of t.names) (get_or_read t.skus.items i _ c.requires.row.skus c.index-7.ensures 0) in
-    let e11 = c.text_lent-4.ensures ∙ ap (text_of t.names) (get_or_read t.sub_accounts.items i _ c.requires.row.sub_accounts c.index-8.ensures 0) in
-    let e12 = c.requires.tags in
-    let given : Charge = record {
-      billed = c.amount_at.result;
-      effective = c.amount_at-2.result;
-      category = c.category_at.result;
-      is_correction = c.class_at.result;
-      start = c.second_at.result;
-      end = c.index.result.now;
-      discount = discount_shown (option_copied c.text_lent.result) c.unwrap_or.result c.from_code-2.result;
-      quantity = c.quantity_of.result;
-      unit = option_copied c.text_lent-2.result;
-      sku = option_copied c.text_lent-3.result;
-      sub_account = option_copied c.text_lent-4.result;
-      tags = tags_lent c.args.tags;
-    } in
-    let shown : given ≡ charge_at t i = λ j. record {
-      billed = e1 j;
-      effective = e2 j;
-      category = e3 j;
-      is_correction = e4 j;
-      start = e5 j;
-      end = e6 j;
-      discount = e7 j;
-      quantity = e8 j;
-      unit = e9 j;
-      sku = e10 j;
-      sub_account = e11 j;
-      tags = e12 j;
-    } in
-    c.of_fields.ensures ∙ shown
+unfolding given
+returns c = c.of_fields.ensures ∙ shown c.before

@@ -1,5 +1,6 @@
+use Rattle.fw_rows.specs.Rows.{most_rows}
 use Rattle.fw_rows.proofs.RowFacts.{Read}
-use Rattle.std.proofs.Common.{◌≡◌, ◌≤◌, ◌-◌, length}
+use Rattle.std.proofs.Common.{◌≡◌, ◌≤◌, ◌+◌, ◌-◌, length}
 use Rattle.fw_rows.proofs.reading.read_into.Given as goal
 
 -- the records so far were read, and their rows added
@@ -9,9 +10,9 @@ invariant-records g l =
     record {
       read : Read l.fn.currency l.fn.text l.reader l.places rows;
       counted : length rows ≡ l.count;
-      few : l.count ≤ 4096;
+      few : l.count ≤ most_rows;
       ready : g.S.RowSink.is_ready l.sink;
     }
 
 abbrev pub decreases-records : goal.decreases-records
-decreases-records g l = 4097 - l.count
+decreases-records g l = most_rows + 1 - l.count
