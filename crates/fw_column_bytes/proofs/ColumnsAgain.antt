@@ -8,10 +8,10 @@ use Rattle.std.proofs.lemmas.List.{get_or-map, length-map, take_at, map-id}
 use Rattle.std.proofs.lemmas.List.Concat.{flat_map_single}
 use Rattle.std.proofs.lemmas.List.Folds.{flat_map-map}
 use Rattle.std.proofs.lemmas.List.FromFn.{fill_by_all}
-use Rattle.std.proofs.lemmas.List.Elements.{All-nil, All-cons, All-head, All-tail, All-append}
+use Rattle.std.proofs.lemmas.List.Elements.{All-nil, All-cons, All-head, All-tail, All-append, All-weaker}
 use Rattle.fw_bytes.specs.Spelling.{number32, number64, text, listed, within, FitsOptional}
-use Rattle.fw_bytes.proofs.Laws.{IsFormat, list_fits, list_parts, ok_is}
-use Rattle.fw_charge.specs.Charge.{Charge, DiscountText}
+use Rattle.fw_bytes.proofs.Laws.{IsBytes, IsFormat, list_fits, list_parts, ok_is}
+use Rattle.fw_charge.specs.Charge.{Charge, DiscountText, IsCharge}
 use Rattle.fw_charge.specs.Codes.{category_code, class_code, kind_code, status_code, kind_of, status_of}
 use Rattle.fw_charge.specs.Spelling.{nanos, FitsNanos, FitsSecond, FitsShortText, FitsTagText, FitsTag, FitsTags, FitsDiscount, IsRow, is_short}
 use Rattle.fw_charge.specs.Tags.{TagText, most_tags}
@@ -34,6 +34,7 @@ use Rattle.fw_columns.proofs.TableFacts.{text-back, tags-back}
 use Rattle.fw_row_bytes.specs.Reading.{fields_agree, row_from}
 use Rattle.fw_row_bytes.proofs.RowFacts.{parts_of, parts_agree, tags_rise}
 use Rattle.fw_row_bytes.proofs.RowFormat.{row_to, row_from-to}
+use Rattle.fw_column_bytes.specs.Direct.{fields_of_rows, AreColumnsOf}
 use Rattle.fw_column_bytes.specs.Kept.{AreRows}
 use Rattle.fw_column_bytes.specs.Fits.{FitsTimes, FitsByte, FitsTextCode, FitsPlace, FitsPlaces, FitBody, FitParts}
 use Rattle.fw_column_bytes.specs.Spelling.{amounts, periods, discounts, flag, quantities, texts, columns, layout}
@@ -44,25 +45,6 @@ use Rattle.fw_column_bytes.proofs.PartsFormat.{one_byte, spelled_parts, parts_fo
 use Rattle.fw_column_bytes.proofs.RowsRead.{one_more}
 use Rattle.fw_column_bytes.proofs.ColumnFacts.{columns_taken}
 use Rattle.fw_column_bytes.proofs.ColumnsTaken.{columns_taken_so}
-
--- the fields of rows
-abbrev pub fields_of_rows : List Text → List Charge → Parts
-fields_of_rows names rows = (
-  (layout, (length rows, names)),
-  (
-    (map (λ c. c.billed) rows, (map (λ c. c.effective) rows, (map (λ c. category_code c.category) rows, map (λ c. class_code c.is_correction) rows))),
-    (
-      (map (λ c. c.start) rows, map (λ c. c.end) rows),
-      (
-        (map (λ c. id_kept names c.discount) rows, (map (λ c. kind_kept c.discount) rows, map (λ c. status_kept c.discount) rows)),
-        (
-          (map (λ c. flag (is_some c.quantity)) rows, map (λ c. quantity_kept c.quantity) rows),
-          ((map (λ c. text_code names c.unit) rows, (map (λ c. text_code names c.sku) rows, map (λ c. text_code names c.sub_account) rows)), lists_of names rows),
-        ),
-      ),
-    ),
-  ),
-)
 
 -- ---- their spelling
 
@@ -379,12 +361,12 @@ module _ (rows : List Charge) (known : All (IsRowKnown (names_of rows)) rows) (i
       let e12 : tags_of names (get_or (map (λ c. tag_places names c.tags) rows) i []) ≡ r.tags = ap (tags_of names) (get_or-map (λ c. tag_places names c.tags) rows i d [] lt) ∙ tags-back names r.tags k.tags in
       λ j. ((e1 j, (e2 j, (e3 j, e4 j))), ((e5 j, e6 j), (e7 j, ((e8 j, (e9 j, (e10 j, e11 j))), e12 j))))
 
-all_agree : (rows : List Charge) → All IsRow rows → list_all fields_agree (map row_to rows) ≡ true
+all_agree : (rows : List Charge) → All IsCharge rows → list_all fields_agree (map row_to rows) ≡ true
 all_agree [] h = refl
 all_agree (r ∷ rs) h =
-    let k = All-head IsRow r rs h in
-    and_from (fields_agree (row_to r)) (list_all fields_agree (map row_to rs)) (and_from _ _ (le-leb _ _ k.charge.ordered) (and_from _ _ (parts_agree r.category r.discount k.charge.discount) (tags_rise r.tags k.charge.tags)))
-    (all_agree rs (All-tail IsRow r rs h))
+    let k = All-head IsCharge r rs h in
+    and_from (fields_agree (row_to r)) (list_all fields_agree (map row_to rs)) (and_from _ _ (le-leb _ _ k.ordered) (and_from _ _ (parts_agree r.category r.discount k.discount) (tags_rise r.tags k.tags)))
+    (all_agree rs (All-tail IsCharge r rs h))
 
 rows_back : (rows : List Charge) → map row_from (map row_to rows) ≡ rows
 rows_back [] = refl
@@ -398,7 +380,7 @@ rows_fields_again rows =
     sym (fill_by_all (fields_at_place p) (map row_to rows) (length rows) (fields_at_place p 0) (length-map rows row_to)
     (λ k lt. get_or-map row_to rows k first (fields_at_place p 0) lt ∙ sym (fields_again rows (rows-known rows) k first lt)))
 
-agreeing_again : (rows : List Charge) (left : ℕ) → All IsRow rows → agreeing_rows (fields_of_rows (names_of rows) rows) left ≡ Ok rows
+agreeing_again : (rows : List Charge) (left : ℕ) → All IsCharge rows → agreeing_rows (fields_of_rows (names_of rows) rows) left ≡ Ok rows
 unfolding agreeing_rows rows_from
 agreeing_again rows left h = rw (rows_fields_again rows, all_agree rows h, rows_back rows) refl
 
@@ -409,11 +391,23 @@ columns_again rows rest h =
     let read : parts_at bytes ≡ Ok (p, rest) = subst (λ (w : List ℕ). parts_at (w ++ rest) ≡ Ok (p, rest)) (spelled_by_column rows) (parts_format.again p rest (parts_fit rows h)) in
     let size : length (columns rows) ≡ length bytes - length rest = let sum : length bytes ≡ length (columns rows) + length rest = length-append (columns rows) rest in omega (arith, sum) in
     let front : take (length bytes - length rest) bytes ≡ columns rows = take_at (columns rows) rest (length bytes - length rest) size in
-    columns_taken bytes (p, rest) rows read (agreeing_again rows (length bytes) h.each) ((bytes_decides _ _).1 (sym front))
+    columns_taken bytes (p, rest) rows read (agreeing_again rows (length bytes) (All-weaker IsRow IsCharge (λ c k. k.charge) rows h.each)) ((bytes_decides _ _).1 (sym front))
 
 -- what is read of rows by column is spelled so, and what is spelled so is read
 pub columns_format : IsFormat columns_at columns AreRows
 columns_format = record { takes = columns_taken_so; again = columns_again }
+
+-- rows whose columns were read are what is read
+pub direct_taken : (bytes : List ℕ) (p : Parts × List ℕ) (rows : List Charge) → IsBytes bytes → parts_at bytes ≡ Ok p → AreColumnsOf p.0 rows → columns_at bytes ≡ Ok (rows, p.1)
+direct_taken bytes p rows is read h =
+    let spelled : columns rows ≡ spelled_parts p.0 = sym (spelled_by_column rows) ∙ ap spelled_parts (sym h.fields) in
+    let t = parts_format.takes bytes p is read in
+    let whole : bytes ≡ columns rows ++ p.1 = t.0.parts ∙ ap (λ (w : List ℕ). w ++ p.1) (sym spelled) in
+    let sum : length bytes ≡ length (columns rows) + length p.1 = ap length whole ∙ length-append (columns rows) p.1 in
+    let size : length (columns rows) ≡ length bytes - length p.1 = omega (arith, sum) in
+    let front : take (length bytes - length p.1) bytes ≡ columns rows = ap (take (length bytes - length p.1)) whole ∙ take_at (columns rows) p.1 (length bytes - length p.1) size in
+    let agree : agreeing_rows p.0 (length bytes) ≡ Ok rows = ap (λ (q : Parts). agreeing_rows q (length bytes)) h.fields ∙ agreeing_again rows (length bytes) h.charges in
+    columns_taken bytes p rows read agree ((bytes_decides _ _).1 (sym front))
 
 -- rows that have the same bytes are the same
 pub one_spelling : (xs ys : List Charge) → AreRows xs → AreRows ys → columns xs ≡ columns ys → xs ≡ ys

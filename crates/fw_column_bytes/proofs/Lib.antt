@@ -6,3 +6,4 @@ pub mod RowsRead
 pub mod ColumnFacts
 pub mod ColumnsTaken
 pub mod ColumnsAgain
+pub mod DirectFacts

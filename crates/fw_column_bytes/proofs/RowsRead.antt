@@ -18,8 +18,8 @@ use Rattle.fw_row_bytes.proofs.RowFormat.{FitFields, is_row_from}
 use Rattle.fw_charge.specs.Spelling.{FitsSecond}
 use Rattle.fw_money.specs.Amount.{most_nanos}
 use Rattle.std.specs.Prelude.{nat_abs}
-use Rattle.fw_column_bytes.specs.Reading.{is_place_code, most_names, most_rows, Parts, fields_at_place}
-use Rattle.fw_column_bytes.specs.Fits.{FitsTimes, FitsTextCode, FitsPlace, FitsPlaces, FitParts, FitsByte}
+use Rattle.fw_column_bytes.specs.Reading.{is_place_code, most_names, most_rows, Front, Parts, fields_at_place}
+use Rattle.fw_column_bytes.specs.Fits.{FitsTimes, FitsTextCode, FitsPlace, FitsPlaces, FitFront, FitParts, FitsByte}
 use Rattle.fw_column_bytes.specs.Rows.{HasPlace, fields_with}
 use Rattle.fw_column_bytes.specs.declared.rows.FieldsRead.{FieldsRead}
 
@@ -157,6 +157,11 @@ pub count_within : (p : Parts) → FitParts p → (1 ≤ p.0.1.0) × (p.0.1.0 �
 count_within p h =
     let w = within_is (nat_lt p.0.1.0 1) (nat_lt most_rows p.0.1.0) h.0.1.0.1 in
     (ltb-false _ _ w.0, ltb-false _ _ w.1)
+
+pub front_within : (f : Front) → FitFront f → f.1.0 ≤ 65536
+front_within f h =
+    let w = within_is (nat_lt f.1.0 1) (nat_lt most_rows f.1.0) h.1.0.1 in
+    ltb-false _ _ w.1
 
 pub made_count : (p : Parts) (n : ℕ) → length (map row_from (map (fields_at_place p) (range_with_len 0 n))) ≡ n
 made_count p n = length-map (map (fields_at_place p) (range_with_len 0 n)) row_from ∙ (length-map (range_with_len 0 n) (fields_at_place p) ∙ length-range_with_len 0 n)

@@ -124,7 +124,7 @@ pub fn text_codes_after<'a>(
 
 /// The place of the name with a code.
 #[tactic(auto, unfolding(crate::specs::Reading::place_at, fw_bytes::specs::Reading::checked, fw_bytes::specs::Reading::seen))]
-fn place_of<'a>(names: &[String], bytes: &'a [u8]) -> Result<(u32, &'a [u8]), ReadError>
+pub fn place_of<'a>(names: &[String], bytes: &'a [u8]) -> Result<(u32, &'a [u8]), ReadError>
     ensures { Gives (λ x. (x.0, x.1.now)) result (place_at (map string_bytes names.now) bytes.now) }
 {
     let (code, rest) = u32_at(bytes)?;

@@ -98,7 +98,7 @@ fn layout_of(bytes: &[u8]) -> Result<(u8, &[u8]), ReadError>
 }
 
 #[tactic(auto, unfolding(crate::specs::Reading::front_at, fw_bytes::specs::Reading::both))]
-fn front_of(alloc: Global, bytes: &[u8]) -> Result<(FrontRead, &[u8]), ReadError>
+pub fn front_of(alloc: Global, bytes: &[u8]) -> Result<(FrontRead, &[u8]), ReadError>
     ensures { Gives (λ x. (front_view x.0, x.1.now)) result (front_at bytes.now) }
 {
     let (_layout, rest) = layout_of(bytes)?;
@@ -108,7 +108,11 @@ fn front_of(alloc: Global, bytes: &[u8]) -> Result<(FrontRead, &[u8]), ReadError
 }
 
 #[tactic(auto, unfolding(crate::specs::Reading::amounts_at, fw_bytes::specs::Reading::both))]
-fn amounts_of(alloc: Global, count: u32, bytes: &[u8]) -> Result<(AmountsRead, &[u8]), ReadError>
+pub fn amounts_of(
+    alloc: Global,
+    count: u32,
+    bytes: &[u8],
+) -> Result<(AmountsRead, &[u8]), ReadError>
     ensures { Gives (λ x. (amounts_view x.0, x.1.now)) result (amounts_at count bytes.now) }
 {
     let (billed, rest) = amounts_after(alloc, count, bytes)?;
@@ -125,7 +129,11 @@ fn amounts_of(alloc: Global, count: u32, bytes: &[u8]) -> Result<(AmountsRead, &
 }
 
 #[tactic(auto, unfolding(crate::specs::Reading::periods_at, fw_bytes::specs::Reading::both))]
-fn periods_of(alloc: Global, count: u32, bytes: &[u8]) -> Result<(PeriodsRead, &[u8]), ReadError>
+pub fn periods_of(
+    alloc: Global,
+    count: u32,
+    bytes: &[u8],
+) -> Result<(PeriodsRead, &[u8]), ReadError>
     ensures { Gives (λ x. (periods_view x.0, x.1.now)) result (periods_at count bytes.now) }
 {
     let (starts, rest) = seconds_after(alloc, count, bytes)?;
@@ -134,7 +142,7 @@ fn periods_of(alloc: Global, count: u32, bytes: &[u8]) -> Result<(PeriodsRead, &
 }
 
 #[tactic(auto, unfolding(crate::specs::Reading::discounts_at, fw_bytes::specs::Reading::both))]
-fn discounts_of<'a>(
+pub fn discounts_of<'a>(
     alloc: Global,
     names: &[String],
     count: u32,
@@ -154,7 +162,7 @@ fn discounts_of<'a>(
 }
 
 #[tactic(auto, unfolding(crate::specs::Reading::quantities_at, fw_bytes::specs::Reading::both))]
-fn quantities_of(
+pub fn quantities_of(
     alloc: Global,
     count: u32,
     bytes: &[u8],
@@ -167,7 +175,7 @@ fn quantities_of(
 }
 
 #[tactic(auto, unfolding(crate::specs::Reading::texts_at, fw_bytes::specs::Reading::both))]
-fn texts_of<'a>(
+pub fn texts_of<'a>(
     alloc: Global,
     names: &[String],
     count: u32,

@@ -14,6 +14,7 @@ ghost use Rattle.fw_column_bytes.specs.PartsView.{parts_view};
 ghost use Rattle.fw_column_bytes.specs.Fits.{FitParts};
 ghost use Rattle.fw_column_bytes.specs.Rows.{agreeing_rows, fields_with, HasPlace, Refuses};
 
+use crate::direct::taken_over;
 use crate::reading::{PartsRead, parts_of};
 use crate::writing::put_columns;
 use fw_bytes::ReadError;
@@ -239,16 +240,8 @@ fn is_spelled(alloc: Global, rows: &Columns, bytes: &[u8], left: usize) -> Resul
     Ok(out.as_slice() == front)
 }
 
-/// Rows by column, from their layout on, and the bytes after them. What is returned is spelled by the bytes that it was read from.
-///
-/// # Errors
-/// [`ReadError::Corrupt`] at the first field that is cut off or out of its range: another layout than 2, a number of rows that is 0 or above
-/// 65,536, a name that isn't UTF-8 or has more than 1,024 bytes, an amount, a second or a code out of its range, the code of a name that isn't
-/// there, that of an id, a unit, a SKU or a sub-account whose name hasn't 1 to 256 bytes, more than 256 tags. Where there is none, at the layout where the
-/// fields of a row don't agree, as `fw_row_bytes::row_of` says, where a null quantity has another amount than 0, or where the names aren't each text of
-/// the rows once, in the order in which it first occurs. [`ReadError::NoMemory`] where there is no memory for the rows, reported where it runs out: a
-/// later fault isn't looked for.
-pub fn columns_of(alloc: Global, bytes: &[u8]) -> Result<(Columns, &[u8]), ReadError>
+/// The rows that bytes spell, made row by row.
+fn columns_by_row(alloc: Global, bytes: &[u8]) -> Result<(Columns, &[u8]), ReadError>
     ensures { Gives (λ x. (x.0, x.1.now)) result (columns_at bytes.now) }
 {
     let (parts, rest) = parts_of(alloc, bytes)?;
@@ -261,5 +254,23 @@ pub fn columns_of(alloc: Global, bytes: &[u8]) -> Result<(Columns, &[u8]), ReadE
             }
         }
         Err(e) => Err(e),
+    }
+}
+
+/// Rows by column, from their layout on, and the bytes after them. What is returned is spelled by the bytes that it was read from.
+///
+/// # Errors
+/// [`ReadError::Corrupt`] at the first field that is cut off or out of its range: another layout than 2, a number of rows that is 0 or above
+/// 65,536, a name that isn't UTF-8 or has more than 1,024 bytes, an amount, a second or a code out of its range, the code of a name that isn't
+/// there, that of an id, a unit, a SKU or a sub-account whose name hasn't 1 to 256 bytes, more than 256 tags. Where there is none, at the layout where the
+/// fields of a row don't agree, as `fw_row_bytes::row_of` says, where a null quantity has another amount than 0, or where the names aren't each text of
+/// the rows once, in the order in which it first occurs. [`ReadError::NoMemory`] where there is no memory for the rows, reported where it runs out: a
+/// later fault isn't looked for.
+pub fn columns_of(alloc: Global, bytes: &[u8]) -> Result<(Columns, &[u8]), ReadError>
+    ensures { Gives (λ x. (x.0, x.1.now)) result (columns_at bytes.now) }
+{
+    match taken_over(alloc, bytes)? {
+        Some(found) => Ok(found),
+        None => columns_by_row(alloc, bytes),
     }
 }

@@ -8,3 +8,5 @@ mod GroupFacts
 mod AddFacts
 mod KeptFacts
 pub mod LendingFacts
+pub mod PartFacts
+mod PartColumns

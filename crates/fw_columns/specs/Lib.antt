@@ -9,3 +9,5 @@ pub mod Adding
 pub mod Reading
 pub mod Grouping
 pub mod Lending
+pub mod Parts
+pub mod PartsView

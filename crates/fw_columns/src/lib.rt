@@ -1,11 +1,12 @@
 //! Charge rows kept by column, each of their texts and each of their lists of tags once.
 //!
-//! Columns are made row by row by a builder and never change after it, so copies share them. They lend their rows: a lent row has its texts and
-//! tags where the columns keep them, and knows how many bytes it is written in.
+//! Columns are made row by row by a builder, or of parts that are the columns of rows, and never change after it, so copies share them. They lend
+//! their rows: a lent row has its texts and tags where the columns keep them, and knows how many bytes it is written in.
 #![tactic(auto)]
 
 mod adding;
 mod builder;
+mod checking;
 mod codes;
 mod columns;
 mod grouping;
@@ -17,7 +18,9 @@ mod lengths;
 mod lists;
 mod names;
 mod naming;
+mod parts;
 mod reading;
+mod row_lists;
 mod row_view;
 mod table;
 
@@ -26,4 +29,6 @@ pub use columns::Columns;
 pub use laws::limits_agree;
 pub use lending::{LentDiscount, LentRow, LentTag, LentTags};
 pub use names::Names;
+pub use parts::Parts;
+pub use row_lists::RowLists;
 pub use row_view::RowView;

@@ -1,5 +1,5 @@
 //! Texts that are numbered.
-ghost use Rattle.std.specs.Prelude.{◌≡◌, ◌^◌, ◌<◌, ◌≤◌, ◌+◌, [], Some, length, slice_get, IfOk, OnOk, OnErr};
+ghost use Rattle.std.specs.Prelude.{◌≡◌, ◌^◌, ◌<◌, ◌≤◌, ◌+◌, [], Some, length, map, slice_get, string_bytes, IfOk, IfSome, OnOk, OnErr};
 
 use indexmap::IndexSet;
 use std::alloc::{AllocError, Global};
@@ -62,6 +62,24 @@ impl Names {
                 Ok(place as u32)
             }
         }
+    }
+
+    /// Texts as they stand, if each is there once; else `None`.
+    pub fn of_texts(alloc: Global, texts: &[String]) -> Result<Option<Names>, AllocError>
+        ensures { IfOk result (λ made. IfSome made (λ names. names ≡ map string_bytes texts.now)) }
+    {
+        let count = texts.len();
+        if count > 1 << 30 {
+            return Ok(None);
+        }
+        let mut names = Names::new(alloc);
+        for place in 0..count {
+            let code = names.code(texts[place].as_str())?;
+            if code as usize != place {
+                return Ok(None);
+            }
+        }
+        Ok(Some(names))
     }
 
     /// The code that a text has, or would get as the next new one.

@@ -4,7 +4,7 @@ use Rattle.fw_column_bytes.specs.PartsView.{parts_view}
 use Rattle.fw_column_bytes.specs.Reading.{Parts}
 use Rattle.fw_column_bytes.proofs.PartsFormat.{parts_format}
 use Rattle.fw_column_bytes.proofs.ColumnFacts.{parts_fail, rows_refused, columns_taken, columns_refused}
-use Rattle.fw_column_bytes.proofs.rows.columns_of.Goals as goal
+use Rattle.fw_column_bytes.proofs.rows.columns_by_row.Goals as goal
 
 pub returns-in_err-parts : goal.returns-in_err-parts
 returns-in_err-parts c =

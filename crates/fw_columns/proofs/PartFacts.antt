@@ -1,0 +1,243 @@
+-- Columns that were put together elsewhere and were checked are those of rows.
+use Rattle.std.proofs.Common.{◌≡◌, ℕ, zero, suc, ◌+◌, ◌-◌, ◌<◌, ◌≤◌, ℤ, Bool, true, false, List, [], ◌∷◌, ◌++◌, length, get_or, map, take, drop, Option, Some, None, refl, sym, ap, subst, ◌∙◌, arith, ltb}
+use Rattle.std.specs.Prelude.{All, slice_get, option_to_list, is_some, pos, negsuc, nat_abs, IfSome}
+use Rattle.std.specs.List.{list_any, position_or_len, flat_map, range_with_len}
+use Rattle.std.specs.Str.{bytes_eq}
+use Rattle.std.specs.Cmp.Lexicographic.{bytes_decides}
+use Rattle.std.proofs.lemmas.List.{take_more, take_all, get_or-take, length-take-le, take-append-drop}
+use Rattle.std.proofs.lemmas.List.Elements.{All-nil, All-cons, All-head, All-tail, All-push}
+use Rattle.std.proofs.lemmas.Bool.{ltb-true, ltb-false}
+use Rattle.std.proofs.lemmas.List.{append-nil}
+use Rattle.std.proofs.lemmas.List.Folds.{flat_map-map}
+use Rattle.std.proofs.lemmas.List.FromFn.{map-range_with_len_more}
+use Rattle.std.proofs.lemmas.Grind.{flat_map-append}
+use Rattle.fw_charge.specs.Tags.{IsTagSized, longest_tag_text}
+use Rattle.std.proofs.lemmas.Option.{get_or_from_slice_get}
+use Rattle.fw_charge.specs.Charge.{IsShortText}
+use Rattle.fw_charge.specs.Codes.{category_code, category_of, class_code, class_of, kind_code, kind_of, status_code, status_of}
+use Rattle.fw_charge.specs.declared.category.Category.{Category}
+use Rattle.fw_charge.specs.declared.category.Category.TheVariants as category
+use Rattle.fw_columns.specs.Names.{Text, AreDistinct, place_of, with_text}
+use Rattle.fw_columns.specs.Texts.{with_texts}
+use Rattle.fw_columns.specs.Table.{category_at, class_at, kind_at, kind_kept, status_kept, quantity_kept, text_at, text_of, discount_of, quantity_of, tag_of, tags_of}
+use Rattle.fw_columns.specs.Parts.{IsStatusOf, IsShortCode, IsDiscountKept, HaveSeen, AreNumbered, lists_there}
+use Rattle.fw_columns.proofs.NameFacts.{place-kept, place-there, place_at, text_at_place}
+use Rattle.fw_columns.proofs.TextFacts.{IsKnown, AreKnown, AreKnown-seen, known_adds_nothing, with_texts-append}
+use Rattle.fw_columns.proofs.ListFacts.{listed_more}
+
+-- ---- codes that are there
+
+pub category_kept : (code : ℕ) → is_some (category_of code) ≡ true → category_code (category_at code) ≡ code
+unfolding category_code
+category_kept zero h = absurd cc
+category_kept (suc zero) h = refl
+category_kept (suc (suc zero)) h = refl
+category_kept (suc (suc (suc zero))) h = refl
+category_kept (suc (suc (suc (suc zero)))) h = refl
+category_kept (suc (suc (suc (suc (suc zero))))) h = refl
+category_kept (suc (suc (suc (suc (suc (suc b)))))) h = absurd cc
+
+pub class_kept : (code : ℕ) → is_some (class_of code) ≡ true → class_code (class_at code) ≡ code
+unfolding class_code
+class_kept zero h = refl
+class_kept (suc zero) h = refl
+class_kept (suc (suc b)) h = absurd cc
+
+kind_stays : (code : ℕ) → is_some (kind_of code) ≡ true → kind_code (Some (kind_at code)) ≡ code
+unfolding kind_code
+kind_stays zero h = absurd cc
+kind_stays (suc zero) h = refl
+kind_stays (suc (suc zero)) h = refl
+kind_stays (suc (suc (suc b))) h = absurd cc
+
+pub status_there : (c : Category) (code : ℕ) → is_some (status_of code) ≡ true → IsStatusOf c code
+unfolding status_code
+status_there c zero e = absurd cc
+status_there c (suc zero) e = record { kept = refl; there = λ u. refl }
+status_there c (suc (suc zero)) e = record { kept = refl; there = λ u. refl }
+status_there c (suc (suc (suc b))) e = absurd cc
+
+pub status_null : (c : Category) (code : ℕ) → code ≡ 0 → (c ≡ category.Usage → ⊥) → IsStatusOf c code
+unfolding status_code
+status_null c zero e h = record { kept = refl; there = λ u. absurd (h u) }
+status_null c (suc s) e h = absurd (omega arith)
+
+pub quantity_there : (b : Bool) (z : ℤ) → b ≡ true → quantity_kept (quantity_of b z) ≡ z
+unfolding quantity_kept quantity_of
+quantity_there true z e = refl
+quantity_there false z e = absurd cc
+
+pub quantity_null : (b : Bool) (z : ℤ) → pos 0 ≡ z → quantity_kept (quantity_of b z) ≡ z
+unfolding quantity_kept quantity_of
+quantity_null true z e = refl
+quantity_null false z e = e
+
+pub zero_abs : (z : ℤ) → nat_abs z ≡ 0 → pos 0 ≡ z
+zero_abs (pos zero) e = refl
+zero_abs (pos (suc n)) e = absurd cc
+zero_abs (negsuc n) e = absurd cc
+
+-- ---- texts and discounts
+
+pub short_null : (names : List Text) (code : ℕ) → (1 ≤ code → ⊥) → IsShortCode names code
+unfolding text_of
+short_null names zero h = record { within = omega arith; short = tt }
+short_null names (suc place) h = absurd (h (omega arith))
+
+pub short_there : (names : List Text) (code place : ℕ) (t : Text) → 1 ≤ code → place ≡ code - 1 → place < length names → slice_get names place ≡ Some t → IsShortText t → IsShortCode names code
+unfolding text_of text_at
+short_there names zero place t le is lt e h = absurd (omega arith)
+short_there names (suc p) place t le is lt e h =
+    let same : place ≡ p = omega (arith, is) in
+    let here : t ≡ get_or names p [] = sym (get_or_from_slice_get names place t [] e) ∙ ap (λ k. get_or names k []) same in
+    record { within = omega (arith, same, lt); short = subst IsShortText here h }
+
+pub discount_null : (names : List Text) (c : Category) (id k s : ℕ) → id ≡ 0 → k ≡ 0 → s ≡ 0 → IsDiscountKept names c id k s
+unfolding text_of discount_of kind_kept status_kept
+discount_null names c zero k s e f g = record { within = omega arith; rules = tt; kind = sym f; status = sym g }
+discount_null names c (suc p) k s e f g = absurd (omega arith)
+
+pub discount_there : (names : List Text) (c : Category) (id k s : ℕ) → (id ≡ 0 → ⊥) → IsShortCode names id → is_some (kind_of k) ≡ true → IsStatusOf c s → IsDiscountKept names c id k s
+unfolding text_of discount_of kind_kept status_kept
+discount_there names c zero k s e h f g = absurd (e refl)
+discount_there names c (suc p) k s e h f g = record {
+  within = h.within;
+  rules = record { id = h.short; status = g.there };
+  kind = kind_stays k f;
+  status = g.kept;
+}
+
+-- ---- lists up to a place
+
+pub all_more : {X : Type 0} (P : X → Type 0) (xs : List X) (i : ℕ) (d : X) → All P (take i xs) → i < length xs → P (get_or xs i d) → All P (take (i + 1) xs)
+all_more P xs i d all lt p = rw (take_more xs i d lt) (All-push P (take i xs) (get_or xs i d) all p)
+
+pub all_taken : {X : Type 0} (P : X → Type 0) (xs : List X) (i : ℕ) → All P (take i xs) → length xs ≤ i → All P xs
+all_taken P xs i all le = subst (All P) (take_all i xs le) all
+
+-- ---- names that are seen in their order
+
+there : (xs : List Text) (k : ℕ) → k < length xs → IsKnown xs (get_or xs k [])
+unfolding place_of
+there [] k lt = absurd (omega arith)
+there (x ∷ xs) zero lt = record { below = rw ((bytes_decides x x).1 refl) (omega arith) }
+there (x ∷ xs) (suc k) lt = by (bytes_eq (get_or xs k []) x) refl (there xs k (omega arith)).below
+  where
+    by : (b : Bool) → bytes_eq (get_or xs k []) x ≡ b → place_of xs (get_or xs k []) < length xs → IsKnown (x ∷ xs) (get_or xs k [])
+    by true e lt = record { below = rw e (omega arith) }
+    by false e lt = record { below = rw e (omega (arith, lt)) }
+
+module _ (names : List Text) (seen : ℕ) where
+  pub seen_none : seen ≤ length names → HaveSeen names seen seen []
+  unfolding with_texts
+  seen_none few = record { seen = refl; few = few }
+
+  pub seen_again : (place : ℕ) → seen ≤ length names → place < seen → HaveSeen names seen seen (text_at names place ∷ [])
+  unfolding with_texts text_at
+  seen_again place few lt =
+      let front = take seen names in
+      let size : length front ≡ seen = length-take-le seen names few in
+      let known : IsKnown front (get_or names place []) = subst (IsKnown front) (get_or-take seen names place [] lt) (there front place (omega (arith, size, lt))) in
+      record { seen = sym (known_adds_nothing front (get_or names place []) known); few = few }
+
+  new_there : AreDistinct names → seen < length names → (b : Bool) → list_any (bytes_eq (get_or names seen [])) (take seen names) ≡ b → b ≡ false
+  unfolding place_of
+  new_there distinct lt false e = refl
+  new_there distinct lt true e =
+      let front = take seen names in
+      let t = get_or names seen [] in
+      let size : length front ≡ seen = length-take-le seen names (omega (arith, lt)) in
+      let below : position_or_len (bytes_eq t) front < length front = place-there (bytes_eq t) front e in
+      let kept : position_or_len (bytes_eq t) (front ++ drop seen names) ≡ position_or_len (bytes_eq t) front = place-kept (bytes_eq t) front (drop seen names) below in
+      let whole : position_or_len (bytes_eq t) (front ++ drop seen names) ≡ position_or_len (bytes_eq t) names = ap (position_or_len (bytes_eq t)) (take-append-drop seen names) in
+      let here : position_or_len (bytes_eq t) names ≡ seen = place_at names seen [] distinct lt in
+      absurd (omega (arith, size, below, kept, whole, here))
+
+  pub seen_new : AreDistinct names → seen < length names → HaveSeen names seen (seen + 1) (text_at names seen ∷ [])
+  unfolding with_texts with_text text_at
+  seen_new distinct lt =
+      let missing : list_any (bytes_eq (get_or names seen [])) (take seen names) ≡ false = (let b = list_any (bytes_eq (get_or names seen [])) (take seen names) in new_there distinct lt b refl) in
+      record { seen = rw missing (take_more names seen [] lt); few = omega (arith, lt) }
+
+pub seen_then : (names : List Text) (a b c : ℕ) (xs ys : List Text) → HaveSeen names a b xs → HaveSeen names b c ys → HaveSeen names a c (xs ++ ys)
+seen_then names a b c xs ys one two =
+    record { seen = two.seen ∙ (ap (λ ns. with_texts ns ys) one.seen ∙ sym (with_texts-append (take a names) xs ys)); few = two.few }
+
+pub null_texts : (names : List Text) (code : ℕ) → (1 ≤ code → ⊥) → option_to_list (text_of names code) ≡ []
+unfolding text_of
+null_texts names zero h = refl
+null_texts names (suc p) h = absurd (h (omega arith))
+
+pub code_texts : (names : List Text) (code place : ℕ) → 1 ≤ code → place ≡ code - 1 → text_at names place ∷ [] ≡ option_to_list (text_of names code)
+unfolding text_of
+code_texts names zero place le is = absurd (omega arith)
+code_texts names (suc p) place le is = let same : place ≡ p = omega (arith, is) in ap (λ k. text_at names k ∷ []) same
+
+-- the texts of a row in turn, the last of which a test answers
+pub seen_in_turn : (names : List Text) (a b c d e : ℕ) (id unit sku account tags : List Text) → HaveSeen names a b id → HaveSeen names b c unit → HaveSeen names c d sku → HaveSeen names d e account
+    → (r : Option ℕ) → IfSome r (λ now. HaveSeen names e now tags) → IfSome r (λ now. HaveSeen names a now (id ++ (unit ++ (sku ++ (account ++ tags)))))
+seen_in_turn names a b c d e id unit sku account tags one two three four None h = tt
+seen_in_turn names a b c d e id unit sku account tags one two three four (Some now) h =
+    seen_then names a b now id _ one (seen_then names b c now unit _ two (seen_then names c d now sku _ three (seen_then names d e now account tags four h)))
+
+-- ---- tags
+
+pub tags_sized : (names : List Text) → All (λ t. length t ≤ longest_tag_text) names → (list : List ℕ) → All (λ place. place < length names) list → All IsTagSized (tags_of names list)
+unfolding tags_of tag_of text_at
+tags_sized names sized [] within = All-nil IsTagSized
+tags_sized names sized (key ∷ []) within = All-nil IsTagSized
+tags_sized names sized (key ∷ value ∷ places) within =
+    let Within : ℕ → Type 0 = λ place. place < length names in
+    let behind = All-tail Within key (value ∷ places) within in
+    All-cons IsTagSized (tag_of names key value) (tags_of names places)
+    (record { key = sized key [] (All-head Within key (value ∷ places) within); value = sized value [] (All-head Within value places behind) })
+    (tags_sized names sized places (All-tail Within value places behind))
+
+-- ---- rows up to a place
+
+pub one_more_place : (P : ℕ → Type 0) (n : ℕ) → ((i : ℕ) → i < n → P i) → P n → (i : ℕ) → i < n + 1 → P i
+one_more_place P n before here i lt = by (ltb i n) refl
+  where
+    by : (b : Bool) → ltb i n ≡ b → P i
+    by true e = before i (ltb-true i n e)
+    by false e = let le : n ≤ i = ltb-false i n e in let same : n ≡ i = omega (arith, le, lt) in subst P same here
+
+pub texts_more : (f : ℕ → List Text) (n : ℕ) → flat_map f (range_with_len 0 (n + 1)) ≡ flat_map f (range_with_len 0 n) ++ f n
+texts_more f n =
+    let all = λ (ts : List Text). ts in
+    let last : flat_map all (f n ∷ []) ≡ f n = append-nil (f n) in
+    sym (flat_map-map all f (range_with_len 0 (n + 1)))
+    ∙ (ap (flat_map all) (map-range_with_len_more f 0 n n (omega arith))
+    ∙ (flat_map-append all (map f (range_with_len 0 n)) (f n ∷ [])
+    ∙ (λ j. flat_map-map all f (range_with_len 0 n) j ++ last j)))
+
+-- ---- lists that are numbered
+
+lists_back : (lists xs : List (List ℕ)) → AreKnown lists xs → lists_there lists (map (place_of lists) xs) ≡ xs
+lists_back lists [] h = refl
+lists_back lists (x ∷ xs) h = rw (text_at_place lists x [] h.0.below, lists_back lists xs h.1) refl
+
+pub numbered_there : (lists : List (List ℕ)) (codes : List ℕ) (xs : List (List ℕ)) → AreNumbered lists codes xs → lists_there lists codes ≡ xs
+numbered_there lists codes xs h =
+    let known : AreKnown lists xs = rw h.seen (AreKnown-seen [] xs) in
+    ap (lists_there lists) h.places ∙ lists_back lists xs known
+
+pub numbered_more : (lists now : List (List ℕ)) (codes more : List ℕ) (xs : List (List ℕ)) (list : List ℕ) → AreNumbered lists codes xs → now ≡ with_text lists list → more ≡ codes ++ place_of now list ∷ []
+    → AreNumbered now more (xs ++ list ∷ [])
+numbered_more lists now codes more xs list h is pushed =
+    let listed = listed_more [] lists codes xs (record { seen = h.seen; places = h.places }) now list (place_of now list) more is refl pushed in
+    record { seen = listed.seen; places = listed.places }
+
+-- ---- texts that are there once
+
+-- a text whose place is behind the names is new
+pub text_is_new : (names : List Text) (t : Text) (code : ℕ) → code ≡ place_of (with_text names t) t → code ≡ length names → with_text names t ≡ names ++ t ∷ []
+unfolding with_text place_of
+text_is_new names t code is end = by (list_any (bytes_eq t) names) refl
+  where
+    by : (b : Bool) → list_any (bytes_eq t) names ≡ b → with_text names t ≡ names ++ t ∷ []
+    by true e =
+        let below : position_or_len (bytes_eq t) names < length names = place-there (bytes_eq t) names e in
+        let same : code ≡ position_or_len (bytes_eq t) names = rw e at is in
+        absurd (omega (arith, below, same, end))
+    by false e = rw e refl

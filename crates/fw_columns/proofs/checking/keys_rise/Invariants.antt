@@ -1,0 +1,19 @@
+use Rattle.std.proofs.Common.{◌≡◌, ◌<◌, ℕ, true, List, length, map}
+use Rattle.std.specs.Prelude.{All}
+use denote.Shadow.{shadow}
+use denote.Text.{Utf8}
+use Rattle.fw_bytes.specs.Order.{rise_from, rise}
+use Rattle.fw_columns.specs.Names.{Text}
+use Rattle.fw_columns.specs.Table.{tags_of}
+use Rattle.fw_columns.proofs.checking.keys_rise.Given as goal
+
+-- where the keys that are left rise above the last one, all of them rise
+pub record AreRising (names : List Text) (last : Text) (rest list : List ℕ) : Type 0 where
+  pub rising : rise_from last (map (λ t. t.key) (tags_of names rest)) ≡ true → rise (map (λ t. t.key) (tags_of names list)) ≡ true
+  pub within : All (λ place. place < length names) rest
+
+abbrev pub invariant-loop-rest : goal.invariant-loop-rest
+invariant-loop-rest l = AreRising l.names l.last l.rest l.list × shadow (Utf8 l.last)
+
+abbrev pub decreases-loop-rest : goal.decreases-loop-rest
+decreases-loop-rest l = length l.rest

@@ -1,0 +1,29 @@
+-- The columns that rows have.
+use Rattle.std.specs.Prelude.{◌≡◌, pos, List, map, is_some, All}
+use Rattle.fw_charge.specs.Charge.{Charge, IsCharge}
+use Rattle.fw_charge.specs.Codes.{category_code, class_code}
+use Rattle.fw_columns.specs.Codes.{text_code}
+use Rattle.fw_columns.specs.Lists.{lists_of}
+use Rattle.fw_columns.specs.Table.{id_kept, kind_kept, status_kept, quantity_kept}
+use Rattle.fw_columns.specs.Texts.{names_of}
+use Rattle.fw_columns.specs.declared.parts.Parts.{Parts}
+
+-- rows, each of which keeps its rules, have these columns
+pub record AreParts (p : Parts) (rows : List Charge) : Type 0 where
+  pub charges : All IsCharge rows
+  pub names : p.names ≡ names_of rows
+  pub tags : p.tags ≡ lists_of (names_of rows) rows
+  pub billed : p.billed.items ≡ map (λ c. c.billed) rows
+  pub effective : p.effective.items ≡ map (λ c. c.effective) rows
+  pub categories : p.categories.items ≡ map (λ c. category_code c.category) rows
+  pub classes : p.classes.items ≡ map (λ c. class_code c.is_correction) rows
+  pub starts : p.starts.items ≡ map (λ c. pos c.start) rows
+  pub ends : p.ends.items ≡ map (λ c. c.end) rows
+  pub discounts : p.discounts.items ≡ map (λ c. id_kept (names_of rows) c.discount) rows
+  pub kinds : p.kinds.items ≡ map (λ c. kind_kept c.discount) rows
+  pub statuses : p.statuses.items ≡ map (λ c. status_kept c.discount) rows
+  pub quantities : p.quantities.items ≡ map (λ c. quantity_kept c.quantity) rows
+  pub has_quantity : p.has_quantity.items ≡ map (λ c. is_some c.quantity) rows
+  pub units : p.units.items ≡ map (λ c. text_code (names_of rows) c.unit) rows
+  pub skus : p.skus.items ≡ map (λ c. text_code (names_of rows) c.sku) rows
+  pub sub_accounts : p.sub_accounts.items ≡ map (λ c. text_code (names_of rows) c.sub_account) rows

@@ -1,0 +1,363 @@
+//! Whether columns that were put together elsewhere are those of rows.
+ghost use Rattle.std.specs.Prelude.{◌≡◌, ◌<◌, ◌≤◌, true, [], ◌∷◌, length, map, pos, nat_abs, option_to_list, slice_index_or, All, IfSome, IsTrue};
+ghost use Rattle.fw_charge.specs.Codes.{category_code, class_code};
+ghost use Rattle.fw_charge.specs.Tags.{longest_tag_text};
+ghost use Rattle.fw_money.specs.Amount.{most_nanos};
+ghost use Rattle.fw_columns.specs.Parts.{AreNumbered, lists_there, HaveLength, HaveRows, HaveShortCodes, HasValues, IsTagList, IsDiscountKept, IsPeriod, IsShortCode, IsStatusOf, HaveSeen, texts_there};
+ghost use Rattle.fw_columns.specs.Table.{AreColumns, rows_of, category_at, class_at, quantity_kept, quantity_of, text_at, text_of, tags_of};
+ghost use Rattle.fw_bytes.specs.Order.{rise};
+
+use crate::lists::Lists;
+use crate::names::Names;
+use crate::reading::category_at;
+use crate::table::Table;
+use fw_charge::{
+    Category, DiscountKind, DiscountStatus, LAST_SECOND, Tag, Tags, class_from_code, is_short_text,
+};
+use fw_money::Nanos;
+
+/// Whether columns are those of rows, 1 to 65,536 of them.
+pub fn are_columns(table: &Table) -> bool
+    requires few { length table.now.lists ≤ length table.now.tags.items }
+    requires numbered { AreNumbered table.now.lists table.now.tags.items (lists_there table.now.lists table.now.tags.items) }
+    ensures some { IsTrue result → 0 < length (rows_of table.now) }
+    ensures columns { IsTrue result → AreColumns table.now (rows_of table.now) }
+{
+    // Proves that no text is there twice.
+    let _names = table.names.len();
+    let count = table.billed.len();
+    if count == 0 {
+        return false;
+    }
+    if count > 65536 {
+        return false;
+    }
+    if !have_length(table) {
+        return false;
+    }
+    if !are_sized(&table.names) {
+        return false;
+    }
+    if !are_tag_lists(&table.names, &table.lists) {
+        return false;
+    }
+    have_rows(table)
+}
+
+/// Whether each column has as many values as there are billed costs.
+fn have_length(table: &Table) -> bool
+    ensures { IsTrue result → HaveLength table.now (length table.now.billed.items) }
+{
+    let count = table.billed.len();
+    table.effective.len() == count
+        && table.categories.len() == count
+        && table.classes.len() == count
+        && table.starts.len() == count
+        && table.ends.len() == count
+        && table.discounts.len() == count
+        && table.kinds.len() == count
+        && table.statuses.len() == count
+        && table.quantities.len() == count
+        && table.has_quantity.len() == count
+        && table.units.len() == count
+        && table.skus.len() == count
+        && table.sub_accounts.len() == count
+        && table.tags.len() == count
+}
+
+/// Whether no text has more than 1,024 bytes.
+fn are_sized(names: &Names) -> bool
+    ensures { IsTrue result → All (λ text. length text ≤ longest_tag_text) names.now }
+{
+    for place in 0..names.len() as u32 {
+        if names.text(place).len() > Tag::LONGEST {
+            return false;
+        }
+    }
+    true
+}
+
+/// Whether each list stands for tags, as texts of at most 1,024 bytes.
+fn are_tag_lists(names: &Names, lists: &Lists) -> bool
+    requires { All (λ text. length text ≤ longest_tag_text) names.now }
+    ensures { IsTrue result → All (IsTagList names.now) lists.now }
+{
+    for place in 0..lists.len() as u32 {
+        if !is_tag_list(names, lists.list(place)) {
+            return false;
+        }
+    }
+    true
+}
+
+/// Whether a list of places stands for tags.
+fn is_tag_list(names: &Names, list: &[u32]) -> bool
+    requires { All (λ text. length text ≤ longest_tag_text) names.now }
+    ensures { IsTrue result → IsTagList names.now list.now }
+{
+    if list.len() % 2 != 0 {
+        return false;
+    }
+    if list.len() / 2 > Tags::MOST {
+        return false;
+    }
+    if !are_within(names, list) {
+        return false;
+    }
+    keys_rise(names, list)
+}
+
+/// Whether there is a name at each place.
+fn are_within(names: &Names, list: &[u32]) -> bool
+    ensures { IsTrue result → All (λ place. place < length names.now) list.now }
+{
+    let count = names.len();
+    for place in list {
+        if *place as usize >= count {
+            return false;
+        }
+    }
+    true
+}
+
+/// Whether the keys at the places of tags rise strictly in the order of their bytes.
+fn keys_rise(names: &Names, list: &[u32]) -> bool
+    requires { All (λ place. place < length names.now) list.now }
+    ensures { IsTrue result → rise (map (λ t. t.key) (tags_of names.now list.now)) ≡ true }
+{
+    let [first, _, rest @ ..] = list else {
+        return true;
+    };
+    let mut last = names.text(*first);
+    let mut rest = rest;
+    while let [key, _, after @ ..] = rest {
+        let key = names.text(*key);
+        if last >= key {
+            return false;
+        }
+        last = key;
+        rest = after;
+    }
+    true
+}
+
+/// Whether the amount at a place is in range.
+fn is_amount(column: &[i64], place: usize) -> bool
+    requires { place < length column.now }
+    ensures { IsTrue result → nat_abs (slice_index_or column.now place (pos 0)) ≤ most_nanos }
+{
+    column[place].unsigned_abs() <= Nanos::MOST as u64
+}
+
+/// Whether a code is that of a category.
+fn is_category(code: u8) -> bool
+    ensures { IsTrue result → category_code (category_at code) ≡ code }
+{
+    Category::from_code(code).is_some()
+}
+
+/// Whether a code is that of a class.
+fn is_class(code: u8) -> bool
+    ensures { IsTrue result → class_code (class_at code) ≡ code }
+{
+    class_from_code(code).is_some()
+}
+
+/// Whether a code is that of a short text, or of null.
+fn is_short_code(names: &Names, code: u32) -> bool
+    ensures { IsTrue result → IsShortCode names.now code }
+{
+    match code.checked_sub(1) {
+        None => true,
+        Some(place) => (place as usize) < names.len() && is_short_text(names.text(place)),
+    }
+}
+
+/// Whether codes are those that the parts of a discount are kept as, in a row of a category.
+fn is_discount(names: &Names, category: Category, id: u32, kind: u8, status: u8) -> bool
+    ensures { IsTrue result → IsDiscountKept names.now category id kind status }
+{
+    if id == 0 {
+        return kind == 0 && status == 0;
+    }
+    if !is_short_code(names, id) {
+        return false;
+    }
+    if !DiscountKind::from_code(kind).is_some() {
+        return false;
+    }
+    is_status(category, status)
+}
+
+/// Whether a code is that of a status that a discount may have in a row of a category.
+fn is_status(category: Category, code: u8) -> bool
+    ensures { IsTrue result → IsStatusOf category code }
+{
+    if DiscountStatus::from_code(code).is_some() {
+        return true;
+    }
+    match category {
+        Category::Usage => false,
+        _ => code == 0,
+    }
+}
+
+/// Whether the second at a place and a second after it bound a period.
+fn is_period(starts: &[i64], place: usize, end: u64) -> bool
+    requires { place < length starts.now }
+    ensures { IsTrue result → IsPeriod (slice_index_or starts.now place (pos 0)) end }
+{
+    let start = starts[place];
+    start >= 0 && start as u64 <= end && end <= LAST_SECOND
+}
+
+/// Whether the amount at a place is what a quantity is kept as.
+fn is_quantity(counts: &[i64], place: usize, is_there: bool) -> bool
+    requires { place < length counts.now }
+    ensures { IsTrue result → quantity_kept (quantity_of is_there (slice_index_or counts.now place (pos 0))) ≡ slice_index_or counts.now place (pos 0) }
+{
+    is_there || counts[place].unsigned_abs() == 0
+}
+
+/// Whether the values at a place are those of a row.
+fn has_values(table: &Table, place: usize) -> bool
+    requires all { HaveLength table.now (length table.now.billed.items) }
+    requires within { place < length table.now.billed.items }
+    ensures { IsTrue result → HasValues table.now place }
+{
+    if !is_amount(table.billed.as_slice(), place) {
+        return false;
+    }
+    if !is_amount(table.effective.as_slice(), place) {
+        return false;
+    }
+    if !is_category(table.categories[place]) {
+        return false;
+    }
+    if !is_class(table.classes[place]) {
+        return false;
+    }
+    if !is_period(table.starts.as_slice(), place, table.ends[place]) {
+        return false;
+    }
+    let category = category_at(table.categories.as_slice(), place);
+    let id = table.discounts[place];
+    if !is_discount(
+        &table.names,
+        category,
+        id,
+        table.kinds[place],
+        table.statuses[place],
+    ) {
+        return false;
+    }
+    if !is_amount(table.quantities.as_slice(), place) {
+        return false;
+    }
+    if !is_quantity(
+        table.quantities.as_slice(),
+        place,
+        table.has_quantity[place],
+    ) {
+        return false;
+    }
+    has_texts(table, place)
+}
+
+/// Whether the codes of unit, SKU and sub-account at a place are those of short texts, or of null.
+fn has_texts(table: &Table, place: usize) -> bool
+    requires all { HaveLength table.now (length table.now.billed.items) }
+    requires within { place < length table.now.billed.items }
+    ensures { IsTrue result → HaveShortCodes table.now place }
+{
+    let names = &table.names;
+    if !is_short_code(names, table.units[place]) {
+        return false;
+    }
+    if !is_short_code(names, table.skus[place]) {
+        return false;
+    }
+    is_short_code(names, table.sub_accounts[place])
+}
+
+/// How many names are seen once the one at a place is seen too. `None` where one before it wasn't.
+fn see_place(names: &Names, seen: u32, place: u32) -> Option<u32>
+    requires seen { seen ≤ length names.now }
+    requires place { place < length names.now }
+    ensures { IfSome result (λ now. HaveSeen names.now seen now (text_at names.now place ∷ [])) }
+{
+    prove!(names.len() <= 1 << 30);
+    if place < seen {
+        Some(seen)
+    } else if place == seen {
+        Some(seen + 1)
+    } else {
+        None
+    }
+}
+
+/// The same of the text of a code; null is none.
+fn see_code(names: &Names, seen: u32, code: u32) -> Option<u32>
+    requires seen { seen ≤ length names.now }
+    requires code { code ≤ length names.now }
+    ensures { IfSome result (λ now. HaveSeen names.now seen now (option_to_list (text_of names.now code))) }
+{
+    match code.checked_sub(1) {
+        None => Some(seen),
+        Some(place) => see_place(names, seen, place),
+    }
+}
+
+/// The same of the texts at places in turn.
+fn see_list(names: &Names, seen: u32, list: &[u32]) -> Option<u32>
+    requires seen { seen ≤ length names.now }
+    requires list { All (λ place. place < length names.now) list.now }
+    ensures { IfSome result (λ now. HaveSeen names.now seen now (map (text_at names.now) list.now)) }
+{
+    let mut now = seen;
+    for place in list {
+        match see_place(names, now, *place) {
+            Some(more) => now = more,
+            None => return None,
+        }
+    }
+    Some(now)
+}
+
+/// The same of the texts of a row in turn.
+fn see_row(table: &Table, seen: u32, place: usize) -> Option<u32>
+    requires all { HaveLength table.now (length table.now.billed.items) }
+    requires within { place < length table.now.billed.items }
+    requires seen { seen ≤ length table.now.names }
+    requires values { HasValues table.now place }
+    requires lists { All (IsTagList table.now.names) table.now.lists }
+    requires list { slice_index_or table.now.tags.items place 0 < length table.now.lists }
+    ensures { IfSome result (λ now. HaveSeen table.now.names seen now (texts_there table.now place)) }
+{
+    let names = &table.names;
+    let seen = see_code(names, seen, table.discounts[place])?;
+    let seen = see_code(names, seen, table.units[place])?;
+    let seen = see_code(names, seen, table.skus[place])?;
+    let seen = see_code(names, seen, table.sub_accounts[place])?;
+    see_list(names, seen, table.lists.list(table.tags[place]))
+}
+
+/// Whether columns are those of rows, whose names are numbered as their texts are first seen.
+fn have_rows(table: &Table) -> bool
+    requires all { HaveLength table.now (length table.now.billed.items) }
+    requires lists { All (IsTagList table.now.names) table.now.lists }
+    requires tags { All (λ place. place < length table.now.lists) table.now.tags.items }
+    ensures { IsTrue result → HaveRows table.now (length table.now.billed.items) }
+{
+    let mut seen = 0;
+    for place in 0..table.billed.len() {
+        if !has_values(table, place) {
+            return false;
+        }
+        match see_row(table, seen, place) {
+            Some(now) => seen = now,
+            None => return false,
+        }
+    }
+    seen as usize == table.names.len()
+}
