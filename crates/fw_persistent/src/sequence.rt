@@ -1,5 +1,5 @@
 //! A list that is added to at its end, and never changed.
-ghost use Rattle.std.specs.Prelude.{◌≡◌, ◌<◌, ◌∷◌, ◌++◌, [], length, IfOk, Some, slice_get};
+ghost use Rattle.std.specs.Prelude.{◌≡◌, ◌<◌, ◌∷◌, ◌++◌, [], length, map, IfOk, Some, slice_get};
 
 use crate::items::Row;
 use std::alloc::{AllocError, Global};
@@ -48,6 +48,17 @@ impl<T> Sequence<T> {
         ensures { slice_get self.now place ≡ Some result.now }
     {
         self.row.item(self.len, place)
+    }
+
+    /// References to the items, the oldest first.
+    pub fn references(&self, alloc: Global) -> Result<Vec<&T>, AllocError>
+        ensures { IfOk result (λ references. map (λ r. r.now) references.items ≡ self.now) }
+    {
+        let mut references = Vec::with_capacity(alloc, self.len())?;
+        for place in 0..self.len() {
+            references.push(self.get(place))?;
+        }
+        Ok(references)
     }
 }
 
