@@ -2,10 +2,10 @@
 use Rattle.std.specs.Prelude.{◌≡◌, ◌≢◌, ◌<◌, ◌≤◌, ◌/◌, ◌*◌, ◌+◌, ℕ, unsigned_abs, List, [], ◌∷◌}
 use Rattle.jiff_core.specs.declared.civil.date.Date.{Date}
 use Rattle.fw_calendar.specs.Shown.{IsDateOf}
-use Rattle.fw_calendar.specs.Times.{last_hour}
 use Rattle.fw_calendar.specs.declared.steps.Step.{Step}
 use Rattle.fw_calendar.specs.declared.steps.Step.TheVariants.{Hour, Day, Month}
 use Rattle.fw_calendar.specs.declared.steps.Period.{Period}
+use Rattle.fw_charge.specs.Charge.{last_hour}
 
 -- the number of the hour, the day or the month in which an hour lies: hours and days are counted from 1970, months from the year 0
 abbrev pub IsPlace : Step → ℕ → ℕ → Type 0

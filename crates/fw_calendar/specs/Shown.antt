@@ -4,9 +4,9 @@ use Rattle.std.specs.Fmt.{decimal, padded_integral, format_spec}
 use Rattle.jiff_core.specs.Calendar.{IsCivilDate}
 use Rattle.jiff_core.specs.Date.{epoch_day}
 use Rattle.jiff_core.specs.declared.civil.date.Date.{Date}
-use Rattle.fw_calendar.specs.Times.{last_hour}
 use Rattle.fw_calendar.specs.declared.steps.Step.{Step}
 use Rattle.fw_calendar.specs.declared.steps.Step.TheVariants.{Hour, Day, Month}
+use Rattle.fw_charge.specs.Charge.{last_hour}
 
 -- the date of the day in which an hour lies, which the calendar has
 abbrev pub IsDateOf : ℕ → Date → Type 0

@@ -7,10 +7,6 @@ use Rattle.fw_instants.specs.Instants.{IsSecond}
 unfoldable pub tail_of : List ℕ → List ℕ
 tail_of text = if length text == 7 then codes "-01T00:00Z" else (if length text == 10 then codes "T00:00Z" else [])
 
--- the last hour that a time can begin with, in hours since 1970
-abbrev pub last_hour : ℕ
-last_hour = 70389527
-
 -- the text is a month, a date or an instant that begins with this hour, in hours since 1970
 unfoldable pub IsTimeText : List ℕ → ℕ → Type 0
 IsTimeText text hour = IsSecond (text ++ tail_of text) (hour * seconds_per_hour)

@@ -1,7 +1,7 @@
 //! How hours, days and months are written.
 ghost use Rattle.std.specs.Prelude.{◌≡◌, ◌<◌, ◌≤◌, IfOk, MatchOption, string_bytes};
 ghost use Rattle.fw_calendar.specs.Shown.{IsDateOf, IsDayText, IsHourText, IsMonthText, day_digits, hour_digits, month_digits, number_digits};
-ghost use Rattle.fw_calendar.specs.Times.{last_hour};
+ghost use Rattle.fw_charge.specs.Charge.{last_hour};
 
 use crate::steps::DAY_HOURS;
 use jiff_core::civil::Date;

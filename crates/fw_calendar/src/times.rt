@@ -1,7 +1,7 @@
 //! How a time reads.
 ghost use Rattle.std.specs.Prelude.{◌≡◌, ◌≤◌, ◌*◌, ℕ, IfOk, IfSome, MatchOption};
-ghost use Rattle.fw_calendar.specs.Times.{IsTimeText, last_hour, tail_of};
-ghost use Rattle.fw_charge.specs.Charge.{last_second, seconds_per_hour};
+ghost use Rattle.fw_calendar.specs.Times.{IsTimeText, tail_of};
+ghost use Rattle.fw_charge.specs.Charge.{last_second, seconds_per_hour, last_hour};
 
 use fw_charge::SECONDS_PER_HOUR;
 use fw_instants::second_of;

@@ -12,7 +12,7 @@ use Rattle.std.proofs.lemmas.List.Elements.{All-nil, All-cons, All-head, All-tai
 use Rattle.fw_bytes.specs.Spelling.{number32, number64, text, listed, within, FitsOptional}
 use Rattle.fw_bytes.proofs.Laws.{IsBytes, IsFormat, list_fits, list_parts, ok_is}
 use Rattle.fw_charge.specs.Charge.{Charge, DiscountText, IsCharge}
-use Rattle.fw_charge.specs.Codes.{category_code, class_code, kind_code, status_code, kind_of, status_of}
+use Rattle.fw_charge.specs.Codes.{category_code, class_code, kind_code, status_code, kind_of, status_of, category_count}
 use Rattle.fw_charge.specs.Spelling.{nanos, FitsNanos, FitsSecond, FitsShortText, FitsTagText, FitsTag, FitsTags, FitsDiscount, IsRow, is_short}
 use Rattle.fw_charge.specs.Tags.{TagText, most_tags}
 use Rattle.fw_charge.specs.declared.category.Category.{Category}
@@ -25,7 +25,7 @@ use Rattle.fw_charge.proofs.CodeFacts.{category_there, class_there, kind_there, 
 use Rattle.fw_columns.specs.Codes.{text_code}
 use Rattle.fw_columns.specs.Lists.{tag_places, lists_of}
 use Rattle.fw_columns.specs.Names.{Text, place_of, with_text}
-use Rattle.fw_columns.specs.Table.{id_kept, kind_kept, status_kept, quantity_kept, category_at, class_at, text_at, text_of, quantity_of, tags_of}
+use Rattle.fw_columns.specs.Table.{id_kept, kind_kept, status_kept, quantity_kept, category_at, class_at, text_at, text_of, quantity_of, tags_of, most_column_rows}
 use Rattle.fw_columns.specs.Texts.{with_texts, texts_of_tags, texts_of, names_of}
 use Rattle.fw_columns.proofs.NameFacts.{text_at_place}
 use Rattle.fw_columns.proofs.TextFacts.{IsKnown, AreKnown, IsRowKnown, rows-known, with_text_adds_one}
@@ -38,7 +38,7 @@ use Rattle.fw_column_bytes.specs.Direct.{fields_of_rows, AreColumnsOf}
 use Rattle.fw_column_bytes.specs.Kept.{AreRows}
 use Rattle.fw_column_bytes.specs.Fits.{FitsTimes, FitsByte, FitsTextCode, FitsPlace, FitsPlaces, FitBody, FitParts}
 use Rattle.fw_column_bytes.specs.Spelling.{amounts, periods, discounts, flag, quantities, texts, columns, layout}
-use Rattle.fw_column_bytes.specs.Reading.{is_text_code, is_place_code, most_rows, most_names, Parts, parts_at, fields_at_place, rows_fields, rows_from, columns_at}
+use Rattle.fw_column_bytes.specs.Reading.{is_text_code, is_place_code, most_names, Parts, parts_at, fields_at_place, rows_fields, rows_from, columns_at}
 use Rattle.fw_column_bytes.specs.Rows.{agreeing_rows}
 use Rattle.fw_column_bytes.proofs.Copied.{counted, lists_spelled}
 use Rattle.fw_column_bytes.proofs.PartsFormat.{one_byte, spelled_parts, parts_format}
@@ -85,7 +85,7 @@ each_fits names value Fits one (r ∷ rs) h = (one r (All-head (FitsRow names) r
 times_fit : {A : Type 0} (names : List Text) (value : Charge → A) (Fits : A → Type 0) → ((c : Charge) → FitsRow names c → Fits (value c)) → (rows : List Charge) → All (FitsRow names) rows → FitsTimes (length rows) Fits (map value rows)
 times_fit names value Fits one rows h = (length-map rows value, each_fits names value Fits one rows h)
 
-category_within : (c : Category) → within 1 5 (category_code c) ≡ true
+category_within : (c : Category) → within 1 category_count (category_code c) ≡ true
 unfolding category_code
 category_within category.Usage = refl
 category_within category.Purchase = refl
@@ -182,7 +182,7 @@ module _ (names : List Text) (few : length names < 4294967295) where
       (
         times_fit names (λ c. c.effective) FitsNanos (λ c k. k.0.effective) rows h,
         (
-          times_fit names (λ c. category_code c.category) (FitsByte 1 5) (λ c k. (tt, category_within c.category)) rows h,
+          times_fit names (λ c. category_code c.category) (FitsByte 1 category_count) (λ c k. (tt, category_within c.category)) rows h,
           times_fit names (λ c. class_code c.is_correction) (FitsByte 0 1) (λ c k. (tt, class_within c.is_correction)) rows h,
         ),
       ),
@@ -301,7 +301,7 @@ parts_fit rows h =
       (
         (tt, refl),
         (
-          (lt-ltb _ _ (omega (arith, h.few)), within_from (nat_lt (length rows) 1) (nat_lt most_rows (length rows)) (le-ltb (length rows) 1 (omega (arith, h.some))) (le-ltb most_rows (length rows) h.few)),
+          (lt-ltb _ _ (omega (arith, h.few)), within_from (nat_lt (length rows) 1) (nat_lt most_column_rows (length rows)) (le-ltb (length rows) 1 (omega (arith, h.some))) (le-ltb most_column_rows (length rows) h.few)),
           list_fits FitsTagText 0 most_names names (omega arith) (omega (arith, few)) (omega arith) (names_fit rows h.each),
         ),
       ),

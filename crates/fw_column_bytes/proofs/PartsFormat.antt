@@ -11,9 +11,11 @@ use Rattle.fw_charge.specs.Tags.{most_tags}
 use Rattle.fw_columns.specs.Names.{Text}
 use Rattle.fw_row_bytes.proofs.FieldFormats.{nanos_format, second_format, tag_text_format}
 use Rattle.fw_column_bytes.specs.Spelling.{layout}
-use Rattle.fw_column_bytes.specs.Reading.{byte_at, is_text_code, text_code_at, is_place_code, place_at, tag_count_at, tag_places_at, most_rows, row_count_at, most_names, names_at, Front, front_at, Body, body_at, amounts_at, periods_at, discounts_at, quantities_at, texts_at, Parts, parts_at}
+use Rattle.fw_column_bytes.specs.Reading.{byte_at, is_text_code, text_code_at, is_place_code, place_at, tag_count_at, tag_places_at, row_count_at, most_names, names_at, Front, front_at, Body, body_at, amounts_at, periods_at, discounts_at, quantities_at, texts_at, Parts, parts_at}
 use Rattle.fw_column_bytes.specs.Fits.{FitsTimes, FitsByte, FitsTextCode, FitsPlace, FitsPlaces, FitFront, FitBody, FitParts}
 use Rattle.fw_column_bytes.proofs.Copied.{codes, places_spelled}
+use Rattle.fw_columns.specs.Table.{most_column_rows}
+use Rattle.fw_charge.specs.Codes.{category_count}
 
 -- ---- so many values
 
@@ -82,7 +84,7 @@ spelled_front = pair one_byte (pair number32 (listed text))
 
 pub front_format : IsFormat front_at spelled_front FitFront
 unfolding front_at row_count_at names_at
-front_format = both_format (byte_format layout layout) (both_format (checked_format (within 1 most_rows) (number_format w32 (2 ^ 32) wide32)) (list_format 0 most_names tag_text_format))
+front_format = both_format (byte_format layout layout) (both_format (checked_format (within 1 most_column_rows) (number_format w32 (2 ^ 32) wide32)) (list_format 0 most_names tag_text_format))
 
 -- ---- the columns
 
@@ -96,7 +98,7 @@ spelled_body =
 pub body_format : (names : List Text) (n : ℕ) → IsFormat (body_at names n) spelled_body (FitBody names n)
 unfolding body_at amounts_at periods_at discounts_at quantities_at texts_at
 body_format names n =
-    both_format (both_format (times_format n nanos_format) (both_format (times_format n nanos_format) (both_format (times_format n (byte_format 1 5)) (times_format n (byte_format 0 1)))))
+    both_format (both_format (times_format n nanos_format) (both_format (times_format n nanos_format) (both_format (times_format n (byte_format 1 category_count)) (times_format n (byte_format 0 1)))))
     (both_format (both_format (times_format n second_format) (times_format n second_format))
     (both_format (both_format (times_format n (text_code_format names)) (both_format (times_format n (byte_format 0 2)) (times_format n (byte_format 0 2))))
     (both_format (both_format (times_format n (byte_format 0 1)) (times_format n nanos_format))

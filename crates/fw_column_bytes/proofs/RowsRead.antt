@@ -11,17 +11,18 @@ use Rattle.fw_bytes.proofs.Laws.{list_fits, list_parts}
 use Rattle.fw_charge.specs.Spelling.{FitsNanos, FitsShortText, FitsTagText, FitsTag, FitsTags, IsRow, is_short}
 use Rattle.fw_charge.specs.Tags.{TagText, most_tags}
 use Rattle.fw_columns.specs.Names.{Text}
-use Rattle.fw_columns.specs.Table.{text_at, text_of, quantity_of, tag_of, tags_of}
+use Rattle.fw_columns.specs.Table.{text_at, text_of, quantity_of, tag_of, tags_of, most_column_rows}
 use Rattle.fw_columns.proofs.LendingFacts.{tags_counted}
 use Rattle.fw_row_bytes.specs.Reading.{fields_agree, row_from}
 use Rattle.fw_row_bytes.proofs.RowFormat.{FitFields, is_row_from}
 use Rattle.fw_charge.specs.Spelling.{FitsSecond}
 use Rattle.fw_money.specs.Amount.{most_nanos}
 use Rattle.std.specs.Prelude.{nat_abs}
-use Rattle.fw_column_bytes.specs.Reading.{is_place_code, most_names, most_rows, Front, Parts, fields_at_place}
+use Rattle.fw_column_bytes.specs.Reading.{is_place_code, most_names, Front, Parts, fields_at_place}
 use Rattle.fw_column_bytes.specs.Fits.{FitsTimes, FitsTextCode, FitsPlace, FitsPlaces, FitFront, FitParts, FitsByte}
 use Rattle.fw_column_bytes.specs.Rows.{HasPlace, fields_with}
 use Rattle.fw_column_bytes.specs.declared.rows.FieldsRead.{FieldsRead}
+use Rattle.fw_charge.specs.Codes.{category_count}
 
 -- what each value of a column keeps
 pub each_keeps : {A : Type 0} (Fits : A → Type 0) (n : ℕ) (xs : List A) (i : ℕ) (d : A) → FitsTimes n Fits xs → i < n → Fits (get_or xs i d)
@@ -121,7 +122,7 @@ module _ (p : Parts) (h : FitParts p) where
           billed_range = in_range p.1.0.0 b.0.0;
           effective = below FitsNanos p.1.0.1.0 b.0.1.0;
           effective_range = in_range p.1.0.1.0 b.0.1.0;
-          categories = below (FitsByte 1 5) p.1.0.1.1.0 b.0.1.1.0;
+          categories = below (FitsByte 1 category_count) p.1.0.1.1.0 b.0.1.1.0;
           classes = below (FitsByte 0 1) p.1.0.1.1.1 b.0.1.1.1;
           starts = below FitsSecond p.1.1.0.0 b.1.0.0;
           ends = below FitsSecond p.1.1.0.1 b.1.0.1;
@@ -153,14 +154,14 @@ within_is true high e = absurd cc
 within_is false true e = absurd cc
 within_is false false e = (refl, refl)
 
-pub count_within : (p : Parts) → FitParts p → (1 ≤ p.0.1.0) × (p.0.1.0 ≤ 65536)
+pub count_within : (p : Parts) → FitParts p → (1 ≤ p.0.1.0) × (p.0.1.0 ≤ most_column_rows)
 count_within p h =
-    let w = within_is (nat_lt p.0.1.0 1) (nat_lt most_rows p.0.1.0) h.0.1.0.1 in
+    let w = within_is (nat_lt p.0.1.0 1) (nat_lt most_column_rows p.0.1.0) h.0.1.0.1 in
     (ltb-false _ _ w.0, ltb-false _ _ w.1)
 
-pub front_within : (f : Front) → FitFront f → f.1.0 ≤ 65536
+pub front_within : (f : Front) → FitFront f → f.1.0 ≤ most_column_rows
 front_within f h =
-    let w = within_is (nat_lt f.1.0 1) (nat_lt most_rows f.1.0) h.1.0.1 in
+    let w = within_is (nat_lt f.1.0 1) (nat_lt most_column_rows f.1.0) h.1.0.1 in
     ltb-false _ _ w.1
 
 pub made_count : (p : Parts) (n : ℕ) → length (map row_from (map (fields_at_place p) (range_with_len 0 n))) ≡ n

@@ -5,8 +5,10 @@ use Rattle.fw_bytes.specs.Spelling.{within, Always, Fits32, FitsChecked, FitsPai
 use Rattle.fw_charge.specs.Spelling.{FitsNanos, FitsSecond, FitsTagText}
 use Rattle.fw_charge.specs.Tags.{most_tags}
 use Rattle.fw_columns.specs.Names.{Text}
-use Rattle.fw_column_bytes.specs.Reading.{is_text_code, is_place_code, most_rows, most_names, Front, Body, Parts}
+use Rattle.fw_column_bytes.specs.Reading.{is_text_code, is_place_code, most_names, Front, Body, Parts}
 use Rattle.fw_column_bytes.specs.Spelling.{layout}
+use Rattle.fw_columns.specs.Table.{most_column_rows}
+use Rattle.fw_charge.specs.Codes.{category_count}
 
 -- so many values, each in its range
 abbrev pub FitsTimes : {A : Type 0} → ℕ → (A → Type 0) → List A → Type 0
@@ -28,11 +30,11 @@ pub record FitsPlaces (names : List Text) (places : List ℕ) : Type 0 where
   pub each : AllByRecursion (FitsPlace names) places
 
 abbrev pub FitFront : Front → Type 0
-FitFront = FitsPair (FitsByte layout layout) (FitsPair (FitsChecked (within 1 most_rows) Fits32) (FitsList 0 most_names FitsTagText))
+FitFront = FitsPair (FitsByte layout layout) (FitsPair (FitsChecked (within 1 most_column_rows) Fits32) (FitsList 0 most_names FitsTagText))
 
 abbrev pub FitBody : List Text → ℕ → Body → Type 0
 FitBody names n =
-    FitsPair (FitsPair (FitsTimes n FitsNanos) (FitsPair (FitsTimes n FitsNanos) (FitsPair (FitsTimes n (FitsByte 1 5)) (FitsTimes n (FitsByte 0 1)))))
+    FitsPair (FitsPair (FitsTimes n FitsNanos) (FitsPair (FitsTimes n FitsNanos) (FitsPair (FitsTimes n (FitsByte 1 category_count)) (FitsTimes n (FitsByte 0 1)))))
     (FitsPair (FitsPair (FitsTimes n FitsSecond) (FitsTimes n FitsSecond))
     (FitsPair (FitsPair (FitsTimes n (FitsTextCode names)) (FitsPair (FitsTimes n (FitsByte 0 2)) (FitsTimes n (FitsByte 0 2))))
     (FitsPair (FitsPair (FitsTimes n (FitsByte 0 1)) (FitsTimes n FitsNanos))

@@ -2,10 +2,10 @@
 use Rattle.std.specs.Prelude.{◌<◌, ◌≤◌, List, length, All}
 use Rattle.fw_charge.specs.Charge.{Charge}
 use Rattle.fw_charge.specs.Spelling.{IsRow}
-use Rattle.fw_column_bytes.specs.Reading.{most_rows}
+use Rattle.fw_columns.specs.Table.{most_column_rows}
 
 -- 1 to 65,536 rows, each of which has a spelling
 pub record AreRows (rows : List Charge) : Type 0 where
   pub some : 0 < length rows
-  pub few : length rows ≤ most_rows
+  pub few : length rows ≤ most_column_rows
   pub each : All IsRow rows

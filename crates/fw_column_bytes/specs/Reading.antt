@@ -6,11 +6,11 @@ use Rattle.std.specs.Str.{bytes_eq}
 use Rattle.fw_bytes.specs.Reading.{Reading, ◌>>=◌, number_at, code_at, checked, both, seen, times, list_at}
 use Rattle.fw_bytes.specs.Spelling.{within}
 use Rattle.fw_charge.specs.Charge.{Charge}
-use Rattle.fw_charge.specs.Codes.{kind_of, status_of}
+use Rattle.fw_charge.specs.Codes.{kind_of, status_of, category_count}
 use Rattle.fw_charge.specs.Spelling.{is_short}
 use Rattle.fw_charge.specs.Tags.{most_tags}
 use Rattle.fw_columns.specs.Names.{Text}
-use Rattle.fw_columns.specs.Table.{category_at, class_at, text_at, text_of, quantity_of, tags_of}
+use Rattle.fw_columns.specs.Table.{category_at, class_at, text_at, text_of, quantity_of, tags_of, most_column_rows}
 use Rattle.fw_row_bytes.specs.Reading.{Fields, nanos_at, second_at, tag_text_at, fields_agree, row_from}
 use Rattle.fw_column_bytes.specs.Spelling.{columns, layout}
 
@@ -47,12 +47,8 @@ tag_places_at names bytes = do
 
 -- ---- what stands in front of the columns: the layout, the number of rows, and the names
 
--- how many rows can be kept together
-abbrev pub most_rows : ℕ
-most_rows = 65536
-
 unfoldable pub row_count_at : Reading ℕ
-row_count_at = checked (within 1 most_rows) (number_at w32)
+row_count_at = checked (within 1 most_column_rows) (number_at w32)
 
 -- of names there are as many as a number of four bytes can count
 abbrev pub most_names : ℕ
@@ -74,7 +70,7 @@ abbrev pub Amounts : Type 0
 Amounts = List ℤ × (List ℤ × (List ℕ × List ℕ))
 
 unfoldable pub amounts_at : ℕ → Reading Amounts
-amounts_at n = both (times nanos_at n) (both (times nanos_at n) (both (times (byte_at 1 5) n) (times (byte_at 0 1) n)))
+amounts_at n = both (times nanos_at n) (both (times nanos_at n) (both (times (byte_at 1 category_count) n) (times (byte_at 0 1) n)))
 
 abbrev pub Periods : Type 0
 Periods = List ℕ × List ℕ

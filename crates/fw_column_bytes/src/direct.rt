@@ -5,6 +5,7 @@ ghost use Rattle.fw_column_bytes.specs.Direct.{AreColumnsOf, whole_body_view, wh
 ghost use Rattle.fw_column_bytes.specs.Fits.{FitParts};
 ghost use Rattle.fw_column_bytes.specs.Reading.{body_at, columns_at, parts_at, place_at, tag_places_at};
 ghost use Rattle.fw_column_bytes.specs.Spelling.{flag};
+ghost use Rattle.fw_columns.specs.Table.{most_column_rows};
 
 use crate::fields::place_of;
 use crate::reading::{
@@ -77,7 +78,7 @@ fn row_lists_after<'a>(
     count: u32,
     bytes: &'a [u8],
 ) -> Result<(RowLists, &'a [u8]), ReadError>
-    requires { count ≤ 65536 }
+    requires { count ≤ most_column_rows }
     ensures { Gives (λ x. (x.0, x.1.now)) result (times (tag_places_at (map string_bytes names.now)) count bytes.now) }
 {
     let mut column = RowLists::new(alloc);
@@ -98,7 +99,7 @@ fn whole_body_of<'a>(
     count: u32,
     bytes: &'a [u8],
 ) -> Result<(WholeBody, &'a [u8]), ReadError>
-    requires { count ≤ 65536 }
+    requires { count ≤ most_column_rows }
     ensures { Gives (λ x. (whole_body_view x.0, x.1.now)) result (body_at (map string_bytes names.now) count bytes.now) }
 {
     let (amounts, rest) = amounts_of(alloc, count, bytes)?;

@@ -9,6 +9,8 @@ use crate::fields::{
     amounts_after, bytes_after, names_of, seconds_after, tag_lists_after, text_codes_after,
 };
 use fw_bytes::{ReadError, u32_at};
+use fw_charge::Category;
+use fw_columns::Columns;
 use std::alloc::Global;
 
 /// How many rows there are, and the names.
@@ -80,7 +82,7 @@ fn row_count_of(bytes: &[u8]) -> Result<(u32, &[u8]), ReadError>
     ensures { Gives (λ x. (x.0, x.1.now)) result (row_count_at bytes.now) }
 {
     let (count, rest) = u32_at(bytes)?;
-    if count < 1 || count > 65536 {
+    if count < 1 || count > Columns::MOST_ROWS as u32 {
         return Err(ReadError::Corrupt(bytes.len()));
     }
     Ok((count, rest))
@@ -117,7 +119,7 @@ pub fn amounts_of(
 {
     let (billed, rest) = amounts_after(alloc, count, bytes)?;
     let (effective, rest) = amounts_after(alloc, count, rest)?;
-    let (categories, rest) = bytes_after(alloc, 1, 5, count, rest)?;
+    let (categories, rest) = bytes_after(alloc, 1, Category::LAST_CODE, count, rest)?;
     let (classes, rest) = bytes_after(alloc, 0, 1, count, rest)?;
     let amounts = AmountsRead {
         billed,

@@ -6,7 +6,7 @@ ghost use Rattle.fw_bytes.specs.Reading.{Gives};
 ghost use Rattle.fw_charge.specs.Tags.{TagText};
 ghost use Rattle.fw_charge.specs.Spelling.{FitsTags};
 ghost use Rattle.fw_columns.specs.RowViews.{charge_with};
-ghost use Rattle.fw_columns.specs.Table.{category_at, class_at, quantity_of, tag_of, tags_of, text_of};
+ghost use Rattle.fw_columns.specs.Table.{category_at, class_at, quantity_of, tag_of, tags_of, text_of, most_column_rows};
 ghost use Rattle.fw_row_bytes.specs.Reading.{discount_agrees, fields_agree, row_from};
 ghost use Rattle.fw_column_bytes.specs.Spelling.{columns};
 ghost use Rattle.fw_column_bytes.specs.Reading.{columns_at, fields_at_place};
@@ -199,7 +199,7 @@ fn push_at(
 ) -> Result<(), ReadError>
     requires fit { FitParts (parts_view parts.now) }
     requires place { place < parts.now.front.count }
-    requires few { length rows.old < 65536 }
+    requires few { length rows.old < most_column_rows }
     ensures agrees { OnOk result (fields_agree (fields_at_place (parts_view parts.now) place) ≡ true) }
     ensures added { OnOk result (rows.new ≡ rows.old ++ row_from (fields_at_place (parts_view parts.now) place) ∷ []) }
     ensures refused { IfErr result (Refuses (fields_at_place (parts_view parts.now) place) left) }

@@ -6,6 +6,7 @@ ghost use Rattle.fw_rows.specs.Rules.{length_rules};
 ghost use Rattle.fw_rows.specs.declared.column.Column.TheVariants as column;
 ghost use Rattle.fw_column_rows.specs.Filling.{AreTagsOf, HasTagsOf, AddsView};
 ghost use Rattle.fw_column_rows.specs.Views.{ViewStands};
+ghost use Rattle.fw_charge.specs.Charge.{most_post_rows};
 
 use crate::view::view_of;
 use fw_charge::Currency;
@@ -48,7 +49,7 @@ impl Filling {
     /// Adds the row with these values of a record and with its tags, if tags and lengths break no rule. The tags are read where their text is new.
     fn add_view(&mut self, row: &RowView<'_>, cells: &Cells<'_>) -> Result<(), Refusal>
         requires tags { AreTagsOf self.old.texts self.old.places.items self.old.columns }
-        requires room { length self.old.columns < 4096 }
+        requires room { length self.old.columns < most_post_rows }
         requires stands { ViewStands (texts_of cells.now) row.now }
         ensures row { let at = texts_of cells.now in JudgedWithin (length_rules at) (λ _. AddsView at row.now self.old.columns self.new.columns) result }
         ensures tags { OnOk result (AreTagsOf self.new.texts self.new.places.items self.new.columns) }
@@ -75,7 +76,7 @@ fn add_known(
     cells: &Cells<'_>,
     place: usize,
 ) -> Result<(), Refusal>
-    requires room { length columns.old < 4096 }
+    requires room { length columns.old < most_post_rows }
     requires stands { ViewStands (texts_of cells.now) row.now }
     requires known { HasTagsOf (texts_of cells.now column.Tags) place columns.old }
     ensures { let at = texts_of cells.now in JudgedWithin (length_rules at) (λ _. AddsView at row.now columns.old columns.new) result }
@@ -94,7 +95,7 @@ fn add_new(
     row: &RowView<'_>,
     cells: &Cells<'_>,
 ) -> Result<(), Refusal>
-    requires room { length columns.old < 4096 }
+    requires room { length columns.old < most_post_rows }
     requires stands { ViewStands (texts_of cells.now) row.now }
     ensures row { let at = texts_of cells.now in JudgedWithin (length_rules at) (λ _. AddsView at row.now columns.old columns.new) result }
     ensures tags { OnOk result (HasTagsOf (texts_of cells.now column.Tags) (length columns.old) columns.new) }

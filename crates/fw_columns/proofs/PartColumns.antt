@@ -16,7 +16,7 @@ use Rattle.fw_columns.specs.Names.{Text, AreDistinct, place_of, with_text}
 use Rattle.fw_columns.specs.Texts.{with_texts, texts_of_tags, texts_of, names_of, most_texts}
 use Rattle.fw_columns.specs.Lists.{tag_places, lists_of}
 use Rattle.fw_columns.specs.Codes.{text_code}
-use Rattle.fw_columns.specs.Table.{AreColumns, id_kept, kind_kept, status_kept, quantity_kept, text_at, text_of, discount_of, quantity_of, tag_of, tags_of, list_at, charge_at, rows_of}
+use Rattle.fw_columns.specs.Table.{AreColumns, id_kept, kind_kept, status_kept, quantity_kept, text_at, text_of, discount_of, quantity_of, tag_of, tags_of, list_at, charge_at, rows_of, most_column_rows}
 use Rattle.fw_columns.specs.Parts.{AreNumbered, lists_there, HaveLength, IsTagList, HaveRows, texts_there}
 use Rattle.fw_columns.proofs.NameFacts.{place_at}
 use Rattle.fw_columns.proofs.TextFacts.{AreKnown, AreKnown-seen, with_text_adds_one}
@@ -177,7 +177,7 @@ module _ (t : Table) (n : ℕ) (size : HaveLength t n) (numbered : AreNumbered t
   count_rows : length rows ≡ n
   count_rows = length-map-range_with_len (charge_at t) 0 n
 
-  pub parts_are_columns : n ≤ 65536 → length t.lists ≤ n → AreColumns t rows
+  pub parts_are_columns : n ≤ most_column_rows → length t.lists ≤ n → AreColumns t rows
   unfolding charge_at
   parts_are_columns few lists_few =
       let names = t.names in
@@ -217,6 +217,6 @@ unfolding rows_of
 some_rows t h = let count : length (map (charge_at t) (range_with_len 0 (length t.billed.items))) ≡ length t.billed.items = length-map-range_with_len (charge_at t) 0 (length t.billed.items) in omega (arith, count, h)
 
 pub are_columns_of_rows : (t : Table) → HaveLength t (length t.billed.items) → AreNumbered t.lists t.tags.items (lists_there t.lists t.tags.items) → All (IsTagList t.names) t.lists → HaveRows t (length t.billed.items)
-    → AreDistinct t.names → length t.billed.items ≤ 65536 → length t.lists ≤ length t.tags.items → AreColumns t (rows_of t)
+    → AreDistinct t.names → length t.billed.items ≤ most_column_rows → length t.lists ≤ length t.tags.items → AreColumns t (rows_of t)
 unfolding rows_of
 are_columns_of_rows t size numbered lists have distinct few fewer = parts_are_columns t (length t.billed.items) size numbered lists have distinct few (omega (arith, fewer, size.tags))

@@ -7,6 +7,7 @@ ghost use Rattle.fw_columns.specs.Parts.{AreNumbered, lists_there, HaveLength, H
 ghost use Rattle.fw_columns.specs.Table.{AreColumns, rows_of, category_at, class_at, quantity_kept, quantity_of, text_at, text_of, tags_of};
 ghost use Rattle.fw_bytes.specs.Order.{rise};
 
+use crate::columns::Columns;
 use crate::lists::Lists;
 use crate::names::Names;
 use crate::reading::category_at;
@@ -29,7 +30,7 @@ pub fn are_columns(table: &Table) -> bool
     if count == 0 {
         return false;
     }
-    if count > 65536 {
+    if count > Columns::MOST_ROWS {
         return false;
     }
     if !have_length(table) {

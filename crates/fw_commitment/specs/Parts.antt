@@ -1,9 +1,9 @@
 -- What the parts of the reader hold. Its private functions cite it.
 use Rattle.std.specs.Prelude.{◌<◌, ◌≤◌, ◌<ℤ◌, pos, option_map, string_bytes, codes}
 use Rattle.toml.specs.Data.{Members}
-use Rattle.fw_charge.specs.Charge.{IsShortText}
+use Rattle.fw_charge.specs.Charge.{IsShortText, last_hour}
 use Rattle.fw_charge.specs.Tags.{IsTags}
-use Rattle.fw_terms.specs.Commitment.{ArePurchases, most_hours, last_hour}
+use Rattle.fw_terms.specs.Commitment.{ArePurchases, most_hours}
 use Rattle.fw_commitment.specs.Fields.{HasText, HasInteger, HasAmount, HasKind, HasHour, HasAccount, HasTags, HasPurchases}
 use Rattle.fw_commitment.specs.Rules.{IsAccount, purchases_stated}
 use Rattle.fw_commitment.specs.declared.id_and_term.IdAndTerm.{IdAndTerm}

@@ -1,10 +1,11 @@
 //! Id, kind and term of a commitment: the fields that commitments of both kinds have first.
 ghost use Rattle.std.specs.Prelude.{◌<◌, ◌≤◌, ◌<ℤ◌, pos, codes};
-ghost use Rattle.fw_terms.specs.Commitment.{most_hours, last_hour};
+ghost use Rattle.fw_terms.specs.Commitment.{most_hours};
 ghost use Rattle.fw_toml.specs.Tree.{stated};
 ghost use Rattle.fw_commitment.specs.Fields.{HasInteger, HasAmount, HasKind, HasHour};
 ghost use Rattle.fw_commitment.specs.Rules.{id_and_term_rules, kind_rules, start_rules, hours_rules, capacity_rules};
 ghost use Rattle.fw_commitment.specs.Finding.{Finds};
+ghost use Rattle.fw_charge.specs.Charge.{last_hour};
 
 use crate::fault::{CommitmentFault, CommitmentField};
 use crate::fields::{amount, second, short_text};

@@ -2,6 +2,7 @@
 ghost use Rattle.std.specs.Prelude.{◌≡◌, ◌≤◌, IfOk, length, take, drop};
 ghost use Rattle.fw_snapshot.specs.Heads.{segment_rows};
 ghost use Rattle.fw_dump.specs.RowsLeft.{rows_left};
+ghost use Rattle.fw_columns.specs.Table.{most_column_rows};
 
 use fw_columns::{Columns, ColumnsBuilder};
 use fw_persistent::Sequence;
@@ -34,7 +35,7 @@ impl<'a> RowsLeft<'a> {
         alloc: Global,
         count: usize,
     ) -> Result<ColumnsBuilder, AllocError>
-        requires { length (take count (rows_left self.old)) ≤ 65536 }
+        requires { length (take count (rows_left self.old)) ≤ most_column_rows }
         ensures { IfOk result (λ front. (front ≡ take count (rows_left self.old)) × (rows_left self.new ≡ drop count (rows_left self.old))) }
     {
         let mut front = ColumnsBuilder::new(alloc);

@@ -21,9 +21,6 @@ pub record EntryValue : Type 0 where
 abbrev pub most_origin_bytes : ℕ
 most_origin_bytes = 64
 
-abbrev pub most_post_rows : ℕ
-most_post_rows = 4096
-
 -- a letter or a digit of ASCII, `-`, `_` or `.`
 abbrev pub is_origin_byte : ℕ → Bool
 is_origin_byte b = is_ascii_alphanumeric b || (b == 45 || (b == 95 || b == 46))

@@ -1,10 +1,10 @@
 -- The bytes that an entry is written as, and the entries that there are.
 use Rattle.std.specs.Prelude.{◌≡◌, ◌<◌, ◌≤◌, ◌^◌, ⊤, ℕ, List, ◌∷◌, ◌++◌, length, All, IsTrue}
 use Rattle.fw_bytes.specs.Spelling.{number64, text, listed}
-use Rattle.fw_charge.specs.Charge.{Charge}
+use Rattle.fw_charge.specs.Charge.{Charge, most_post_rows}
 use Rattle.fw_charge.specs.Spelling.{row, IsRow}
 use Rattle.fw_terms.specs.Spelling.{commitment, policy, IsSpelledCommitment, IsSpelledPolicy}
-use Rattle.fw_entry.specs.Entry.{CommandValue, EntryValue, is_origin, most_post_rows}
+use Rattle.fw_entry.specs.Entry.{CommandValue, EntryValue, is_origin}
 use Rattle.fw_entry.specs.Entry.CommandValue.{post, commit, set_policy}
 use Rattle.fw_entry.specs.Kinds.{kind_of, kind_code}
 

@@ -3,10 +3,11 @@ ghost use Rattle.std.specs.Prelude.{◌≡◌, ◌≤◌, ◌<◌, ◌^◌, ◌-
 ghost use Rattle.fw_bytes.specs.Spelling.{listed};
 ghost use Rattle.std.specs.List.{list_all};
 ghost use Rattle.fw_charge.specs.Spelling.{row, IsRow};
-ghost use Rattle.fw_entry.specs.Entry.{is_origin, is_origin_byte, most_post_rows};
+ghost use Rattle.fw_entry.specs.Entry.{is_origin, is_origin_byte};
 ghost use Rattle.fw_entry.specs.Refusals.{IsRefused};
 ghost use Rattle.fw_entry.specs.Spelling.{HasRowCount, IsEntry};
 ghost use Rattle.fw_entry.specs.View.{command_view};
+ghost use Rattle.fw_charge.specs.Charge.{most_post_rows};
 
 use crate::fault::EntryFault;
 use crate::kind::CommandKind;
@@ -32,9 +33,6 @@ impl Command {
     ghost use Rattle.fw_entry.specs.Kinds.{kind_of};
     ghost use Rattle.fw_entry.specs.Spelling.{command, HasRowCount, IsCommand};
     ghost use Rattle.fw_entry.specs.View.{command_view};
-
-    /// The most rows of a post.
-    pub const MOST_POST_ROWS: usize = 4_096;
 
     /// The kind of the command.
     pub fn kind(&self) -> CommandKind

@@ -4,7 +4,7 @@ use Rattle.std.proofs.lemmas.Bool.{leb-true, le-leb}
 use Rattle.fw_bytes.specs.Spelling.{number64, text, listed, pair, FitsPair, FitsChecked, FitsList}
 use Rattle.fw_bytes.specs.Reading.{checked, seen}
 use Rattle.fw_bytes.proofs.Laws.{IsFormat, checked_format, seen_format, both_format, list_format, list_parts, list_fits}
-use Rattle.fw_charge.specs.Charge.{Charge}
+use Rattle.fw_charge.specs.Charge.{Charge, most_post_rows}
 use Rattle.fw_charge.specs.Spelling.{row, IsRow}
 use Rattle.fw_row_bytes.proofs.RowFormat.{row_format}
 use Rattle.fw_terms.specs.Commitment.{CommitmentValue}
@@ -13,7 +13,7 @@ use Rattle.fw_terms.specs.Spelling.{IsSpelledCommitment, IsSpelledPolicy}
 use Rattle.fw_terms_bytes.proofs.Formats.{case_format, kind_format}
 use Rattle.fw_terms_bytes.proofs.CommitmentFormat.{commitment_format}
 use Rattle.fw_terms_bytes.proofs.PolicyFormat.{policy_format}
-use Rattle.fw_entry.specs.Entry.{CommandValue, EntryValue, most_post_rows}
+use Rattle.fw_entry.specs.Entry.{CommandValue, EntryValue}
 use Rattle.fw_entry.specs.Entry.CommandValue.{post, commit, set_policy}
 use Rattle.fw_entry.specs.Kinds.{kind_of, kind_code, kind_meant}
 use Rattle.fw_entry.specs.declared.kind.CommandKind.{CommandKind}

@@ -2,10 +2,10 @@
 use Rattle.std.specs.Prelude.{◌<◌, ◌^◌, ℕ, Bool, List, length, nat_lt, nat_le, IsTrue}
 use Rattle.std.specs.Int.{w64}
 use Rattle.fw_bytes.specs.Reading.{Reading, number_at, text_at, checked, both, seen, list_at}
-use Rattle.fw_charge.specs.Charge.{Charge}
+use Rattle.fw_charge.specs.Charge.{Charge, most_post_rows}
 use Rattle.fw_row_bytes.specs.Reading.{row_at}
 use Rattle.fw_terms_bytes.specs.Reading.{of_kind, commitment_at, policy_at}
-use Rattle.fw_entry.specs.Entry.{CommandValue, EntryValue, is_origin, most_post_rows}
+use Rattle.fw_entry.specs.Entry.{CommandValue, EntryValue, is_origin}
 use Rattle.fw_entry.specs.Entry.CommandValue.{post, commit, set_policy}
 use Rattle.fw_entry.specs.Kinds.{kind_meant}
 use Rattle.fw_entry.specs.Spelling.{entry, most_entry_bytes}

@@ -7,6 +7,7 @@ ghost use Rattle.fw_entry_bytes.specs.Reading.{brought_at, command_at, fields_at
 use crate::fields::{kind_of, origin_of, seq_of};
 use crate::form::Form;
 use fw_bytes::ReadError;
+use fw_charge::MOST_POST_ROWS;
 use fw_entry::{Command, CommandKind, Entry};
 use fw_row_bytes::rows_of;
 use fw_terms_bytes::{commitment_of, policy_of};
@@ -18,7 +19,7 @@ fn brought_of(alloc: Global, kind: CommandKind, bytes: &[u8]) -> Result<(Command
     ensures { Gives (λ x. (command_view x.0, x.1.now)) result (brought_at kind bytes.now) }
 {
     match kind {
-        CommandKind::Post => match rows_of(alloc, Command::MOST_POST_ROWS as u32, bytes) {
+        CommandKind::Post => match rows_of(alloc, MOST_POST_ROWS as u32, bytes) {
             Ok((rows, rest)) => Ok((Command::Post(rows), rest)),
             Err(e) => Err(e),
         },

@@ -2,9 +2,9 @@
 ghost use Rattle.std.specs.Prelude.{◌≡◌, ◌++◌, ◌≤◌, length, OnOk};
 ghost use Rattle.fw_bytes.specs.Spelling.{listed};
 ghost use Rattle.fw_charge.specs.Spelling.{row};
-ghost use Rattle.fw_entry.specs.Entry.{most_post_rows};
 ghost use Rattle.fw_entry.specs.Spelling.{brought, command, entry, IsCommand, IsEntry};
 ghost use Rattle.fw_entry.specs.View.{command_view};
+ghost use Rattle.fw_charge.specs.Charge.{most_post_rows};
 
 use fw_bytes::{put_byte, put_text, put_u32, put_u64};
 use fw_entry::{Command, Entry};

@@ -8,6 +8,7 @@ ghost use Rattle.fw_import.specs.Importing.{post_of, Becomes, MayStop, IsPostOf}
 use crate::comparing::same_entry;
 use crate::fault::ImportFault;
 use crate::stored::stored_post;
+use fw_charge::MOST_POST_ROWS;
 use fw_column_rows::read_columns;
 use fw_disk::Volume;
 use fw_entry::{Command, Entry, EntryFault};
@@ -118,7 +119,7 @@ fn compare(alloc: Global, state: &State, entry: &Entry) -> Result<(), ImportFaul
     let Some(rows) = stored_post(alloc, state, entry.origin(), entry.seq())? else {
         return Err(ImportFault::Differs);
     };
-    if rows.len() > Command::MOST_POST_ROWS {
+    if rows.len() > MOST_POST_ROWS {
         return Err(ImportFault::Differs);
     }
     match Entry::new(

@@ -1,4 +1,5 @@
 //! Posts that a warehouse has.
+use fw_charge::MOST_POST_ROWS;
 use fw_columns::{Columns, ColumnsBuilder};
 use fw_entry::Command;
 use fw_snapshot::{Content, State};
@@ -45,7 +46,7 @@ fn rows_between(
             let first = from.saturating_sub(start);
             let last = to.saturating_sub(start).min(columns.len());
             for row in first..last {
-                if rows.len() >= Command::MOST_POST_ROWS {
+                if rows.len() >= MOST_POST_ROWS {
                     return Ok(None);
                 }
                 rows.push_row(&columns.row(row)?)?;

@@ -4,6 +4,7 @@ ghost use Rattle.fw_query.specs.CodeSums.{AreCodeSums, code_cost, code_text};
 ghost use Rattle.fw_query.specs.Costs.{Cost};
 ghost use Rattle.fw_query.specs.Hours.{all_rows, lent, row_cost, rows_marked};
 ghost use Rattle.fw_query.specs.Sums.{AddsLine, Counts, HasRoom, sums_at};
+ghost use Rattle.fw_columns.specs.Table.{most_column_rows};
 
 use crate::groups::{Groups, Sums};
 use crate::marks::{has_mark, mask_of};
@@ -27,7 +28,7 @@ fn code_sums(
     mask: &[bool],
 ) -> Result<CodeSums, AllocError>
     requires mask { length mask.now ≡ length segment.now }
-    requires few { length segment.now ≤ 65536 }
+    requires few { length segment.now ≤ most_column_rows }
     ensures { IfOk result (AreCodeSums key.now segment.now mask.now) }
 {
     let codes = segment.tag_codes(key)?;

@@ -63,11 +63,7 @@ impl<V: Volume> Store<V> {
     }
 
     // The bytes of a side of the state, and a snapshot of it, once its short segments are joined.
-    fn merged_side(
-        &self,
-        alloc: Global,
-        generation: u64,
-    ) -> Result<(Vec<u8>, Snapshot), StoreFault>
+    fn merged_side(&self, alloc: Global, generation: u64) -> Result<(Vec<u8>, Snapshot), StoreFault>
         ensures made { IfOk result (λ side. SpellsSide generation self.now.history side.0.items) }
         ensures same { IfOk result (λ side. side.1 ≡ self.now.history) }
         ensures fits { IfOk result (λ side. 1 + length side.0.items ≤ (V.view self.now.volume).limit) }

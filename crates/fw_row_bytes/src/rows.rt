@@ -2,6 +2,7 @@
 ghost use Rattle.std.specs.Prelude.{◌≡◌, ◌≤◌, length, IfOk};
 ghost use Rattle.fw_bytes.specs.Reading.{Gives, times, list_at};
 ghost use Rattle.fw_row_bytes.specs.Reading.{row_at};
+ghost use Rattle.fw_columns.specs.Table.{most_column_rows};
 
 use crate::row::row_of;
 use fw_bytes::{ReadError, u32_at};
@@ -10,7 +11,7 @@ use std::alloc::Global;
 
 /// So many rows. Memory is taken as each row is read, not for the count.
 fn rows_after(alloc: Global, count: u32, bytes: &[u8]) -> Result<(ColumnsBuilder, &[u8]), ReadError>
-    requires { count ≤ 65536 }
+    requires { count ≤ most_column_rows }
     ensures read { Gives (λ x. (x.0, x.1.now)) result (times row_at count bytes.now) }
     ensures all { IfOk result (λ x. length x.0 ≡ count) }
 {
@@ -35,7 +36,7 @@ fn rows_after(alloc: Global, count: u32, bytes: &[u8]) -> Result<(ColumnsBuilder
 /// that isn't one; [`ReadError::NoMemory`] where there is no memory for the rows.
 #[tactic(auto, unfolding(fw_bytes::specs::Reading::list_at))]
 pub fn rows_of(alloc: Global, most: u32, bytes: &[u8]) -> Result<(Columns, &[u8]), ReadError>
-    requires { most ≤ 65536 }
+    requires { most ≤ most_column_rows }
     ensures { Gives (λ x. (x.0, x.1.now)) result (list_at 1 most row_at bytes.now) }
 {
     let (count, rest) = u32_at(bytes)?;

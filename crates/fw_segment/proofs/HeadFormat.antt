@@ -7,7 +7,6 @@ use Rattle.std.proofs.lemmas.Bool.{and_parts, ltb-true, lt-ltb, leb-true, le-leb
 use Rattle.fw_bytes.specs.Spelling.{number32, number64, text, pair, FitsPair, Fits64}
 use Rattle.fw_bytes.specs.Reading.{number_at, seen, times}
 use Rattle.fw_bytes.proofs.Laws.{IsFormat, Takes, Takes-then, times_takes, times_again, bind_ok, checked_format, seen_format, both_format, number_format, wide32, wide64}
-use Rattle.fw_entry.specs.Entry.{most_post_rows}
 use Rattle.fw_entry.specs.Kinds.{kind_code, kind_meant}
 use Rattle.fw_entry.specs.declared.kind.CommandKind.{CommandKind}
 use Rattle.fw_entry.specs.declared.kind.CommandKind.TheVariants as kind
@@ -24,6 +23,7 @@ use Rattle.fw_terms_bytes.proofs.PolicyFormat.{policy_format}
 use Rattle.fw_snapshot.specs.Heads.{ContentValue, HeadValue}
 use Rattle.fw_snapshot.specs.Heads.ContentValue.{posted_rows, committed_to, policy_set}
 use Rattle.fw_segment.specs.Heads.{kind_of, brought, content, head, heads, is_post_count, IsContent, IsHead, post_count_at, brought_at, content_at, head_from, head_fields_at, head_at, heads_at}
+use Rattle.fw_charge.specs.Charge.{most_post_rows}
 
 -- ---- what an entry brought
 

@@ -22,12 +22,13 @@ use Rattle.fw_snapshot.specs.History.{History, rows_posted, posted}
 use Rattle.fw_snapshot.proofs.HeadFacts.{row_counts_cons, row_count_back, rows_posted_entries, heads_of_entries, length_entries}
 use Rattle.fw_segment.specs.declared.kind.Kind.{Kind}
 use Rattle.fw_segment.specs.declared.kind.Kind.TheVariants.{Columns}
-use Rattle.fw_segment.specs.Segments.{segment, most_segment_rows, IsSegment}
+use Rattle.fw_segment.specs.Segments.{segment, IsSegment}
 use Rattle.fw_segment.specs.Heads.{heads, IsContent, IsHead}
 use Rattle.fw_segment.specs.States.{state, Spells, most_segments, Cut, cut_rows, Parts, parts_at, bytes_before_heads, replayed, replayed_state, state_from, state_at}
 use Rattle.fw_segment.proofs.HeadFormat.{AreHeads}
 use Rattle.fw_segment.proofs.StateFormat.{FitsCut, parts_taken, parts_again}
 use Rattle.fw_segment.proofs.Replay.{no_row_counts, replay_taken, replay_again}
+use Rattle.fw_columns.specs.Table.{most_column_rows}
 
 -- ---- heads of entries, rows of segments
 
@@ -153,7 +154,7 @@ same_rows (rows ∷ segments) = ap (λ (others : List (List Charge)). rows ∷ o
 
 -- 1 to 65,536 rows
 abbrev pub IsSized : List Charge → Type 0
-IsSized rows = (0 < length rows) × (length rows ≤ most_segment_rows)
+IsSized rows = (0 < length rows) × (length rows ≤ most_column_rows)
 
 -- segments whose rows are those of entries are segments
 pub are_segments : (segments : List (List Charge)) → All IsSized segments → All IsRow (segment_rows segments) → All IsLaid (by_column segments)

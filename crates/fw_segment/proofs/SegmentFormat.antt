@@ -18,8 +18,9 @@ use Rattle.fw_entry_bytes.proofs.WholeFormat.{whole_takes, whole_again}
 use Rattle.fw_segment.specs.declared.kind.Kind.{Kind}
 use Rattle.fw_segment.specs.declared.kind.Kind.TheVariants.{Rows, Columns}
 use Rattle.fw_segment.specs.Groups.{group, group_at, IsGroup, most_group_entries}
-use Rattle.fw_segment.specs.Segments.{segment, segment_at, IsSegment, most_segment_rows}
+use Rattle.fw_segment.specs.Segments.{segment, segment_at, IsSegment}
 use Rattle.fw_segment.proofs.Viewed.{answered, whole_viewed}
+use Rattle.fw_columns.specs.Table.{most_column_rows}
 
 is_group : (es : List EntryValue) → FitsList 1 most_group_entries IsEntry es → IsGroup es
 is_group es h = let p = list_parts IsEntry 1 most_group_entries es h in record { some = p.0; few = p.1; each = p.2 }
@@ -33,8 +34,8 @@ group_format form = record {
 
 -- ---- segments
 
-is_segment : (rows : List Charge) → FitsList 1 most_segment_rows IsRow rows → IsSegment rows
-is_segment rows h = let p = list_parts IsRow 1 most_segment_rows rows h in record { some = p.0; few = p.1; each = p.2 }
+is_segment : (rows : List Charge) → FitsList 1 most_column_rows IsRow rows → IsSegment rows
+is_segment rows h = let p = list_parts IsRow 1 most_column_rows rows h in record { some = p.0; few = p.1; each = p.2 }
 
 by_column : (rows : List Charge) → AreRows rows → IsSegment rows
 by_column rows h = record { some = h.some; few = h.few; each = h.each }
@@ -51,14 +52,14 @@ unfolding segment_at segment
 segment_takes [] x is e = absurd cc
 segment_takes (zero ∷ rest) x is e = absurd cc
 segment_takes (suc zero ∷ rest) x is e =
-    let t = (list_format 1 most_segment_rows row_format).takes rest x (IsBytes-rest 1 rest is) e in
+    let t = (list_format 1 most_column_rows row_format).takes rest x (IsBytes-rest 1 rest is) e in
     (Takes-behind 1 rest (listed row x.0) x.1 t.0, is_segment x.0 t.1)
 segment_takes (suc (suc zero) ∷ rest) x is e = let t = columns_format.takes (2 ∷ rest) x is e in (t.0, by_column x.0 t.1)
 segment_takes (suc (suc (suc layout)) ∷ rest) x is e = absurd cc
 
 segment_again : (kind : Kind) (rows : List Charge) (rest : List ℕ) → IsSegment rows → segment_at (segment kind rows ++ rest) ≡ Ok (rows, rest)
 unfolding segment_at segment columns
-segment_again Rows rows rest h = (list_format 1 most_segment_rows row_format).again rows rest (list_fits IsRow 1 most_segment_rows rows h.some h.few (omega arith) h.each)
+segment_again Rows rows rest h = (list_format 1 most_column_rows row_format).again rows rest (list_fits IsRow 1 most_column_rows rows h.some h.few (omega arith) h.each)
 segment_again Columns rows rest h = columns_format.again rows rest (record { some = h.some; few = h.few; each = h.each })
 
 kind_again : (kind : Kind) (rows : List Charge) (rest : List ℕ) → kind_at (segment kind rows ++ rest) ≡ kind

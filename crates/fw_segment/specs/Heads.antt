@@ -6,7 +6,6 @@ use Rattle.fw_bytes.specs.Spelling.{number32, number64, text}
 use Rattle.fw_bytes.specs.Reading.{Reading, ◌>>=◌, number_at, checked, both, seen, times}
 use Rattle.fw_terms.specs.Spelling.{commitment, policy, IsSpelledCommitment, IsSpelledPolicy}
 use Rattle.fw_terms_bytes.specs.Reading.{of_kind, commitment_at, policy_at}
-use Rattle.fw_entry.specs.Entry.{most_post_rows}
 use Rattle.fw_entry.specs.Kinds.{kind_code, kind_meant}
 use Rattle.fw_entry.specs.declared.kind.CommandKind.{CommandKind}
 use Rattle.fw_entry.specs.declared.kind.CommandKind.TheVariants as kind
@@ -14,6 +13,7 @@ use Rattle.fw_entry_bytes.specs.declared.form.Form.{Form}
 use Rattle.fw_entry_bytes.specs.Reading.{origin_at, seq_at, IsOrigin, IsSeq}
 use Rattle.fw_snapshot.specs.Heads.{ContentValue, HeadValue}
 use Rattle.fw_snapshot.specs.Heads.ContentValue.{posted_rows, committed_to, policy_set}
+use Rattle.fw_charge.specs.Charge.{most_post_rows}
 
 -- ---- how a head is written
 

@@ -3,8 +3,9 @@ use Rattle.std.specs.Prelude.{◌≡◌, ◌<◌, ◌≤◌, ◌+◌, ◌*◌, �
 use Rattle.fw_bytes.specs.Reading.{Reading, ◌>>=◌, seen, times}
 use Rattle.fw_charge.specs.Charge.{Charge}
 use Rattle.fw_snapshot.specs.Heads.{segment_rows}
-use Rattle.fw_segment.specs.Segments.{most_segment_rows, segment_at}
+use Rattle.fw_segment.specs.Segments.{segment_at}
 use Rattle.fw_segment.specs.declared.rows_left.RowsLeft.{RowsLeft}
+use Rattle.fw_columns.specs.Table.{most_column_rows}
 
 -- what was read before, and what is still read
 abbrev pub behind : List Charge → Result (List Charge × List ℕ) ℕ → Result (List Charge × List ℕ) ℕ
@@ -29,7 +30,7 @@ rows_left r = behind (held r) (segments_at r.segments r.bytes.now)
 
 -- no more rows than these are left, however many the segments have
 abbrev pub most_left : RowsLeft → ℕ
-most_left r = length (held r) + most_segment_rows * r.segments
+most_left r = length (held r) + most_column_rows * r.segments
 
 -- of what was left, these rows were taken, so many where there are so many
 pub record AreTaken (count : ℕ) (rows : List Charge) (old new : RowsLeft) : Type 0 where

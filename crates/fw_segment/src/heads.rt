@@ -2,12 +2,13 @@
 ghost use Rattle.std.specs.Prelude.{◌≡◌, ◌++◌, ◌<◌, ◌≤◌, ◌^◌, length, map, OnOk};
 ghost use Rattle.fw_bytes.specs.Reading.{Gives, times};
 ghost use Rattle.fw_snapshot.specs.HeadView as stored;
-ghost use Rattle.fw_entry.specs.Entry.{most_post_rows};
 ghost use Rattle.fw_snapshot.specs.Heads.{row_count};
 ghost use Rattle.fw_segment.specs.Heads.{content, head, brought_at, content_at, head_at, head_fields_at, heads_at, post_count_at, IsHead};
 ghost use Rattle.fw_segment.specs.HeadView.{content_view, head_view};
+ghost use Rattle.fw_charge.specs.Charge.{most_post_rows};
 
 use fw_bytes::{ReadError, put_byte, put_text, put_u32, put_u64, u32_at, u64_at};
+use fw_charge::MOST_POST_ROWS;
 use fw_entry::{Command, CommandKind};
 use fw_entry_bytes::{Form, kind_of, origin_of, seq_of};
 use fw_snapshot::{Content, Head};
@@ -68,7 +69,7 @@ fn post_count_of(bytes: &[u8]) -> Result<(u32, &[u8]), ReadError>
     ensures { Gives (λ x. (x.0, x.1.now)) result (post_count_at bytes.now) }
 {
     let (count, rest) = u32_at(bytes)?;
-    if count == 0 || count > Command::MOST_POST_ROWS as u32 {
+    if count == 0 || count > MOST_POST_ROWS as u32 {
         return Err(ReadError::Corrupt(bytes.len()));
     }
     Ok((count, rest))

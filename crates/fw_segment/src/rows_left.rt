@@ -2,6 +2,7 @@
 ghost use Rattle.std.specs.Prelude.{◌≡◌, ◌≤◌, ◌<◌, ◌∷◌, ◌==◌, ◌&&◌, [], false, length, nat_lt, IfOk, IfErr, OnOk};
 ghost use Rattle.fw_bytes.specs.Reading.{Fails};
 ghost use Rattle.fw_segment.specs.RowsLeft.{behind, held, most_left, rows_given, rows_left, segments_at, AreReadOut, AreTaken};
+ghost use Rattle.fw_columns.specs.Table.{most_column_rows};
 
 use crate::segments::segment_of;
 use fw_bytes::ReadError;
@@ -106,7 +107,7 @@ impl<'a> RowsLeft<'a> {
 
     /// Takes so many rows from the front, at most 65,536, or all where there are fewer. Each is copied.
     fn take_each(&mut self, alloc: Global, count: usize) -> Result<ColumnsBuilder, ReadError>
-        requires { count ≤ 65536 }
+        requires { count ≤ most_column_rows }
         ensures taken { IfOk result (λ front. AreTaken count front self.old self.new) }
         ensures fault { IfErr result (λ e. Fails e (rows_left self.old)) }
     {
@@ -123,7 +124,7 @@ impl<'a> RowsLeft<'a> {
 
     /// Takes so many rows from the front, at most 65,536, or all where there are fewer. A segment of just so many rows is taken as it is.
     pub fn take_front(&mut self, alloc: Global, count: usize) -> Result<Option<Columns>, ReadError>
-        requires { count ≤ 65536 }
+        requires { count ≤ most_column_rows }
         ensures taken { IfOk result (λ front. AreTaken count (rows_given front) self.old self.new) }
         ensures fault { IfErr result (λ e. Fails e (rows_left self.old)) }
     {

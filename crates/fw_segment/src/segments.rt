@@ -2,7 +2,8 @@
 ghost use Rattle.std.specs.Prelude.{◌≡◌, ◌<◌, ◌≤◌, ◌++◌, length, All, OnOk};
 ghost use Rattle.fw_bytes.specs.Reading.{Gives};
 ghost use Rattle.fw_charge.specs.Spelling.{IsRow};
-ghost use Rattle.fw_segment.specs.Segments.{most_segment_rows, segment, segment_at};
+ghost use Rattle.fw_segment.specs.Segments.{segment, segment_at};
+ghost use Rattle.fw_columns.specs.Table.{most_column_rows};
 
 use crate::kind::Kind;
 use fw_bytes::{ReadError, put_byte};
@@ -11,16 +12,13 @@ use fw_columns::Columns;
 use fw_row_bytes::{put_rows, rows_of};
 use std::alloc::{AllocError, Global};
 
-/// The most rows of a segment.
-const MOST_ROWS: u32 = 65_536;
-
 /// The columns of a segment in any layout, and the bytes after it.
 #[tactic(auto, unfolding(crate::specs::Segments::segment_at))]
 pub fn segment_of(alloc: Global, bytes: &[u8]) -> Result<(Columns, &[u8]), ReadError>
     ensures { Gives (λ x. (x.0, x.1.now)) result (segment_at bytes.now) }
 {
     match bytes {
-        [1, rest @ ..] => rows_of(alloc, MOST_ROWS, rest),
+        [1, rest @ ..] => rows_of(alloc, Columns::MOST_ROWS as u32, rest),
         [2, ..] => columns_of(alloc, bytes),
         _ => Err(ReadError::Corrupt(bytes.len())),
     }
@@ -40,7 +38,7 @@ pub fn rows_have_spelling(columns: &Columns)
 pub fn put_segment(out: &mut Vec<u8>, columns: &Columns, kind: Kind) -> Result<(), AllocError>
     ensures spelled { OnOk result (out.new.items ≡ out.old.items ++ segment kind columns.now) }
     ensures some { 0 < length columns.now }
-    ensures few { length columns.now ≤ most_segment_rows }
+    ensures few { length columns.now ≤ most_column_rows }
 {
     // Proves that there are rows, and not too many.
     let _len = columns.len();

@@ -11,9 +11,10 @@ ghost use Rattle.fw_segment.specs.HeadView.{content_view, head_view};
 ghost use Rattle.fw_segment.specs.Heads.{IsContent, IsHead, heads};
 ghost use Rattle.fw_segment.specs.Replaying.{stepped, state_behind, with_rows, AreBehind, AreReplayed};
 ghost use Rattle.fw_segment.specs.RowsLeft.{rows_given, rows_left};
-ghost use Rattle.fw_segment.specs.Segments.{most_segment_rows, segment};
+ghost use Rattle.fw_segment.specs.Segments.{segment};
 ghost use Rattle.fw_segment.specs.States.{Spells, currency_at, followed, parts_at, rows_at, state_at};
 ghost use Rattle.fw_segment.specs.declared.kind.Kind.TheVariants as layout;
+ghost use Rattle.fw_columns.specs.Table.{most_column_rows};
 
 use crate::heads::{ReadContent, ReadHead, heads_of, put_head};
 use crate::kind::Kind;
@@ -266,7 +267,7 @@ fn put_heads(out: &mut Vec<u8>, state: &State) -> Result<(), AllocError>
 fn put_segments(out: &mut Vec<u8>, segments: &Sequence<Columns>) -> Result<(), AllocError>
     requires { length segments.now ≤ most_rows }
     ensures spelled { OnOk result (out.new.items ≡ out.old.items ++ listed (segment layout.Columns) segments.now) }
-    ensures sized { OnOk result (All (λ rows. (0 < length rows) × (length rows ≤ most_segment_rows)) segments.now) }
+    ensures sized { OnOk result (All (λ rows. (0 < length rows) × (length rows ≤ most_column_rows)) segments.now) }
 {
     let count = segments.len();
     put_u32(out, count as u32)?;

@@ -4,6 +4,7 @@ ghost use Rattle.fw_entry.specs.Spelling.{HasRowCount};
 ghost use Rattle.fw_entry.specs.View.{command_view};
 
 use crate::script::Fault;
+use fw_charge::MOST_POST_ROWS;
 use fw_column_rows::read_columns;
 use fw_commitment::read_commitment;
 use fw_entry::Command;
@@ -62,7 +63,7 @@ fn post_of(alloc: Global, text: &[u8]) -> Result<Command, Fault>
         Ok(rows) => rows,
         Err(_) => return Err(Fault::Script),
     };
-    if rows.len() > Command::MOST_POST_ROWS {
+    if rows.len() > MOST_POST_ROWS {
         return Err(Fault::Script);
     }
     Ok(Command::Post(rows))

@@ -2,13 +2,11 @@
 ghost use Rattle.std.specs.Prelude.{◌≡◌, ◌<◌, ◌≤◌, ◌++◌, length, map, IfOk};
 ghost use Rattle.fw_snapshot.specs.Heads.{segment_rows};
 ghost use Rattle.fw_snapshot.specs.Merging.{joined_to, merged};
+ghost use Rattle.fw_columns.specs.Table.{most_column_rows};
 
 use fw_columns::Columns;
 use fw_persistent::Sequence;
 use std::alloc::{AllocError, Global};
-
-/// How many rows a segment has at most.
-const MOST_SEGMENT_ROWS: usize = 65_536;
 
 /// The segments, joined from the front: each with the next one, as long as they have at most 65,536 rows together.
 pub(crate) fn merged_segments(
@@ -40,14 +38,14 @@ fn with_merged(
 
 /// How many of the segments, from the first one on, are joined to so many rows.
 fn joined_to(rows: usize, segments: &[&Columns]) -> usize
-    requires { rows ≤ 65536 }
+    requires { rows ≤ most_column_rows }
     ensures joined { result ≡ joined_to rows (map (λ s. s.now) segments.now) }
     ensures within { result ≤ length segments.now }
 {
     let mut rows = rows;
     for (count, segment) in segments.iter().enumerate() {
         rows += segment.len();
-        if rows > MOST_SEGMENT_ROWS {
+        if rows > Columns::MOST_ROWS {
             return count;
         }
     }
@@ -57,7 +55,7 @@ fn joined_to(rows: usize, segments: &[&Columns]) -> usize
 /// The rows of segments in one. Halves are joined, so that no row is copied more often than the number of segments can be halved.
 fn joined(alloc: Global, segments: &[&Columns]) -> Result<Columns, AllocError>
     requires some { 0 < length segments.now }
-    requires few { length (segment_rows (map (λ s. s.now) segments.now)) ≤ 65536 }
+    requires few { length (segment_rows (map (λ s. s.now) segments.now)) ≤ most_column_rows }
     ensures { IfOk result (λ one. one ≡ segment_rows (map (λ s. s.now) segments.now)) }
 {
     let middle = segments.len() / 2;

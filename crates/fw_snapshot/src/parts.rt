@@ -10,6 +10,7 @@ ghost use Rattle.fw_snapshot.specs.History.{posted, committed, policy_after};
 ghost use Rattle.fw_snapshot.specs.Judging.{carries, has_id};
 ghost use Rattle.fw_snapshot.specs.Uses.{commitments_with};
 ghost use Rattle.fw_snapshot.specs.Held.{held_commitments, held_policy, held_rows};
+ghost use Rattle.fw_columns.specs.Table.{most_column_rows};
 
 use crate::head::Content;
 use fw_columns::{Columns, LentRow};
@@ -51,7 +52,7 @@ pub(crate) fn committed(command: &Command) -> Option<&Commitment>
 
 /// What the head of a command keeps of it.
 pub(crate) fn content_of(alloc: Global, command: &Command) -> Result<Content, AllocError>
-    requires { length (posted (command_view command.now)) ≤ 65536 }
+    requires { length (posted (command_view command.now)) ≤ most_column_rows }
     ensures { IfOk result (λ content. content_view content ≡ content_of (command_view command.now)) }
 {
     match command {

@@ -2,7 +2,7 @@
 use Rattle.std.specs.Prelude.{◌<◌, ◌≤◌, ℕ, List, Option, length, map, All, sum_by, IfSome}
 use Rattle.fw_money.specs.Amount.{most_nanos}
 use Rattle.fw_charge.specs.Tags.{TagText, IsTags}
-use Rattle.fw_charge.specs.Charge.{IsShortText, last_second}
+use Rattle.fw_charge.specs.Charge.{IsShortText, last_second, last_hour}
 use Rattle.fw_charge.specs.declared.discount.DiscountKind.{DiscountKind}
 use Rattle.fw_charge.specs.declared.discount.DiscountKind.TheVariants as kind
 use Rattle.fw_terms.specs.Texts.{IsRising}
@@ -53,10 +53,6 @@ most_purchases = 64
 
 abbrev pub most_hours : ℕ
 most_hours = 26304
-
--- the last hour of the year 9999
-abbrev pub last_hour : ℕ
-last_hour = 70389527
 
 -- 1 to 256 names, in rising order
 pub record AreSkus (skus : List (List ℕ)) : Type 0 where

@@ -152,7 +152,7 @@ pub struct CommitmentFields {
     pub sub_account: Option<String>,
     /// The tags of the lines that speak of no row.
     pub tags: Tags,
-    /// The first hour of the term, counted from 1970: at most 70,389,527, the last hour of the year 9999.
+    /// The first hour of the term, counted from 1970: at most [`LAST_HOUR`](fw_charge::LAST_HOUR).
     pub start: u32,
     /// How many hours the term has: 1 to 26,304.
     pub hours: u32,
@@ -187,9 +187,6 @@ impl Commitment {
     ghost use Rattle.fw_terms.specs.Commitment.{IsCommitment, kind_of, cost_of};
     ghost use Rattle.fw_terms.specs.TermsView.{terms_view};
     ghost use Rattle.fw_terms.specs.CommitmentView.{commitment_of};
-
-    /// The last hour in which a term may start, counted from 1970: the last of the year 9999.
-    pub const LAST_START: u32 = 70_389_527;
 
     /// The most hours of a term: three years.
     pub const MOST_HOURS: u32 = 26_304;

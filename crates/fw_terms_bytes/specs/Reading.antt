@@ -8,13 +8,14 @@ use Rattle.fw_charge.specs.Tags.{TagText}
 use Rattle.fw_charge.specs.Codes.{kind_of}
 use Rattle.fw_charge.specs.declared.discount.DiscountKind.{DiscountKind}
 use Rattle.fw_charge.specs.declared.discount.DiscountKind.TheVariants as kind
-use Rattle.fw_terms.specs.Commitment.{PurchaseValue, RateValue, TermsValue, CommitmentValue, cost_of, most_skus, most_ppm, most_purchases, most_hours, last_hour}
+use Rattle.fw_terms.specs.Commitment.{PurchaseValue, RateValue, TermsValue, CommitmentValue, cost_of, most_skus, most_ppm, most_purchases, most_hours}
 use Rattle.fw_terms.specs.Commitment.TermsValue.{usage, spend}
 use Rattle.fw_terms.specs.Policy.{TargetValue, GiveValue, RuleValue, PolicyValue, most_text, most_rules, most_targets, most_weight, policy_value}
 use Rattle.fw_terms.specs.Policy.GiveValue.{fixed, proportional}
 use Rattle.fw_charge.specs.Spelling.{keys_rise}
 use Rattle.fw_row_bytes.specs.Reading.{nanos_at, second_at, short_text_at, tag_text_at, tags_at}
 use Rattle.fw_terms.specs.Groups.{has_double_from, has_target_from}
+use Rattle.fw_charge.specs.Charge.{last_hour}
 
 -- a field, and one behind it whose format its value decides
 unfoldable pub then_by : {A B : Type 0} → Reading A → (A → Reading B) → Reading (A × B)

@@ -13,7 +13,7 @@ ghost use Rattle.fw_terms_bytes.specs.FieldView.{names_view, term_view, fields_v
 use crate::lists::{Item, list_of};
 use crate::order::names_rise;
 use fw_bytes::{ReadError, u32_at};
-use fw_charge::{DiscountKind, Tag, Tags};
+use fw_charge::{DiscountKind, LAST_HOUR, Tag, Tags};
 use fw_money::Nanos;
 use fw_row_bytes::{keys_rise, nanos_of, optional_text_of, second_of, short_text_of, tags_of};
 use fw_terms::{Commitment, CommitmentFields, Purchase, Rate, Terms, total_cost};
@@ -65,7 +65,7 @@ fn start_of(bytes: &[u8]) -> Result<(u32, &[u8]), ReadError>
     ensures { Gives (λ x. (x.0, x.1.now)) result (start_at bytes.now) }
 {
     let (start, rest) = u32_at(bytes)?;
-    if start > Commitment::LAST_START {
+    if start > LAST_HOUR {
         return Err(ReadError::Corrupt(bytes.len()));
     }
     Ok((start, rest))

@@ -1,5 +1,6 @@
 use Rattle.std.proofs.Common.{◌≤◌, length, arith}
 use Rattle.fw_columns.specs.Parts.{lists_there}
+use Rattle.fw_columns.specs.Table.{most_column_rows}
 use Rattle.fw_columns.proofs.PartColumns.{lists_within, some_rows, are_columns_of_rows}
 use Rattle.fw_columns.proofs.checking.are_columns.Goals as goal
 
@@ -12,5 +13,5 @@ returns-clause-some c = λ h. some_rows c.args.table.now (λ e. c.if-count-eq0.f
 pub returns-clause-columns : goal.returns-clause-columns
 returns-clause-columns c = λ h.
     let t = c.args.table.now in
-    let few : length t.billed.items ≤ 65536 = omega (arith, c.if-count-gt65536.false, c.len-count.ensures) in
+    let few : length t.billed.items ≤ most_column_rows = omega (arith, c.if-count-gt-MOST_ROWS.false, c.len-count.ensures) in
     are_columns_of_rows t (c.have_length.ensures c.if-not-have_length.false) c.requires.numbered (c.are_tag_lists.ensures c.if-not-are_tag_lists.false) (c.have_rows.ensures h) c.len-names.ensures.each_once few c.requires.few

@@ -1,11 +1,11 @@
 use Rattle.std.proofs.Common.{◌≡◌, ◌*◌, ◌/◌, ◌≤◌, codes, subst, arith}
 use Rattle.fw_toml.specs.Tree.{stated}
-use Rattle.fw_terms.specs.Commitment.{last_hour}
 use Rattle.fw_commitment.specs.Fields.{HasHour, HasSecond}
 use Rattle.fw_commitment.proofs.RuleFacts.{alone-fits, alone-missing}
 use Rattle.fw_commitment.proofs.ValueFacts.{second-one}
 use Rattle.fw_commitment.specs.declared.fault.CommitmentField.TheVariants as field
 use Rattle.fw_commitment.proofs.id_and_term.start.Goals as goal
+use Rattle.fw_charge.specs.Charge.{last_hour}
 
 pub returns-in_default : goal.returns-in_default
 returns-in_default c = λ _.
