@@ -15,7 +15,7 @@ use crate::fault::QueryFault;
 use crate::hours::{RowPlace, rows_by_hour};
 use crate::marks::touched_hours;
 use crate::query::MOST_HOURS;
-use crate::segments::{rows_at, segments_of};
+use crate::segments::rows_at;
 use crate::tally::{Tally, no_tallies, with_hour};
 use fw_columns::Columns;
 use fw_cover::Roster;
@@ -61,7 +61,7 @@ fn coverage_on(
 {
     // each entry was accepted, so no row has the id of a commitment
     let _entries = state.entries();
-    let segments = segments_of(alloc, state.segments())?;
+    let segments = state.segments().references(alloc)?;
     coverage_of(
         alloc,
         segments.as_slice(),

@@ -17,7 +17,7 @@ use crate::hours::{RowPlace, is_touched, rows_by_hour};
 use crate::line_text::{write_lines, write_names};
 use crate::marks::every_hour;
 use crate::query::MOST_HOURS;
-use crate::segments::{rows_at, segments_of};
+use crate::segments::rows_at;
 use csv::{Writer, WriterBuilder};
 use fw_amortise::lines_by_roster;
 use fw_columns::{Columns, LentRow};
@@ -58,7 +58,7 @@ fn lines_csv_on(
     requires { from + hours < 2 ^ 64 }
     ensures { IfOk result (λ text. IsListing (commitments_of state.now.entries) (rows_of state.now.entries) from hours text.items) }
 {
-    let segments = segments_of(alloc, state.segments())?;
+    let segments = state.segments().references(alloc)?;
     lines_csv_of(
         alloc,
         segments.as_slice(),

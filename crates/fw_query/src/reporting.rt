@@ -13,7 +13,6 @@ use crate::entries::{Entry, Report};
 use crate::fault::QueryFault;
 use crate::groups::Groups;
 use crate::query::Query;
-use crate::segments::segments_of;
 use crate::total::first_past;
 use fw_columns::Columns;
 use fw_cover::Roster;
@@ -49,7 +48,7 @@ fn report_on(alloc: Global, state: &State, query: &Query<'_>) -> Result<Report, 
     ensures report { IfOk result (IsReport (commitments_of state.now.entries) (rows_of state.now.entries) (policy_of state.now.entries) query.now.key.now query.now.from_hour query.now.to_hour) }
     ensures fault { IfErr result (IsRefused (commitments_of state.now.entries) (rows_of state.now.entries) query.now.key.now query.now.from_hour query.now.to_hour) }
 {
-    let segments = segments_of(alloc, state.segments())?;
+    let segments = state.segments().references(alloc)?;
     report_of(
         alloc,
         segments.as_slice(),

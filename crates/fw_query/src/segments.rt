@@ -4,22 +4,7 @@ ghost use Rattle.fw_query.specs.Hours.{IsThere, lent, rows_at};
 
 use crate::hours::RowPlace;
 use fw_columns::{Columns, LentRow};
-use fw_persistent::Sequence;
 use std::alloc::{AllocError, Global};
-
-// References to the segments of a sequence.
-pub(crate) fn segments_of(
-    alloc: Global,
-    sequence: &Sequence<Columns>,
-) -> Result<Vec<&Columns>, AllocError>
-    ensures { IfOk result (λ segments. lent segments.items ≡ sequence.now) }
-{
-    let mut segments = Vec::with_capacity(alloc, sequence.len())?;
-    for number in 0..sequence.len() {
-        segments.push(sequence.get(number))?;
-    }
-    Ok(segments)
-}
 
 // The rows at places, lent.
 pub(crate) fn rows_at<'s>(
