@@ -1,4 +1,4 @@
 pub mod CountFacts
-pub mod HeaderFacts
+pub mod FieldFacts
 pub mod FaultFacts
 pub mod AnswerFacts

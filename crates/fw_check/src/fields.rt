@@ -1,7 +1,7 @@
 //! The fields of a record by column.
-ghost use Rattle.std.specs.Prelude.{◌≡◌, ◌<◌, length, get_or, [], option_map};
+ghost use Rattle.std.specs.Prelude.{◌≡◌, [], option_map};
 ghost use Rattle.csv.specs.Records.{fields_of};
-ghost use Rattle.fw_rows.specs.Columns.{is_name, place_in, text_in};
+ghost use Rattle.fw_rows.specs.Columns.{place_in, text_in};
 
 use csv::{ByteRecord, ReaderBuilder};
 use fw_rows::Column;
@@ -20,35 +20,12 @@ pub(crate) fn first_record(alloc: Global, text: &[u8]) -> Result<ByteRecord, All
     }
 }
 
-/// Where a column stands in a header.
-pub(crate) fn place_of(header: &ByteRecord, column: Column) -> Option<usize>
-    ensures { result ≡ place_in (fields_of header.now) column }
-{
-    for place in 0..header.len() {
-        if is_named(header, place, column) {
-            return Some(place);
-        }
-    }
-    None
-}
-
-// Whether the field of a header at a place is the name of a column.
-fn is_named(header: &ByteRecord, place: usize, column: Column) -> bool
-    requires { place < length (fields_of header.now) }
-    ensures { result ≡ is_name column (get_or (fields_of header.now) place []) }
-{
-    match header.get(place) {
-        Some(name) => column.name().as_bytes() == name,
-        None => false,
-    }
-}
-
 /// The bytes of a record in a column: none where the header doesn't have the column, or the record no such field.
-#[tactic(auto, using(crate::proofs::HeaderFacts::lent_field), unfolding(fw_rows::specs::Columns::text_in))]
+#[tactic(auto, using(crate::proofs::FieldFacts::lent_field), unfolding(fw_rows::specs::Columns::text_in))]
 pub(crate) fn bytes_in<'r>(header: &ByteRecord, fields: &'r ByteRecord, column: Column) -> &'r [u8]
     ensures { result.now ≡ text_in (fields_of header.now) (fields_of fields.now) column }
 {
-    match place_of(header, column) {
+    match column.place_in(header) {
         Some(place) => fields.get(place).unwrap_or(b""),
         None => b"",
     }

@@ -1,5 +1,5 @@
 //! A record with one field made harmless, so that the next fault shows.
-use crate::fields::{bytes_in, place_of, text_in};
+use crate::fields::{bytes_in, text_in};
 use csv::ByteRecord;
 use fw_rows::{Column, Currency};
 use std::alloc::{AllocError, Global};
@@ -37,7 +37,7 @@ pub(crate) fn repaired(
     column: Column,
     currency: &Currency,
 ) -> Result<Vec<u8>, AllocError> {
-    let place = place_of(header, column);
+    let place = column.place_in(header);
     let mut text = Vec::new(alloc);
     for at in 0..record.len() {
         let value = if Some(at) == place {
