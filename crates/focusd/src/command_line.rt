@@ -18,6 +18,12 @@ pub(crate) const CREATE: &str = "create";
 /// The id of the option that prints no progress.
 pub(crate) const QUIET: &str = "quiet";
 
+/// The id of the option that names the format of an answer.
+pub(crate) const FORMAT: &str = "format";
+
+/// The id of the argument that names files.
+pub(crate) const FILES: &str = "files";
+
 /// The version, which `--version` prints: the first number changes with what the program reads or writes.
 const VERSION: &str = "0.1.0";
 
@@ -43,6 +49,38 @@ const EXAMPLE: &str = "Example:
 /// The option that names the folder of the warehouse.
 pub(crate) fn dir_option<'a>(alloc: Global) -> Arg<'a> {
     Arg::new(alloc, DIR).long("dir").value_name("DIR")
+}
+
+/// The option that names the folder of the warehouse, where it has to be given.
+pub(crate) fn folder_option<'a>(alloc: Global) -> Arg<'a> {
+    dir_option(alloc)
+        .required(true)
+        .help("The folder of the warehouse")
+}
+
+/// The option that names the format of an answer, one of these words.
+pub(crate) fn format_option<'a>(
+    alloc: Global,
+    formats: &'a [&'a str],
+    default: &'a str,
+    help: &'a str,
+) -> Arg<'a> {
+    Arg::new(alloc, FORMAT)
+        .long("format")
+        .value_name("FORMAT")
+        .default_value(default)
+        .value_parser(formats)
+        .help(help)
+}
+
+/// The argument that names a file or more.
+pub(crate) fn files_argument<'a>(alloc: Global, help: &'a str) -> Arg<'a> {
+    Arg::new(alloc, FILES)
+        .value_name("FILE")
+        .required(true)
+        .num_args(1..)
+        .action(ArgAction::Append)
+        .help(help)
 }
 
 /// The option that names the currency of a warehouse that is created.
@@ -83,13 +121,10 @@ pub(crate) fn folder_command<'a>(
     about: &'a str,
     example: &'a str,
 ) -> Result<Command<'a>, AllocError> {
-    let folder = dir_option(alloc)
-        .required(true)
-        .help("The folder of the warehouse");
     Command::new(alloc, name)
         .about(about)
         .after_help(example)
-        .arg(folder)
+        .arg(folder_option(alloc))
 }
 
 /// The command line of the program.

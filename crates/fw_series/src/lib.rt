@@ -24,4 +24,4 @@ pub use lines::{Line, lines_of};
 pub use series::{Part, Series, series_of};
 pub use sums::{Sums, sums_of};
 pub use top::most_charged;
-pub use view::{Form, View, written};
+pub use view::{SeriesFormat, View, written};

@@ -7,9 +7,9 @@ use crate::table::table_of;
 use fw_calendar::Step;
 use std::alloc::{AllocError, Global};
 
-/// How an answer is written.
+/// How a series is written.
 #[derive(Clone, Copy, Debug, Drop, PartialEq, Eq)]
-pub enum Form {
+pub enum SeriesFormat {
     /// Columns that line up, in cents.
     Table,
     /// Records, exact to the nano.
@@ -37,17 +37,17 @@ pub struct View<'v> {
     pub top: Option<usize>,
 }
 
-/// A series in a form. The one error is that memory ran out, or that a sum of groups passes 128 bits.
+/// A series in a format. The one error is that memory ran out, or that a sum of groups passes 128 bits.
 pub fn written(
     alloc: Global,
     series: &Series,
     view: &View<'_>,
-    form: Form,
+    format: SeriesFormat,
 ) -> Result<Vec<u8>, AllocError> {
-    match form {
-        Form::Table => Ok(table_of(alloc, series, view)?.into_bytes()),
-        Form::Csv => csv_text(alloc, series, view),
-        Form::Json => Ok(json_text(alloc, series, view)?.into_bytes()),
-        Form::Html => page_text(alloc, series, view),
+    match format {
+        SeriesFormat::Table => Ok(table_of(alloc, series, view)?.into_bytes()),
+        SeriesFormat::Csv => csv_text(alloc, series, view),
+        SeriesFormat::Json => Ok(json_text(alloc, series, view)?.into_bytes()),
+        SeriesFormat::Html => page_text(alloc, series, view),
     }
 }

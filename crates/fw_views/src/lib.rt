@@ -14,4 +14,4 @@ mod tables;
 pub use covered::coverage_text;
 pub use questions::{Question, answer};
 pub use report::{Format, report_text};
-pub use series::Layout;
+pub use series::SeriesOptions;

@@ -11,7 +11,7 @@ ghost use Rattle.fw_views.specs.declared.report.Format.TheVariants.{Csv};
 
 use crate::covered::coverage_text;
 use crate::report::{Format, report_text};
-use crate::series::{Layout, series_text};
+use crate::series::{SeriesOptions, series_text};
 use crate::status::{sound_text, status_text};
 use fw_disk::Volume;
 use fw_query::{Query, QueryFault, lines_csv};
@@ -24,7 +24,7 @@ pub enum Question<'q> {
     /// What each group of a tag cost.
     Report { query: Query<'q>, format: Format },
     /// What each group of a tag cost, by period, or of the groups that are charged most, or for programs and browsers.
-    Series { query: Query<'q>, layout: Layout },
+    Series { query: Query<'q>, options: SeriesOptions },
     /// Each line behind the costs of the hours from `from` up to, not including, `to`, counted from 1970.
     Lines { from: u64, to: u64 },
     /// How well each commitment was used in the hours from `from` up to, not including, `to`, counted from 1970.
@@ -47,7 +47,7 @@ pub fn answer<V: Volume>(
 {
     match question {
         Question::Report { query, format } => report_text(alloc, store.state(), query, *format),
-        Question::Series { query, layout } => series_text(alloc, store.state(), query, layout),
+        Question::Series { query, options } => series_text(alloc, store.state(), query, options),
         Question::Lines { from, to } => lines_csv(alloc, store.state(), *from, *to),
         Question::Coverage { from, to, format } => {
             coverage_text(alloc, store.state(), *from, *to, *format)

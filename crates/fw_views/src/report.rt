@@ -11,7 +11,7 @@ use fw_query::{Query, QueryFault, report, report_csv};
 use fw_snapshot::Snapshot;
 use std::alloc::Global;
 
-/// How an answer is written.
+/// How a report or a coverage is written.
 #[derive(Clone, Copy, Debug, Drop, PartialEq, Eq)]
 pub enum Format {
     /// Columns that line up, in cents.

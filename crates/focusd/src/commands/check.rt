@@ -1,10 +1,10 @@
 //! `focusd check`: all faults of CSV exports, and what is in them.
-use crate::command_line::{QUIET, quiet_option};
+use crate::command_line::{FILES, FORMAT, QUIET, files_argument, format_option, quiet_option};
 use crate::fault::Fault;
 use crate::output::print_answer;
 use crate::progress::Progress;
 use crate::wrong_use;
-use clap::{Arg, ArgAction, ArgMatches, Command};
+use clap::{Arg, ArgMatches, Command};
 use fw_check::{Checker, as_json, as_text};
 use fw_cut::{CutFault, Cutter};
 use fw_rows::{Currency, RowFault};
@@ -12,10 +12,6 @@ use std::alloc::{AllocError, Global};
 use std::fs;
 use std::io::Read;
 use std::process::ExitCode;
-
-const FILES: &str = "files";
-
-const FORMAT: &str = "format";
 
 const CURRENCY: &str = "currency";
 
@@ -34,18 +30,16 @@ Exit status: 0 where no file has a fault, 1 where one has or can't be read, 2 wh
 
 /// The command's part of the command line.
 pub(crate) fn command<'a>(alloc: Global) -> Result<Command<'a>, AllocError> {
-    let files = Arg::new(alloc, FILES)
-        .value_name("FILE")
-        .required(true)
-        .num_args(1..)
-        .action(ArgAction::Append)
-        .help("A CSV with the columns of FOCUS 1.0, or `-` for standard input");
-    let format = Arg::new(alloc, FORMAT)
-        .long("format")
-        .value_name("FORMAT")
-        .default_value("text")
-        .value_parser(FORMATS.as_slice())
-        .help("How the answer is written");
+    let files = files_argument(
+        alloc,
+        "A CSV with the columns of FOCUS 1.0, or `-` for standard input",
+    );
+    let format = format_option(
+        alloc,
+        FORMATS.as_slice(),
+        "text",
+        "How the answer is written",
+    );
     let currency = Arg::new(alloc, CURRENCY)
         .long("currency")
         .value_name("CUR")

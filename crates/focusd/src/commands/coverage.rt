@@ -1,15 +1,12 @@
 //! `focusd coverage`: how well commitments were used in a range of time.
 use crate::ask::ask;
-use crate::command_line::dir_option;
+use crate::command_line::{FORMAT, folder_option, format_option};
 use crate::fault::Fault;
-use crate::range::{FROM, TO, read_range, time_option, wrong_time};
-use clap::{Arg, ArgMatches, Command};
+use crate::range::{read_range, with_range, wrong_time};
+use clap::{ArgMatches, Command};
 use fw_views::{Format, Question};
 use std::alloc::{AllocError, Global};
 use std::process::ExitCode;
-
-/// The id of the option that names the format.
-const FORMAT: &str = "format";
 
 /// The formats of a coverage.
 const FORMATS: [&str; 2] = ["table", "csv"];
@@ -30,26 +27,16 @@ Example: which commitments were paid for and not used in January 2024
 
 /// The command's part of the command line.
 pub(crate) fn command<'a>(alloc: Global) -> Result<Command<'a>, AllocError> {
-    let folder = dir_option(alloc)
-        .required(true)
-        .help("The folder of the warehouse");
-    let format = Arg::new(alloc, FORMAT)
-        .long("format")
-        .value_name("FORMAT")
-        .default_value("table")
-        .value_parser(FORMATS.as_slice())
-        .help("How the coverage is written");
-    Command::new(alloc, "coverage")
+    let command = Command::new(alloc, "coverage")
         .about("Shows how well commitments were used in a range of time")
         .after_help(EXAMPLE)
-        .arg(folder)?
-        .arg(time_option(alloc, FROM, "When the range begins"))?
-        .arg(time_option(
-            alloc,
-            TO,
-            "When the range ends; the hour that begins then is not in it",
-        ))?
-        .arg(format)
+        .arg(folder_option(alloc))?;
+    with_range(alloc, command)?.arg(format_option(
+        alloc,
+        FORMATS.as_slice(),
+        "table",
+        "How the coverage is written",
+    ))
 }
 
 /// Prints the coverage that the options ask for.

@@ -1,12 +1,13 @@
 //! `focusd import`: CSV exports of any length are taken into a warehouse.
 use crate::advice::advised;
 use crate::command_line::{
-    CREATE, DIR, QUIET, create_option, currency_option, dir_option, quiet_option, read_currency,
+    CREATE, DIR, FILES, QUIET, create_option, currency_option, files_argument, folder_option,
+    quiet_option, read_currency,
 };
 use crate::fault::Fault;
 use crate::progress::Progress;
 use crate::wrong_use;
-use clap::{Arg, ArgAction, ArgMatches, Command};
+use clap::{Arg, ArgMatches, Command};
 use fw_check::{line_feeds, locate};
 use fw_cut::{CutFault, Cutter, Part};
 use fw_disk::{FileVolume, Volume};
@@ -21,8 +22,6 @@ use std::io::Read;
 use std::process::ExitCode;
 
 const ORIGIN: &str = "origin";
-
-const FILES: &str = "files";
 
 const HELP: &str =
     "The records of each FILE are posted in order, as many as a post can have: 4,096 rows, and 2 MiB of the file. `-` is
@@ -52,20 +51,14 @@ pub(crate) fn command<'a>(alloc: Global) -> Result<Command<'a>, AllocError> {
         .value_name("NAME")
         .required(true)
         .help("Who sends the rows");
-    let files = Arg::new(alloc, FILES)
-        .value_name("FILE")
-        .required(true)
-        .num_args(1..)
-        .action(ArgAction::Append)
-        .help("A CSV with the columns of FOCUS 1.0, or `-` for standard input");
+    let files = files_argument(
+        alloc,
+        "A CSV with the columns of FOCUS 1.0, or `-` for standard input",
+    );
     Command::new(alloc, "import")
         .about("Takes CSV exports of any length into a warehouse")
         .after_help(HELP)
-        .arg(
-            dir_option(alloc)
-                .required(true)
-                .help("The folder of the warehouse"),
-        )?
+        .arg(folder_option(alloc))?
         .arg(create_option(
             alloc,
             "Creates a warehouse where the folder, which has to be there, holds none",

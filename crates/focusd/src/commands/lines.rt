@@ -1,8 +1,8 @@
 //! `focusd lines`: each line behind the costs of a range of time.
 use crate::ask::ask;
-use crate::command_line::dir_option;
+use crate::command_line::folder_option;
 use crate::fault::Fault;
-use crate::range::{FROM, TO, read_range, time_option, wrong_time};
+use crate::range::{read_range, with_range, wrong_time};
 use clap::{ArgMatches, Command};
 use fw_views::Question;
 use std::alloc::{AllocError, Global};
@@ -22,19 +22,11 @@ Example: what one day cost, line by line
 
 /// The command's part of the command line.
 pub(crate) fn command<'a>(alloc: Global) -> Result<Command<'a>, AllocError> {
-    let folder = dir_option(alloc)
-        .required(true)
-        .help("The folder of the warehouse");
-    Command::new(alloc, "lines")
+    let command = Command::new(alloc, "lines")
         .about("Lists what a range of time cost, line by line, as CSV")
         .after_help(EXAMPLE)
-        .arg(folder)?
-        .arg(time_option(alloc, FROM, "When the range begins"))?
-        .arg(time_option(
-            alloc,
-            TO,
-            "When the range ends; the hour that begins then is not in it",
-        ))
+        .arg(folder_option(alloc))?;
+    with_range(alloc, command)
 }
 
 /// Prints the lines of the range that the options name.

@@ -1,10 +1,12 @@
 //! `focusd load`: files are loaded side by side.
 use crate::advice::advised;
-use crate::command_line::{CREATE, DIR, create_option, currency_option, dir_option, read_currency};
+use crate::command_line::{
+    CREATE, DIR, FILES, create_option, currency_option, dir_option, files_argument, read_currency,
+};
 use crate::fault::Fault;
 use crate::progress::FileProgress;
 use crate::wrong_use;
-use clap::{Arg, ArgAction, ArgMatches, Command, value_parser};
+use clap::{Arg, ArgMatches, Command, value_parser};
 use fw_disk::{Choice, FileVolume, MemVolume, Volume};
 use fw_load::{Job, load};
 use fw_recover::{Store, StoreFault};
@@ -19,8 +21,6 @@ use std::{fs, io};
 const ORIGIN: &str = "origin";
 
 const ANALYSTS: &str = "analysts";
-
-const FILES: &str = "files";
 
 /// The most bytes of a file.
 const MOST_BYTES: usize = 1 << 30;
@@ -63,12 +63,7 @@ pub(crate) fn command<'a>(alloc: Global) -> Result<Command<'a>, AllocError> {
         .value_name("NAME")
         .default_value("f")
         .help("The first part of the names of the origins");
-    let files = Arg::new(alloc, FILES)
-        .value_name("FILE")
-        .required(true)
-        .num_args(1..)
-        .action(ArgAction::Append)
-        .help("A CSV with the columns of FOCUS 1.0");
+    let files = files_argument(alloc, "A CSV with the columns of FOCUS 1.0");
     Command::new(alloc, "load")
         .about("Takes up to 64 CSV files into a warehouse side by side")
         .after_help(HELP)

@@ -1,21 +1,18 @@
 //! `focusd report`: what each group of a tag cost in a range of time.
 use crate::ask::ask;
-use crate::command_line::dir_option;
+use crate::command_line::{FORMAT, folder_option, format_option};
 use crate::fault::Fault;
-use crate::range::{FROM, TO, read_range, time_option, wrong_time};
+use crate::range::{read_range, with_range, wrong_time};
 use clap::{Arg, ArgMatches, Command};
 use fw_calendar::Step;
 use fw_query::Query;
-use fw_series::Form;
-use fw_views::{Format, Layout, Question};
+use fw_series::SeriesFormat;
+use fw_views::{Format, Question, SeriesOptions};
 use std::alloc::{AllocError, Global};
 use std::process::ExitCode;
 
 /// The id of the option that names the tag.
 const TAG: &str = "tag";
-
-/// The id of the option that names the format.
-const FORMAT: &str = "format";
 
 /// The id of the option that cuts the range into periods.
 const BY: &str = "by";
@@ -60,20 +57,11 @@ Examples:
 
 /// The command's part of the command line.
 pub(crate) fn command<'a>(alloc: Global) -> Result<Command<'a>, AllocError> {
-    let folder = dir_option(alloc)
-        .required(true)
-        .help("The folder of the warehouse");
     let tag = Arg::new(alloc, TAG)
         .long("tag")
         .value_name("KEY")
         .required(true)
         .help("The tag whose values are the groups");
-    let format = Arg::new(alloc, FORMAT)
-        .long("format")
-        .value_name("FORMAT")
-        .default_value("table")
-        .value_parser(FORMATS.as_slice())
-        .help("How the report is written");
     let by = Arg::new(alloc, BY)
         .long("by")
         .value_name("PERIOD")
@@ -82,20 +70,20 @@ pub(crate) fn command<'a>(alloc: Global) -> Result<Command<'a>, AllocError> {
     let top = Arg::new(alloc, TOP).long("top").value_name("N").help(
         "Shows the N groups that are charged most, and the sums of all others: 1 to 1,000",
     );
-    Command::new(alloc, "report")
+    let command = Command::new(alloc, "report")
         .about("Sums the costs of a range of time by the values of a tag")
         .after_help(EXAMPLE)
-        .arg(folder)?
-        .arg(tag)?
-        .arg(time_option(alloc, FROM, "When the range begins"))?
-        .arg(time_option(
-            alloc,
-            TO,
-            "When the range ends; the hour that begins then is not in it",
-        ))?
+        .arg(folder_option(alloc))?
+        .arg(tag)?;
+    with_range(alloc, command)?
         .arg(by)?
         .arg(top)?
-        .arg(format)
+        .arg(format_option(
+            alloc,
+            FORMATS.as_slice(),
+            "table",
+            "How the report is written",
+        ))
 }
 
 /// Prints the report that the options ask for.
@@ -117,27 +105,27 @@ pub(crate) fn run(rt: &HostRuntime, options: &ArgMatches<'_>) -> Result<ExitCode
         },
         None => None,
     };
-    let layout = Layout {
+    let series = SeriesOptions {
         step: step_of(options.get_str(BY)),
         top,
-        form: form_of(options.get_str(FORMAT)),
+        format: format_of(options.get_str(FORMAT)),
     };
-    Ok(ask(rt, options, &question_of(query, layout)))
+    Ok(ask(rt, options, &question_of(query, series)))
 }
 
-// The question that a query and a layout come to: a plain report where nothing else is asked for.
-fn question_of<'q>(query: Query<'q>, layout: Layout) -> Question<'q> {
-    let is_plain = layout.step.is_none() && layout.top.is_none();
-    match layout.form {
-        Form::Table if is_plain => Question::Report {
+// The question that a query and options come to: a plain report where nothing else is asked for.
+fn question_of<'q>(query: Query<'q>, options: SeriesOptions) -> Question<'q> {
+    let is_plain = options.step.is_none() && options.top.is_none();
+    match options.format {
+        SeriesFormat::Table if is_plain => Question::Report {
             query,
             format: Format::Table,
         },
-        Form::Csv if is_plain => Question::Report {
+        SeriesFormat::Csv if is_plain => Question::Report {
             query,
             format: Format::Csv,
         },
-        _ => Question::Series { query, layout },
+        _ => Question::Series { query, options },
     }
 }
 
@@ -151,13 +139,13 @@ fn step_of(word: Option<&str>) -> Option<Step> {
     }
 }
 
-// The form that a word of `--format` names.
-fn form_of(word: Option<&str>) -> Form {
+// The format that a word of `--format` names.
+fn format_of(word: Option<&str>) -> SeriesFormat {
     match word {
-        Some("csv") => Form::Csv,
-        Some("json") => Form::Json,
-        Some("html") => Form::Html,
-        _ => Form::Table,
+        Some("csv") => SeriesFormat::Csv,
+        Some("json") => SeriesFormat::Json,
+        Some("html") => SeriesFormat::Html,
+        _ => SeriesFormat::Table,
     }
 }
 
