@@ -1,12 +1,12 @@
 //! All posts are answered, and each view has what its analyst learned.
 ghost use Rattle.std.specs.Prelude.{◌≡◌};
 
-use crate::ends::{Held, Left, created, memory, outcome_of, post};
+use crate::ends::{Held, Left, created, ends_of, memory, outcome_of, post};
 use crate::seats::{ALL, IMPORTERS, Seats, Tally};
 use fw_disk::MemVolume;
 use fw_group::Answer;
 use fw_recover::StoreFault;
-use fw_threads::{Naming, Opened, Parts, Published, split};
+use fw_threads::{Naming, Opened, Published};
 use std::alloc::Global;
 use std::marker::Brand;
 use std::process::Abort;
@@ -91,27 +91,16 @@ fn seated<'a, J: Naming, R: Wait>(
     requires { (opened.fronts ≡ J.fronts) × (opened.posts ≡ J.posts) }
 {
     let store = created(alloc, memory(alloc))?;
-    match split::<J, MemVolume, R>(rt, alloc, opened, store, IMPORTERS, 1) {
-        Ok(parts) => {
-            let Parts {
-                importers,
-                flusher,
-                mut analysts,
-            } = parts;
-            let held = Held { flusher, rt };
-            let Some(analyst) = analysts.pop() else {
-                return Err(Fail::from("analyst"));
-            };
-            let seats = Seats {
-                alloc,
-                importers: Mutex::new(importers),
-                analyst: Mutex::new(analyst),
-                tally: Mutex::new(Tally::new()),
-            };
-            Ok((held, seats))
-        }
-        Err((_, fault)) => Err(Fail::from(fault)),
-    }
+    let (held, importers, analyst) = ends_of::<J, MemVolume, R>(
+        rt, alloc, opened, store, IMPORTERS,
+    )?;
+    let seats = Seats {
+        alloc,
+        importers: Mutex::new(importers),
+        analyst: Mutex::new(analyst),
+        tally: Mutex::new(Tally::new()),
+    };
+    Ok((held, seats))
 }
 
 // Whether all went as it has to.

@@ -1,4 +1,6 @@
 //! What the tests run on each thread.
+ghost use Rattle.std.specs.Prelude.{◌≡◌};
+
 use fw_charge::Currency;
 use fw_disk::{Choice, MemVolume, Volume};
 use fw_entry_bytes::Form;
@@ -6,7 +8,10 @@ use fw_group::Answer;
 use fw_recover::{Store, StoreFault};
 use fw_segment::decode_entry;
 use fw_snapshot::Entry;
-use fw_threads::{CommitFault, Flusher, Importer, Naming, Published, Taken};
+use fw_threads::{
+    Analyst, CommitFault, Flusher, Importer, Naming, Opened, Parts, Published, SplitFault, Taken,
+    split,
+};
 use std::alloc::Global;
 use std::sync::Wait;
 
@@ -82,6 +87,36 @@ pub(crate) fn created<V: Volume + Drop>(alloc: Global, volume: V) -> Result<Stor
     };
     match Store::create(alloc, volume, currency) {
         Ok(store) => Ok(store),
+        Err((_, fault)) => Err(fault),
+    }
+}
+
+/// The flusher, the importers and the analyst of a warehouse.
+pub(crate) type Ends<'a, J, V, R> = (Held<'a, J, V, R>, Vec<Importer<J>>, Analyst<J>);
+
+/// Takes a store apart into a flusher, so many importers, and an analyst.
+pub(crate) fn ends_of<'a, J: Naming, V: Volume + Drop, R: Wait>(
+    rt: &'a R,
+    alloc: Global,
+    opened: Opened,
+    store: Store<V>,
+    importers: usize,
+) -> Result<Ends<'a, J, V, R>, SplitFault>
+    requires { (opened.fronts ≡ J.fronts) × (opened.posts ≡ J.posts) }
+{
+    match split::<J, V, R>(rt, alloc, opened, store, importers, 1) {
+        Ok(parts) => {
+            let Parts {
+                importers,
+                flusher,
+                mut analysts,
+            } = parts;
+            let held = Held { flusher, rt };
+            match analysts.pop() {
+                Some(analyst) => Ok((held, importers, analyst)),
+                None => Err(SplitFault::Counts),
+            }
+        }
         Err((_, fault)) => Err(fault),
     }
 }

@@ -2,12 +2,12 @@
 ghost use Rattle.std.specs.Prelude.{◌≡◌};
 ghost use Rattle.fw_gate.specs.Gate.{one_more};
 
-use crate::ends::{Held, Left, Told, created, memory, outcome_of, post};
+use crate::ends::{Held, Left, Told, created, ends_of, memory, outcome_of, post};
 use fw_disk::{MemVolume, Volume};
 use fw_gate::{Gate, GateVolume};
 use fw_group::Answer;
 use fw_recover::StoreFault;
-use fw_threads::{Analyst, Importer, Naming, Opened, Parts, split};
+use fw_threads::{Analyst, Importer, Naming, Opened};
 use std::alloc::Global;
 use std::marker::Brand;
 use std::process::Abort;
@@ -175,20 +175,12 @@ fn gated_ends<'a, J: Naming, R: Wait>(
     };
     let volume = GateVolume::new(memory(alloc), gate);
     let store = created(alloc, volume)?;
-    match split::<J, GateVolume<MemVolume, Waits>, R>(rt, alloc, opened, store, 1, 1) {
-        Ok(parts) => {
-            let Parts {
-                mut importers,
-                flusher,
-                mut analysts,
-            } = parts;
-            let held = Held { flusher, rt };
-            match (importers.pop(), analysts.pop()) {
-                (Some(importer), Some(analyst)) => Ok((held, importer, analyst)),
-                _ => Err(Fail::from("ends")),
-            }
-        }
-        Err((_, fault)) => Err(Fail::from(fault)),
+    let (held, mut importers, analyst) = ends_of::<J, GateVolume<MemVolume, Waits>, R>(
+        rt, alloc, opened, store, 1,
+    )?;
+    match importers.pop() {
+        Some(importer) => Ok((held, importer, analyst)),
+        None => Err(Fail::from("importer")),
     }
 }
 

@@ -1,10 +1,10 @@
 //! Repeats, a device that fails, and a flusher that closes while items wait.
 ghost use Rattle.std.specs.Prelude.{◌≡◌};
 
-use crate::ends::{Held, Told, created, memory, outcome_of, post};
+use crate::ends::{Held, Told, created, ends_of, memory, outcome_of, post};
 use fw_disk::{FaultVolume, MemVolume, Mode, Volume};
 use fw_recover::StoreFault;
-use fw_threads::{Importer, Naming, Opened, Parts, split};
+use fw_threads::{Importer, Naming, Opened};
 use std::alloc::Global;
 use std::marker::Brand;
 use std::process::Abort;
@@ -72,20 +72,10 @@ fn ends<'a, J: Naming, V: Volume + Drop, R: Wait>(
     requires { (opened.fronts ≡ J.fronts) × (opened.posts ≡ J.posts) }
 {
     let store = created(alloc, volume)?;
-    match split::<J, V, R>(rt, alloc, opened, store, 2, 1) {
-        Ok(parts) => {
-            let Parts {
-                mut importers,
-                flusher,
-                analysts: _,
-            } = parts;
-            let held = Held { flusher, rt };
-            match (importers.pop(), importers.pop()) {
-                (Some(one), Some(other)) => Ok((held, (one, other))),
-                _ => Err(Fail::from("importers")),
-            }
-        }
-        Err((_, fault)) => Err(Fail::from(fault)),
+    let (held, mut importers, _analyst) = ends_of::<J, V, R>(rt, alloc, opened, store, 2)?;
+    match (importers.pop(), importers.pop()) {
+        (Some(one), Some(other)) => Ok((held, (one, other))),
+        _ => Err(Fail::from("importers")),
     }
 }
 

@@ -1,12 +1,12 @@
 //! A report takes about as long while importers post as at rest, and says the same.
 ghost use Rattle.std.specs.Prelude.{◌≡◌};
 
-use crate::ends::{Held, Left, created, decoded, outcome_of, post};
+use crate::ends::{Held, Left, created, decoded, ends_of, outcome_of, post};
 use crate::seats::{IMPORTERS, Posting, Signs};
 use fw_disk::{Choice, MemVolume};
 use fw_query::{Query, Report, report, report_csv};
 use fw_recover::{Store, StoreFault};
-use fw_threads::{Analyst, Naming, Opened, Parts, split};
+use fw_threads::{Analyst, Naming, Opened};
 use std::alloc::{AllocError, Global};
 use std::marker::Brand;
 use std::process::Abort;
@@ -282,26 +282,15 @@ fn seated<'a, J: Naming, R: Wait>(
     requires { (opened.fronts ≡ J.fronts) × (opened.posts ≡ J.posts) }
 {
     let store = filled(alloc)?;
-    match split::<J, MemVolume, R>(rt, alloc, opened, store, IMPORTERS, 1) {
-        Ok(parts) => {
-            let Parts {
-                importers,
-                flusher,
-                mut analysts,
-            } = parts;
-            let held = Held { flusher, rt };
-            let Some(analyst) = analysts.pop() else {
-                return Err(Fail::from("analyst"));
-            };
-            let posting = Posting {
-                alloc,
-                importers: Mutex::new(importers),
-                signs: Signs::new(),
-            };
-            Ok((held, posting, analyst))
-        }
-        Err((_, fault)) => Err(Fail::from(fault)),
-    }
+    let (held, importers, analyst) = ends_of::<J, MemVolume, R>(
+        rt, alloc, opened, store, IMPORTERS,
+    )?;
+    let posting = Posting {
+        alloc,
+        importers: Mutex::new(importers),
+        signs: Signs::new(),
+    };
+    Ok((held, posting, analyst))
 }
 
 // Whether all posts were accepted and are stored.
