@@ -234,10 +234,10 @@ checkpoint_caused : (before : Standing) (text : List ℕ) (after : Standing) →
 unfolding Checkpoints
 checkpoint_caused before text after (inl failed) = by_failure before checkpoint text after failed.0 failed.1
 checkpoint_caused before text after (inr (inl last)) = inr (inr (inr (inl (ap store_code last.2.0 ∙ generations_code, refl, last.1, last.2.1))))
-checkpoint_caused before text after (inr (inr (works, inl made))) = by_other before checkpoint text _ after made.3 checkpointed_silent
-checkpoint_caused before text after (inr (inr (works, inr (inl full)))) = by_limit before checkpoint text after full.0 (inr (refl, full.1))
-checkpoint_caused before text after (inr (inr (works, inr (inr (inl device))))) = by_device before checkpoint text after device.0 device.1
-checkpoint_caused before text after (inr (inr (works, inr (inr (inr out))))) = by_other before checkpoint text _ after out.0 memory_silent
+checkpoint_caused before text after (inr (inr (works, further, inl made))) = by_other before checkpoint text _ after made.3 checkpointed_silent
+checkpoint_caused before text after (inr (inr (works, further, inr (inl full)))) = by_limit before checkpoint text after full.0 (inr (refl, full.1))
+checkpoint_caused before text after (inr (inr (works, further, inr (inr (inl device))))) = by_device before checkpoint text after device.0 device.1
+checkpoint_caused before text after (inr (inr (works, further, inr (inr (inr out))))) = by_other before checkpoint text _ after out.0 memory_silent
 
 answer_caused : (before : Standing) (command : PlainCommand) (text : List ℕ) (after : Standing) → Answer before command text after → Caused before command text after
 unfolding Answer

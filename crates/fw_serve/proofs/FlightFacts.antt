@@ -1,12 +1,12 @@
 -- Runs of commands, and the entry on which the device failed.
-use Rattle.std.proofs.Common.{◌≡◌, ◌∙◌, ◌∷◌, ◌++◌, [], ℕ, zero, suc, List, Bool, Option, Some, length, slice_get, refl, sym, ap, subst, inl, inr, append-nil, append_assoc}
+use Rattle.std.proofs.Common.{◌≡◌, ◌∙◌, ◌∷◌, ◌++◌, [], ℕ, zero, suc, List, Bool, Option, Some, drop, length, slice_get, take, refl, sym, ap, subst, inl, inr, append-nil, append_assoc}
 use Rattle.std.specs.Io.KnownBytes.{Appends, Keeps}
 use Rattle.std.specs.List.{concat}
 use Rattle.std.proofs.KnownBytes.{Appends-kept, Appends-nil, Appends-trans}
 use Rattle.std.proofs.lemmas.List.Folds.{concat-append}
-use Rattle.fw_disk.specs.Volume.{View}
+use Rattle.fw_disk.specs.Volume.{Image, View}
 use Rattle.fw_entry.specs.Entry.{EntryValue}
-use Rattle.fw_recover.specs.Store.{StoreState}
+use Rattle.fw_recover.specs.Store.{IsKept, StoreState}
 use Rattle.fw_recover.specs.declared.fault.StoreFault.TheVariants as store_fault
 use Rattle.fw_script.specs.Commands.{FirstCommand, StartsWithCommands}
 use Rattle.fw_script.specs.Plain.{PlainCommand}
@@ -14,14 +14,14 @@ use Rattle.fw_snapshot.specs.History.{History}
 use Rattle.fw_snapshot.specs.Judging.{judged}
 use Rattle.fw_snapshot.specs.declared.verdict.Verdict.TheVariants as verdict
 use Rattle.fw_serve.specs.Answers.{Answer}
-use Rattle.fw_serve.specs.Flight.{FailsOnSent, IsInFlight, IsRun, Runs, RunsSoFar}
+use Rattle.fw_serve.specs.Flight.{FailsOnSent, IsInFlight, IsRun, LeavesWithin, Runs, RunsAt, RunsInTurn, RunsSoFar}
 use Rattle.fw_serve.specs.Replies.{store_fault_line}
 use Rattle.fw_serve.specs.Runs.{AnswersEach, Sends}
 use Rattle.fw_serve.specs.Served.{IsScriptOf}
 use Rattle.fw_serve.specs.Standings.{Standing, standing_of, Moves}
 use Rattle.fw_serve.specs.Writing.{WritesPart}
 use Rattle.fw_serve.proofs.FailedFacts.{lost_by_answer}
-use Rattle.fw_serve.proofs.MoveFacts.{Moves-then}
+use Rattle.fw_serve.proofs.MoveFacts.{Moves-then, failed_stays, moved_at, moved_failed}
 use Rattle.fw_serve.proofs.RunFacts.{step}
 use Rattle.fw_serve.proofs.ServedFacts.{StartsWithCommands-more}
 use Rattle.fw_serve.proofs.WrittenFacts.{same_currency}
@@ -106,31 +106,111 @@ moves_more tells view a b c commands answers command text given answered first s
     (λ same e. flies_on (standing_of view a) (standing_of view b) (standing_of view c) commands answers command text e (ap (standing_of view) same))
     (λ e. flies_last (standing_of view a) (standing_of view b) (standing_of view c) commands answers command text e given answered)
 
+-- ---- command by command
+pub within_one : {V : Type 0} (tells : Bool) (view : V → View) (command : PlainCommand) (answer : List ℕ) (old new : StoreState V) → IsKept tells view old
+    → ((c : Image) → (view old.volume).left_since (view old.volume).moment c → (view old.volume).may_leave c)
+    → Moves tells view (FailsOnSent (standing_of view old) command answer) old new → LeavesWithin tells view old command answer new
+within_one tells view command answer old new kept only moves = record {
+  any_moment = λ told works. moved_at tells view (FailsOnSent (standing_of view old) command answer) old new kept only moves told works;
+  once_failed = λ told works fails. moved_failed tells view (FailsOnSent (standing_of view old) command answer) old new moves told works fails;
+  stays = λ failed. failed_stays tells view (FailsOnSent (standing_of view old) command answer) old new moves failed;
+}
+
+pub turn_none : {V : Type 0} (tells : Bool) (view : V → View) (s : StoreState V) → RunsInTurn tells view s [] [] s
+unfolding RunsInTurn
+turn_none tells view s = (refl, refl)
+
+turn_more : {V : Type 0} (tells : Bool) (view : V → View) (commands : List PlainCommand) (a b c : StoreState V) (answers : List (List ℕ)) (command : PlainCommand) (text : List ℕ)
+    → RunsInTurn tells view a commands answers b → Answer (standing_of view b) command text (standing_of view c) → LeavesWithin tells view b command text c
+    → RunsInTurn tells view a (commands ++ command ∷ []) (answers ++ text ∷ []) c
+unfolding RunsInTurn
+turn_more tells view [] a b c answers command text run answered within = (
+  text,
+  c,
+  [],
+  subst (λ (s : StoreState _). Answer (standing_of view s) command text (standing_of view c)) run.1 answered,
+  subst (λ (s : StoreState _). LeavesWithin tells view s command text c) run.1 within,
+  (refl, refl),
+  ap (λ (l : List (List ℕ)). l ++ text ∷ []) run.0,
+)
+turn_more tells view (d ∷ commands) a b c answers command text run answered within = (
+  run.0,
+  run.1,
+  run.2 ++ text ∷ [],
+  run.3,
+  run.4,
+  turn_more tells view commands run.1 b c run.2 command text run.5 answered within,
+  ap (λ (l : List (List ℕ)). l ++ text ∷ []) run.6,
+)
+
+turn_told : {V : Type 0} (tells : Bool) (view : V → View) (commands : List PlainCommand) (a b : StoreState V) (answers : List (List ℕ)) → RunsInTurn tells view a commands answers b
+    → AnswersEach (standing_of view a) commands answers (standing_of view b)
+unfolding RunsInTurn AnswersEach
+turn_told tells view [] a b answers run = (run.0, ap (standing_of view) run.1)
+turn_told tells view (d ∷ commands) a b answers run = (run.0, standing_of view run.1, run.2, run.3, turn_told tells view commands run.1 b run.2 run.5, run.6)
+
+pub turn_at : {V : Type 0} (tells : Bool) (view : V → View) (commands : List PlainCommand) (old new : StoreState V) (answers : List (List ℕ)) (place : ℕ) (command : PlainCommand) (answer : List ℕ)
+    → RunsInTurn tells view old commands answers new → slice_get commands place ≡ Some command → slice_get answers place ≡ Some answer
+    → RunsAt tells view old commands answers place command answer new
+unfolding RunsInTurn AnswersEach
+turn_at tells view [] old new answers place command answer run asked answered = absurd (cc)
+turn_at tells view (d ∷ commands) old new answers zero command answer run asked answered =
+    let own : d ≡ command = cc in
+    let there : slice_get (run.0 ∷ run.2) zero ≡ Some answer = subst (λ (l : List (List ℕ)). slice_get l zero ≡ Some answer) run.6 answered in
+    let says : run.0 ≡ answer = cc in
+    let others : drop (suc zero) answers ≡ run.2 = ap (λ (l : List (List ℕ)). drop (suc zero) l) run.6 in
+    record {
+      middle = old;
+      next = run.1;
+      before = (refl, refl);
+      told = (refl, refl);
+      answered =
+          subst (λ (t : List ℕ). Answer (standing_of view old) command t (standing_of view run.1)) says
+          (subst (λ (x : PlainCommand). Answer (standing_of view old) x run.0 (standing_of view run.1)) own run.3);
+      within = subst (λ (t : List ℕ). LeavesWithin tells view old command t run.1) says (subst (λ (x : PlainCommand). LeavesWithin tells view old x run.0 run.1) own run.4);
+      behind = subst (λ (l : List (List ℕ)). RunsInTurn tells view run.1 commands l new) (sym others) run.5;
+    }
+turn_at tells view (d ∷ commands) old new answers (suc place) command answer run asked answered =
+    let there : slice_get (run.0 ∷ run.2) (suc place) ≡ Some answer = subst (λ (l : List (List ℕ)). slice_get l (suc place) ≡ Some answer) run.6 answered in
+    let later = turn_at tells view commands run.1 new run.2 place command answer run.5 asked there in
+    let first : take (suc place) answers ≡ run.0 ∷ take place run.2 = ap (λ (l : List (List ℕ)). take (suc place) l) run.6 in
+    let others : drop (suc (suc place)) answers ≡ drop (suc place) run.2 = ap (λ (l : List (List ℕ)). drop (suc (suc place)) l) run.6 in
+    record {
+      middle = later.middle;
+      next = later.next;
+      before = (run.0, run.1, take place run.2, run.3, run.4, later.before, first);
+      told = (run.0, standing_of view run.1, take place run.2, run.3, later.told, first);
+      answered = later.answered;
+      within = later.within;
+      behind = subst (λ (l : List (List ℕ)). RunsInTurn tells view later.next (drop (suc place) commands) l new) (sym others) later.behind;
+    }
+
 -- ---- runs
 -- no command was run
 pub RunsSoFar-none : {V : Type 0} (tells : Bool) (view : V → View) (script left : List ℕ) (s : StoreState V) (held : Option (List ℕ)) → left ≡ script → RunsSoFar tells view script left s s held held
 unfolding StartsWithCommands AnswersEach
 RunsSoFar-none tells view script left s held same =
-    record { commands = []; answers = []; reads = same; answered = (refl, refl); writes = Appends-nil held; moves = inl refl }
+    record { commands = []; answers = []; reads = same; answered = (refl, refl); writes = Appends-nil held; moves = inl refl; in_turn = turn_none tells view s }
 
 -- one more command was done, and its answer written
 pub RunsSoFar-more : {V : Type 0} (tells : Bool) (view : V → View) (script left : List ℕ) (command : PlainCommand) (rest : List ℕ) (a b c : StoreState V) (text : List ℕ) (x y z : Option (List ℕ))
     → RunsSoFar tells view script left a b x y → FirstCommand left command rest → Answer (standing_of view b) command text (standing_of view c)
-    → Moves tells view (FailsOnSent (standing_of view b) command text) b c → Appends y z text → RunsSoFar tells view script rest a c x z
-RunsSoFar-more tells view script left command rest a b c text x y z done first answered moves wrote = record {
+    → Moves tells view (FailsOnSent (standing_of view b) command text) b c → LeavesWithin tells view b command text c → Appends y z text → RunsSoFar tells view script rest a c x z
+RunsSoFar-more tells view script left command rest a b c text x y z done first answered moves within wrote = record {
   commands = done.commands ++ command ∷ [];
   answers = done.answers ++ text ∷ [];
   reads = StartsWithCommands-more script done.commands left command rest done.reads first;
   answered = each_more done.commands (standing_of view a) (standing_of view b) (standing_of view c) done.answers command text done.answered answered;
   writes = subst (Appends x z) (sym (concat_more done.answers text)) (Appends-trans x y z (concat done.answers) text done.writes wrote);
   moves = moves_more tells view a b c done.commands done.answers command text done.answered answered done.moves moves;
+  in_turn = turn_more tells view done.commands a b c done.answers command text done.in_turn answered within;
 }
 
 -- one more command was done, and its answer written up to some place
 pub Runs-part : {V : Type 0} (tells : Bool) (view : V → View) (script left : List ℕ) (command : PlainCommand) (rest : List ℕ) (a b c : StoreState V) (text : List ℕ) (x y z : Option (List ℕ))
     → RunsSoFar tells view script left a b x y → FirstCommand left command rest → Answer (standing_of view b) command text (standing_of view c)
-    → Moves tells view (FailsOnSent (standing_of view b) command text) b c → WritesPart y z text → Runs tells view script a c x z
-Runs-part tells view script left command rest a b c text x y z done first answered moves wrote = record {
+    → Moves tells view (FailsOnSent (standing_of view b) command text) b c → LeavesWithin tells view b command text c → WritesPart y z text → Runs tells view script a c x z
+Runs-part tells view script left command rest a b c text x y z done first answered moves within wrote = record {
   left = rest;
   commands = done.commands ++ command ∷ [];
   answers = done.answers ++ text ∷ [];
@@ -143,6 +223,7 @@ Runs-part tells view script left command rest a b c text x y z done first answer
     writes = Appends-trans x y z (concat done.answers) wrote.written done.writes wrote.writes;
   };
   moves = moves_more tells view a b c done.commands done.answers command text done.answered answered done.moves moves;
+  in_turn = turn_more tells view done.commands a b c done.answers command text done.in_turn answered within;
 }
 
 -- no further command was run
@@ -161,6 +242,7 @@ Runs-whole tells view script left a b x y z done kept = record {
     writes = Appends-kept x y z (concat done.answers) done.writes kept;
   };
   moves = done.moves;
+  in_turn = done.in_turn;
 }
 
 -- of the script that a reader had

@@ -42,7 +42,7 @@ pub stands_whole : (found : History) (image : Image) → StandsFor found image �
 stands_whole found image stands = record { legal = stands.tells.legal; each = told_each _ found (image stands.side) stands.tells }
 
 -- the warehouse that is opened is whole, and its reports add up
-opened : (found : History) (image : Image) → StandsFor found image → IsWhole found.entries × ReportsAddUp found.entries
+pub opened : (found : History) (image : Image) → StandsFor found image → IsWhole found.entries × ReportsAddUp found.entries
 opened found image stands =
     let whole = stands_whole found image stands in
     (whole, whole_adds_up found.entries whole)

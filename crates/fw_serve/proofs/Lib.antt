@@ -7,10 +7,12 @@ pub mod ServedFacts
 pub mod SilentFacts
 pub mod RunFacts
 pub mod OneAnswerFacts
+pub mod AlikeFacts
 pub mod WrittenFacts
 pub mod FailedFacts
 pub mod FlightFacts
 pub mod QuestionFacts
 pub mod WholeFacts
 pub mod LeftFacts
+pub mod StopFacts
 pub mod SessionFacts

@@ -224,46 +224,54 @@ unfolding IsOutcome
 is_answer held key from to (Ok entries) given = record { range = given.0; report = given.1; fault = tt }
 is_answer held key from to (Err fault) given = record { range = tt; report = tt; fault = given }
 
-same_report : (r q : Result (List reports.EntryValue) QueryFault) → IsSameAnswer r q → IsHindered (report_answer r) ⊎ (IsHindered (report_answer q) ⊎ (report_answer r ≡ report_answer q))
+-- the two are one, or one of them says that memory ran out
+abbrev pub UnlessOut : List ℕ → List ℕ → Type 0
+UnlessOut text other = (text ≡ no_memory_line) ⊎ ((other ≡ no_memory_line) ⊎ (text ≡ other))
+
+same_report : (r q : Result (List reports.EntryValue) QueryFault) → IsSameAnswer r q → UnlessOut (report_answer r) (report_answer q)
 unfolding report_answer query_fault_line
 same_report (Ok x) (Ok y) same = inr (inr (ap (λ (e : List reports.EntryValue). counted (report_text e)) same))
 same_report (Ok x) (Err query_fault.Range) same = absurd same
 same_report (Ok x) (Err (query_fault.TotalTooLarge g)) same = absurd same
-same_report (Ok x) (Err query_fault.NoMemory) same = inr (inl (inl refl))
+same_report (Ok x) (Err query_fault.NoMemory) same = inr (inl refl)
 same_report (Err query_fault.Range) (Ok y) same = absurd same
 same_report (Err query_fault.Range) (Err query_fault.Range) same = inr (inr refl)
 same_report (Err query_fault.Range) (Err (query_fault.TotalTooLarge h)) same = absurd same
-same_report (Err query_fault.Range) (Err query_fault.NoMemory) same = inr (inl (inl refl))
+same_report (Err query_fault.Range) (Err query_fault.NoMemory) same = inr (inl refl)
 same_report (Err (query_fault.TotalTooLarge g)) (Ok y) same = absurd same
 same_report (Err (query_fault.TotalTooLarge g)) (Err query_fault.Range) same = absurd same
 same_report (Err (query_fault.TotalTooLarge g)) (Err (query_fault.TotalTooLarge h)) same = inr (inr refl)
-same_report (Err (query_fault.TotalTooLarge g)) (Err query_fault.NoMemory) same = inr (inl (inl refl))
-same_report (Err query_fault.NoMemory) q same = inl (inl refl)
+same_report (Err (query_fault.TotalTooLarge g)) (Err query_fault.NoMemory) same = inr (inl refl)
+same_report (Err query_fault.NoMemory) q same = inl refl
 
-same_lines : (held : History) (from to : ℕ) (r q : Result (List LineValue) QueryFault) → AreOutcome held from to r → AreOutcome held from to q
-    → IsHindered (lines_answer r) ⊎ (IsHindered (lines_answer q) ⊎ (lines_answer r ≡ lines_answer q))
+pub same_lines : (held : History) (from to : ℕ) (r q : Result (List LineValue) QueryFault) → AreOutcome held from to r → AreOutcome held from to q
+    → UnlessOut (lines_answer r) (lines_answer q)
 unfolding AreOutcome lines_answer query_fault_line
 same_lines held from to (Ok x) (Ok y) a b = inr (inr (ap (λ (l : List LineValue). counted (lines_text l)) (lines_of_same held.entries from to x y a.1 b.1)))
 same_lines held from to (Ok x) (Err query_fault.Range) a b = absurd (b a.0)
 same_lines held from to (Ok x) (Err (query_fault.TotalTooLarge g)) a b = absurd b
-same_lines held from to (Ok x) (Err query_fault.NoMemory) a b = inr (inl (inl refl))
+same_lines held from to (Ok x) (Err query_fault.NoMemory) a b = inr (inl refl)
 same_lines held from to (Err query_fault.Range) (Ok y) a b = absurd (a b.0)
 same_lines held from to (Err query_fault.Range) (Err query_fault.Range) a b = inr (inr refl)
 same_lines held from to (Err query_fault.Range) (Err (query_fault.TotalTooLarge g)) a b = absurd b
-same_lines held from to (Err query_fault.Range) (Err query_fault.NoMemory) a b = inr (inl (inl refl))
+same_lines held from to (Err query_fault.Range) (Err query_fault.NoMemory) a b = inr (inl refl)
 same_lines held from to (Err (query_fault.TotalTooLarge g)) q a b = absurd a
-same_lines held from to (Err query_fault.NoMemory) q a b = inl (inl refl)
+same_lines held from to (Err query_fault.NoMemory) q a b = inl refl
 
 -- what was asked for is the text of what came out
-texts_one : (s t x y : List ℕ) (c d : Standing) → s ≡ x → t ≡ y → c.history ≡ d.history → IsHindered x ⊎ (IsHindered y ⊎ (x ≡ y)) → AreOne s t c d
-texts_one s t x y c d is_s is_t same (inl out) = inl (subst IsHindered (sym is_s) out)
-texts_one s t x y c d is_s is_t same (inr (inl out)) = inr (inl (subst IsHindered (sym is_t) out))
+texts_one : (s t x y : List ℕ) (c d : Standing) → s ≡ x → t ≡ y → c.history ≡ d.history → UnlessOut x y → AreOne s t c d
+texts_one s t x y c d is_s is_t same (inl out) = inl (inl (is_s ∙ out))
+texts_one s t x y c d is_s is_t same (inr (inl out)) = inr (inl (inl (is_t ∙ out)))
 texts_one s t x y c d is_s is_t same (inr (inr one)) = inr (inr (is_s ∙ one ∙ sym is_t, same))
+
+pub reports_same : (held : History) (key : List ℕ) (from to : ℕ) (r q : Result (List reports.EntryValue) QueryFault) → IsOutcome held key from to r → IsOutcome held key from to q
+    → UnlessOut (report_answer r) (report_answer q)
+reports_same held key from to r q a b = same_report r q (answer_same held.entries key from to r q (is_answer held key from to r a) (is_answer held key from to q b))
 
 report_one : (held : History) (key : List ℕ) (from to : ℕ) (s t : List ℕ) (c d : Standing) → c.history ≡ d.history → ReportAnswer held key from to s → ReportAnswer held key from to t → AreOne s t c d
 report_one held key from to s t c d same p q =
     texts_one s t (report_answer p.outcome) (report_answer q.outcome) c d p.says q.says same
-    (same_report p.outcome q.outcome (answer_same held.entries key from to p.outcome q.outcome (is_answer held key from to p.outcome p.is_outcome) (is_answer held key from to q.outcome q.is_outcome)))
+    (reports_same held key from to p.outcome q.outcome p.is_outcome q.is_outcome)
 
 lines_one : (held : History) (from to : ℕ) (s t : List ℕ) (c d : Standing) → c.history ≡ d.history → LinesAnswer held from to s → LinesAnswer held from to t → AreOne s t c d
 lines_one held from to s t c d same p q =

@@ -158,10 +158,10 @@ pub checkpoint_leaves : (before : Standing) (text : List ℕ) (after : Standing)
 unfolding Checkpoints
 checkpoint_leaves before text after (inl failed) = (inl (inr (store_fault.Failed, failed.1.0)), same_history after before failed.1.1)
 checkpoint_leaves before text after (inr (inl last)) = (inl (inr (store_fault.Generations, last.2.0)), same_history after before last.2.1)
-checkpoint_leaves before text after (inr (inr (works, inl made))) = (inr made.3, ap (λ (s : Standing). s.history) made.4)
-checkpoint_leaves before text after (inr (inr (works, inr (inl full)))) = (inl (inr (store_fault.TooLarge, full.0.0)), same_history after before full.0.1)
-checkpoint_leaves before text after (inr (inr (works, inr (inr (inl device))))) = (inl (inr (store_fault.Device, device.0)), ap (λ (s : Standing). s.history) device.1)
-checkpoint_leaves before text after (inr (inr (works, inr (inr (inr out))))) = (inl (inl out.0), same_history after before out.1)
+checkpoint_leaves before text after (inr (inr (works, further, inl made))) = (inr made.3, ap (λ (s : Standing). s.history) made.4)
+checkpoint_leaves before text after (inr (inr (works, further, inr (inl full)))) = (inl (inr (store_fault.TooLarge, full.0.0)), same_history after before full.0.1)
+checkpoint_leaves before text after (inr (inr (works, further, inr (inr (inl device))))) = (inl (inr (store_fault.Device, device.0)), ap (λ (s : Standing). s.history) device.1)
+checkpoint_leaves before text after (inr (inr (works, further, inr (inr (inr out))))) = (inl (inl out.0), same_history after before out.1)
 
 checkpoint_step : (before : Standing) (text : List ℕ) (after : Standing) → IsHindered text ⊎ (text ≡ checkpointed_line) → after.history ≡ before.history → OneStep before checkpoint text after
 unfolding SendsNone

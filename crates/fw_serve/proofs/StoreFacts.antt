@@ -157,29 +157,38 @@ Checkpoints-failed view old new store_fault.Generations text why says =
 Checkpoints-failed view old new store_fault.TooLarge text why says =
     inr (inr (
       works_by _ _ (λ is. absurd (cc)) why.failed,
+      λ last. let no = why.generations.1 (works_by _ _ (λ is. absurd (cc)) why.failed, last) in absurd (cc),
       inr (inl ((says, ap (standing_of view) (same_store old new _ (λ is. absurd (cc)) why.unchanged)), why.no_room refl)),
     ))
 Checkpoints-failed view old new store_fault.Device text why says =
     let gone = why.device refl in
     inr (inr (
       works_by _ _ (λ is. absurd (cc)) why.failed,
+      λ last. let no = why.generations.1 (works_by _ _ (λ is. absurd (cc)) why.failed, last) in absurd (cc),
       inr (inr (inl (says, lost_standing view old new gone why.limit))),
     ))
 Checkpoints-failed view old new store_fault.NoMemory text why says =
     inr (inr (
       works_by _ _ (λ is. absurd (cc)) why.failed,
+      λ last. let no = why.generations.1 (works_by _ _ (λ is. absurd (cc)) why.failed, last) in absurd (cc),
       inr (inr (inr (says, ap (standing_of view) (same_store old new _ (λ is. absurd (cc)) why.unchanged)))),
     ))
 Checkpoints-failed view old new store_fault.NoHouse text why says = absurd (why.not_no_house refl)
 Checkpoints-failed view old new (store_fault.Corrupt side at) text why says = absurd (why.not_corrupt side at refl)
 Checkpoints-failed view old new store_fault.Exists text why says = absurd (why.not_exists refl)
 
-pub Checkpoints-done : {V : Type 0} (tells : Bool) (view : V → View) (old new : StoreState V) (text : List ℕ) → old.failed ≡ false → IsCheckpointed tells view old new
+-- a checkpoint that was made is of a store at a generation that has a next one
+pub further_ok : {T : Type 0} (result : Result T StoreFault) (value : T) (failed : Bool) (generation : ℕ) → result ≡ Ok value → failed ≡ false
+    → (IsErrOf result store_fault.Generations ↔ ((failed ≡ false) × (generation ≡ last_generation))) → generation ≡ last_generation → ⊥
+further_ok result value failed generation is works when last = let no = when.1 (works, last) in absurd (cc)
+
+pub Checkpoints-done : {V : Type 0} (tells : Bool) (view : V → View) (old new : StoreState V) (text : List ℕ) → old.failed ≡ false → (old.generation ≡ last_generation → ⊥) → IsCheckpointed tells view old new
     → new.history ≡ old.history → (view new.volume).limit ≡ (view old.volume).limit → text ≡ checkpointed_line → Checkpoints (standing_of view old) text (standing_of view new)
 unfolding Checkpoints
-Checkpoints-done tells view old new text works done same limit says =
+Checkpoints-done tells view old new text works further done same limit says =
     inr (inr (
       works,
+      further,
       inl (
         done.body,
         subst (λ (h : History). Spells done.body h) same done.spells,

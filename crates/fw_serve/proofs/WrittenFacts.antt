@@ -189,7 +189,7 @@ slice_get-seam : (xs ys : List EntryValue) (x : EntryValue) → slice_get (xs ++
 slice_get-seam [] ys x = refl
 slice_get-seam (y ∷ xs) ys x = slice_get-seam xs ys x
 
-slice_get-front : (xs ys : List EntryValue) (place : ℕ) (x : EntryValue) → slice_get xs place ≡ Some x → slice_get (xs ++ ys) place ≡ Some x
+pub slice_get-front : (xs ys : List EntryValue) (place : ℕ) (x : EntryValue) → slice_get xs place ≡ Some x → slice_get (xs ++ ys) place ≡ Some x
 slice_get-front [] ys place x there = absurd (cc)
 slice_get-front (y ∷ xs) ys zero x there = there
 slice_get-front (y ∷ xs) ys (suc place) x there = slice_get-front xs ys place x there

@@ -1,5 +1,5 @@
 -- How single commands and lists of commands are answered, and what they change.
-use Rattle.std.specs.Prelude.{◌≡◌, ◌⊎◌, ◌+◌, ◌-◌, ◌^◌, ◌<◌, ◌≤◌, ◌==◌, ℕ, zero, suc, true, false, List, [], ◌∷◌, ◌++◌, length, nat_lt, Result, Ok, Err, if◌then◌else◌}
+use Rattle.std.specs.Prelude.{◌≡◌, ◌≢◌, ◌⊎◌, ◌+◌, ◌-◌, ◌^◌, ◌<◌, ◌≤◌, ◌==◌, ℕ, zero, suc, true, false, List, [], ◌∷◌, ◌++◌, length, nat_lt, Result, Ok, Err, if◌then◌else◌}
 use Rattle.fw_entry.specs.Entry.{CommandValue, EntryValue, is_origin}
 use Rattle.fw_entry.specs.Spelling.{IsEntry, most_entry_bytes}
 use Rattle.fw_entry.specs.Spelling as spelling
@@ -115,7 +115,7 @@ unfoldable pub Checkpoints : Standing → List ℕ → Standing → Type 0
 Checkpoints before text after =
     ((before.failed ≡ true) × Stays before (store_fault_line store_fault.Failed) text after)
     ⊎ (((before.failed ≡ false) × (before.generation ≡ last_generation) × Stays before (store_fault_line store_fault.Generations) text after)
-    ⊎ ((before.failed ≡ false) × Renews before text after))
+    ⊎ ((before.failed ≡ false) × (before.generation ≢ last_generation) × Renews before text after))
 
 -- a command is answered by the text, and the store after it is this; only entries and checkpoints change it
 unfoldable pub Answer : Standing → PlainCommand → List ℕ → Standing → Type 0

@@ -1,5 +1,5 @@
 -- The entry that was in flight when the device failed: the one that a script was sending.
-use Rattle.std.specs.Prelude.{◌≡◌, ◌⊎◌, ℕ, Bool, true, List, [], Option, Ok, Some, slice_get}
+use Rattle.std.specs.Prelude.{◌≡◌, ◌⊎◌, ℕ, suc, Bool, true, false, IsTrue, List, [], ◌∷◌, Option, Ok, Some, drop, slice_get, take}
 use Rattle.std.specs.Io.KnownBytes.{Appends}
 use Rattle.std.specs.List.{concat}
 use Rattle.fw_disk.specs.Volume.{LeavesOnly, View}
@@ -10,7 +10,7 @@ use Rattle.fw_script.specs.Commands.{StartsWithCommands}
 use Rattle.fw_script.specs.Plain.{PlainCommand}
 use Rattle.fw_snapshot.specs.Judging.{judged}
 use Rattle.fw_snapshot.specs.declared.verdict.Verdict.TheVariants as verdict
-use Rattle.fw_serve.specs.Answers.{entry_made}
+use Rattle.fw_serve.specs.Answers.{Answer, entry_made}
 use Rattle.fw_serve.specs.Replies.{store_fault_line}
 use Rattle.fw_serve.specs.Runs.{AnswersEach, Sends}
 use Rattle.fw_serve.specs.Served.{IsScriptOf}
@@ -43,6 +43,30 @@ pub record IsInFlight (before after : Standing) (commands : List PlainCommand) (
   pub sends : Sends before.history.currency command e
   pub accepted : judged after.history.entries e ≡ verdict.Accept
 
+-- What a crash leaves within one command. At any moment of it the files stand for the warehouse as it was before the command or as it is after it; or,
+-- only where the device failed, with the entry that the command sends, which it may have from then on. A store that had failed before is as it was.
+pub record LeavesWithin {V : Type 0} (tells : Bool) (view : V → View) (old : StoreState V) (command : PlainCommand) (answer : List ℕ) (new : StoreState V) : Type 0 where
+  pub any_moment : IsTrue tells → old.failed ≡ false → LeavesOnly (view old.volume) (view new.volume) (IsBetween (FailsOnSent (standing_of view old) command answer) old.history (standing_of view new))
+  pub once_failed : IsTrue tells → old.failed ≡ false → new.failed ≡ true → LeavesInFlight (FailsOnSent (standing_of view old) command answer) new.history (view new.volume)
+  pub stays : old.failed ≡ true → new ≡ old
+
+-- the commands were run one after the other, each on the store that those before it left, and these are the answers, one for each
+unfoldable pub RunsInTurn : {V : Type 0} → Bool → (V → View) → StoreState V → List PlainCommand → List (List ℕ) → StoreState V → Type 0
+RunsInTurn tells view old [] answers new = (answers ≡ []) × (new ≡ old)
+RunsInTurn tells view old (command ∷ commands) answers new =
+    (first : List ℕ) × (next : StoreState _) × (more : List (List ℕ)) × Answer (standing_of view old) command first (standing_of view next)
+    × LeavesWithin tells view old command first next × RunsInTurn tells view next commands more new × (answers ≡ first ∷ more)
+
+-- the command at this place was run where those before it were done, and those behind it were run on what it left
+pub record RunsAt {V : Type 0} (tells : Bool) (view : V → View) (old : StoreState V) (commands : List PlainCommand) (answers : List (List ℕ)) (place : ℕ) (command : PlainCommand) (answer : List ℕ) (new : StoreState V) : Type 0 where
+  pub middle : StoreState V
+  pub next : StoreState V
+  pub before : RunsInTurn tells view old (take place commands) (take place answers) middle
+  pub told : AnswersEach (standing_of view old) (take place commands) (take place answers) (standing_of view middle)
+  pub answered : Answer (standing_of view middle) command answer (standing_of view next)
+  pub within : LeavesWithin tells view middle command answer next
+  pub behind : RunsInTurn tells view next (drop (suc place) commands) (drop (suc place) answers) new
+
 -- these commands come first in the script and were run, `left` follows them, the writer got their answers, and this is what they left of the store
 pub record RunsSoFar {V : Type 0} (tells : Bool) (view : V → View) (script left : List ℕ) (old new : StoreState V) (held holds : Option (List ℕ)) : Type 0 where
   pub commands : List PlainCommand
@@ -51,6 +75,7 @@ pub record RunsSoFar {V : Type 0} (tells : Bool) (view : V → View) (script lef
   pub answered : AnswersEach (standing_of view old) commands answers (standing_of view new)
   pub writes : Appends held holds (concat answers)
   pub moves : Moves tells view (IsInFlight (standing_of view old) (standing_of view new) commands answers) old new
+  pub in_turn : RunsInTurn tells view old commands answers new
 
 -- the same, where the writer got the answers up to some place
 pub record Runs {V : Type 0} (tells : Bool) (view : V → View) (script : List ℕ) (old new : StoreState V) (held holds : Option (List ℕ)) : Type 0 where
@@ -61,6 +86,7 @@ pub record Runs {V : Type 0} (tells : Bool) (view : V → View) (script : List �
   pub answered : AnswersEach (standing_of view old) commands answers (standing_of view new)
   pub writes : WritesPart held holds (concat answers)
   pub moves : Moves tells view (IsInFlight (standing_of view old) (standing_of view new) commands answers) old new
+  pub in_turn : RunsInTurn tells view old commands answers new
 
 -- no command was run, or these are the first ones of the script that a reader had; these are the answers, one for each, and the writer got them up to
 -- some place
@@ -77,3 +103,10 @@ pub record CrashLeaves {V : Type 0} (view : V → View) (bytes : Option (List �
   pub run : IsRun bytes (standing_of view old) (standing_of view new) held holds commands answers
   pub any_moment : LeavesOnly (view old.volume) (view new.volume) (IsBetween (IsInFlight (standing_of view old) (standing_of view new) commands answers) old.history (standing_of view new))
   pub once_failed : new.failed ≡ true → LeavesInFlight (IsInFlight (standing_of view old) (standing_of view new) commands answers) new.history (view new.volume)
+
+-- the same run, command by command
+pub record RunsByCommand {V : Type 0} (tells : Bool) (view : V → View) (bytes : Option (List ℕ)) (old new : StoreState V) (held holds : Option (List ℕ)) : Type 0 where
+  pub commands : List PlainCommand
+  pub answers : List (List ℕ)
+  pub run : IsRun bytes (standing_of view old) (standing_of view new) held holds commands answers
+  pub in_turn : RunsInTurn tells view old commands answers new

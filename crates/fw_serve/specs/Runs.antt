@@ -4,6 +4,7 @@ use Rattle.fw_entry.specs.Entry.{CommandValue, EntryValue}
 use Rattle.fw_entry.specs.declared.fault.EntryFault.{EntryFault}
 use Rattle.fw_recover.specs.Checkpoints.{HasNoRoomFor}
 use Rattle.fw_recover.specs.declared.fault.StoreFault.{StoreFault}
+use Rattle.fw_recover.specs.declared.fault.StoreFault.TheVariants as store_fault
 use Rattle.fw_script.specs.Plain.{PlainCommand, entry, report, lines, state, checkpoint, bad_command, bad_end}
 use Rattle.fw_script.specs.Words.{IsSequence}
 use Rattle.fw_script.specs.declared.commands.EntryKind.{EntryKind}
@@ -14,7 +15,7 @@ use Rattle.fw_snapshot.specs.declared.verdict.Verdict.{Verdict}
 use Rattle.fw_snapshot.specs.declared.verdict.Verdict.TheVariants as verdict
 use Rattle.fw_serve.specs.Answers.{Answer, HasNoRoom, SequenceReads, entry_made}
 use Rattle.fw_serve.specs.Contents.{ContentReads}
-use Rattle.fw_serve.specs.Replies.{entry_fault_line, no_memory_line, store_fault_line, verdict_line}
+use Rattle.fw_serve.specs.Replies.{checkpointed_line, entry_fault_line, no_memory_line, store_fault_line, verdict_line}
 use Rattle.fw_serve.specs.Standings.{Standing}
 
 -- the commands are answered in order, each after those before it, and these are the answers, one for each
@@ -64,6 +65,30 @@ NoneHindered answers = All (λ answer. ¬ IsHindered answer) answers
 -- the two answers are one, and leave the same entries; or one of them is so
 abbrev pub AreOne : List ℕ → List ℕ → Standing → Standing → Type 0
 AreOne answer other after after_other = IsHindered answer ⊎ (IsHindered other ⊎ ((answer ≡ other) × (after.history ≡ after_other.history)))
+
+-- Two stores of which a client can't tell one from the other: they have the same entries, both have failed or neither has, they are at the same
+-- generation, and each has as much room left behind its log.
+pub record AreAlike (one other : Standing) : Type 0 where
+  pub history : one.history ≡ other.history
+  pub failed : one.failed ≡ other.failed
+  pub generation : one.generation ≡ other.generation
+  pub room : one.limit + other.end ≡ other.limit + one.end
+
+-- memory ran out, or the device failed: no standing says when
+abbrev pub IsCutShort : List ℕ → Type 0
+IsCutShort answer = (answer ≡ no_memory_line) ⊎ (answer ≡ store_fault_line store_fault.Device)
+
+abbrev pub NoneCutShort : List (List ℕ) → Type 0
+NoneCutShort answers = All (λ answer. ¬ IsCutShort answer) answers
+
+-- the two answers are one, and leave stores that are alike; or one of them is so
+abbrev pub AreSame : List ℕ → List ℕ → Standing → Standing → Type 0
+AreSame answer other after after_other = IsCutShort answer ⊎ (IsCutShort other ⊎ ((answer ≡ other) × AreAlike after after_other))
+
+-- A checkpoint that is begun: it is made, or has no room, or is cut short. A state has more than one spelling, of more than one length, and which of them a
+-- checkpoint writes nothing says that a client can see: so it is made or has no room by a length that no standing has.
+abbrev pub IsOfASide : List ℕ → Type 0
+IsOfASide answer = (answer ≡ checkpointed_line) ⊎ ((answer ≡ store_fault_line store_fault.TooLarge) ⊎ IsCutShort answer)
 
 -- these entries, in their order, are those that the commands sent and that were judged, and `replies` are the answers to them. Each other command sent
 -- none, or was hindered

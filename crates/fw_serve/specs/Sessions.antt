@@ -1,10 +1,18 @@
 -- A warehouse that is stopped and opened again, time after time.
 use Rattle.std.specs.Prelude.{◌≡◌, ◌⊎◌, ◌+◌, ℕ, List, [], ◌∷◌}
+use Rattle.fw_disk.specs.declared.volume.Side.{Side}
 use Rattle.fw_disk.specs.Volume.{Image}
 use Rattle.fw_entry.specs.Entry.{EntryValue}
 use Rattle.fw_recover.specs.Committing.{with_first}
-use Rattle.fw_recover.specs.Stands.{StandsFor}
+use Rattle.fw_recover.specs.Corrupt.{CorruptAt}
+use Rattle.fw_recover.specs.Stands.{StandsFor, StandsForNone}
 use Rattle.fw_snapshot.specs.History.{History}
+
+-- this warehouse is opened from the files: they stand for it, and they are neither missing nor corrupt
+pub record Opens (found : History) (image : Image) : Type 0 where
+  pub stands : StandsFor found image
+  pub is_there : StandsForNone image → ⊥
+  pub is_sound : (side : Side) (at : ℕ) → CorruptAt image side at → ⊥
 
 -- what comes between an opening and the next stop: entries are committed, one by one or in groups, the first `answered` of them are answered, `in_flight`
 -- more were being committed, and a crash leaves an image

@@ -1,6 +1,6 @@
 //! What holds of every run of commands: laws over the relation that [`serve`](crate::serve) promises between a script and what was written, each the
 //! contract of a function that does nothing.
-ghost use Rattle.std.specs.Prelude.{◌≡◌, ◌⊎◌, ◌+◌, ◌<◌, ◌≤◌, ◌^◌, ◌∷◌, ◌++◌, [], List, Some, drop, length, slice_get, take, true, ℕ};
+ghost use Rattle.std.specs.Prelude.{◌≡◌, ◌≢◌, ◌⊎◌, ◌+◌, ◌<◌, ◌≤◌, ◌^◌, ◌∷◌, ◌++◌, [], All, List, Some, drop, length, slice_get, take, true, ℕ};
 ghost use Rattle.std.specs.List.{concat};
 ghost use Rattle.fw_amortise.specs.LineValue.{LineValue};
 ghost use Rattle.fw_disk.specs.declared.volume.Side.{Side};
@@ -19,10 +19,10 @@ ghost use Rattle.fw_recover.specs.declared.fault.StoreFault.{StoreFault};
 ghost use Rattle.fw_recover.specs.declared.fault.StoreFault.TheVariants as store_fault;
 ghost use Rattle.fw_script.specs.Plain.{PlainCommand, checkpoint, lines, report, state};
 ghost use Rattle.fw_serve.specs.Answers.{Answer, Answers, last_generation};
-ghost use Rattle.fw_serve.specs.Flight.{IsInFlight};
+ghost use Rattle.fw_serve.specs.Flight.{FailsOnSent, IsInFlight, RunsAt, RunsInTurn};
 ghost use Rattle.fw_serve.specs.Replies.{accepted_line, already_line, conflict_line, counted, gap_line, no_memory_line, query_fault_line, state_line, store_fault_line};
-ghost use Rattle.fw_serve.specs.Runs.{AnswersEach, AreOne, AreTold, AreUnhindered, IsHindered, LacksRoom, NoneHindered, Sends, StandsAt};
-ghost use Rattle.fw_serve.specs.Sessions.{HasKept, PassesThrough, SessionValue};
+ghost use Rattle.fw_serve.specs.Runs.{AnswersEach, AreAlike, AreOne, AreSame, AreTold, AreUnhindered, IsHindered, IsOfASide, LacksRoom, NoneCutShort, NoneHindered, Sends, StandsAt};
+ghost use Rattle.fw_serve.specs.Sessions.{HasKept, Opens, PassesThrough, SessionValue};
 ghost use Rattle.fw_serve.specs.Standings.{AreInFlight, IsBetween, Standing};
 ghost use Rattle.fw_serve.specs.Whole.{IsWhole, ReportsAddUp};
 ghost use Rattle.fw_snapshot.specs.History.{History, commitments_of, entries_from, rows_of};
@@ -30,6 +30,9 @@ ghost use Rattle.fw_snapshot.specs.Judging.{IsLegal, judged};
 ghost use Rattle.fw_snapshot.specs.Verdicts.{IsRepeat, accepted_of, taken, with_more};
 ghost use Rattle.fw_snapshot.specs.declared.verdict.Conflict.{Conflict};
 ghost use Rattle.fw_snapshot.specs.declared.verdict.Verdict.TheVariants as verdict;
+
+use fw_disk::Volume;
+use fw_recover::Store;
 
 /// What is written is one answer for each command, in order (`each`), and these answers say what the warehouse holds (`told`): `entries` are the entries of
 /// the commands that were answered `accepted`, `already`, `gap` or `refused J..`; each of them was answered by the line of its verdict, and the
@@ -57,6 +60,22 @@ pub fn one_command_has_one_answer()
         → AnswersEach before commands answers after → AreUnhindered commands answers rest answered → AnswersEach other rest second after_other → NoneHindered second
         → (answered ≡ second) × (after.history ≡ after_other.history) }
     ensures entry { (currency : List ℕ) (command : PlainCommand) (first second : EntryValue) → Sends currency command first → Sends currency command second → first ≡ second }
+{}
+
+/// Stores that are alike answer alike: where two stores have the same entries, both have failed or neither has, they are at the same generation and have the
+/// same room left, each command but a checkpoint is answered by the same bytes, `store S4 Failed` and `store S6 TooLarge` among them, and leaves stores that are
+/// alike, unless one of the two answers is `no memory` or `store S3 Device` (`command`). So is a script without checkpoints in which no answer is so (`script`).
+/// Two checkpoints are answered alike too where the device has failed, by `store S4 Failed`, and where there is no further generation, by
+/// `store S5 Generations`. Else each is made, or has no room, or is cut short (`checkpoint`): which of the first two, the length of the side that it would make
+/// decides, and so does the room that is left afterwards. A state has spellings of several lengths.
+pub fn stores_that_are_alike_answer_alike()
+    ensures command { (before other after after_other : Standing) (command : PlainCommand) (answer second : List ℕ) → AreAlike before other → command ≢ checkpoint
+        → Answer before command answer after → Answer other command second after_other → AreSame answer second after after_other }
+    ensures checkpoint { (before other after after_other : Standing) (answer second : List ℕ) → AreAlike before other
+        → Answer before checkpoint answer after → Answer other checkpoint second after_other → AreSame answer second after after_other ⊎ (IsOfASide answer × IsOfASide second) }
+    ensures script { (before other after after_other : Standing) (commands : List PlainCommand) (answers second : List (List ℕ)) → AreAlike before other → All (λ command. command ≢ checkpoint) commands
+        → AnswersEach before commands answers after → AnswersEach other commands second after_other → NoneCutShort answers → NoneCutShort second
+        → (answers ≡ second) × AreAlike after after_other }
 {}
 
 /// What is asked is answered from what is held, and changes nothing. A report that is printed is the one on the entries of the warehouse, under the policy
@@ -165,6 +184,47 @@ pub fn what_a_crash_leaves_is_reported_whole()
         × IsWhole found.entries × ReportsAddUp found.entries }
     ensures one { (before after : Standing) (commands : List PlainCommand) (answers : List (List ℕ)) (e f : EntryValue) → AnswersEach before commands answers after
         → IsInFlight before after commands answers e → IsInFlight before after commands answers f → e ≡ f }
+{}
+
+/// What a crash leaves can be opened, of entries that are added as a group (`group`) and of a run of [`Store::run`](fw_recover::Store::run) (`first`), at any
+/// moment of a script (`script`) and of each of its commands (`command`), and after a script (`after_script`): there is a warehouse for which the files stand,
+/// and they are neither missing nor corrupt.
+pub fn what_a_crash_leaves_can_be_opened()
+    ensures group { (before : History) (more : List EntryValue) (image : Image) → StandsForEither before more image → (found : History) × Opens found image }
+    ensures first { (before : History) (entries : List EntryValue) (image : Image) → StandsForFirst before entries image → (found : History) × Opens found image }
+    ensures script { (before after : Standing) (commands : List PlainCommand) (answers : List (List ℕ)) (image : Image)
+        → IsBetween (IsInFlight before after commands answers) before.history after image → (found : History) × Opens found image }
+    ensures after_script { (before after : Standing) (commands : List PlainCommand) (answers : List (List ℕ)) (more : List EntryValue) (image : Image)
+        → AreInFlight (IsInFlight before after commands answers) more → StandsForEither after.history more image → (found : History) × Opens found image }
+    ensures command { (before after : Standing) (command : PlainCommand) (answer : List ℕ) (image : Image)
+        → IsBetween (FailsOnSent before command answer) before.history after image → (found : History) × Opens found image }
+{}
+
+/// The commands of a script are run one after the other: whichever of them one looks at, it was run on what those before it left, and those behind it were
+/// run on what it left; and what a crash leaves at any moment of it is what [`a_crash_keeps_what_was_answered`] speaks of (`LeavesWithin`).
+pub fn commands_are_run_in_turn<V: Volume>(before: &Store<V>, after: &Store<V>)
+    ensures { (commands : List PlainCommand) (answers : List (List ℕ)) (place : ℕ) (command : PlainCommand) (answer : List ℕ) → RunsInTurn V.tells V.view before.now commands answers after.now
+        → slice_get commands place ≡ Some command → slice_get answers place ≡ Some answer → RunsAt V.tells V.view before.now commands answers place command answer after.now }
+{}
+
+/// A crash within a script keeps what was answered. Where it comes at any moment of a command, what is opened is what the commands before it left, or this and
+/// the entry that the command sends, which is accepted (`command`): so it has all that was answered by then. What was answered `accepted N` to a command before
+/// it is the Nth entry of it (`answered`). Of a whole script, what is opened after a crash at any moment is what its first commands left, up to some place;
+/// or, only where the device failed, what the script left and the entry in flight (`prefix`).
+pub fn a_crash_keeps_what_was_answered()
+    ensures command { (before after : Standing) (command : PlainCommand) (answer : List ℕ) (image : Image) (found : History) → Answer before command answer after
+        → IsBetween (FailsOnSent before command answer) before.history after image → StandsFor found image
+        → ((found ≡ before.history)
+        ⊎ ((e : EntryValue) × Sends before.history.currency command e × (judged before.history.entries e ≡ verdict.Accept) × (found ≡ with_more before.history (e ∷ []))))
+        × IsWhole found.entries × ReportsAddUp found.entries }
+    ensures answered { (before middle next : Standing) (commands : List PlainCommand) (answers : List (List ℕ)) (running : PlainCommand) (answer : List ℕ) (image : Image) (found : History) (place n : ℕ) (command : PlainCommand)
+        → AnswersEach before commands answers middle → Answer middle running answer next → IsBetween (FailsOnSent middle running answer) middle.history next image → StandsFor found image
+        → slice_get commands place ≡ Some command → slice_get answers place ≡ Some (accepted_line n) → n < 2 ^ 64 → length middle.history.entries < 2 ^ 64
+        → (e : EntryValue) × Sends before.history.currency command e × StandsAt found.entries n e }
+    ensures prefix { (before after : Standing) (commands : List PlainCommand) (answers : List (List ℕ)) (image : Image) (found : History) → AnswersEach before commands answers after
+        → IsBetween (IsInFlight before after commands answers) before.history after image → StandsFor found image
+        → ((place : ℕ) × (middle : Standing) × AnswersEach before (take place commands) (take place answers) middle × (found ≡ middle.history))
+        ⊎ ((after.failed ≡ true) × ((e : EntryValue) × IsInFlight before after commands answers e × (found ≡ with_more after.history (e ∷ [])))) }
 {}
 
 /// A warehouse outlives its stops, however many. In each session, from an opening to the next stop, entries are committed, one by one or in groups, the

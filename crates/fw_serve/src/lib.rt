@@ -20,10 +20,12 @@ mod writing;
 pub use fault::ServeFault;
 pub use input::read_within;
 pub use laws::{
-    a_store_that_failed_takes_nothing_more, a_warehouse_outlives_its_stops,
-    a_warehouse_stays_whole, answers_say_what_is_held, one_command_has_one_answer,
-    questions_are_answered_from_what_is_held, what_a_crash_leaves_is_reported_whole,
-    what_is_written_is_true, what_the_store_refuses_has_its_cause,
+    a_crash_keeps_what_was_answered, a_store_that_failed_takes_nothing_more,
+    a_warehouse_outlives_its_stops, a_warehouse_stays_whole, answers_say_what_is_held,
+    commands_are_run_in_turn, one_command_has_one_answer, questions_are_answered_from_what_is_held,
+    stores_that_are_alike_answer_alike, what_a_crash_leaves_can_be_opened,
+    what_a_crash_leaves_is_reported_whole, what_is_written_is_true,
+    what_the_store_refuses_has_its_cause,
 };
 pub use questions::answer_state;
 pub use refusals::{entry_reply, row_reply, verdict_reply};

@@ -3,7 +3,7 @@ ghost use Rattle.std.specs.Prelude.{◌≡◌, ◌≢◌, ◌<◌, ◌≤◌, Li
 ghost use Rattle.fw_disk.specs.Volume.{Image, Rose};
 ghost use Rattle.fw_entry.specs.Entry.{EntryValue};
 ghost use Rattle.fw_recover.specs.Stands.{EachStandsFor, StandsForEither};
-ghost use Rattle.fw_serve.specs.Flight.{CrashLeaves, Runs};
+ghost use Rattle.fw_serve.specs.Flight.{CrashLeaves, Runs, RunsByCommand};
 ghost use Rattle.fw_serve.specs.Served.{IsServed, IsServedInPart, Serves, ServesInPart, most_bytes, most_workers};
 ghost use Rattle.fw_serve.specs.Standings.{standing_of};
 
@@ -27,7 +27,8 @@ use std::io::{Read, Write};
 /// An entry is answered `accepted` only when it is on the volume, synced. What a crash leaves at any moment stands for the
 /// warehouse before the call with the entries that were accepted by then; where the device fails in the middle of an entry,
 /// it may have that one too, the one whose command was answered `store S3 Device`, and every later entry is answered `store S4 Failed`. So after the
-/// call, whatever it returns, each image has all that was answered `accepted`. A store that had failed before stays as it was, and so does its volume.
+/// call, whatever it returns, each image has all that was answered `accepted`. Command by command: at any moment of one a crash leaves what the
+/// commands before it left, perhaps with the entry that it sends. A store that had failed before stays as it was, and so does its volume.
 ///
 /// There are 1 to 64 workers. Their number has no effect yet.
 pub fn serve<R: Read, W: Write, V: Volume>(
@@ -44,6 +45,7 @@ pub fn serve<R: Read, W: Write, V: Volume>(
     ensures untouched { IfErr result (λ why. (why ≢ ServeFault.Write) → (store.new ≡ store.old) × (writer.new ≡ writer.old)) }
     ensures too_long { result ≡ Err ServeFault.TooLong → IfSome (R.remaining reader.old) (λ bytes. most_bytes < length bytes) }
     ensures any_moment { IsTrue V.tells → store.old.failed ≡ false → CrashLeaves V.view (R.remaining reader.old) store.old store.new (W.contents writer.old) (W.contents writer.new) }
+    ensures each_command { RunsByCommand V.tells V.view (R.remaining reader.old) store.old store.new (W.contents writer.old) (W.contents writer.new) }
     ensures each { IsTrue V.tells → store.new.failed ≡ false → EachStandsFor store.new.history (V.view store.new.volume) }
     ensures each_once_failed { IsTrue V.tells → store.new.failed ≡ true
         → (more : List EntryValue) × ((c : Image) → (V.view store.new.volume).may_leave c → StandsForEither store.new.history more c) }
@@ -70,6 +72,7 @@ fn answer_all<W: Write, V: Volume>(
 {
     let mut script = Script::new(text);
     while let Some(command) = script.next_command() {
+        store.keeps();
         let reply = answer(alloc, store, command);
         write_reply(writer, &reply)?;
     }

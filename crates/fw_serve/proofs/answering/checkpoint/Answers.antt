@@ -1,7 +1,7 @@
 use Rattle.std.proofs.Common.{Err, refl}
 use Rattle.fw_serve.specs.ReplyText.{reply_text}
 use Rattle.fw_serve.proofs.MoveFacts.{not_both, Moves-checkpoint}
-use Rattle.fw_serve.proofs.StoreFacts.{CheckpointFails, works_ok, Checkpoints-done, Checkpoints-failed, Moves-unmade}
+use Rattle.fw_serve.proofs.StoreFacts.{CheckpointFails, further_ok, works_ok, Checkpoints-done, Checkpoints-failed, Moves-unmade}
 use Rattle.fw_serve.proofs.answering.checkpoint.Given as given
 use Rattle.fw_serve.proofs.answering.checkpoint.Goals as goal
 use Rattle.fw_serve.proofs.answering.checkpoint.Goals.{In-Err}
@@ -12,7 +12,8 @@ returns-in-Ok-clause-checkpoints g c =
     let clauses = c.checkpoint.ensures in
     let works = works_ok c.checkpoint.result _ c.args.store.now.failed c.in-Ok.is clauses.failed in
     let done = rw c.in-Ok.is at clauses.done in
-    Checkpoints-done g.V.Volume.tells g.V.Volume.view c.args.store.now c.checkpoint.new.self _ works done clauses.same clauses.limit refl
+    Checkpoints-done g.V.Volume.tells g.V.Volume.view c.args.store.now c.checkpoint.new.self _ works
+    (further_ok c.checkpoint.result _ c.args.store.now.failed c.args.store.now.generation c.in-Ok.is works clauses.generations) done clauses.same clauses.limit refl
 
 pub returns-in-Ok-clause-moves : goal.returns-in-Ok-clause-moves
 returns-in-Ok-clause-moves g c =

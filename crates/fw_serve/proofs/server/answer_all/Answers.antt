@@ -1,6 +1,6 @@
 use Rattle.std.proofs.Common.{refl, inl, inr}
 use Rattle.std.proofs.lemmas.Result.{err_from_is_err_and}
-use Rattle.fw_serve.proofs.FlightFacts.{Runs-part, Runs-whole, RunsSoFar-more, RunsSoFar-none}
+use Rattle.fw_serve.proofs.FlightFacts.{Runs-part, Runs-whole, RunsSoFar-more, RunsSoFar-none, within_one}
 use Rattle.fw_serve.proofs.ServedFacts.{ServesSoFar-none, ServesSoFar-more, Serves-whole}
 use Rattle.fw_script.specs.Plain.{plain_command}
 use Rattle.fw_serve.specs.ReplyText.{reply_text}
@@ -37,18 +37,21 @@ returns-in_err-write_reply-clause-write g c =
 
 pub returns-in_err-write_reply-clause-runs : goal.returns-in_err-write_reply-clause-runs
 returns-in_err-write_reply-clause-runs g c =
-    Runs-part _ _ _ _ _ _ _ _ _ _ _ _ _ c.loop-command.invariant.runs c.in-Some.ensures.command c.answer-reply.ensures.answer c.answer-reply.ensures.moves c.in_err-write_reply.ensures.part.1
+    Runs-part _ _ _ _ _ _ _ _ _ _ _ _ _ c.loop-command.invariant.runs c.in-Some.ensures.command c.answer-reply.ensures.answer c.answer-reply.ensures.moves
+    (within_one _ _ _ _ _ _ c.keeps.ensures (g.met.V.Volume.only_now c.loop-command.store.volume) c.answer-reply.ensures.moves) c.in_err-write_reply.ensures.part.1
 
 pub loop-command-preserved-in_ok-write_reply : goal.loop-command-preserved-in_ok-write_reply
 loop-command-preserved-in_ok-write_reply g c = record {
   so_far = ServesSoFar-more _ _ _ _ _ _ _ _ _ _ _ c.loop-command.invariant.so_far c.in-Some.ensures.command c.answer-reply.ensures.answer c.in_ok-write_reply.ensures.whole;
-  runs = RunsSoFar-more _ _ _ _ _ _ _ _ _ _ _ _ _ c.loop-command.invariant.runs c.in-Some.ensures.command c.answer-reply.ensures.answer c.answer-reply.ensures.moves c.in_ok-write_reply.ensures.whole;
+  runs = RunsSoFar-more _ _ _ _ _ _ _ _ _ _ _ _ _ c.loop-command.invariant.runs c.in-Some.ensures.command c.answer-reply.ensures.answer c.answer-reply.ensures.moves
+      (within_one _ _ _ _ _ _ c.keeps.ensures (g.met.V.Volume.only_now c.loop-command.store.volume) c.answer-reply.ensures.moves) c.in_ok-write_reply.ensures.whole;
 }
 
 pub loop-command-preserved : goal.loop-command-preserved
 loop-command-preserved g c = record {
   so_far = ServesSoFar-more _ _ _ _ _ _ _ _ _ _ _ c.loop-command.invariant.so_far c.in-Some.ensures.command c.answer-reply.ensures.answer c.in_ok-write_reply.ensures.whole;
-  runs = RunsSoFar-more _ _ _ _ _ _ _ _ _ _ _ _ _ c.loop-command.invariant.runs c.in-Some.ensures.command c.answer-reply.ensures.answer c.answer-reply.ensures.moves c.in_ok-write_reply.ensures.whole;
+  runs = RunsSoFar-more _ _ _ _ _ _ _ _ _ _ _ _ _ c.loop-command.invariant.runs c.in-Some.ensures.command c.answer-reply.ensures.answer c.answer-reply.ensures.moves
+      (within_one _ _ _ _ _ _ c.keeps.ensures (g.met.V.Volume.only_now c.loop-command.store.volume) c.answer-reply.ensures.moves) c.in_ok-write_reply.ensures.whole;
 }
 
 pub returns-in-Ok-clause-done : goal.returns-in-Ok-clause-done
