@@ -1,5 +1,5 @@
 -- Stores that are alike answer alike.
-use Rattle.std.proofs.Common.{◌≡◌, ◌≢◌, ◌⊎◌, ◌∙◌, ◌+◌, ◌∷◌, [], ℕ, List, All, false, length, Ok, Err, refl, sym, ap, subst, inl, inr, arith}
+use Rattle.std.proofs.Common.{◌≡◌, ◌≢◌, ◌⊎◌, ◌∙◌, ◌+◌, ◌∷◌, [], ℕ, List, All, length, Ok, Err, refl, sym, ap, subst, inl, inr, arith}
 use Rattle.std.specs.Prelude.{Result}
 use Rattle.std.proofs.lemmas.List.Elements.{All-head, All-tail}
 use Rattle.fw_entry.specs.Entry.{CommandValue, EntryValue}
@@ -13,7 +13,7 @@ use Rattle.fw_snapshot.specs.Judging.{judged}
 use Rattle.fw_snapshot.specs.Verdicts.{with_more}
 use Rattle.fw_snapshot.specs.declared.verdict.Verdict.{Verdict}
 use Rattle.fw_snapshot.specs.declared.verdict.Verdict.TheVariants as verdict
-use Rattle.fw_serve.specs.Answers.{Answer, Checkpoints, Entered, HasNoRoom, Judges, Makes, Renews, SequenceReads, Stays, Submits, Takes, entry_made, last_generation, with_entry}
+use Rattle.fw_serve.specs.Answers.{Answer, Checkpoints, Entered, HasNoRoom, Judges, Makes, Renews, SequenceReads, Stays, Submits, Takes, entry_made, with_entry}
 use Rattle.fw_serve.specs.Contents.{ContentReads}
 use Rattle.fw_serve.specs.Questions.{LinesAnswer, ReportAnswer, lines_answer, report_answer}
 use Rattle.fw_serve.specs.Replies.{accepted_line, no_memory_line, state_line}
