@@ -22,13 +22,26 @@ use std::alloc::Global;
 #[derive(Clone, Copy, Debug)]
 pub enum Question<'q> {
     /// What each group of a tag cost.
-    Report { query: Query<'q>, format: Format },
+    Report {
+        query: Query<'q>,
+        format: Format,
+    },
     /// What each group of a tag cost, by period, or of the groups that are charged most, or for programs and browsers.
-    Series { query: Query<'q>, options: SeriesOptions },
+    Series {
+        query: Query<'q>,
+        options: SeriesOptions,
+    },
     /// Each line behind the costs of the hours from `from` up to, not including, `to`, counted from 1970.
-    Lines { from: u64, to: u64 },
+    Lines {
+        from: u64,
+        to: u64,
+    },
     /// How well each commitment was used in the hours from `from` up to, not including, `to`, counted from 1970.
-    Coverage { from: u64, to: u64, format: Format },
+    Coverage {
+        from: u64,
+        to: u64,
+        format: Format,
+    },
     /// What the warehouse holds.
     Status,
     /// Whether its files are sound.
