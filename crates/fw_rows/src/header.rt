@@ -25,16 +25,18 @@ fn is_name_at(header: &ByteRecord, place: usize, column: Column) -> bool
     column.name().as_bytes() == field(header, place)
 }
 
-/// The first place at which a column stands.
-fn first_place(header: &ByteRecord, column: Column) -> Option<usize>
-    ensures { result ≡ place_in (fields_of header.now) column }
-{
-    for place in 0..header.len() {
-        if is_name_at(header, place, column) {
-            return Some(place);
+impl Column {
+    /// The first place at which a header has the column.
+    pub fn place_in(self, header: &ByteRecord) -> Option<usize>
+        ensures { result ≡ place_in (fields_of header.now) self }
+    {
+        for place in 0..header.len() {
+            if is_name_at(header, place, self) {
+                return Some(place);
+            }
         }
+        None
     }
-    None
 }
 
 /// How often a column stands in a header.
@@ -56,7 +58,7 @@ fn missing_column(header: &ByteRecord) -> Option<Column>
 {
     REQUIRED
         .iter()
-        .find(|column| first_place(header, **column).is_none())
+        .find(|column| column.place_in(header).is_none())
         .copied()
 }
 
@@ -77,7 +79,7 @@ impl Places {
     {
         let mut places = [None; COUNT];
         for index in 0..COUNT {
-            places[index] = first_place(header, Column::ALL[index]);
+            places[index] = Column::ALL[index].place_in(header);
         }
         Places {
             fields: header.len(),

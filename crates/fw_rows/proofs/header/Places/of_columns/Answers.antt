@@ -5,7 +5,7 @@ use Rattle.fw_rows.proofs.header.Places.of_columns.Goals as goal
 
 pub loop-index-preserved : goal.loop-index-preserved
 loop-index-preserved c =
-    placed_more (fields_of c.args.header.now) c.loop-index.places c.loop-index.index c.first_place.result (omega (arith, c.loop-index.invariant.size, c.loop-index-test.true)) c.loop-index.invariant c.first_place.ensures
+    placed_more (fields_of c.args.header.now) c.loop-index.places c.loop-index.index c.place_in.result (omega (arith, c.loop-index.invariant.size, c.loop-index-test.true)) c.loop-index.invariant c.place_in.ensures
 
 pub returns : goal.returns
 returns c =
