@@ -14,6 +14,7 @@ mod FindFacts
 pub mod MovedFacts
 pub mod RangeFacts
 mod ListingFacts
+mod TurnFacts
 pub mod TotalFacts
 pub mod OneAnswer
 pub mod DirectFacts

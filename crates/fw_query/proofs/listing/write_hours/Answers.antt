@@ -1,18 +1,18 @@
 use Rattle.std.proofs.Common.{◌≡◌, ◌∙◌, ◌+◌, ◌++◌, ◌∷◌, [], All, ap, length, map, sym, take, arith}
 use Rattle.std.proofs.lemmas.List.{length-map, length-take-le, map_more, take_all}
 use Rattle.fw_charge.specs.Charge.{Charge, hour_of}
-use Rattle.fw_query.specs.Hours.{AreThere, lent, rows_at, rows_of_list}
+use Rattle.fw_query.specs.Hours.{lent, rows_at, rows_of_list}
 use Rattle.fw_query.specs.Listing.{WritesHour, records}
 use Rattle.fw_query.specs.RangeLines.{joined}
 use Rattle.fw_query.proofs.HourFacts.{has_hour}
-use Rattle.fw_query.proofs.ListingFacts.{WritesHours-more, of_hour}
+use Rattle.fw_query.proofs.ListingFacts.{WritesHours-more}
+use Rattle.fw_query.proofs.TurnFacts.{of_turn, there_in_turn}
 use Rattle.fw_query.proofs.listing.write_hours.Goals as goal
 
 pub rows_at-requires : goal.rows_at-requires
 rows_at-requires c =
-    let there : AreThere (lent c.args.segments.now) c.places-item.result =
-    rw c.places-item.is (c.requires.by_hour.1.there c.loop-places.places-index c.places-item.result c.loop-places-test.true) in
-    rw c.as_slice.ensures.value there
+    let (rows, by) = c.requires.by_hour in
+    there_in_turn (lent c.args.segments.now) rows c.args.by_hour.now c.args.from c.loop-places.places-index c.places-item.result c.as_slice.result.now by c.loop-places-test.true c.places-item.is c.as_slice.ensures.value
 
 pub write_hour-requires-clause-hour : goal.write_hour-requires-clause-hour
 write_hour-requires-clause-hour c = has_hour c.args.roster.now c.args.from _ c.loop-places.places-index c.loop-places.hour c.requires.roster c.loop-places-test.true c.loop-places.invariant.at
@@ -20,10 +20,9 @@ write_hour-requires-clause-hour c = has_hour c.args.roster.now c.args.from _ c.l
 pub write_hour-requires-clause-rows : goal.write_hour-requires-clause-rows
 write_hour-requires-clause-rows c =
     let (rows, by) = c.requires.by_hour in
-    let kept = c.loop-places.invariant in
-    let of : All (λ (r : Charge). hour_of r.start ≡ c.args.from + c.loop-places.places-index) (rows_of_list (lent c.args.segments.now) c.places-item.result) =
-    of_hour (lent c.args.segments.now) rows c.args.by_hour.now c.args.from c.loop-places.places-index c.places-item.result by c.loop-places-test.true c.places-item.is in
-    rw (c.as_slice-in-loop-places.ensures.value, c.in_ok-rows.ensures, c.as_slice.ensures.value, kept.at) of
+    let of : All (λ (r : Charge). hour_of r.start ≡ c.loop-places.hour) (rows_at (lent c.args.segments.now) c.as_slice.result.now) =
+    of_turn (lent c.args.segments.now) rows c.args.by_hour.now c.args.from c.loop-places.places-index c.places-item.result c.as_slice.result.now by c.loop-places-test.true c.places-item.is c.as_slice.ensures.value c.loop-places.hour c.loop-places.invariant.at in
+    rw (c.as_slice-in-loop-places.ensures.value, c.in_ok-rows.ensures) of
 
 pub loop-places-preserved : goal.loop-places-preserved
 loop-places-preserved c =
