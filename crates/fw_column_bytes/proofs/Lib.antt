@@ -1,6 +1,5 @@
 pub mod Written
 pub mod Copied
-pub mod TagLists
 pub mod PartsFormat
 pub mod RowsRead
 pub mod ColumnFacts

@@ -1,10 +1,10 @@
-use Rattle.std.proofs.Common.{◌≡◌, ◌∙◌, ◌<◌, ◌++◌, [], ◌∷◌, sym, ap, subst, arith, length, get_or, drop, append_assoc, List, ℕ}
+use Rattle.std.proofs.Common.{◌≡◌, ◌∙◌, ◌++◌, [], ◌∷◌, ap, sym, subst, arith, length, get_or, drop, List, ℕ}
 use Rattle.std.specs.Prelude.{map, string_bytes}
-use Rattle.std.proofs.lemmas.List.{append-nil, length-map}
-use Rattle.std.proofs.lemmas.List.Elements.{All-drop}
+use Rattle.std.proofs.lemmas.List.{length-map}
 use Rattle.fw_charge.specs.Tags.{TagText}
 use Rattle.fw_columns.specs.Table.{tag_of, tags_of}
-use Rattle.fw_column_bytes.proofs.TagLists.{AreSplit, behind_two, tags_step, tags_nowhere}
+use Rattle.fw_columns.proofs.ListFacts.{behind_two}
+use Rattle.fw_columns.proofs.TableFacts.{AreSplit, no_tag_more, one_tag_more}
 use Rattle.fw_column_bytes.proofs.rows.tags_of.Goals as goal
 
 pub loop-rest-init : goal.loop-rest-init
@@ -32,21 +32,16 @@ pub loop-rest-preserved : goal.loop-rest-preserved
 loop-rest-preserved c =
     let names = map string_bytes c.args.names.now in
     let rest = c.loop-rest.rest.now in
+    let list = c.args.list.now in
     let before : List TagText = c.loop-rest.tags.items in
-    let after = tags_of names (drop 2 rest) in
-    let Split : List ℕ → Type 0 = λ xs. AreSplit names c.push.new.self.items xs c.args.list.now in
-    let tag : c.in_ok-tag.tag ≡ tag_of names (get_or rest 0 0) (get_or rest 1 0) = c.in_ok-tag.ensures in
-    subst Split (sym (behind_two rest)) (record {
-      split =
-          (λ j. c.in_ok-push.ensures.items j ++ after)
-          ∙ (append_assoc before (c.in_ok-tag.tag ∷ []) after
-          ∙ ((λ j. before ++ tag j ∷ after) ∙ (ap (λ ts. before ++ ts) (sym (tags_step names rest c.in-len2-up.len_at_least)) ∙ c.loop-rest.invariant.split)));
-      within = All-drop (λ place. place < length names) 2 rest c.loop-rest.invariant.within;
-    })
+    let first = tag_of names (get_or rest 0 0) (get_or rest 1 0) in
+    let more : c.push.new.self.items ≡ before ++ first ∷ [] = c.in_ok-push.ensures.items ∙ ap (λ tag. before ++ tag ∷ []) c.in_ok-tag.ensures in
+    let Split : List TagText → Type 0 = λ tags. AreSplit names tags (drop 2 rest) list in
+    let split : AreSplit names c.push.new.self.items (drop 2 rest) list =
+    subst Split (sym more) (one_tag_more names before rest list c.in-len2-up.len_at_least c.loop-rest.invariant) in
+    let Rest : List ℕ → Type 0 = λ xs. AreSplit names c.push.new.self.items xs list in
+    subst Rest (sym (behind_two rest)) split
 
 pub returns : goal.returns
 returns c =
-    let names = map string_bytes c.args.names.now in
-    let short : length c.loop-rest.rest.now < 2 = omega (arith, c.in_default.len_below) in
-    let before : List TagText = c.loop-rest.tags.items in
-    sym (append-nil before) ∙ (ap (λ ts. before ++ ts) (sym (tags_nowhere names c.loop-rest.rest.now short)) ∙ c.loop-rest.invariant.split)
+    no_tag_more (map string_bytes c.args.names.now) c.loop-rest.tags.items c.loop-rest.rest.now c.args.list.now (omega (arith, c.in_default.len_below)) c.loop-rest.invariant
