@@ -1,5 +1,5 @@
 -- Rows that are read, segment by segment, and taken from the front.
-use Rattle.std.proofs.Common.{◌≡◌, ◌∙◌, ◌+◌, ℕ, suc, false, List, [], ◌∷◌, ◌++◌, length, drop, Option, Some, None, Result, Ok, Err, refl, sym, ap, add-one, append_assoc, arith}
+use Rattle.std.proofs.Common.{◌≡◌, ◌∙◌, ◌+◌, ◌<◌, ℕ, suc, false, List, [], ◌∷◌, ◌++◌, length, drop, Option, Some, None, Result, Ok, Err, refl, sym, ap, add-one, append_assoc, length-append, arith}
 use Rattle.std.specs.Prelude.{nat_lt, slice_get}
 use Rattle.std.proofs.Math.Seq.{drop-cons}
 use Rattle.std.proofs.lemmas.Bool.{ltb-false}
@@ -11,7 +11,8 @@ use Rattle.fw_bytes.specs.declared.fault.ReadError.TheVariants as errors
 use Rattle.fw_charge.specs.Charge.{Charge}
 use Rattle.fw_snapshot.specs.Heads.{segment_rows}
 use Rattle.fw_segment.specs.Segments.{segment_at}
-use Rattle.fw_segment.specs.RowsLeft.{behind, rows_given, segments_at}
+use Rattle.fw_segment.specs.RowsLeft.{behind, held, rows_given, rows_left, segments_at, AreTaken}
+use Rattle.fw_segment.specs.declared.rows_left.RowsLeft.{RowsLeft}
 
 abbrev pub Read : Type 0
 Read = Result (List Charge × List ℕ) ℕ
@@ -98,3 +99,25 @@ nothing_held taken = drop_all taken [] (omega arith)
 -- what is held is let go
 pub held_gone : (gone rows : List Charge) (taken : ℕ) (read : Read) → behind gone (behind rows read) ≡ behind (gone ++ rows) (behind (drop taken (rows_given None)) read)
 held_gone gone rows taken read = rw (nothing_held taken) (behind_both gone rows read ∙ ap (behind (gone ++ rows)) (sym (behind_nothing read)))
+
+-- how many rows were read
+rows_read : Read → ℕ
+rows_read (Ok x) = length x.0
+rows_read (Err left) = 0
+
+-- where no row is left, none is held
+none_behind : (rows : List Charge) (read : Read) (bytes : List ℕ) → behind rows read ≡ Ok ([], bytes) → length rows ≡ 0
+unfolding rows_read
+none_behind rows (Ok x) bytes e =
+    let sum = length-append rows x.0 in
+    let none : length (rows ++ x.0) ≡ 0 = ap rows_read e in
+    omega (arith, sum, none)
+none_behind rows (Err left) bytes e = absurd cc
+
+-- where a row is held and one is asked for, one is taken
+pub some_taken : (count : ℕ) (front : List Charge) (old new : RowsLeft) → 0 < length (held old) → 0 < count → AreTaken count front old new → 0 < length front
+some_taken count [] old new some asked taken =
+    let left = taken.front ∙ (behind_nothing (rows_left new) ∙ taken.short asked) in
+    let none = none_behind (held old) (segments_at old.segments old.bytes.now) new.bytes.now left in
+    absurd (omega (arith, some, none))
+some_taken count (row ∷ rows) old new some asked taken = omega arith

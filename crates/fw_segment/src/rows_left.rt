@@ -138,9 +138,6 @@ impl<'a> RowsLeft<'a> {
             return Ok(self.segment.take());
         }
         let front = self.take_each(alloc, count)?;
-        if front.len() == 0 {
-            return Ok(None);
-        }
         let columns = front.finish()?;
         Ok(Some(columns))
     }

@@ -1,8 +1,7 @@
 use Rattle.std.specs.Prelude.{nat_lt}
-use Rattle.std.proofs.Common.{rules, ◌≡◌, ◌∙◌, [], false, length, sym, ap, arith}
-use Rattle.std.proofs.lemmas.List.{nil_from_length}
-use Rattle.fw_segment.specs.RowsLeft.{behind, held, rows_left}
-use Rattle.fw_segment.proofs.Taking.{behind_nothing, no_row, none_left}
+use Rattle.std.proofs.Common.{rules, ◌≡◌, ◌∙◌, ◌<◌, false, length, sym, arith}
+use Rattle.fw_segment.specs.RowsLeft.{held, rows_left}
+use Rattle.fw_segment.proofs.Taking.{behind_nothing, no_row, none_left, some_taken}
 use Rattle.fw_segment.proofs.rows_left.RowsLeft.take_front.Goals as goal
 
 pub returns-then-not-branch-clause-taken : goal.returns-then-not-branch-clause-taken
@@ -16,12 +15,7 @@ returns-then-not-branch-clause-taken c =
       short = λ fewer. none_left (held left) left.segments left.bytes.now (no_row (held left) none) no_more;
     }
 
-pub returns-then-len-eq0-clause-taken : goal.returns-then-len-eq0-clause-taken
-returns-then-len-eq0-clause-taken c =
-    let none : c.in_ok-front.front ≡ [] = nil_from_length c.in_ok-front.front (omega (arith, c.len.ensures.count, c.if-len-eq0.true)) in
-    let taken = c.in_ok-front.ensures.taken in
-    record {
-      front = c.in_ok-has_next.ensures.same ∙ (taken.front ∙ ap (λ rows. behind rows (rows_left c.take_each.new.self)) none);
-      few = omega arith;
-      short = λ fewer. taken.short (omega (arith, c.len.ensures.count, c.if-len-eq0.true, c.if-count-eq0.false));
-    }
+pub finish-requires : goal.finish-requires
+finish-requires c =
+    let some : 0 < length (held c.has_next.new.self) = search rules in
+    some_taken c.args.count c.in_ok-front.front c.has_next.new.self c.take_each.new.self some (omega (arith, c.if-count-eq0.false)) c.in_ok-front.ensures.taken
