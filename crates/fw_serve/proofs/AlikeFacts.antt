@@ -1,6 +1,8 @@
 -- Stores that are alike answer alike.
 use Rattle.std.proofs.Common.{◌≡◌, ◌≢◌, ◌⊎◌, ◌∙◌, ◌+◌, ◌∷◌, [], ℕ, List, All, length, Ok, Err, refl, sym, ap, subst, inl, inr, arith}
 use Rattle.std.specs.Prelude.{Result}
+use Rattle.std.proofs.Common.{get_or}
+use Rattle.fw_recover.specs.declared.fault.StoreFault.TheVariants as store_fault
 use Rattle.std.proofs.lemmas.List.Elements.{All-head, All-tail}
 use Rattle.fw_entry.specs.Entry.{CommandValue, EntryValue}
 use Rattle.fw_entry.specs.declared.fault.EntryFault.{EntryFault}
@@ -15,7 +17,7 @@ use Rattle.fw_snapshot.specs.declared.verdict.Verdict.TheVariants as verdict
 use Rattle.fw_serve.specs.Answers.{Answer, Checkpoints, Entered, HasNoRoom, Judges, Makes, Renews, SequenceReads, Stays, Submits, Takes, entry_made, with_entry}
 use Rattle.fw_serve.specs.Contents.{ContentReads}
 use Rattle.fw_serve.specs.Questions.{LinesAnswer, ReportAnswer, lines_answer, report_answer}
-use Rattle.fw_serve.specs.Replies.{accepted_line, no_memory_line, state_line}
+use Rattle.fw_serve.specs.Replies.{accepted_line, checkpointed_line, no_memory_line, state_line, store_fault_line, store_line}
 use Rattle.fw_serve.specs.Runs.{AnswersEach, AreAlike, AreSame, IsCutShort, IsOfASide, NoneCutShort}
 use Rattle.fw_serve.specs.Standings.{Standing}
 use Rattle.fw_serve.proofs.MoveFacts.{not_both}
@@ -158,6 +160,68 @@ checkpoints_alike a b c d s t like (inr (inl p)) (inr (inr q)) = absurd (q.1 (sy
 checkpoints_alike a b c d s t like (inr (inr p)) (inl q) = absurd (not_both b.failed q.0 (sym like.failed ∙ p.0))
 checkpoints_alike a b c d s t like (inr (inr p)) (inr (inl q)) = absurd (p.1 (like.generation ∙ q.1))
 checkpoints_alike a b c d s t like (inr (inr p)) (inr (inr q)) = inr (renews_side a s c p.2, renews_side b t d q.2)
+
+-- the first letter tells the line of a checkpoint that was made from the others
+abbrev letter : List ℕ → ℕ
+letter text = get_or text 0 0
+
+made_letter : letter checkpointed_line ≡ 99
+unfolding checkpointed_line
+made_letter = refl
+
+failed_letter : letter (store_fault_line store_fault.Failed) ≡ 115
+unfolding store_fault_line store_line
+failed_letter = refl
+
+generations_letter : letter (store_fault_line store_fault.Generations) ≡ 115
+unfolding store_fault_line store_line
+generations_letter = refl
+
+room_letter : letter (store_fault_line store_fault.TooLarge) ≡ 115
+unfolding store_fault_line store_line
+room_letter = refl
+
+device_letter : letter (store_fault_line store_fault.Device) ≡ 115
+unfolding store_fault_line store_line
+device_letter = refl
+
+memory_letter : letter no_memory_line ≡ 110
+unfolding no_memory_line
+memory_letter = refl
+
+not_store : (s line : List ℕ) → s ≡ checkpointed_line → letter line ≡ 115 → s ≡ line → ⊥
+not_store s line made code is =
+    let both : 99 ≡ 115 = sym made_letter ∙ ap letter (sym made ∙ is) ∙ code in
+    omega (arith, both)
+
+not_memory : (s : List ℕ) → s ≡ checkpointed_line → s ≡ no_memory_line → ⊥
+not_memory s made is =
+    let both : 99 ≡ 110 = sym made_letter ∙ ap letter (sym made ∙ is) ∙ memory_letter in
+    omega (arith, both)
+
+-- a checkpoint that was made leaves all as it was, but for the generation and the room
+abbrev IsRenewed : Standing → Standing → Type 0
+IsRenewed a c = (c.history ≡ a.history) × (c.failed ≡ a.failed) × (c.generation ≡ a.generation + 1)
+
+renewed : (a : Standing) (s : List ℕ) (c : Standing) → s ≡ checkpointed_line → Renews a s c → IsRenewed a c
+renewed a s c made (inl is) = (ap (λ (x : Standing). x.history) is.4, ap (λ (x : Standing). x.failed) is.4, ap (λ (x : Standing). x.generation) is.4)
+renewed a s c made (inr (inl full)) = absurd (not_store s _ made room_letter full.0.0)
+renewed a s c made (inr (inr (inl device))) = absurd (not_store s _ made device_letter device.0)
+renewed a s c made (inr (inr (inr out))) = absurd (not_memory s made out.0)
+
+made_leaves : (a : Standing) (s : List ℕ) (c : Standing) → s ≡ checkpointed_line → Checkpoints a s c → IsRenewed a c
+unfolding Checkpoints
+made_leaves a s c made (inl failed) = absurd (not_store s _ made failed_letter failed.1.0)
+made_leaves a s c made (inr (inl last)) = absurd (not_store s _ made generations_letter last.2.0)
+made_leaves a s c made (inr (inr renews)) = renewed a s c made renews.2
+
+pub checkpoints_made : (a b c d : Standing) → AreAlike a b → Answer a checkpoint checkpointed_line c → Answer b checkpoint checkpointed_line d
+    → (c.history ≡ d.history) × (c.failed ≡ d.failed) × (c.generation ≡ d.generation)
+unfolding Answer
+checkpoints_made a b c d like p q =
+    let (held, fails, next) = made_leaves a checkpointed_line c refl p in
+    let (held_other, fails_other, next_other) = made_leaves b checkpointed_line d refl q in
+    (held ∙ like.history ∙ sym held_other, fails ∙ like.failed ∙ sym fails_other, next ∙ ap (λ n. n + 1) like.generation ∙ sym next_other)
 
 -- ---- scripts
 not_cut : (s t : List ℕ) (c d : Standing) → AreSame s t c d → (¬ IsCutShort s) → (¬ IsCutShort t) → (s ≡ t) × AreAlike c d

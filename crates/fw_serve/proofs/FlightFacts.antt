@@ -1,11 +1,12 @@
 -- Runs of commands, and the entry on which the device failed.
-use Rattle.std.proofs.Common.{◌≡◌, ◌∙◌, ◌∷◌, ◌++◌, [], ℕ, zero, suc, List, Bool, Option, Some, drop, length, slice_get, take, refl, sym, ap, subst, inl, inr, append-nil, append_assoc}
+use Rattle.std.proofs.Common.{◌≡◌, ◌∙◌, ◌∷◌, ◌++◌, [], ℕ, zero, suc, List, Bool, Option, Some, drop, length, slice_get, take, true, false, IsTrue, refl, sym, ap, subst, inl, inr, append-nil, append_assoc}
 use Rattle.std.specs.Io.KnownBytes.{Appends, Keeps}
 use Rattle.std.specs.List.{concat}
 use Rattle.std.proofs.KnownBytes.{Appends-kept, Appends-nil, Appends-trans}
 use Rattle.std.proofs.lemmas.List.Folds.{concat-append}
 use Rattle.fw_disk.specs.Volume.{Image, View}
 use Rattle.fw_entry.specs.Entry.{EntryValue}
+use Rattle.fw_recover.proofs.Committing.{each_stands}
 use Rattle.fw_recover.specs.Store.{IsKept, StoreState}
 use Rattle.fw_recover.specs.declared.fault.StoreFault.TheVariants as store_fault
 use Rattle.fw_script.specs.Commands.{FirstCommand, StartsWithCommands}
@@ -18,10 +19,10 @@ use Rattle.fw_serve.specs.Flight.{FailsOnSent, IsInFlight, IsRun, LeavesWithin, 
 use Rattle.fw_serve.specs.Replies.{store_fault_line}
 use Rattle.fw_serve.specs.Runs.{AnswersEach, Sends}
 use Rattle.fw_serve.specs.Served.{IsScriptOf}
-use Rattle.fw_serve.specs.Standings.{Standing, standing_of, Moves}
+use Rattle.fw_serve.specs.Standings.{LeavesInFlight, Standing, standing_of, Moves}
 use Rattle.fw_serve.specs.Writing.{WritesPart}
 use Rattle.fw_serve.proofs.FailedFacts.{lost_by_answer}
-use Rattle.fw_serve.proofs.MoveFacts.{Moves-then, failed_stays, moved_at, moved_failed}
+use Rattle.fw_serve.proofs.MoveFacts.{Moves-then, by_flag, failed_stays, flight_as, moved_at, moved_failed, not_both}
 use Rattle.fw_serve.proofs.RunFacts.{step}
 use Rattle.fw_serve.proofs.ServedFacts.{StartsWithCommands-more}
 use Rattle.fw_serve.proofs.WrittenFacts.{same_currency}
@@ -42,7 +43,7 @@ unfolding AnswersEach
 same_length [] before after answers given = ap length given.0
 same_length (c ∷ commands) before after answers given = ap length given.5 ∙ ap suc (same_length commands given.1 after given.2 given.4)
 
-kept_currency : (commands : List PlainCommand) (before after : Standing) (answers : List (List ℕ)) → AnswersEach before commands answers after
+pub kept_currency : (commands : List PlainCommand) (before after : Standing) (answers : List (List ℕ)) → AnswersEach before commands answers after
     → after.history.currency ≡ before.history.currency
 unfolding AnswersEach
 kept_currency [] before after answers given = ap (λ (s : Standing). s.history.currency) given.1
@@ -107,12 +108,13 @@ moves_more tells view a b c commands answers command text given answered first s
     (λ e. flies_last (standing_of view a) (standing_of view b) (standing_of view c) commands answers command text e given answered)
 
 -- ---- command by command
-pub within_one : {V : Type 0} (tells : Bool) (view : V → View) (command : PlainCommand) (answer : List ℕ) (old new : StoreState V) → IsKept tells view old
+pub within_one : {V : Type 0} (tells : Bool) (view : V → View) (command : PlainCommand) (answer : List ℕ) (old new : StoreState V) → IsKept tells view old → IsKept tells view new
     → ((c : Image) → (view old.volume).left_since (view old.volume).moment c → (view old.volume).may_leave c)
     → Moves tells view (FailsOnSent (standing_of view old) command answer) old new → LeavesWithin tells view old command answer new
-within_one tells view command answer old new kept only moves = record {
+within_one tells view command answer old new kept keeps only moves = record {
   any_moment = λ told works. moved_at tells view (FailsOnSent (standing_of view old) command answer) old new kept only moves told works;
   once_failed = λ told works fails. moved_failed tells view (FailsOnSent (standing_of view old) command answer) old new moves told works fails;
+  each = λ told works. each_stands new.generation new.log new.history (view new.volume) (keeps.fresh told works);
   stays = λ failed. failed_stays tells view (FailsOnSent (standing_of view old) command answer) old new moves failed;
 }
 
@@ -149,6 +151,63 @@ unfolding RunsInTurn AnswersEach
 turn_told tells view [] a b answers run = (run.0, ap (standing_of view) run.1)
 turn_told tells view (d ∷ commands) a b answers run = (run.0, standing_of view run.1, run.2, run.3, turn_told tells view commands run.1 b run.2 run.5, run.6)
 
+-- once the device has failed nothing changes
+turn_stays : {V : Type 0} (tells : Bool) (view : V → View) (commands : List PlainCommand) (old new : StoreState V) (answers : List (List ℕ)) → RunsInTurn tells view old commands answers new
+    → old.failed ≡ true → new ≡ old
+unfolding RunsInTurn
+turn_stays tells view [] old new answers run failed = run.1
+turn_stays tells view (d ∷ commands) old new answers run failed =
+    let same : run.1 ≡ old = run.4.stays failed in
+    turn_stays tells view commands run.1 new run.2 run.5 (ap (λ (s : StoreState _). s.failed) same ∙ failed) ∙ same
+
+-- the first command sent the entry in flight, or a later one
+flies_first : (before next after : Standing) (d : PlainCommand) (commands : List PlainCommand) (first : List ℕ) (answers more : List (List ℕ)) (e : EntryValue) → answers ≡ first ∷ more
+    → Answer before d first next → after.history ≡ next.history → FailsOnSent before d first e → IsInFlight before after (d ∷ commands) answers e
+flies_first before next after d commands first answers more e is answered same flies =
+    let fails : Answer before d (store_fault_line store_fault.Device) next = subst (λ (t : List ℕ). Answer before d t next) flies.1.says answered in
+    record {
+      place = zero;
+      command = d;
+      asked = refl;
+      fails = ap (λ (l : List (List ℕ)). slice_get l zero) is ∙ ap Some flies.1.says;
+      sends = flies.0;
+      accepted = subst (λ (h : History). judged h.entries e ≡ verdict.Accept) (sym (same ∙ (lost_by_answer before next d fails).1)) flies.1.accepted;
+    }
+
+flies_later : (before next after : Standing) (d : PlainCommand) (commands : List PlainCommand) (first : List ℕ) (answers more : List (List ℕ)) (e : EntryValue) → answers ≡ first ∷ more
+    → Answer before d first next → IsInFlight next after commands more e → IsInFlight before after (d ∷ commands) answers e
+flies_later before next after d commands first answers more e is answered flies = record {
+  place = suc flies.place;
+  command = flies.command;
+  asked = flies.asked;
+  fails = ap (λ (l : List (List ℕ)). slice_get l (suc flies.place)) is ∙ flies.fails;
+  sends = subst (λ (currency : List ℕ). Sends currency flies.command e) (same_currency before d first next (step before d first next answered)) flies.sends;
+  accepted = flies.accepted;
+}
+
+-- once the device has failed, each image stands for what the commands left, or for this with the entry that the failed one sent
+turn_failed : {V : Type 0} (tells : Bool) (view : V → View) (commands : List PlainCommand) (old new : StoreState V) (answers : List (List ℕ)) → RunsInTurn tells view old commands answers new
+    → IsTrue tells → old.failed ≡ false → new.failed ≡ true
+    → LeavesInFlight (IsInFlight (standing_of view old) (standing_of view new) commands answers) new.history (view new.volume)
+unfolding RunsInTurn
+turn_failed tells view [] old new answers run told works fails = absurd (not_both _ fails (ap (λ (s : StoreState _). s.failed) run.1 ∙ works))
+turn_failed tells view (d ∷ commands) old new answers run told works fails =
+    let F = IsInFlight (standing_of view old) (standing_of view new) (d ∷ commands) answers in
+    by_flag (LeavesInFlight F new.history (view new.volume)) run.1.failed
+    (λ failed.
+    let left = run.4.once_failed told works failed in
+    let same : new ≡ run.1 = turn_stays tells view commands run.1 new run.2 run.5 failed in
+    let flies =
+    flight_as (FailsOnSent (standing_of view old) d run.0) F left.0
+    (λ e. flies_first (standing_of view old) (standing_of view run.1) (standing_of view new) d commands run.0 answers run.2 e run.6 run.3 (ap (λ (s : StoreState _). s.history) same)) left.1 in
+    subst (λ (s : StoreState _). LeavesInFlight F s.history (view s.volume)) (sym same) (left.0, flies, left.2))
+    (λ goes.
+    let left = turn_failed tells view commands run.1 new run.2 run.5 told goes fails in
+    let flies =
+    flight_as (IsInFlight (standing_of view run.1) (standing_of view new) commands run.2) F left.0
+    (λ e. flies_later (standing_of view old) (standing_of view run.1) (standing_of view new) d commands run.0 answers run.2 e run.6 run.3) left.1 in
+    (left.0, flies, left.2))
+
 pub turn_at : {V : Type 0} (tells : Bool) (view : V → View) (commands : List PlainCommand) (old new : StoreState V) (answers : List (List ℕ)) (place : ℕ) (command : PlainCommand) (answer : List ℕ)
     → RunsInTurn tells view old commands answers new → slice_get commands place ≡ Some command → slice_get answers place ≡ Some answer
     → RunsAt tells view old commands answers place command answer new
@@ -168,6 +227,7 @@ turn_at tells view (d ∷ commands) old new answers zero command answer run aske
           subst (λ (t : List ℕ). Answer (standing_of view old) command t (standing_of view run.1)) says
           (subst (λ (x : PlainCommand). Answer (standing_of view old) x run.0 (standing_of view run.1)) own run.3);
       within = subst (λ (t : List ℕ). LeavesWithin tells view old command t run.1) says (subst (λ (x : PlainCommand). LeavesWithin tells view old x run.0 run.1) own run.4);
+      once_failed = λ told works fails. absurd (not_both _ fails works);
       behind = subst (λ (l : List (List ℕ)). RunsInTurn tells view run.1 commands l new) (sym others) run.5;
     }
 turn_at tells view (d ∷ commands) old new answers (suc place) command answer run asked answered =
@@ -175,13 +235,16 @@ turn_at tells view (d ∷ commands) old new answers (suc place) command answer r
     let later = turn_at tells view commands run.1 new run.2 place command answer run.5 asked there in
     let first : take (suc place) answers ≡ run.0 ∷ take place run.2 = ap (λ (l : List (List ℕ)). take (suc place) l) run.6 in
     let others : drop (suc (suc place)) answers ≡ drop (suc place) run.2 = ap (λ (l : List (List ℕ)). drop (suc (suc place)) l) run.6 in
+    let before : RunsInTurn tells view old (take (suc place) (d ∷ commands)) (take (suc place) answers) later.middle =
+    (run.0, run.1, take place run.2, run.3, run.4, later.before, first) in
     record {
       middle = later.middle;
       next = later.next;
-      before = (run.0, run.1, take place run.2, run.3, run.4, later.before, first);
+      before = before;
       told = (run.0, standing_of view run.1, take place run.2, run.3, later.told, first);
       answered = later.answered;
       within = later.within;
+      once_failed = turn_failed tells view (take (suc place) (d ∷ commands)) old later.middle (take (suc place) answers) before;
       behind = subst (λ (l : List (List ℕ)). RunsInTurn tells view later.next (drop (suc place) commands) l new) (sym others) later.behind;
     }
 

@@ -16,3 +16,4 @@ pub mod WholeFacts
 pub mod LeftFacts
 pub mod StopFacts
 pub mod SessionFacts
+pub mod ScriptSessionFacts

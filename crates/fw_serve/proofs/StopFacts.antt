@@ -63,7 +63,7 @@ front_one (x ∷ xs) ys e same =
 
 -- ---- what one command adds
 -- these are the entries as they were, or with one that the command sends and that is accepted
-abbrev AddsOne : Standing → PlainCommand → History → Type 0
+abbrev pub AddsOne : Standing → PlainCommand → History → Type 0
 AddsOne before command g =
     (g ≡ before.history)
     ⊎ ((e : EntryValue) × Sends before.history.currency command e × (judged before.history.entries e ≡ verdict.Accept) × (g ≡ with_more before.history (e ∷ [])))
@@ -101,7 +101,7 @@ found_one before after command answer found more same (inr (fails, (done, last, 
     let one : more ≡ last ∷ [] = is ∙ ap (λ (l : List EntryValue). l ++ last ∷ []) (sym none) in
     inr (last, flies.0, flies.1.accepted, same ∙ ap (λ (l : List EntryValue). with_more before.history l) one)
 
-found_within : (before after : Standing) (command : PlainCommand) (answer : List ℕ) (image : Image) (found : History) → Answer before command answer after
+pub found_within : (before after : Standing) (command : PlainCommand) (answer : List ℕ) (image : Image) (found : History) → Answer before command answer after
     → IsBetween (FailsOnSent before command answer) before.history after image → StandsFor found image → AddsOne before command found
 found_within before after command answer image found answered left stands =
     found_one before after command answer found left.more (stands_one image found (with_more before.history left.more) stands left.stands) left.leads answered
@@ -129,6 +129,21 @@ left_answered before middle next commands answers running answer image found pla
     let (e, sends, at) = accepted_true commands before middle answers place n command given asked says low few in
     let more = added middle running found (found_within middle next running answer image found answered left stands) in
     (e, sends, (at.0, at.1, ap (λ (h : History). slice_get h.entries at.0) more.1 ∙ slice_get-front middle.history.entries more.0 at.0 e at.2))
+
+-- after the commands, also where the device has failed
+either_more : (before found : History) (more : List EntryValue) (image : Image) → StandsForEither before more image → StandsFor found image
+    → (rest : List EntryValue) × (found ≡ with_more before rest)
+either_more before found more image (inl was) stands = ([], stands_one image found before stands was ∙ no_more before)
+either_more before found more image (inr grown) stands = (more, stands_one image found (with_more before more) stands grown)
+
+pub left_answered_after : (before after : Standing) (commands : List PlainCommand) (answers : List (List ℕ)) (more : List EntryValue) (image : Image) (found : History) (place n : ℕ) (command : PlainCommand)
+    → AnswersEach before commands answers after → StandsForEither after.history more image → StandsFor found image
+    → slice_get commands place ≡ Some command → slice_get answers place ≡ Some (accepted_line n) → n < 2 ^ 64 → length after.history.entries < 2 ^ 64
+    → (e : EntryValue) × Sends before.history.currency command e × StandsAt found.entries n e
+left_answered_after before after commands answers more image found place n command given either stands asked says low few =
+    let (e, sends, at) = accepted_true commands before after answers place n command given asked says low few in
+    let grown = either_more after.history found more image either stands in
+    (e, sends, (at.0, at.1, ap (λ (h : History). slice_get h.entries at.0) grown.1 ∙ slice_get-front after.history.entries grown.0 at.0 e at.2))
 
 -- ---- a front of what a script added is what its first commands left
 abbrev IsFront : Standing → List PlainCommand → List (List ℕ) → List EntryValue → Type 0

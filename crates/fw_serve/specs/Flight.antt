@@ -4,6 +4,7 @@ use Rattle.std.specs.Io.KnownBytes.{Appends}
 use Rattle.std.specs.List.{concat}
 use Rattle.fw_disk.specs.Volume.{LeavesOnly, View}
 use Rattle.fw_entry.specs.Entry.{CommandValue, EntryValue}
+use Rattle.fw_recover.specs.Stands.{EachStandsFor}
 use Rattle.fw_recover.specs.Store.{StoreState}
 use Rattle.fw_recover.specs.declared.fault.StoreFault.TheVariants as store_fault
 use Rattle.fw_script.specs.Commands.{StartsWithCommands}
@@ -43,11 +44,13 @@ pub record IsInFlight (before after : Standing) (commands : List PlainCommand) (
   pub sends : Sends before.history.currency command e
   pub accepted : judged after.history.entries e ≡ verdict.Accept
 
--- What a crash leaves within one command. At any moment of it the files stand for the warehouse as it was before the command or as it is after it; or,
--- only where the device failed, with the entry that the command sends, which it may have from then on. A store that had failed before is as it was.
+-- What a crash leaves within one command and after it. At any moment of it the files stand for the warehouse as it was before the command or as it is
+-- after it; or, only where the device failed, with the entry that the command sends, which it may have from then on. Where the device hasn't failed
+-- each image stands after the command for what it left. A store that had failed before is as it was.
 pub record LeavesWithin {V : Type 0} (tells : Bool) (view : V → View) (old : StoreState V) (command : PlainCommand) (answer : List ℕ) (new : StoreState V) : Type 0 where
   pub any_moment : IsTrue tells → old.failed ≡ false → LeavesOnly (view old.volume) (view new.volume) (IsBetween (FailsOnSent (standing_of view old) command answer) old.history (standing_of view new))
   pub once_failed : IsTrue tells → old.failed ≡ false → new.failed ≡ true → LeavesInFlight (FailsOnSent (standing_of view old) command answer) new.history (view new.volume)
+  pub each : IsTrue tells → new.failed ≡ false → EachStandsFor new.history (view new.volume)
   pub stays : old.failed ≡ true → new ≡ old
 
 -- the commands were run one after the other, each on the store that those before it left, and these are the answers, one for each
@@ -57,7 +60,8 @@ RunsInTurn tells view old (command ∷ commands) answers new =
     (first : List ℕ) × (next : StoreState _) × (more : List (List ℕ)) × Answer (standing_of view old) command first (standing_of view next)
     × LeavesWithin tells view old command first next × RunsInTurn tells view next commands more new × (answers ≡ first ∷ more)
 
--- the command at this place was run where those before it were done, and those behind it were run on what it left
+-- The command at this place was run where those before it were done, and those behind it were run on what it left. Where the device failed in one of
+-- those before it, each image stands for what they left, or for this with the entry that the failed one sent.
 pub record RunsAt {V : Type 0} (tells : Bool) (view : V → View) (old : StoreState V) (commands : List PlainCommand) (answers : List (List ℕ)) (place : ℕ) (command : PlainCommand) (answer : List ℕ) (new : StoreState V) : Type 0 where
   pub middle : StoreState V
   pub next : StoreState V
@@ -65,6 +69,8 @@ pub record RunsAt {V : Type 0} (tells : Bool) (view : V → View) (old : StoreSt
   pub told : AnswersEach (standing_of view old) (take place commands) (take place answers) (standing_of view middle)
   pub answered : Answer (standing_of view middle) command answer (standing_of view next)
   pub within : LeavesWithin tells view middle command answer next
+  pub once_failed : IsTrue tells → old.failed ≡ false → middle.failed ≡ true
+      → LeavesInFlight (IsInFlight (standing_of view old) (standing_of view middle) (take place commands) (take place answers)) middle.history (view middle.volume)
   pub behind : RunsInTurn tells view next (drop (suc place) commands) (drop (suc place) answers) new
 
 -- these commands come first in the script and were run, `left` follows them, the writer got their answers, and this is what they left of the store

@@ -1,12 +1,16 @@
 -- A warehouse that is stopped and opened again, time after time.
-use Rattle.std.specs.Prelude.{◌≡◌, ◌⊎◌, ◌+◌, ℕ, List, [], ◌∷◌}
+use Rattle.std.specs.Prelude.{◌≡◌, ◌⊎◌, ◌+◌, ℕ, List, [], ◌∷◌, drop, length, take}
 use Rattle.fw_disk.specs.declared.volume.Side.{Side}
 use Rattle.fw_disk.specs.Volume.{Image}
 use Rattle.fw_entry.specs.Entry.{EntryValue}
 use Rattle.fw_recover.specs.Committing.{with_first}
 use Rattle.fw_recover.specs.Corrupt.{CorruptAt}
 use Rattle.fw_recover.specs.Stands.{StandsFor, StandsForNone}
+use Rattle.fw_script.specs.Plain.{PlainCommand}
 use Rattle.fw_snapshot.specs.History.{History}
+use Rattle.fw_snapshot.specs.Verdicts.{verdicts_on}
+use Rattle.fw_serve.specs.Runs.{AreJudged, verdict_lines}
+use Rattle.fw_serve.specs.Standings.{AreInFlight}
 
 -- this warehouse is opened from the files: they stand for it, and they are neither missing nor corrupt
 pub record Opens (found : History) (image : Image) : Type 0 where
@@ -27,6 +31,12 @@ pub record HasKept (before : History) (s : SessionValue) : Type 0 where
   pub first : ℕ
   pub none_or_all : (first ≡ s.answered) ⊎ (first ≡ s.answered + s.in_flight)
   pub stands : StandsFor (with_first before first s.entries) s.image
+
+-- The session of a script that is stopped: of its entries the first `answered` are those that the answers speak of, each answered by the line of its
+-- verdict; behind them is the one in flight, or none.
+pub record IsSessionOf (InFlight : EntryValue → Type 0) (held : History) (commands : List PlainCommand) (answers : List (List ℕ)) (s : SessionValue) : Type 0 where
+  pub are_judged : AreJudged held.currency commands answers (take s.answered s.entries) (verdict_lines (length held.entries) (verdicts_on held.entries (take s.answered s.entries)))
+  pub flies : AreInFlight InFlight (drop s.answered s.entries)
 
 -- the first session begins with the warehouse `before`, each other one with what is opened from the image that the last one left, and `after` is what
 -- is opened at the end

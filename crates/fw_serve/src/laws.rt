@@ -20,9 +20,9 @@ ghost use Rattle.fw_recover.specs.declared.fault.StoreFault.TheVariants as store
 ghost use Rattle.fw_script.specs.Plain.{PlainCommand, checkpoint, lines, report, state};
 ghost use Rattle.fw_serve.specs.Answers.{Answer, Answers, last_generation};
 ghost use Rattle.fw_serve.specs.Flight.{FailsOnSent, IsInFlight, RunsAt, RunsInTurn};
-ghost use Rattle.fw_serve.specs.Replies.{accepted_line, already_line, conflict_line, counted, gap_line, no_memory_line, query_fault_line, state_line, store_fault_line};
+ghost use Rattle.fw_serve.specs.Replies.{accepted_line, already_line, checkpointed_line, conflict_line, counted, gap_line, no_memory_line, query_fault_line, state_line, store_fault_line};
 ghost use Rattle.fw_serve.specs.Runs.{AnswersEach, AreAlike, AreOne, AreSame, AreTold, AreUnhindered, IsHindered, IsOfASide, LacksRoom, NoneCutShort, NoneHindered, Sends, StandsAt};
-ghost use Rattle.fw_serve.specs.Sessions.{HasKept, Opens, PassesThrough, SessionValue};
+ghost use Rattle.fw_serve.specs.Sessions.{HasKept, IsSessionOf, Opens, PassesThrough, SessionValue};
 ghost use Rattle.fw_serve.specs.Standings.{AreInFlight, IsBetween, Standing};
 ghost use Rattle.fw_serve.specs.Whole.{IsWhole, ReportsAddUp};
 ghost use Rattle.fw_snapshot.specs.History.{History, commitments_of, entries_from, rows_of};
@@ -67,12 +67,15 @@ pub fn one_command_has_one_answer()
 /// alike, unless one of the two answers is `no memory` or `store S3 Device` (`command`). So is a script without checkpoints in which no answer is so (`script`).
 /// Two checkpoints are answered alike too where the device has failed, by `store S4 Failed`, and where there is no further generation, by
 /// `store S5 Generations`. Else each is made, or has no room, or is cut short (`checkpoint`): which of the first two, the length of the side that it would make
-/// decides, and so does the room that is left afterwards. A state has spellings of several lengths.
+/// decides, and so does the room that is left afterwards. A state has spellings of several lengths. Two that are made leave stores that are alike but for
+/// this room (`made`).
 pub fn stores_that_are_alike_answer_alike()
     ensures command { (before other after after_other : Standing) (command : PlainCommand) (answer second : List ℕ) → AreAlike before other → command ≢ checkpoint
         → Answer before command answer after → Answer other command second after_other → AreSame answer second after after_other }
     ensures checkpoint { (before other after after_other : Standing) (answer second : List ℕ) → AreAlike before other
         → Answer before checkpoint answer after → Answer other checkpoint second after_other → AreSame answer second after after_other ⊎ (IsOfASide answer × IsOfASide second) }
+    ensures made { (before other after after_other : Standing) → AreAlike before other → Answer before checkpoint checkpointed_line after → Answer other checkpoint checkpointed_line after_other
+        → (after.history ≡ after_other.history) × (after.failed ≡ after_other.failed) × (after.generation ≡ after_other.generation) }
     ensures script { (before other after after_other : Standing) (commands : List PlainCommand) (answers second : List (List ℕ)) → AreAlike before other → All (λ command. command ≢ checkpoint) commands
         → AnswersEach before commands answers after → AnswersEach other commands second after_other → NoneCutShort answers → NoneCutShort second
         → (answers ≡ second) × AreAlike after after_other }
@@ -201,16 +204,20 @@ pub fn what_a_crash_leaves_can_be_opened()
 {}
 
 /// The commands of a script are run one after the other: whichever of them one looks at, it was run on what those before it left, and those behind it were
-/// run on what it left; and what a crash leaves at any moment of it is what [`a_crash_keeps_what_was_answered`] speaks of (`LeavesWithin`).
+/// run on what it left; and what a crash leaves at any moment of it is what [`a_crash_keeps_what_was_answered`] speaks of (`LeavesWithin`). After it each image
+/// stands for what it left, as long as the device hasn't failed (`LeavesWithin`); where the device failed in one of those before it, for what they left, or
+/// for this with the entry that the failed one sent (`RunsAt`).
 pub fn commands_are_run_in_turn<V: Volume>(before: &Store<V>, after: &Store<V>)
     ensures { (commands : List PlainCommand) (answers : List (List ℕ)) (place : ℕ) (command : PlainCommand) (answer : List ℕ) → RunsInTurn V.tells V.view before.now commands answers after.now
         → slice_get commands place ≡ Some command → slice_get answers place ≡ Some answer → RunsAt V.tells V.view before.now commands answers place command answer after.now }
 {}
 
-/// A crash within a script keeps what was answered. Where it comes at any moment of a command, what is opened is what the commands before it left, or this and
-/// the entry that the command sends, which is accepted (`command`): so it has all that was answered by then. What was answered `accepted N` to a command before
-/// it is the Nth entry of it (`answered`). Of a whole script, what is opened after a crash at any moment is what its first commands left, up to some place;
-/// or, only where the device failed, what the script left and the entry in flight (`prefix`).
+/// A crash within a script keeps what was answered. Where it comes at any moment of a command, and the device hadn't failed before, what is opened is what the
+/// commands before it left, or this and the entry that the command sends, which is accepted (`command`): so it has all that was answered by then. What was
+/// answered `accepted N` to a command before it is the Nth entry of it (`answered`). Once the device has failed, and after each command and the script, what
+/// is opened is what the commands left, or this and the entry that the failed one sent ([`commands_are_run_in_turn`], [`what_a_crash_leaves_is_reported_whole`]).
+/// What was answered `accepted N` to one of these commands is the Nth entry of this too (`answered_after`). Of a whole script, what is opened after a crash at any
+/// moment is what its first commands left, up to some place; or, only where the device failed, what the script left and the entry in flight (`prefix`).
 pub fn a_crash_keeps_what_was_answered()
     ensures command { (before after : Standing) (command : PlainCommand) (answer : List ℕ) (image : Image) (found : History) → Answer before command answer after
         → IsBetween (FailsOnSent before command answer) before.history after image → StandsFor found image
@@ -221,6 +228,10 @@ pub fn a_crash_keeps_what_was_answered()
         → AnswersEach before commands answers middle → Answer middle running answer next → IsBetween (FailsOnSent middle running answer) middle.history next image → StandsFor found image
         → slice_get commands place ≡ Some command → slice_get answers place ≡ Some (accepted_line n) → n < 2 ^ 64 → length middle.history.entries < 2 ^ 64
         → (e : EntryValue) × Sends before.history.currency command e × StandsAt found.entries n e }
+    ensures answered_after { (before after : Standing) (commands : List PlainCommand) (answers : List (List ℕ)) (more : List EntryValue) (image : Image) (found : History) (place n : ℕ) (command : PlainCommand)
+        → AnswersEach before commands answers after → StandsForEither after.history more image → StandsFor found image
+        → slice_get commands place ≡ Some command → slice_get answers place ≡ Some (accepted_line n) → n < 2 ^ 64 → length after.history.entries < 2 ^ 64
+        → (e : EntryValue) × Sends before.history.currency command e × StandsAt found.entries n e }
     ensures prefix { (before after : Standing) (commands : List PlainCommand) (answers : List (List ℕ)) (image : Image) (found : History) → AnswersEach before commands answers after
         → IsBetween (IsInFlight before after commands answers) before.history after image → StandsFor found image
         → ((place : ℕ) × (middle : Standing) × AnswersEach before (take place commands) (take place answers) middle × (found ≡ middle.history))
@@ -229,13 +240,21 @@ pub fn a_crash_keeps_what_was_answered()
 
 /// A warehouse outlives its stops, however many. In each session, from an opening to the next stop, entries are committed, one by one or in groups, the
 /// first of them are answered, and a crash leaves an image, which has each that was answered, and of those in flight none or all (`single`, `group`).
-/// From it the next session begins. What is opened at the end has all that was there when a session began, behind it the accepted ones of the session's
+/// So does a script: one that is stopped at any moment of a command, where the entry in flight is the one that this command sends (`script`), and one
+/// that is stopped behind its commands, where it is the one on which the device failed, if it did (`after_script`); the entries that were answered are
+/// those that the answers speak of (`IsSessionOf`). From the image the next session begins. What is opened at the end has all that was there when a session began, behind it the accepted ones of the session's
 /// first n entries, where n is how many were answered, or these and those in flight, and behind these what came later (`kept`). So what was
 /// accepted keeps its place for good. It is whole, and its reports add up (`whole`).
 pub fn a_warehouse_outlives_its_stops()
     ensures single { (before : History) (s : SessionValue) → s.in_flight ≡ 1 → HasAnswered before s.entries s.answered s.image → HasKept before s }
     ensures group { (before now : History) (s : SessionValue) → now ≡ with_first before s.answered s.entries
         → StandsForEither now (accepted_of now.entries (take s.in_flight (drop s.answered s.entries))) s.image → HasKept before s }
+    ensures script { (before middle next : Standing) (commands : List PlainCommand) (answers : List (List ℕ)) (running : PlainCommand) (answer : List ℕ) (image : Image)
+        → AnswersEach before commands answers middle → Answer middle running answer next → IsBetween (FailsOnSent middle running answer) middle.history next image
+        → (s : SessionValue) × (s.image ≡ image) × IsSessionOf (Sends before.history.currency running) before.history commands answers s × HasKept before.history s }
+    ensures after_script { (before after : Standing) (commands : List PlainCommand) (answers : List (List ℕ)) (more : List EntryValue) (image : Image)
+        → AnswersEach before commands answers after → AreInFlight (IsInFlight before after commands answers) more → StandsForEither after.history more image
+        → (s : SessionValue) × (s.image ≡ image) × IsSessionOf (IsInFlight before after commands answers) before.history commands answers s × HasKept before.history s }
     ensures kept { (before after : History) (sessions : List SessionValue) (place : ℕ) (s : SessionValue) → PassesThrough before sessions after → slice_get sessions place ≡ Some s
         → (middle : History) × (n : ℕ) × (more : List EntryValue) × PassesThrough before (take place sessions) middle × ((n ≡ s.answered) ⊎ (n ≡ s.answered + s.in_flight))
         × (after ≡ with_more middle (accepted_of middle.entries (take n s.entries) ++ more)) }

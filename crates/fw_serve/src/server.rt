@@ -27,8 +27,9 @@ use std::io::{Read, Write};
 /// An entry is answered `accepted` only when it is on the volume, synced. What a crash leaves at any moment stands for the
 /// warehouse before the call with the entries that were accepted by then; where the device fails in the middle of an entry,
 /// it may have that one too, the one whose command was answered `store S3 Device`, and every later entry is answered `store S4 Failed`. So after the
-/// call, whatever it returns, each image has all that was answered `accepted`. Command by command: at any moment of one a crash leaves what the
-/// commands before it left, perhaps with the entry that it sends. A store that had failed before stays as it was, and so does its volume.
+/// call, whatever it returns, each image has all that was answered `accepted`. Command by command: as long as the device hasn't failed, a crash at any
+/// moment of one leaves what the commands before it left, perhaps with the entry that it sends, and after it what it left. Once the device has failed, a crash
+/// leaves what the commands left, perhaps with the entry that the failed one sent. A store that had failed before stays as it was, and so does its volume.
 ///
 /// There are 1 to 64 workers. Their number has no effect yet.
 pub fn serve<R: Read, W: Write, V: Volume>(
@@ -74,6 +75,7 @@ fn answer_all<W: Write, V: Volume>(
     while let Some(command) = script.next_command() {
         store.keeps();
         let reply = answer(alloc, store, command);
+        store.keeps();
         write_reply(writer, &reply)?;
     }
     match writer.flush() {
