@@ -1,7 +1,6 @@
 -- Stores that are alike answer alike.
-use Rattle.std.proofs.Common.{◌≡◌, ◌≢◌, ◌⊎◌, ◌∙◌, ◌+◌, ◌∷◌, [], ℕ, List, All, length, Ok, Err, refl, sym, ap, subst, inl, inr, arith}
+use Rattle.std.proofs.Common.{◌≡◌, ◌≢◌, ◌⊎◌, ◌∙◌, ◌+◌, ◌∷◌, [], ℕ, List, All, get_or, length, Ok, Err, refl, sym, ap, subst, inl, inr, arith}
 use Rattle.std.specs.Prelude.{Result}
-use Rattle.std.proofs.Common.{get_or}
 use Rattle.fw_recover.specs.declared.fault.StoreFault.TheVariants as store_fault
 use Rattle.std.proofs.lemmas.List.Elements.{All-head, All-tail}
 use Rattle.fw_entry.specs.Entry.{CommandValue, EntryValue}

@@ -96,7 +96,7 @@ leads_as F G h xs after weaker (inr given) =
 pub between_as : (F G : EntryValue → Type 0) (h : History) (after : Standing) (c : Image) → ((e : EntryValue) → F e → G e) → IsBetween F h after c → IsBetween G h after c
 between_as F G h after c weaker given = record { more = given.more; stands = given.stands; leads = leads_as F G h given.more after weaker given.leads }
 
-flight_as : (F G : EntryValue → Type 0) (more : List EntryValue) → ((e : EntryValue) → F e → G e) → AreInFlight F more → AreInFlight G more
+pub flight_as : (F G : EntryValue → Type 0) (more : List EntryValue) → ((e : EntryValue) → F e → G e) → AreInFlight F more → AreInFlight G more
 flight_as F G more weaker (inl none) = inl none
 flight_as F G more weaker (inr one) = inr (one.0, one.1, weaker one.0 one.2)
 

@@ -1,5 +1,6 @@
 -- Scripts that are stopped, as sessions.
-use Rattle.std.proofs.Common.{◌≡◌, ◌⊎◌, ◌∙◌, ◌+◌, ◌++◌, ◌∷◌, [], ℕ, List, append-nil, drop, length, take, refl, sym, ap, subst, inl, inr}
+use Rattle.std.proofs.Common.{◌≡◌, ◌⊎◌, ◌∙◌, ◌+◌, ◌++◌, ◌∷◌, [], ℕ, List, append-nil, arith, drop, length, take, refl, sym, ap, subst, inl, inr}
+use Rattle.std.proofs.lemmas.List.{length-append, take_all}
 use Rattle.fw_disk.specs.Volume.{Image}
 use Rattle.fw_entry.specs.Entry.{EntryValue}
 use Rattle.fw_recover.proofs.Standing.{no_more}
@@ -30,8 +31,9 @@ drop_front [] ys = refl
 drop_front (x ∷ xs) ys = drop_front xs ys
 
 take_last : (xs : List EntryValue) (e : EntryValue) → take (length xs + 1) (xs ++ e ∷ []) ≡ xs ++ e ∷ []
-take_last [] e = refl
-take_last (x ∷ xs) e = ap (λ (l : List EntryValue). x ∷ l) (take_last xs e)
+take_last xs e =
+    let long : length (xs ++ e ∷ []) ≡ length xs + 1 = length-append xs (e ∷ []) in
+    take_all (length xs + 1) (xs ++ e ∷ []) (omega (arith, long))
 
 -- ---- the session of a script
 -- these entries were answered, and those behind them were in flight
