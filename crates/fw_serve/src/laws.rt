@@ -204,9 +204,10 @@ pub fn what_a_crash_leaves_can_be_opened()
 {}
 
 /// The commands of a script are run one after the other: whichever of them one looks at, it was run on what those before it left, and those behind it were
-/// run on what it left; and what a crash leaves at any moment of it is what [`a_crash_keeps_what_was_answered`] speaks of (`LeavesWithin`). After it each image
-/// stands for what it left, as long as the device hasn't failed (`LeavesWithin`); where the device failed in one of those before it, for what they left, or
-/// for this with the entry that the failed one sent (`RunsAt`).
+/// run on what it left (`RunsAt`). Of a volume that tells what a crash leaves, this is said as well. Where the device hadn't failed before the command, what a
+/// crash leaves at any moment of it is what [`a_crash_keeps_what_was_answered`] speaks of. Where the device hasn't failed after it, each image stands for what
+/// it left. Where the device failed in it, or in one of those before it in the script, each image stands for what the commands left, or for this with the entry
+/// that the failed one sent. A command that is run once the device has failed leaves store and volume as they are (`LeavesWithin`).
 pub fn commands_are_run_in_turn<V: Volume>(before: &Store<V>, after: &Store<V>)
     ensures { (commands : List PlainCommand) (answers : List (List ℕ)) (place : ℕ) (command : PlainCommand) (answer : List ℕ) → RunsInTurn V.tells V.view before.now commands answers after.now
         → slice_get commands place ≡ Some command → slice_get answers place ≡ Some answer → RunsAt V.tells V.view before.now commands answers place command answer after.now }
@@ -214,10 +215,11 @@ pub fn commands_are_run_in_turn<V: Volume>(before: &Store<V>, after: &Store<V>)
 
 /// A crash within a script keeps what was answered. Where it comes at any moment of a command, and the device hadn't failed before, what is opened is what the
 /// commands before it left, or this and the entry that the command sends, which is accepted (`command`): so it has all that was answered by then. What was
-/// answered `accepted N` to a command before it is the Nth entry of it (`answered`). Once the device has failed, and after each command and the script, what
-/// is opened is what the commands left, or this and the entry that the failed one sent ([`commands_are_run_in_turn`], [`what_a_crash_leaves_is_reported_whole`]).
-/// What was answered `accepted N` to one of these commands is the Nth entry of this too (`answered_after`). Of a whole script, what is opened after a crash at any
-/// moment is what its first commands left, up to some place; or, only where the device failed, what the script left and the entry in flight (`prefix`).
+/// answered `accepted N` to a command before it is the Nth entry of it (`answered`). After a command, after the script, and at any moment once the device has
+/// failed, what is opened is what the commands left, or, only where it failed, this and the entry that the failed one sent ([`commands_are_run_in_turn`],
+/// [`what_a_crash_leaves_is_reported_whole`]). What was answered `accepted N` to one of these commands is the Nth entry of this too (`answered_after`). Of a
+/// whole script, what is opened after a crash at any moment is what its first commands left, up to some place; or, only where the device failed, what the
+/// script left and the entry in flight (`prefix`).
 pub fn a_crash_keeps_what_was_answered()
     ensures command { (before after : Standing) (command : PlainCommand) (answer : List ℕ) (image : Image) (found : History) → Answer before command answer after
         → IsBetween (FailsOnSent before command answer) before.history after image → StandsFor found image
@@ -240,11 +242,12 @@ pub fn a_crash_keeps_what_was_answered()
 
 /// A warehouse outlives its stops, however many. In each session, from an opening to the next stop, entries are committed, one by one or in groups, the
 /// first of them are answered, and a crash leaves an image, which has each that was answered, and of those in flight none or all (`single`, `group`).
-/// So does a script: one that is stopped at any moment of a command, where the entry in flight is the one that this command sends (`script`), and one
-/// that is stopped behind its commands, where it is the one on which the device failed, if it did (`after_script`); the entries that were answered are
-/// those that the answers speak of (`IsSessionOf`). From the image the next session begins. What is opened at the end has all that was there when a session began, behind it the accepted ones of the session's
-/// first n entries, where n is how many were answered, or these and those in flight, and behind these what came later (`kept`). So what was
-/// accepted keeps its place for good. It is whole, and its reports add up (`whole`).
+/// A script that is stopped leaves such a session too, in which the entries that were answered are those that the answers speak of (`IsSessionOf`). Where it is
+/// stopped at any moment of a command, and the device hadn't failed before, the one in flight is the entry that this command sends (`script`). Where it
+/// is stopped after a command or at its end, or at any moment once the device has failed, it is the entry on which the device failed, if there is one
+/// (`after_script`). From the image the next session begins. What is opened at the end has all that was there when a session began, behind it the accepted
+/// ones of the session's first n entries, where n is how many were answered, or these and those in flight, and behind these what came later (`kept`). So what
+/// was accepted keeps its place for good. It is whole, and its reports add up (`whole`).
 pub fn a_warehouse_outlives_its_stops()
     ensures single { (before : History) (s : SessionValue) → s.in_flight ≡ 1 → HasAnswered before s.entries s.answered s.image → HasKept before s }
     ensures group { (before now : History) (s : SessionValue) → now ≡ with_first before s.answered s.entries
