@@ -38,20 +38,20 @@ returns-in_err-write_reply-clause-write g c =
 pub returns-in_err-write_reply-clause-runs : goal.returns-in_err-write_reply-clause-runs
 returns-in_err-write_reply-clause-runs g c =
     Runs-part _ _ _ _ _ _ _ _ _ _ _ _ _ c.loop-command.invariant.runs c.in-Some.ensures.command c.answer-reply.ensures.answer c.answer-reply.ensures.moves
-    (within_one _ _ _ _ _ _ c.keeps.ensures c.keeps-2.ensures (g.met.V.Volume.only_now c.loop-command.store.volume) c.answer-reply.ensures.moves) c.in_err-write_reply.ensures.part.1
+    (within_one _ _ _ _ _ _ c.keeps.ensures c.keeps-in-Some.ensures (g.met.V.Volume.only_now c.loop-command.store.volume) c.answer-reply.ensures.moves) c.in_err-write_reply.ensures.part.1
 
 pub loop-command-preserved-in_ok-write_reply : goal.loop-command-preserved-in_ok-write_reply
 loop-command-preserved-in_ok-write_reply g c = record {
   so_far = ServesSoFar-more _ _ _ _ _ _ _ _ _ _ _ c.loop-command.invariant.so_far c.in-Some.ensures.command c.answer-reply.ensures.answer c.in_ok-write_reply.ensures.whole;
   runs = RunsSoFar-more _ _ _ _ _ _ _ _ _ _ _ _ _ c.loop-command.invariant.runs c.in-Some.ensures.command c.answer-reply.ensures.answer c.answer-reply.ensures.moves
-      (within_one _ _ _ _ _ _ c.keeps.ensures c.keeps-2.ensures (g.met.V.Volume.only_now c.loop-command.store.volume) c.answer-reply.ensures.moves) c.in_ok-write_reply.ensures.whole;
+      (within_one _ _ _ _ _ _ c.keeps.ensures c.keeps-in-Some.ensures (g.met.V.Volume.only_now c.loop-command.store.volume) c.answer-reply.ensures.moves) c.in_ok-write_reply.ensures.whole;
 }
 
 pub loop-command-preserved : goal.loop-command-preserved
 loop-command-preserved g c = record {
   so_far = ServesSoFar-more _ _ _ _ _ _ _ _ _ _ _ c.loop-command.invariant.so_far c.in-Some.ensures.command c.answer-reply.ensures.answer c.in_ok-write_reply.ensures.whole;
   runs = RunsSoFar-more _ _ _ _ _ _ _ _ _ _ _ _ _ c.loop-command.invariant.runs c.in-Some.ensures.command c.answer-reply.ensures.answer c.answer-reply.ensures.moves
-      (within_one _ _ _ _ _ _ c.keeps.ensures c.keeps-2.ensures (g.met.V.Volume.only_now c.loop-command.store.volume) c.answer-reply.ensures.moves) c.in_ok-write_reply.ensures.whole;
+      (within_one _ _ _ _ _ _ c.keeps.ensures c.keeps-in-Some.ensures (g.met.V.Volume.only_now c.loop-command.store.volume) c.answer-reply.ensures.moves) c.in_ok-write_reply.ensures.whole;
 }
 
 pub returns-in-Ok-clause-done : goal.returns-in-Ok-clause-done
