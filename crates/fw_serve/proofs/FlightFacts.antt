@@ -1,25 +1,31 @@
 -- Runs of commands, and the entry on which the device failed.
-use Rattle.std.proofs.Common.{◌≡◌, ◌∙◌, ◌∷◌, ◌++◌, [], ℕ, zero, suc, List, Bool, Option, Some, drop, length, slice_get, take, true, false, IsTrue, refl, sym, ap, subst, inl, inr, append-nil, append_assoc}
+use Rattle.std.proofs.Common.{◌≡◌, ◌⊎◌, ◌∙◌, ◌∷◌, ◌++◌, [], ℕ, zero, suc, List, Bool, Option, Some, drop, length, slice_get, take, true, false, IsTrue, refl, sym, ap, subst, inl, inr, append-nil, append_assoc}
 use Rattle.std.specs.Io.KnownBytes.{Appends, Keeps}
 use Rattle.std.specs.List.{concat}
 use Rattle.std.proofs.KnownBytes.{Appends-kept, Appends-nil, Appends-trans}
+use Rattle.std.proofs.Math.Seq.{take-suc}
 use Rattle.std.proofs.lemmas.List.Folds.{concat-append}
+use Rattle.std.proofs.lemmas.Option.{get_or_from_slice_get, slice_get_within}
 use Rattle.fw_disk.specs.Volume.{Image, View}
 use Rattle.fw_entry.specs.Entry.{EntryValue}
 use Rattle.fw_recover.proofs.Committing.{each_stands}
+use Rattle.fw_recover.proofs.Places.{stands_one}
+use Rattle.fw_recover.proofs.Standing.{no_more}
+use Rattle.fw_recover.specs.Stands.{StandsFor, StandsForEither}
 use Rattle.fw_recover.specs.Store.{IsKept, StoreState}
 use Rattle.fw_recover.specs.declared.fault.StoreFault.TheVariants as store_fault
 use Rattle.fw_script.specs.Commands.{FirstCommand, StartsWithCommands}
 use Rattle.fw_script.specs.Plain.{PlainCommand}
 use Rattle.fw_snapshot.specs.History.{History}
 use Rattle.fw_snapshot.specs.Judging.{judged}
+use Rattle.fw_snapshot.specs.Verdicts.{with_more}
 use Rattle.fw_snapshot.specs.declared.verdict.Verdict.TheVariants as verdict
 use Rattle.fw_serve.specs.Answers.{Answer}
 use Rattle.fw_serve.specs.Flight.{FailsOnSent, IsInFlight, IsRun, LeavesWithin, Runs, RunsAt, RunsInTurn, RunsSoFar}
 use Rattle.fw_serve.specs.Replies.{store_fault_line}
 use Rattle.fw_serve.specs.Runs.{AnswersEach, Sends}
 use Rattle.fw_serve.specs.Served.{IsScriptOf}
-use Rattle.fw_serve.specs.Standings.{LeavesInFlight, Standing, standing_of, Moves}
+use Rattle.fw_serve.specs.Standings.{AreInFlight, LeavesInFlight, Standing, standing_of, Moves}
 use Rattle.fw_serve.specs.Writing.{WritesPart}
 use Rattle.fw_serve.proofs.FailedFacts.{lost_by_answer}
 use Rattle.fw_serve.proofs.MoveFacts.{Moves-then, by_flag, failed_stays, flight_as, moved_at, moved_failed, not_both}
@@ -247,6 +253,45 @@ turn_at tells view (d ∷ commands) old new answers (suc place) command answer r
       once_failed = turn_failed tells view (take (suc place) (d ∷ commands)) old later.middle (take (suc place) answers) before;
       behind = subst (λ (l : List (List ℕ)). RunsInTurn tells view later.next (drop (suc place) commands) l new) (sym others) later.behind;
     }
+
+-- ---- what is opened after a command
+take_more : {A : Type 0} (xs : List A) (place : ℕ) (x : A) → slice_get xs place ≡ Some x → take place xs ++ x ∷ [] ≡ take (suc place) xs
+take_more xs place x there =
+    sym (take-suc xs place x (slice_get_within xs place x there) ∙ ap (λ (y : _). take place xs ++ y ∷ []) (get_or_from_slice_get xs place x x there))
+
+-- the commands up to it were run one after the other
+turn_upto : {V : Type 0} (tells : Bool) (view : V → View) (commands : List PlainCommand) (old new : StoreState V) (answers : List (List ℕ)) (place : ℕ) (command : PlainCommand) (answer : List ℕ)
+    → slice_get commands place ≡ Some command → slice_get answers place ≡ Some answer → (at : RunsAt tells view old commands answers place command answer new)
+    → RunsInTurn tells view old (take (suc place) commands) (take (suc place) answers) at.next
+turn_upto tells view commands old new answers place command answer asked answered at =
+    let run = turn_more tells view (take place commands) old at.middle at.next (take place answers) command answer at.before at.answered at.within in
+    subst (λ (l : List PlainCommand). RunsInTurn tells view old l (take (suc place) answers) at.next) (take_more commands place command asked)
+    (subst (λ (l : List (List ℕ)). RunsInTurn tells view old (take place commands ++ command ∷ []) l at.next) (take_more answers place answer answered) run)
+
+-- this is what the store has; or, where the device has failed, this and the entry in flight
+abbrev IsLeft : (EntryValue → Type 0) → Standing → History → Type 0
+IsLeft F after found = (found ≡ after.history) ⊎ ((after.failed ≡ true) × ((e : EntryValue) × F e × (found ≡ with_more after.history (e ∷ []))))
+
+left_flying : (F : EntryValue → Type 0) (after : Standing) (more : List EntryValue) (image : Image) (found : History) → after.failed ≡ true → AreInFlight F more
+    → StandsForEither after.history more image → StandsFor found image → IsLeft F after found
+left_flying F after more image found fails flies (inl was) stands = inl (stands_one image found after.history stands was)
+left_flying F after more image found fails (inl none) (inr grown) stands =
+    inl (stands_one image found (with_more after.history more) stands grown ∙ ap (λ (l : List EntryValue). with_more after.history l) none ∙ sym (no_more after.history))
+left_flying F after more image found fails (inr (e, is, flies)) (inr grown) stands =
+    inr (fails, (e, flies, stands_one image found (with_more after.history more) stands grown ∙ ap (λ (l : List EntryValue). with_more after.history l) is))
+
+pub turn_opened : {V : Type 0} (tells : Bool) (view : V → View) (commands : List PlainCommand) (old new : StoreState V) (answers : List (List ℕ)) (place : ℕ) (command : PlainCommand) (answer : List ℕ) (image : Image)
+    (found : History) → IsTrue tells → old.failed ≡ false → slice_get commands place ≡ Some command → slice_get answers place ≡ Some answer
+    → (at : RunsAt tells view old commands answers place command answer new) → (view at.next.volume).may_leave image → StandsFor found image
+    → IsLeft (IsInFlight (standing_of view old) (standing_of view at.next) (take (suc place) commands) (take (suc place) answers)) (standing_of view at.next) found
+turn_opened tells view commands old new answers place command answer image found told works asked answered at now stands =
+    let F : EntryValue → Type 0 = IsInFlight (standing_of view old) (standing_of view at.next) (take (suc place) commands) (take (suc place) answers) in
+    by_flag (IsLeft F (standing_of view at.next) found) at.next.failed
+    (λ fails.
+    let run = turn_upto tells view commands old new answers place command answer asked answered at in
+    let left = turn_failed tells view (take (suc place) commands) old at.next (take (suc place) answers) run told works fails in
+    left_flying F (standing_of view at.next) left.0 image found fails left.1 (left.2 image now) stands)
+    (λ goes. inl (stands_one image found at.next.history stands (at.within.each told goes image now)))
 
 -- ---- runs
 -- no command was run

@@ -1,5 +1,6 @@
 -- Scripts that are stopped, as sessions.
 use Rattle.std.proofs.Common.{◌≡◌, ◌⊎◌, ◌∙◌, ◌+◌, ◌++◌, ◌∷◌, [], ℕ, List, append-nil, arith, drop, length, take, refl, sym, ap, subst, inl, inr}
+use Rattle.std.proofs.Math.Seq.{drop-append_seam, take-append_seam}
 use Rattle.std.proofs.lemmas.List.{length-append, take_all}
 use Rattle.fw_disk.specs.Volume.{Image}
 use Rattle.fw_entry.specs.Entry.{EntryValue}
@@ -21,15 +22,6 @@ use Rattle.fw_serve.proofs.MoveFacts.{more_twice}
 use Rattle.fw_serve.proofs.RunFacts.{told}
 use Rattle.fw_serve.proofs.StopFacts.{AddsOne, found_within}
 
--- ---- lists
-take_front : (xs ys : List EntryValue) → take (length xs) (xs ++ ys) ≡ xs
-take_front [] ys = refl
-take_front (x ∷ xs) ys = ap (λ (l : List EntryValue). x ∷ l) (take_front xs ys)
-
-drop_front : (xs ys : List EntryValue) → drop (length xs) (xs ++ ys) ≡ ys
-drop_front [] ys = refl
-drop_front (x ∷ xs) ys = drop_front xs ys
-
 take_last : (xs : List EntryValue) (e : EntryValue) → take (length xs + 1) (xs ++ e ∷ []) ≡ xs ++ e ∷ []
 take_last xs e =
     let long : length (xs ++ e ∷ []) ≡ length xs + 1 = length-append xs (e ∷ []) in
@@ -47,7 +39,7 @@ kept_none before found entries last image holds stands = record {
   first = length entries;
   none_or_all = inl refl;
   stands =
-      subst (λ (h : History). StandsFor h image) (holds ∙ ap (λ (l : List EntryValue). with_more before (accepted_of before.entries l)) (sym (take_front entries last))) stands;
+      subst (λ (h : History). StandsFor h image) (holds ∙ ap (λ (l : List EntryValue). with_more before (accepted_of before.entries l)) (sym (take-append_seam entries last))) stands;
 }
 
 one_accepted : (held : List EntryValue) (e : EntryValue) → judged held e ≡ verdict.Accept → accepted_of held (e ∷ []) ≡ e ∷ []
@@ -83,8 +75,8 @@ is_session : (F : EntryValue → Type 0) (held : History) (commands : List Plain
     → IsSessionOf F held commands answers (session entries last image)
 is_session F held commands answers entries last image are flies = record {
   are_judged =
-      subst (λ (l : List EntryValue). AreJudged held.currency commands answers l (verdict_lines (length held.entries) (verdicts_on held.entries l))) (sym (take_front entries last)) are;
-  flies = subst (λ (l : List EntryValue). AreInFlight F l) (sym (drop_front entries last)) flies;
+      subst (λ (l : List EntryValue). AreJudged held.currency commands answers l (verdict_lines (length held.entries) (verdicts_on held.entries l))) (sym (take-append_seam entries last)) are;
+  flies = subst (λ (l : List EntryValue). AreInFlight F l) (sym (drop-append_seam entries last)) flies;
 }
 
 -- nothing in flight was kept

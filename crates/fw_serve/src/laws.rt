@@ -1,6 +1,6 @@
 //! What holds of every run of commands: laws over the relation that [`serve`](crate::serve) promises between a script and what was written, each the
 //! contract of a function that does nothing.
-ghost use Rattle.std.specs.Prelude.{◌≡◌, ◌≢◌, ◌⊎◌, ◌+◌, ◌<◌, ◌≤◌, ◌^◌, ◌∷◌, ◌++◌, [], All, List, Some, drop, length, slice_get, take, true, ℕ};
+ghost use Rattle.std.specs.Prelude.{◌≡◌, ◌≢◌, ◌⊎◌, ◌+◌, ◌<◌, ◌≤◌, ◌^◌, ◌∷◌, ◌++◌, [], All, IsTrue, List, Some, drop, false, length, slice_get, suc, take, true, ℕ};
 ghost use Rattle.std.specs.List.{concat};
 ghost use Rattle.fw_amortise.specs.LineValue.{LineValue};
 ghost use Rattle.fw_disk.specs.declared.volume.Side.{Side};
@@ -23,7 +23,7 @@ ghost use Rattle.fw_serve.specs.Flight.{FailsOnSent, IsInFlight, RunsAt, RunsInT
 ghost use Rattle.fw_serve.specs.Replies.{accepted_line, already_line, checkpointed_line, conflict_line, counted, gap_line, no_memory_line, query_fault_line, state_line, store_fault_line};
 ghost use Rattle.fw_serve.specs.Runs.{AnswersEach, AreAlike, AreOne, AreSame, AreTold, AreUnhindered, IsHindered, IsOfASide, LacksRoom, NoneCutShort, NoneHindered, Sends, StandsAt};
 ghost use Rattle.fw_serve.specs.Sessions.{HasKept, IsSessionOf, Opens, PassesThrough, SessionValue};
-ghost use Rattle.fw_serve.specs.Standings.{AreInFlight, IsBetween, Standing};
+ghost use Rattle.fw_serve.specs.Standings.{AreInFlight, IsBetween, Standing, standing_of};
 ghost use Rattle.fw_serve.specs.Whole.{IsWhole, ReportsAddUp};
 ghost use Rattle.fw_snapshot.specs.History.{History, commitments_of, entries_from, rows_of};
 ghost use Rattle.fw_snapshot.specs.Judging.{IsLegal, judged};
@@ -204,13 +204,20 @@ pub fn what_a_crash_leaves_can_be_opened()
 {}
 
 /// The commands of a script are run one after the other: whichever of them one looks at, it was run on what those before it left, and those behind it were
-/// run on what it left (`RunsAt`). Of a volume that tells what a crash leaves, this is said as well. Where the device hadn't failed before the command, what a
+/// run on what it left (`turn`). Of a volume that tells what a crash leaves, this is said as well. Where the device hadn't failed before the command, what a
 /// crash leaves at any moment of it is what [`a_crash_keeps_what_was_answered`] speaks of. Where the device hasn't failed after it, each image stands for what
-/// it left. Where the device failed in it, or in one of those before it in the script, each image stands for what the commands left, or for this with the entry
-/// that the failed one sent. A command that is run once the device has failed leaves store and volume as they are (`LeavesWithin`).
+/// it left (`LeavesWithin`). Where the device failed in it, or in one of those before it in the script, each image stands for what the commands left, or for
+/// this with the entry that the failed one sent (`LeavesWithin`, `RunsAt`). So what is opened after a command is what the commands up to it left, or, only where
+/// the device failed, this and the entry in flight (`opened`). A command that is run once the device has failed leaves store and volume as they are.
 pub fn commands_are_run_in_turn<V: Volume>(before: &Store<V>, after: &Store<V>)
-    ensures { (commands : List PlainCommand) (answers : List (List ℕ)) (place : ℕ) (command : PlainCommand) (answer : List ℕ) → RunsInTurn V.tells V.view before.now commands answers after.now
+    ensures turn { (commands : List PlainCommand) (answers : List (List ℕ)) (place : ℕ) (command : PlainCommand) (answer : List ℕ) → RunsInTurn V.tells V.view before.now commands answers after.now
         → slice_get commands place ≡ Some command → slice_get answers place ≡ Some answer → RunsAt V.tells V.view before.now commands answers place command answer after.now }
+    ensures opened { (commands : List PlainCommand) (answers : List (List ℕ)) (place : ℕ) (command : PlainCommand) (answer : List ℕ) (image : Image) (found : History) → IsTrue V.tells → before.now.failed ≡ false
+        → slice_get commands place ≡ Some command → slice_get answers place ≡ Some answer → (at : RunsAt V.tells V.view before.now commands answers place command answer after.now)
+        → (V.view at.next.volume).may_leave image → StandsFor found image
+        → (found ≡ at.next.history)
+        ⊎ ((at.next.failed ≡ true) × ((e : EntryValue) × IsInFlight (standing_of V.view before.now) (standing_of V.view at.next) (take (suc place) commands) (take (suc place) answers) e
+        × (found ≡ with_more at.next.history (e ∷ [])))) }
 {}
 
 /// A crash within a script keeps what was answered. Where it comes at any moment of a command, and the device hadn't failed before, what is opened is what the

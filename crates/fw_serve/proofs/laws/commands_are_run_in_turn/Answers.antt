@@ -1,6 +1,10 @@
-use Rattle.fw_serve.proofs.FlightFacts.{turn_at}
+use Rattle.fw_serve.proofs.FlightFacts.{turn_at, turn_opened}
 use Rattle.fw_serve.proofs.laws.commands_are_run_in_turn.Goals as goal
 
-pub returns : goal.returns
-returns g c = λ commands answers place command answer run asked answered.
+pub returns-clause-turn : goal.returns-clause-turn
+returns-clause-turn g c = λ commands answers place command answer run asked answered.
     turn_at g.V.Volume.tells g.V.Volume.view commands c.args.before.now c.args.after.now answers place command answer run asked answered
+
+pub returns-clause-opened : goal.returns-clause-opened
+returns-clause-opened g c = λ commands answers place command answer image found told works asked answered at now stands.
+    turn_opened g.V.Volume.tells g.V.Volume.view commands c.args.before.now c.args.after.now answers place command answer image found told works asked answered at now stands
