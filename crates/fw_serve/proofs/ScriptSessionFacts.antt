@@ -1,5 +1,5 @@
 -- Scripts that are stopped, as sessions.
-use Rattle.std.proofs.Common.{◌≡◌, ◌⊎◌, ◌∙◌, ◌+◌, ◌++◌, ◌∷◌, [], ℕ, List, append-nil, arith, drop, length, take, refl, sym, ap, subst, inl, inr}
+use Rattle.std.proofs.Common.{◌≡◌, ◌∙◌, ◌+◌, ◌++◌, ◌∷◌, [], ℕ, List, append-nil, arith, length, take, refl, sym, ap, subst, inl, inr}
 use Rattle.std.proofs.Math.Seq.{drop-append_seam, take-append_seam}
 use Rattle.std.proofs.lemmas.List.{length-append, take_all}
 use Rattle.fw_disk.specs.Volume.{Image}
