@@ -207,8 +207,9 @@ pub fn what_a_crash_leaves_can_be_opened()
 /// run on what it left (`turn`). Of a volume that tells what a crash leaves, this is said as well. Where the device hadn't failed before the command, what a
 /// crash leaves at any moment of it is what [`a_crash_keeps_what_was_answered`] speaks of. Where the device hasn't failed after it, each image stands for what
 /// it left (`LeavesWithin`). Where the device failed in it, or in one of those before it in the script, each image stands for what the commands left, or for
-/// this with the entry that the failed one sent (`LeavesWithin`, `RunsAt`). So what is opened after a command is what the commands up to it left, or, only where
-/// the device failed, this and the entry in flight (`opened`). A command that is run once the device has failed leaves store and volume as they are.
+/// this with the entry that the failed one sent (`LeavesWithin`, `RunsAt`). So where the device hadn't failed before the script, what is opened after a command
+/// is what the commands up to it left, or, only where the device failed, this and the entry in flight (`opened`). A command that is run once the device has
+/// failed leaves store and volume as they are.
 pub fn commands_are_run_in_turn<V: Volume>(before: &Store<V>, after: &Store<V>)
     ensures turn { (commands : List PlainCommand) (answers : List (List ℕ)) (place : ℕ) (command : PlainCommand) (answer : List ℕ) → RunsInTurn V.tells V.view before.now commands answers after.now
         → slice_get commands place ≡ Some command → slice_get answers place ≡ Some answer → RunsAt V.tells V.view before.now commands answers place command answer after.now }
