@@ -6,7 +6,7 @@ use Rattle.std.proofs.Math.Seq.{get_or-append_seam}
 use Rattle.std.proofs.lemmas.Bool.Decides.{nat_tests}
 use Rattle.std.proofs.lemmas.Grind.{common_steps}
 use Rattle.std.proofs.lemmas.Bool.{ltb-true, ltb-false, eqb-true, cases_lt, eq-eqb, lt-ltb}
-use Rattle.std.proofs.lemmas.List.Sums.{sum_by_more, sum_by_push, sum_by-cons}
+use Rattle.std.proofs.lemmas.List.Sums.{sum-map, sum_by_more, sum_by_push, sum_by-cons}
 use Rattle.std.specs.List.Sorted.{IsPermutation}
 use Rattle.std.proofs.lemmas.List.Sorted.{sum_by-IsPermutation}
 use Rattle.fw_shares.specs.Shares.{IsShares, IsPlain, IsRaised}
@@ -79,6 +79,10 @@ pub floors_le : (n whole : ℕ) (ws : List ℕ) → whole ≡ sum ws → 0 < who
 floors_le n whole ws e pos =
     let both : whole * sum_by (λ w. n * w / whole) ws + sum_by (λ w. n * w % whole) ws ≡ whole * n = floors_and_rests n whole ws ∙ (rw (sym e) (omega arith)) in
     le_of_mul-le-mul_left (omega (arith, both)) pos
+
+-- what the floors give away together
+pub given_is : (n whole : ℕ) (ws xs ys : List ℕ) (g : ℕ) → g ≡ sum ys → ys ≡ xs → xs ≡ map (λ w. n * w / whole) ws → g ≡ sum_by (λ w. n * w / whole) ws
+given_is n whole ws xs ys g e same floors = e ∙ (ap sum (same ∙ floors) ∙ sum-map (λ w. n * w / whole) ws)
 
 pub extra_below : (n whole : ℕ) (ws : List ℕ) → whole ≡ sum ws → 0 < whole → n - sum_by (λ w. n * w / whole) ws < length ws
 extra_below n whole ws e pos =

@@ -15,29 +15,16 @@ struct Cut {
     ties: usize,
 }
 
-fn weight_sum(weights: &[u128]) -> u128
-    requires { sum weights.now ≤ 10 ^ 19 }
-    ensures { result ≡ sum weights.now }
+/// The sum of numbers.
+fn sum_of(numbers: &[u128]) -> u128
+    requires { sum numbers.now ≤ 10 ^ 19 }
+    ensures { result ≡ sum numbers.now }
 {
-    weights.iter().sum()
+    numbers.iter().sum()
 }
 
-/// What the floors give away together.
-fn floor_sum(total: u128, whole: u128, weights: &[u128]) -> u128
-    requires whole { whole ≡ sum weights.now }
-    requires positive { 0 < whole }
-    requires small { whole ≤ 10 ^ 19 }
-    requires total { total ≤ 10 ^ 19 }
-    ensures { result ≡ sum_by (λ w. total * w / whole) weights.now }
-{
-    let mut floors = 0;
-    for weight in weights {
-        floors += total * *weight / whole;
-    }
-    floors
-}
-
-fn remainders(
+/// The floor that each weight gets.
+fn floors_of(
     alloc: Global,
     total: u128,
     whole: u128,
@@ -46,12 +33,42 @@ fn remainders(
     requires positive { 0 < whole }
     requires small { All (λ w. w ≤ 10 ^ 19) weights.now }
     requires total { total ≤ 10 ^ 19 }
-    ensures { IfOk result (λ v. v.items ≡ map (λ w. total * w % whole) weights.now) }
+    ensures { IfOk result (λ v. v.items ≡ map (λ w. total * w / whole) weights.now) }
 {
     weights
         .iter()
-        .map(|weight| total * *weight % whole)
+        .map(|weight| total * *weight / whole)
         .collect(alloc)
+}
+
+/// What a weight earns beyond its floor: found by a product, since dividing once more costs several times as much.
+fn remainder(total: u128, whole: u128, weight: u128, floor: u128) -> u128
+    requires small { weight ≤ 10 ^ 19 }
+    requires total { total ≤ 10 ^ 19 }
+    requires floor { floor ≡ total * weight / whole }
+    ensures { result ≡ total * weight % whole }
+{
+    total * weight - floor * whole
+}
+
+/// What each weight earns beyond its floor.
+fn remainders(
+    alloc: Global,
+    total: u128,
+    whole: u128,
+    weights: &[u128],
+    floors: &[u128],
+) -> Result<Vec<u128>, AllocError>
+    requires small { All (λ w. w ≤ 10 ^ 19) weights.now }
+    requires total { total ≤ 10 ^ 19 }
+    requires floors { floors.now ≡ map (λ w. total * w / whole) weights.now }
+    ensures { IfOk result (λ v. v.items ≡ map (λ w. total * w % whole) weights.now) }
+{
+    let mut remainders = Vec::with_capacity(alloc, weights.len())?;
+    for (place, weight) in weights.iter().enumerate() {
+        remainders.push(remainder(total, whole, *weight, floors[place]))?;
+    }
+    Ok(remainders)
 }
 
 fn count_above(remainders: &[u128], at: u128) -> usize
@@ -95,21 +112,21 @@ fn deal(
     total: u128,
     whole: u128,
     weights: &[u128],
+    floors: &[u128],
     cut: Cut,
 ) -> Result<Vec<u128>, AllocError>
-    requires whole { whole ≡ sum weights.now }
-    requires positive { 0 < whole }
-    requires small { whole ≤ 10 ^ 19 }
+    requires small { All (λ w. w ≤ 10 ^ 19) weights.now }
     requires total { total ≤ 10 ^ 19 }
+    requires floors { floors.now ≡ map (λ w. total * w / whole) weights.now }
     requires ties { cut.ties ≤ count_by (is_tie total whole cut) weights.now }
     ensures { IfOk result (λ v. IsDealt total whole weights.now cut v.items) }
 {
     let mut ties = cut.ties;
     let mut shares = Vec::with_capacity(alloc, weights.len())?;
-    for weight in weights {
-        let product = total * *weight;
-        let unit = unit_for(product % whole, cut.at, &mut ties);
-        shares.push(product / whole + unit)?;
+    for (place, weight) in weights.iter().enumerate() {
+        let floor = floors[place];
+        let unit = unit_for(remainder(total, whole, *weight, floor), cut.at, &mut ties);
+        shares.push(floor + unit)?;
     }
     Ok(shares)
 }
@@ -126,12 +143,13 @@ pub fn share_counts(alloc: Global, total: u128, weights: &[u128]) -> Result<Vec<
     requires total { total ≤ 10 ^ 19 }
     ensures { IfOk result (λ v. IsShares total weights.now v.items) }
 {
-    let whole = weight_sum(weights);
-    let floors = floor_sum(total, whole, weights);
-    let mut sorted = remainders(alloc, total, whole, weights)?;
+    let whole = sum_of(weights);
+    let floors = floors_of(alloc, total, whole, weights)?;
+    let mut sorted = remainders(alloc, total, whole, weights, &floors)?;
     sorted.sort_unstable();
-    let cut = cut_for(&sorted, (total - floors) as usize);
-    deal(alloc, total, whole, weights, cut)
+    let given = sum_of(&floors);
+    let cut = cut_for(&sorted, (total - given) as usize);
+    deal(alloc, total, whole, weights, &floors, cut)
 }
 
 /// The counts, as numbers with the sign of `total`.
