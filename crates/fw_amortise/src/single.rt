@@ -9,7 +9,7 @@ ghost use Rattle.fw_amortise.specs.Lines.{purchase_line, given_line, used_line, 
 use crate::line::{Line, LineDiscount, LineFields, LineKind};
 use fw_charge::{Category, DiscountStatus, hour_of};
 use fw_columns::{LentRow, LentTags};
-use fw_cover::Taken;
+use fw_cover::{Taken, in_proportion};
 use fw_money::Nanos;
 use fw_terms::{Commitment, Purchase};
 
@@ -153,19 +153,14 @@ pub fn quantity_of(row: &LentRow<'_>) -> u64
     }
 }
 
-/// The part of a cost that falls to what is left of a quantity, rounded down: all of it where all is left, which divides nothing. The
-/// product stays within 128 bits: a cost is at most 10^17 nanos, which is below 2^57, and what is left is below 2^64.
+/// The part of a cost that falls to what is left of a quantity, rounded down.
 fn part_of(cost: Nanos, left: u64, quantity: u64) -> Nanos
     requires some { 0 < quantity }
     requires left { left ≤ quantity }
     ensures { result ≡ pos (in_proportion (unsigned_abs cost) quantity left) }
 {
     let cost = cost.count().unsigned_abs();
-    if left == quantity {
-        return Nanos::of_fields(cost as i64);
-    }
-    let part = u128::from(cost) * u128::from(left) / u128::from(quantity);
-    Nanos::of_fields(part as i64)
+    Nanos::of_fields(in_proportion(cost, quantity, left) as i64)
 }
 
 /// What of a cost of a row falls to what is left of its quantity, rounded down: all of it where all is left.

@@ -1,6 +1,6 @@
 -- The charge rows that commitments may cover.
 use Rattle.std.specs.Prelude.{ℕ, ◌+◌, ◌%◌, ◌==◌, ◌&&◌, not, Bool, true, false, Option, Some, None, is_some, is_none, ℤ, pos, int_lt}
-use Rattle.fw_charge.specs.Charge.{Charge, hour_of}
+use Rattle.fw_charge.specs.Charge.{Charge, hour_of, seconds_per_hour}
 use Rattle.fw_charge.specs.declared.Category.{Category}
 use Rattle.fw_charge.specs.declared.Category.TheVariants as category
 
@@ -10,7 +10,7 @@ is_usage _ = false
 
 -- from a whole hour to the next one
 abbrev pub is_one_hour : ℕ → ℕ → Bool
-is_one_hour start end = (start % 3600 == 0) && (end == start + 3600)
+is_one_hour start end = (start % seconds_per_hour == 0) && (end == start + seconds_per_hour)
 
 abbrev pub is_positive : Option ℤ → Bool
 is_positive None = false

@@ -2,7 +2,7 @@
 ghost use Rattle.std.specs.Prelude.{◌≡◌};
 ghost use Rattle.fw_cover.specs.Eligible.{is_eligible, is_open_use, is_measured, is_one_hour, is_positive};
 
-use fw_charge::Category;
+use fw_charge::{Category, SECONDS_PER_HOUR};
 use fw_columns::LentRow;
 use fw_money::Nanos;
 
@@ -40,7 +40,7 @@ fn is_one_hour(row: &LentRow<'_>) -> bool
     ensures { result ≡ is_one_hour row.now.start row.now.end }
 {
     let start = row.start();
-    start % 3600 == 0 && row.end() == start + 3600
+    start % SECONDS_PER_HOUR == 0 && row.end() == start + SECONDS_PER_HOUR
 }
 
 fn is_positive(quantity: Option<Nanos>) -> bool

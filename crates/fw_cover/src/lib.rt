@@ -36,5 +36,6 @@ pub use laws::{
 };
 pub use lending::{lend, references};
 pub use order::{in_order, is_in_term};
+pub use part::in_proportion;
 pub use roster::Roster;
 pub use taken::Taken;

@@ -22,20 +22,24 @@ pub(crate) fn usage_part(row_left: u64, capacity_left: u64) -> Part
     }
 }
 
-/// The cost of what is left of a row, rounded down: the whole cost where all of it is left.
-///
-/// A row is billed at most 10^17 nanos, and what is left of it is below 2^64, so the product is below 2 * 10^36, and stays within 128 bits.
-fn cost_of(billed: u64, quantity: u64, row_left: u64) -> u64
-    requires billed { billed ≤ 10 ^ 17 }
-    requires quantity { 0 < quantity }
-    requires left { row_left ≤ quantity }
-    ensures cost { result ≡ in_proportion billed quantity row_left }
-    ensures within { result ≤ billed }
+/// The part of an amount for some of a whole, rounded down: all of it for the whole, and nothing for none of it, which divides nothing. Most other
+/// products stay within 64 bits, and all within 128.
+pub fn in_proportion(amount: u64, whole: u64, some: u64) -> u64
+    requires whole { 0 < whole }
+    requires some { some ≤ whole }
+    ensures part { result ≡ in_proportion amount whole some }
+    ensures within { result ≤ amount }
 {
-    if row_left == quantity {
-        return billed;
+    if some == whole {
+        return amount;
     }
-    (u128::from(billed) * u128::from(row_left) / u128::from(quantity)) as u64
+    if some == 0 {
+        return 0;
+    }
+    match amount.checked_mul(some) {
+        Some(product) => product / whole,
+        None => (u128::from(amount) * u128::from(some) / u128::from(whole)) as u64,
+    }
 }
 
 /// What a cost needs of a capacity: the cost at the rate, in parts per million, rounded up. Most products stay within 64 bits, and the others
@@ -82,7 +86,7 @@ pub(crate) fn spend_part(
             weight: 0,
         };
     }
-    let need = need_of(cost_of(billed, quantity, row_left), rate);
+    let need = need_of(in_proportion(billed, quantity, row_left), rate);
     if need == 0 {
         return Part {
             quantity: 0,
@@ -95,7 +99,7 @@ pub(crate) fn spend_part(
             weight: need,
         };
     }
-    let part = (u128::from(row_left) * u128::from(capacity_left) / u128::from(need)) as u64;
+    let part = in_proportion(row_left, need, capacity_left);
     if part == 0 {
         return Part {
             quantity: 0,
