@@ -5,3 +5,4 @@ pub mod Lines
 pub mod Adding
 pub mod Carrying
 pub mod Sources
+pub mod HourCovers

@@ -6,7 +6,8 @@ ghost use Rattle.fw_cover.specs.Eligible.{is_of_hour};
 ghost use Rattle.fw_terms.specs.Commitment.{CommitmentValue};
 ghost use Rattle.fw_cover.specs.Applies.{is_in_term};
 ghost use Rattle.fw_cover.specs.Cover.{IsTakeWithin, taken_of_row, used_of};
-ghost use Rattle.fw_cover.specs.Hour.{hour_cover, left_of, quantity_of, quantities_of, capacities_of, takes_of, unused_of};
+ghost use Rattle.fw_amortise.specs.HourCovers.{IsHourCover};
+ghost use Rattle.fw_cover.specs.Hour.{quantity_of, quantities_of, capacities_of, takes_of, unused_of};
 ghost use Rattle.fw_cover.specs.RosterView.{HasHour, roster_order};
 ghost use Rattle.fw_amortise.specs.Lines.{AreHourLines, AreLines, AreOwnLines, rows_in, purchase_lines, purchase_lines_of, given_lines, rest_of, rest_lines, running};
 ghost use Rattle.fw_amortise.specs.Adding.{AddsShared};
@@ -215,40 +216,27 @@ pub fn lines_by_roster<'a>(
     Ok(lines)
 }
 
-/// What commitments bring to an hour.
-#[derive(Debug, Drop)]
-pub struct OwnLines<'a> {
-    /// Their own lines: the purchases of the hour, and then for each commitment that runs what it covered of the rows and what it left unused.
-    pub lines: Vec<Line<'a>>,
-    /// Of each row the quantity that no commitment took, in nanos. A row that no commitment may cover has its whole quantity.
-    pub left: Vec<u64>,
-}
-
-/// What the commitments of a roster bring to one of its hours, counted from 1970, of rows that are all of that hour. Of the lines of
-/// [`lines_by_roster`] it has those that are no row as it was given, and no rest of one; what is left of each row says what these are.
+/// The commitments' own lines in one of a roster's hours, counted from 1970, of rows that are all of that hour and of which the commitments took
+/// this. Of the lines of [`lines_by_roster`] these are those that are no row as it was given, and no rest of one: the purchases of the hour, and
+/// then for each commitment that runs what it covered of the rows and what it left unused. What is left of each row stands in the cover.
 ///
 /// # Errors
 /// The one error is that memory ran out.
-pub fn own_lines_by_roster<'a>(
+pub fn own_lines<'a>(
     alloc: Global,
     roster: &Roster<'a>,
     rows: &[&LentRow<'a>],
+    cover: &HourCover,
     hour: u32,
-) -> Result<OwnLines<'a>, AllocError>
+) -> Result<Vec<Line<'a>>, AllocError>
     requires hour { HasHour roster.now hour }
-    requires rows { All (λ r. hour_of r.start ≡ hour) (map (λ r. r.now) rows.now) }
-    ensures lines { IfOk result (λ own. AreOwnLines roster.now.commitments (map (λ r. r.now) rows.now) hour own.lines.items) }
-    ensures rows { IfOk result (λ own. length own.left.items ≡ length rows.now) }
-    ensures left { IfOk result (λ own. (r : ℕ) → slice_index own.left.items r ≡ left_of (map (λ r. r.now) rows.now) (hour_cover roster.now.commitments (map (λ r. r.now) rows.now) hour) r) }
+    requires cover { IsHourCover roster.now.commitments (map (λ r. r.now) rows.now) hour cover.now }
+    ensures { IfOk result (λ lines. AreOwnLines roster.now.commitments (map (λ r. r.now) rows.now) hour lines.items) }
 {
-    let cover = roster.cover(alloc, rows, hour)?;
     let mut own = Vec::new(alloc);
     push_purchases(&mut own, roster.commitments(), hour)?;
-    push_shared(alloc, &mut own, roster, rows, &cover, hour)?;
-    Ok(OwnLines {
-        lines: own,
-        left: cover.row_left,
-    })
+    push_shared(alloc, &mut own, roster, rows, cover, hour)?;
+    Ok(own)
 }
 
 /// The lines of an hour, counted from 1970, of rows that are all of that hour: those of [`lines_by_roster`] for a roster of the commitments

@@ -14,7 +14,7 @@ mod shared;
 mod single;
 
 pub use amount::{amounts_are_the_total, hour_amount};
-pub use hour::{OwnLines, lines, lines_by_roster, lines_of_hour, own_lines_by_roster};
+pub use hour::{lines, lines_by_roster, lines_of_hour, own_lines};
 pub use laws::{
     lines_are_known_by_their_text, lines_are_one, lines_carry_the_amount,
     lines_carry_the_purchases, lines_share_the_amount, no_rest_stands_beside_unused_capacity,

@@ -9,6 +9,7 @@ pub mod CodeFacts
 pub mod CodeSumFacts
 pub mod SameFacts
 pub mod CorrectionFacts
+pub mod CoverFacts
 pub mod CountedFacts
 mod FindFacts
 pub mod MovedFacts

@@ -8,6 +8,7 @@ pub mod Writers
 pub mod Hours
 pub mod Sums
 pub mod Corrections
+pub mod Covers
 pub mod CodeSums
 pub mod Listing
 pub mod LineTexts

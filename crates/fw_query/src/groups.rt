@@ -2,21 +2,24 @@
 ghost use Rattle.std.specs.Prelude.{◌≡◌, ◌+ℤ◌, ◌+◌, ◌<◌, ◌^◌, length, ◌++◌, ◌∷◌, List, [], map, replicate, true, All, IfOk, IfSome, MatchBool, OnOk};
 ghost use Rattle.std.specs.Bool.{OnTrue};
 ghost use Rattle.std.specs.List.{range_with_len};
+ghost use Rattle.fw_amortise.specs.HourCovers.{IsHourCover};
 ghost use Rattle.fw_amortise.specs.Lines.{rows_in};
 ghost use Rattle.fw_charge.specs.Charge.{hour_of};
 ghost use Rattle.fw_cover.specs.RosterView.{HasHour};
 ghost use Rattle.fw_query.specs.Costs.{Cost};
+ghost use Rattle.fw_query.specs.Covers.{AreKept, KeepsHour, kept_at};
 ghost use Rattle.fw_query.specs.Hours.{AreByHour, AreTouched, HasHours, IsThere, all_rows, lent, row_cost, rows_at, rows_marked};
 ghost use Rattle.fw_query.specs.Reports.{costs_of};
 ghost use Rattle.fw_query.specs.Sums.{AddsLine, AreAmounts, AreEntries, AreSums, Counts, CountsHour, CountsHours, HasRoom, IsInOrder, kept_entry, sums_at};
 
+use crate::covers::Covers;
 use crate::entries::Entry;
 use crate::hours::{RowPlace, rows_by_hour};
 use crate::marks::{every_hour, touched_hours};
 use crate::segments::rows_at;
-use fw_amortise::{Line, own_lines_by_roster};
+use fw_amortise::{Line, own_lines};
 use fw_columns::{Columns, LentRow};
-use fw_cover::{Roster, references};
+use fw_cover::{HourCover, Roster, references};
 use fw_money::Nanos;
 use indexmap::IndexMap;
 use std::alloc::{AllocError, Global};
@@ -88,12 +91,15 @@ impl Groups {
         key: &str,
         segments: &[&'a Columns],
         roster: &Roster<'a>,
+        covers: &mut Covers,
         from: u64,
         hours: usize,
     ) -> Result<Groups, AllocError>
         requires fits { from + hours < 2 ^ 64 }
         requires roster { HasHours roster.now from hours }
-        ensures { IfOk result (λ groups. CountsHours groups [] key.now roster.now.commitments (map (λ h. rows_in h (all_rows (lent segments.now))) (range_with_len from hours)) from) }
+        requires kept { AreKept roster.now.commitments (all_rows (lent segments.now)) covers.old }
+        ensures kept { AreKept roster.now.commitments (all_rows (lent segments.now)) covers.new }
+        ensures groups { IfOk result (λ groups. CountsHours groups [] key.now roster.now.commitments (map (λ h. rows_in h (all_rows (lent segments.now))) (range_with_len from hours)) from) }
     {
         let touched = touched_hours(alloc, roster.commitments(), from, hours)?;
         let every = every_hour(alloc, hours)?;
@@ -104,6 +110,7 @@ impl Groups {
             key,
             segments,
             roster,
+            covers,
             by_hour.as_slice(),
             touched.as_slice(),
             from,
@@ -118,6 +125,7 @@ impl Groups {
         key: &str,
         segments: &[&'a Columns],
         roster: &Roster<'a>,
+        covers: &mut Covers,
         by_hour: &[Vec<RowPlace>],
         touched: &[bool],
         from: u64,
@@ -128,12 +136,22 @@ impl Groups {
         requires touched { AreTouched roster.now.commitments from (length by_hour.now) touched.now }
         requires by_hour { AreByHour (lent segments.now) (rows_marked touched.now from (all_rows (lent segments.now))) from (length by_hour.now) by_hour.now }
         requires counts { Counts self.old (map (row_cost key.now) (rows_marked (replicate (length by_hour.now) true) from (all_rows (lent segments.now)))) }
-        ensures { OnOk result (CountsHours self.new [] key.now roster.now.commitments (map (λ h. rows_in h (all_rows (lent segments.now))) (range_with_len from (length by_hour.now))) from) }
+        requires kept { AreKept roster.now.commitments (all_rows (lent segments.now)) covers.old }
+        ensures kept { AreKept roster.now.commitments (all_rows (lent segments.now)) covers.new }
+        ensures counts { OnOk result (CountsHours self.new [] key.now roster.now.commitments (map (λ h. rows_in h (all_rows (lent segments.now))) (range_with_len from (length by_hour.now))) from) }
     {
         let mut hour = from;
         for places in by_hour {
             let is_touched = touched[(hour - from) as usize];
-            self.add_hour(key, segments, roster, places.as_slice(), is_touched, hour)?;
+            self.add_hour(
+                key,
+                segments,
+                roster,
+                covers,
+                places.as_slice(),
+                is_touched,
+                hour,
+            )?;
             hour += 1;
         }
         Ok(())
@@ -145,6 +163,7 @@ impl Groups {
         key: &str,
         segments: &[&'a Columns],
         roster: &Roster<'a>,
+        covers: &mut Covers,
         places: &[RowPlace],
         is_touched: bool,
         hour: u64,
@@ -154,33 +173,64 @@ impl Groups {
         requires there { All (IsThere (lent segments.now)) places.now }
         requires of_hour { All (λ r. hour_of r.start ≡ hour) (rows_at (lent segments.now) places.now) }
         requires early { OnTrue is_touched (hour < 2 ^ 32) }
-        ensures { OnOk result (MatchBool is_touched ((costs : List Cost) → Counts self.old (costs ++ map (row_cost key.now) (rows_at (lent segments.now) places.now)) → CountsHour self.new costs key.now roster.now.commitments (rows_at (lent segments.now) places.now) hour) (self.new ≡ self.old)) }
+        requires kept { OnTrue is_touched (IfSome (kept_at covers.old hour) (IsHourCover roster.now.commitments (rows_at (lent segments.now) places.now) hour)) }
+        ensures kept { MatchBool is_touched (KeepsHour roster.now.commitments (rows_at (lent segments.now) places.now) hour covers.old covers.new) (covers.new ≡ covers.old) }
+        ensures counts { OnOk result (MatchBool is_touched ((costs : List Cost) → Counts self.old (costs ++ map (row_cost key.now) (rows_at (lent segments.now) places.now)) → CountsHour self.new costs key.now roster.now.commitments (rows_at (lent segments.now) places.now) hour) (self.new ≡ self.old)) }
     {
         if !is_touched {
             return Ok(());
         }
         let rows = rows_at(self.alloc, segments, places)?;
-        self.add_touched(key, roster, rows.as_slice(), hour as u32)
+        self.add_touched(key, roster, covers, rows.as_slice(), hour as u32)
     }
 
-    // Counts the lines of an hour whose rows are these and are counted: the commitments' own lines, and what corrects the rows that they took
-    // of.
+    // Counts the lines of an hour whose rows are these and are counted. What the commitments cover of them is taken from what is kept, or found and
+    // kept.
     fn add_touched<'a>(
         &mut self,
         key: &str,
         roster: &Roster<'a>,
+        covers: &mut Covers,
         rows: &[LentRow<'a>],
         hour: u32,
     ) -> Result<(), AllocError>
         requires counts { (costs : List Cost) × Counts self.old costs }
         requires hour { HasHour roster.now hour }
         requires of_hour { All (λ r. hour_of r.start ≡ hour) rows.now }
-        ensures { OnOk result ((costs : List Cost) → Counts self.old (costs ++ map (row_cost key.now) rows.now) → CountsHour self.new costs key.now roster.now.commitments rows.now hour) }
+        requires kept { IfSome (kept_at covers.old hour) (IsHourCover roster.now.commitments rows.now hour) }
+        ensures kept { KeepsHour roster.now.commitments rows.now hour covers.old covers.new }
+        ensures counts { OnOk result ((costs : List Cost) → Counts self.old (costs ++ map (row_cost key.now) rows.now) → CountsHour self.new costs key.now roster.now.commitments rows.now hour) }
     {
         let each = references(self.alloc, rows)?;
-        let own = own_lines_by_roster(self.alloc, roster, each.as_slice(), hour)?;
-        self.add_lines(key, own.lines.as_slice())?;
-        self.correct_rows(key, rows, own.left.as_slice())
+        if let Some(cover) = covers.of_hour(hour) {
+            return self.add_covered(key, roster, rows, each.as_slice(), cover, hour);
+        }
+        let cover = roster.cover(self.alloc, each.as_slice(), hour)?;
+        self.add_covered(key, roster, rows, each.as_slice(), &cover, hour)?;
+        covers.keep(hour, cover);
+        Ok(())
+    }
+
+    // Counts the lines of an hour whose rows are these and are counted, where the commitments cover this of them: the commitments' own lines, and what
+    // corrects the rows that they took of.
+    fn add_covered<'a>(
+        &mut self,
+        key: &str,
+        roster: &Roster<'a>,
+        rows: &[LentRow<'a>],
+        each: &[&LentRow<'a>],
+        cover: &HourCover,
+        hour: u32,
+    ) -> Result<(), AllocError>
+        requires counts { (costs : List Cost) × Counts self.old costs }
+        requires hour { HasHour roster.now hour }
+        requires each { map (λ r. r.now) each.now ≡ rows.now }
+        requires cover { IsHourCover roster.now.commitments rows.now hour cover.now }
+        ensures { OnOk result ((costs : List Cost) → Counts self.old (costs ++ map (row_cost key.now) rows.now) → CountsHour self.new costs key.now roster.now.commitments rows.now hour) }
+    {
+        let own = own_lines(self.alloc, roster, each, cover, hour)?;
+        self.add_lines(key, own.as_slice())?;
+        self.correct_rows(key, rows, cover.row_left.as_slice())
     }
 
     // Counts lines.

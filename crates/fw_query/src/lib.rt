@@ -13,6 +13,7 @@ mod corrections;
 mod coverage_laws;
 mod covered;
 mod covering;
+mod covers;
 mod entries;
 mod fault;
 mod groups;
@@ -33,6 +34,7 @@ mod total;
 pub use coverage_laws::coverage_adds_up;
 pub use covered::Coverage;
 pub use covering::coverage;
+pub use covers::Covers;
 pub use entries::{Entry, Report};
 pub use fault::QueryFault;
 pub use laws::{
@@ -41,5 +43,5 @@ pub use laws::{
 };
 pub use listing::lines_csv;
 pub use query::Query;
-pub use reporting::report;
+pub use reporting::{report, report_keeping};
 pub use text::report_csv;

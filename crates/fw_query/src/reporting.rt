@@ -1,6 +1,7 @@
 //! A report over a snapshot.
 ghost use Rattle.std.specs.Prelude.{◌≤◌, IfErr, IfOk};
 ghost use Rattle.std.specs.Option.{option_copied};
+ghost use Rattle.fw_query.specs.Covers.{AreKept};
 ghost use Rattle.fw_query.specs.Hours.{all_rows, lent};
 ghost use Rattle.fw_query.specs.Limits.{IsRange};
 ghost use Rattle.fw_query.specs.Refusals.{IsRefused};
@@ -9,6 +10,7 @@ ghost use Rattle.fw_query.specs.Sums.{HasDirect};
 ghost use Rattle.fw_snapshot.specs.History.{commitments_of, policy_of, rows_of};
 
 use crate::charges::under_policy;
+use crate::covers::Covers;
 use crate::entries::{Entry, Report};
 use crate::fault::QueryFault;
 use crate::groups::Groups;
@@ -23,7 +25,7 @@ use std::alloc::{AllocError, Global};
 /// The report over the lines of the hours of the query's range: those that the commitments and the rows of the snapshot have there. For each
 /// group that one of the lines is in it has the sums of their costs and what the group is charged. Under a policy for the query's key the
 /// groups that the policy names give their direct costs away; else each group is charged its direct cost. The number of workers changes
-/// nothing.
+/// nothing. Whoever asks for many reports on the same entries is answered faster by [`report_keeping`].
 pub fn report(
     alloc: Global,
     snapshot: &Snapshot,
@@ -36,15 +38,43 @@ pub fn report(
     ensures report { IfOk result (IsReport (commitments_of snapshot.now.entries) (rows_of snapshot.now.entries) (policy_of snapshot.now.entries) query.now.key.now query.now.from_hour query.now.to_hour) }
     ensures fault { IfErr result (IsRefused (commitments_of snapshot.now.entries) (rows_of snapshot.now.entries) query.now.key.now query.now.from_hour query.now.to_hour) }
 {
+    let mut covers = Covers::new(alloc);
+    report_keeping(alloc, snapshot, &mut covers, query, workers)
+}
+
+/// The same report, by what reports before it kept of what the commitments cover in an hour; what this one finds is kept too. All that is kept must
+/// be of the snapshot's entries. After an error it still is.
+pub fn report_keeping(
+    alloc: Global,
+    snapshot: &Snapshot,
+    covers: &mut Covers,
+    query: &Query<'_>,
+    workers: u32,
+) -> Result<Report, QueryFault>
+    requires some_workers { 1 ≤ workers }
+    requires few_workers { workers ≤ 64 }
+    requires kept { AreKept (commitments_of snapshot.now.entries) (rows_of snapshot.now.entries) covers.old }
+    ensures kept { AreKept (commitments_of snapshot.now.entries) (rows_of snapshot.now.entries) covers.new }
+    ensures range { IfOk result (λ _. IsRange query.now.from_hour query.now.to_hour) }
+    ensures report { IfOk result (IsReport (commitments_of snapshot.now.entries) (rows_of snapshot.now.entries) (policy_of snapshot.now.entries) query.now.key.now query.now.from_hour query.now.to_hour) }
+    ensures fault { IfErr result (IsRefused (commitments_of snapshot.now.entries) (rows_of snapshot.now.entries) query.now.key.now query.now.from_hour query.now.to_hour) }
+{
     if !query.is_range() {
         return Err(QueryFault::Range);
     }
-    report_on(alloc, snapshot.state(), query)
+    report_on(alloc, snapshot.state(), covers, query)
 }
 
 // The report over a state, in a range of hours.
-fn report_on(alloc: Global, state: &State, query: &Query<'_>) -> Result<Report, QueryFault>
-    requires { IsRange query.now.from_hour query.now.to_hour }
+fn report_on(
+    alloc: Global,
+    state: &State,
+    covers: &mut Covers,
+    query: &Query<'_>,
+) -> Result<Report, QueryFault>
+    requires range { IsRange query.now.from_hour query.now.to_hour }
+    requires kept { AreKept (commitments_of state.now.entries) (rows_of state.now.entries) covers.old }
+    ensures kept { AreKept (commitments_of state.now.entries) (rows_of state.now.entries) covers.new }
     ensures report { IfOk result (IsReport (commitments_of state.now.entries) (rows_of state.now.entries) (policy_of state.now.entries) query.now.key.now query.now.from_hour query.now.to_hour) }
     ensures fault { IfErr result (IsRefused (commitments_of state.now.entries) (rows_of state.now.entries) query.now.key.now query.now.from_hour query.now.to_hour) }
 {
@@ -54,6 +84,7 @@ fn report_on(alloc: Global, state: &State, query: &Query<'_>) -> Result<Report, 
         segments.as_slice(),
         state.commitment_list(),
         state.policy(),
+        covers,
         query,
     )
 }
@@ -64,13 +95,16 @@ fn report_of<'a>(
     segments: &[&'a Columns],
     commitments: &'a [Commitment],
     policy: Option<&Policy>,
+    covers: &mut Covers,
     query: &Query<'_>,
 ) -> Result<Report, QueryFault>
-    requires { IsRange query.now.from_hour query.now.to_hour }
+    requires range { IsRange query.now.from_hour query.now.to_hour }
+    requires kept { AreKept commitments.now (all_rows (lent segments.now)) covers.old }
+    ensures kept { AreKept commitments.now (all_rows (lent segments.now)) covers.new }
     ensures report { IfOk result (IsReport commitments.now (all_rows (lent segments.now)) (option_copied policy.entry) query.now.key.now query.now.from_hour query.now.to_hour) }
     ensures fault { IfErr result (IsRefused commitments.now (all_rows (lent segments.now)) query.now.key.now query.now.from_hour query.now.to_hour) }
 {
-    let mut entries = direct_entries(alloc, segments, commitments, query)?;
+    let mut entries = direct_entries(alloc, segments, commitments, covers, query)?;
     if let Some(place) = first_past(entries.as_slice()) {
         return Err(QueryFault::TotalTooLarge {
             group: entries.swap_remove(place).into_group(),
@@ -91,13 +125,16 @@ fn direct_entries<'a>(
     alloc: Global,
     segments: &[&'a Columns],
     commitments: &'a [Commitment],
+    covers: &mut Covers,
     query: &Query<'_>,
 ) -> Result<Vec<Entry>, AllocError>
-    requires { IsRange query.now.from_hour query.now.to_hour }
-    ensures { IfOk result (λ entries. HasDirect commitments.now (all_rows (lent segments.now)) query.now.key.now query.now.from_hour query.now.to_hour entries.items) }
+    requires range { IsRange query.now.from_hour query.now.to_hour }
+    requires kept { AreKept commitments.now (all_rows (lent segments.now)) covers.old }
+    ensures kept { AreKept commitments.now (all_rows (lent segments.now)) covers.new }
+    ensures entries { IfOk result (λ entries. HasDirect commitments.now (all_rows (lent segments.now)) query.now.key.now query.now.from_hour query.now.to_hour entries.items) }
 {
     let from = query.from_hour;
     let hours = (query.to_hour - from) as usize;
     let roster = Roster::new(alloc, commitments, from, query.to_hour)?;
-    Groups::of_hours(alloc, query.key, segments, &roster, from, hours)?.into_entries()
+    Groups::of_hours(alloc, query.key, segments, &roster, covers, from, hours)?.into_entries()
 }

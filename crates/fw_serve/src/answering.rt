@@ -2,12 +2,14 @@
 ghost use Rattle.std.specs.Prelude.{◌≡◌, ◌⊎◌, Ok};
 ghost use Rattle.fw_entry.specs.Spelling.{HasRowCount, IsEntry};
 ghost use Rattle.fw_entry.specs.View.{command_view};
+ghost use Rattle.fw_query.specs.Covers.{AreKept};
 ghost use Rattle.fw_script.specs.Plain as plain;
 ghost use Rattle.fw_script.specs.Plain.{plain_command};
 ghost use Rattle.fw_serve.specs.Answers.{Answer, Entered, Takes, Submits, Checkpoints, RanOut};
 ghost use Rattle.fw_serve.specs.Flight.{FailsOnMade, FailsOnSent, FailsOnThis};
 ghost use Rattle.fw_serve.specs.ReplyText.{reply_text};
 ghost use Rattle.fw_serve.specs.Standings.{standing_of, Moves};
+ghost use Rattle.fw_snapshot.specs.History.{commitments_of, rows_of};
 
 use crate::content::read_content;
 use crate::questions::{answer_lines, answer_report, answer_state};
@@ -15,6 +17,7 @@ use crate::refusals::{entry_reply, store_reply, verdict_reply};
 use crate::reply::Reply;
 use fw_disk::Volume;
 use fw_entry::{Command as EntryCommand, Entry};
+use fw_query::Covers;
 use fw_recover::Store;
 use fw_script::{Command, EntryKind, sequence_number};
 use std::alloc::Global;
@@ -24,7 +27,17 @@ use std::alloc::Global;
 /// volume has no room for it, or out of memory, the store stays as it was. Where the device fails the store has failed from then on: it
 /// still answers questions, from the entries that were accepted by then. What a crash leaves from then on has these, and perhaps the entry that the
 /// command sends, and no other one.
-pub(crate) fn answer<V: Volume>(alloc: Global, store: &mut Store<V>, command: Command<'_>) -> Reply
+///
+/// A report is answered by what reports before it kept of what commitments cover. Nothing of this is kept behind an entry, which may bring rows or
+/// commitments.
+pub(crate) fn answer<V: Volume>(
+    alloc: Global,
+    store: &mut Store<V>,
+    covers: &mut Covers,
+    command: Command<'_>,
+) -> Reply
+    requires { AreKept (commitments_of store.old.history.entries) (rows_of store.old.history.entries) covers.old }
+    ensures kept { AreKept (commitments_of store.new.history.entries) (rows_of store.new.history.entries) covers.new }
     ensures answer { Answer (standing_of V.view store.old) (plain_command command.entry) (reply_text result) (standing_of V.view store.new) }
     ensures moves { Moves V.tells V.view (FailsOnSent (standing_of V.view store.old) (plain_command command.entry) (reply_text result)) store.old store.new }
 {
@@ -34,9 +47,14 @@ pub(crate) fn answer<V: Volume>(alloc: Global, store: &mut Store<V>, command: Co
             origin,
             sequence,
             content,
-        } => enter(alloc, store, kind, origin, sequence, content),
+        } => {
+            covers.clear();
+            enter(alloc, store, kind, origin, sequence, content)
+        }
         Command::Checkpoint => checkpoint(alloc, store),
-        Command::Report { key, from, to } => answer_report(alloc, store.state(), key, from, to),
+        Command::Report { key, from, to } => {
+            answer_report(alloc, store.state(), covers, key, from, to)
+        }
         Command::Lines { from, to } => answer_lines(alloc, store.state(), from, to),
         Command::State => answer_state(store.state()),
         Command::BadCommand => Reply::BadCommand,

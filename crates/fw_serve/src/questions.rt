@@ -1,12 +1,14 @@
 //! Questions, which are answered from the state of a warehouse and change nothing.
 ghost use Rattle.std.specs.Prelude.{◌≡◌};
+ghost use Rattle.fw_query.specs.Covers.{AreKept};
+ghost use Rattle.fw_snapshot.specs.History.{commitments_of, rows_of};
 ghost use Rattle.fw_serve.specs.Questions.{IsReportText, ReportAnswer, LinesAnswer};
 ghost use Rattle.fw_serve.specs.Replies.{state_line};
 ghost use Rattle.fw_serve.specs.ReplyText.{reply_text};
 
 use crate::refusals::query_reply;
 use crate::reply::Reply;
-use fw_query::{Query, QueryFault, lines_csv, report, report_csv};
+use fw_query::{Covers, Query, QueryFault, lines_csv, report_csv, report_keeping};
 use fw_snapshot::Snapshot;
 use std::alloc::Global;
 
@@ -23,17 +25,20 @@ pub fn answer_state(snapshot: &Snapshot) -> Reply
     }
 }
 
-/// The report under a key over the hours from `from` up to, and not including, `to`.
+/// The report under a key over the hours from `from` up to, and not including, `to`, by what reports before it kept.
 pub(crate) fn answer_report(
     alloc: Global,
     snapshot: &Snapshot,
+    covers: &mut Covers,
     key: &str,
     from: u64,
     to: u64,
 ) -> Reply
-    ensures { ReportAnswer snapshot.now key.now from to (reply_text result) }
+    requires { AreKept (commitments_of snapshot.now.entries) (rows_of snapshot.now.entries) covers.old }
+    ensures kept { AreKept (commitments_of snapshot.now.entries) (rows_of snapshot.now.entries) covers.new }
+    ensures answer { ReportAnswer snapshot.now key.now from to (reply_text result) }
 {
-    match report_text(alloc, snapshot, key, from, to) {
+    match report_text(alloc, snapshot, covers, key, from, to) {
         Ok(text) => Reply::Text(text),
         Err(fault) => query_reply(&fault),
     }
@@ -43,18 +48,21 @@ pub(crate) fn answer_report(
 fn report_text(
     alloc: Global,
     snapshot: &Snapshot,
+    covers: &mut Covers,
     key: &str,
     from: u64,
     to: u64,
 ) -> Result<Vec<u8>, QueryFault>
-    ensures { IsReportText snapshot.now key.now from to result }
+    requires { AreKept (commitments_of snapshot.now.entries) (rows_of snapshot.now.entries) covers.old }
+    ensures kept { AreKept (commitments_of snapshot.now.entries) (rows_of snapshot.now.entries) covers.new }
+    ensures text { IsReportText snapshot.now key.now from to result }
 {
     let query = Query {
         key,
         from_hour: from,
         to_hour: to,
     };
-    let report = report(alloc, snapshot, &query, 1)?;
+    let report = report_keeping(alloc, snapshot, covers, &query, 1)?;
     Ok(report_csv(alloc, &report)?)
 }
 

@@ -12,6 +12,7 @@ use crate::fault::ServeFault;
 use crate::input::read_script;
 use crate::writing::write_reply;
 use fw_disk::Volume;
+use fw_query::Covers;
 use fw_recover::Store;
 use fw_script::Script;
 use std::alloc::Global;
@@ -72,9 +73,10 @@ fn answer_all<W: Write, V: Volume>(
     ensures runs { Runs V.tells V.view text.now store.old store.new (W.contents writer.old) (W.contents writer.new) }
 {
     let mut script = Script::new(text);
+    let mut covers = Covers::new(alloc);
     while let Some(command) = script.next_command() {
         store.keeps();
-        let reply = answer(alloc, store, command);
+        let reply = answer(alloc, store, &mut covers, command);
         store.keeps();
         write_reply(writer, &reply)?;
     }

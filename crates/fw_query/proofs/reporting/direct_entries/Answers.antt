@@ -13,16 +13,19 @@ of_hours-requires-clause-fits c = omega arith
 
 pub of_hours-requires-clause-roster : goal.of_hours-requires-clause-roster
 of_hours-requires-clause-roster c =
-    let some = c.requires.some in
+    let some = c.requires.range.some in
     rw c.in_ok-roster.ensures (record { since = omega arith; until = omega (arith, some) })
 
-pub returns : goal.returns
-returns c =
+pub returns-clause-kept : goal.returns-clause-kept
+returns-clause-kept c = rw c.in_ok-roster.ensures at c.in_ok-of_hours.ensures.kept
+
+pub returns-clause-entries : goal.returns-clause-entries
+returns-clause-entries c =
     let from = c.args.query.now.from_hour in
     let to = c.args.query.now.to_hour in
     let key = c.args.query.now.key.now in
     let rows = all_rows (lent c.args.segments.now) in
-    let counted : CountsHours c.in_ok-of_hours.field-0 [] key c.args.commitments.now (hours_of rows from (to - from)) from = rw c.in_ok-roster.ensures at c.in_ok-of_hours.ensures in
+    let counted : CountsHours c.in_ok-of_hours.field-0 [] key c.args.commitments.now (hours_of rows from (to - from)) from = rw c.in_ok-roster.ensures at c.in_ok-of_hours.ensures.groups in
     IfOk-weaker c.into_entries.result (λ entries. (costs : List Cost) → AreSums c.in_ok-of_hours.field-0 costs → AreEntries costs entries.items)
     (λ entries. HasDirect c.args.commitments.now rows key from to entries.items)
     (λ entries made. record {

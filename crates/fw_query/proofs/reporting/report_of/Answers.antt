@@ -9,13 +9,13 @@ use Rattle.fw_query.proofs.reporting.report_of.Goals.{in_default-policy-via-in-S
 
 pub returns-in-Some-clause-fault : goal.returns-in-Some-clause-fault
 returns-in-Some-clause-fault c =
-    let has = c.in_ok-entries.ensures in
+    let has = c.in_ok-entries.ensures.entries in
     let passes : PassesAtPlace c.in_ok-entries.entries.items c.in-Some.place = rw c.as_slice.ensures.value at c.in-Some.ensures in
-    (c.requires, rw c.into_group.ensures (record { lines = has.lines; are_lines = has.are_lines; passes = PassesIn-from_entries _ _ _ _ has.are_entries passes c.swap_remove.ensures.value }))
+    (c.requires.range, rw c.into_group.ensures (record { lines = has.lines; are_lines = has.are_lines; passes = PassesIn-from_entries _ _ _ _ has.are_entries passes c.swap_remove.ensures.value }))
 
 pub returns-in_default-policy-clause-report : goal.returns-in_default-policy-clause-report
 returns-in_default-policy-clause-report c =
-    let has = c.in_ok-entries.ensures in
+    let has = c.in_ok-entries.ensures.entries in
     let within : direct_size c.in_ok-entries.entries.items ≤ most_total = rw c.as_slice.ensures.value at c.in_default.ensures in
     let other : IfSome (option_copied c.args.policy) (λ p. bytes_eq p.key c.args.query.now.key.now ≡ false) =
     elim c.in_default-policy.branch [
@@ -25,11 +25,11 @@ returns-in_default-policy-clause-report c =
     rw c.of_entries-in_default-policy.ensures (record { lines = has.lines; are_lines = has.are_lines; is_report = IsReportOf-plain _ _ has.lines _ has.are_entries within other })
 
 pub under_policy-requires-clause-rising : goal.under_policy-requires-clause-rising
-under_policy-requires-clause-rising c = rw c.as_slice-in-Some-policy.ensures.value (rising_directs _ _ c.in_ok-entries.ensures.are_entries)
+under_policy-requires-clause-rising c = rw c.as_slice-in-Some-policy.ensures.value (rising_directs _ _ c.in_ok-entries.ensures.entries.are_entries)
 
 pub returns-in_ok-under_policy-in-Some-policy-clause-report : goal.returns-in_ok-under_policy-in-Some-policy-clause-report
 returns-in_ok-under_policy-in-Some-policy-clause-report c =
-    let has = c.in_ok-entries.ensures in
+    let has = c.in_ok-entries.ensures.entries in
     let within : direct_size c.in_ok-entries.entries.items ≤ most_total = rw c.as_slice.ensures.value at c.in_default.ensures in
     let same : bytes_eq c.in-Some-policy.policy.now.key c.args.query.now.key.now ≡ true =
     ap (λ k. bytes_eq k c.args.query.now.key.now) (sym c.key.ensures.value) ∙ sym c.eq.ensures ∙ c.if-eq.true in

@@ -1,6 +1,8 @@
-use Rattle.std.proofs.Common.{refl, inl}
+use Rattle.std.proofs.Common.{◌≡◌, refl, inl}
+use Rattle.fw_query.proofs.CoverFacts.{none_kept}
 use Rattle.fw_serve.specs.Answers.{Answer}
 use Rattle.fw_serve.proofs.MoveFacts.{Moves-as}
+use Rattle.fw_serve.proofs.RunFacts.{checkpoint_leaves}
 use Rattle.fw_serve.specs.ReplyText.{reply_text}
 use Rattle.fw_serve.proofs.answering.answer.Goals as goal
 
@@ -20,7 +22,7 @@ returns-in-Checkpoint-clause-answer g c = rw c.in-Checkpoint.is c.checkpoint.ens
 
 pub returns-in-Report-clause-answer : goal.returns-in-Report-clause-answer
 unfolding Answer
-returns-in-Report-clause-answer g c = rw c.in-Report.is (rw c.state.ensures at c.answer_report.ensures, refl)
+returns-in-Report-clause-answer g c = rw c.in-Report.is (rw c.state.ensures at c.answer_report.ensures.answer, refl)
 
 pub returns-in-Report-clause-moves : goal.returns-in-Report-clause-moves
 returns-in-Report-clause-moves g c = inl refl
@@ -52,3 +54,17 @@ returns-in-BadEnd-clause-answer g c = rw c.in-BadEnd.is (refl, refl)
 
 pub returns-in-BadEnd-clause-moves : goal.returns-in-BadEnd-clause-moves
 returns-in-BadEnd-clause-moves g c = inl refl
+
+pub returns-in-Entry-clause-kept : goal.returns-in-Entry-clause-kept
+returns-in-Entry-clause-kept g c = none_kept _ _ _ c.clear.ensures
+
+pub returns-in-Checkpoint-clause-kept : goal.returns-in-Checkpoint-clause-kept
+returns-in-Checkpoint-clause-kept g c =
+    let same : c.checkpoint.new.store.history ≡ c.args.store.now.history = (checkpoint_leaves _ _ _ c.checkpoint.ensures.checkpoints).1 in
+    rw same c.requires
+
+pub answer_report-requires : goal.answer_report-requires
+answer_report-requires g c = rw c.state.ensures c.requires
+
+pub returns-in-Report-clause-kept : goal.returns-in-Report-clause-kept
+returns-in-Report-clause-kept g c = rw c.state.ensures at c.answer_report.ensures.kept

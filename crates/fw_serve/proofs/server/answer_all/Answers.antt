@@ -1,5 +1,6 @@
 use Rattle.std.proofs.Common.{refl, inl, inr}
 use Rattle.std.proofs.lemmas.Result.{err_from_is_err_and}
+use Rattle.fw_query.proofs.CoverFacts.{none_kept}
 use Rattle.fw_serve.proofs.FlightFacts.{Runs-part, Runs-whole, RunsSoFar-more, RunsSoFar-none, within_one}
 use Rattle.fw_serve.proofs.ServedFacts.{ServesSoFar-none, ServesSoFar-more, Serves-whole}
 use Rattle.fw_script.specs.Plain.{plain_command}
@@ -11,6 +12,7 @@ pub loop-command-init : goal.loop-command-init
 loop-command-init g c = record {
   so_far = ServesSoFar-none _ _ _ _ c.new-script.ensures;
   runs = RunsSoFar-none _ _ _ _ _ _ c.new-script.ensures;
+  kept = none_kept _ _ _ c.new-covers.ensures;
 }
 
 pub returns-in_err-write_reply-clause-write : goal.returns-in_err-write_reply-clause-write
@@ -45,6 +47,7 @@ loop-command-preserved-in_ok-write_reply g c = record {
   so_far = ServesSoFar-more _ _ _ _ _ _ _ _ _ _ _ c.loop-command.invariant.so_far c.in-Some.ensures.command c.answer-reply.ensures.answer c.in_ok-write_reply.ensures.whole;
   runs = RunsSoFar-more _ _ _ _ _ _ _ _ _ _ _ _ _ c.loop-command.invariant.runs c.in-Some.ensures.command c.answer-reply.ensures.answer c.answer-reply.ensures.moves
       (within_one _ _ _ _ _ _ c.keeps.ensures c.keeps-in-Some.ensures (g.met.V.Volume.only_now c.loop-command.store.volume) c.answer-reply.ensures.moves) c.in_ok-write_reply.ensures.whole;
+  kept = c.answer-reply.ensures.kept;
 }
 
 pub loop-command-preserved : goal.loop-command-preserved
@@ -52,13 +55,14 @@ loop-command-preserved g c = record {
   so_far = ServesSoFar-more _ _ _ _ _ _ _ _ _ _ _ c.loop-command.invariant.so_far c.in-Some.ensures.command c.answer-reply.ensures.answer c.in_ok-write_reply.ensures.whole;
   runs = RunsSoFar-more _ _ _ _ _ _ _ _ _ _ _ _ _ c.loop-command.invariant.runs c.in-Some.ensures.command c.answer-reply.ensures.answer c.answer-reply.ensures.moves
       (within_one _ _ _ _ _ _ c.keeps.ensures c.keeps-in-Some.ensures (g.met.V.Volume.only_now c.loop-command.store.volume) c.answer-reply.ensures.moves) c.in_ok-write_reply.ensures.whole;
+  kept = c.answer-reply.ensures.kept;
 }
 
 pub returns-in-Ok-clause-done : goal.returns-in-Ok-clause-done
 returns-in-Ok-clause-done g c = Serves-whole _ _ _ _ _ _ _ c.loop-command.invariant.so_far c.in_default.ensures.command.0 c.in-Ok.ensures.bytes
 
-pub returns-in-Err-clause-write : goal.returns-in-Err-clause-write
-returns-in-Err-clause-write g c = (
+pub returns-clause-write : goal.returns-clause-write
+returns-clause-write g c = (
   refl,
   record {
     left = c.loop-command.script;
@@ -72,5 +76,5 @@ returns-in-Err-clause-write g c = (
 pub returns-in-Ok-clause-runs : goal.returns-in-Ok-clause-runs
 returns-in-Ok-clause-runs g c = Runs-whole _ _ _ _ _ _ _ _ _ c.loop-command.invariant.runs c.in-Ok.ensures.bytes
 
-pub returns-in-Err-clause-runs : goal.returns-in-Err-clause-runs
-returns-in-Err-clause-runs g c = Runs-whole _ _ _ _ _ _ _ _ _ c.loop-command.invariant.runs c.in-Err.ensures.bytes
+pub returns-clause-runs : goal.returns-clause-runs
+returns-clause-runs g c = Runs-whole _ _ _ _ _ _ _ _ _ c.loop-command.invariant.runs c.in-Err.ensures.bytes

@@ -1,36 +1,22 @@
-use Rattle.std.proofs.Common.{◌≡◌, ◌∙◌, ◌++◌, Bor, List, ℕ, ap, map, subst}
-use Rattle.std.proofs.lemmas.Result.{IfOk-weaker}
-use Rattle.std.specs.Prelude.{slice_index}
+use Rattle.std.proofs.Common.{◌≡◌, ◌∙◌, Bor, ap, map}
 use Rattle.fw_charge.specs.Charge.{Charge}
-use Rattle.fw_cover.specs.Hour.{hour_cover, left_of}
-use Rattle.fw_amortise.specs.Lines.{AreOwnLines}
-use Rattle.fw_query.specs.Corrections.{corrections}
-use Rattle.fw_query.specs.Costs.{Cost}
-use Rattle.fw_query.specs.Hours.{row_cost}
-use Rattle.fw_query.specs.Reports.{costs_of}
-use Rattle.fw_query.specs.Sums.{Counts, CountsHour}
-use Rattle.fw_query.proofs.CorrectionFacts.{hour_corrected}
+use Rattle.fw_amortise.specs.HourCovers.{IsHourCover}
+use Rattle.fw_query.proofs.CoverFacts.{cover_is, keeps_hour}
 use Rattle.fw_query.proofs.groups.Groups.add_touched.Goals as goal
 
-pub own_lines_by_roster-requires-clause-rows : goal.own_lines_by_roster-requires-clause-rows
-own_lines_by_roster-requires-clause-rows c =
-    let rows : map (λ (r : Bor Charge). r.now) c.as_slice.result.now ≡ c.args.rows.now = ap (map (λ (r : Bor Charge). r.now)) c.as_slice.ensures.value ∙ c.in_ok-each.ensures in
-    rw rows c.requires.of_hour
+pub add_covered-requires-2-clause-cover : goal.add_covered-requires-2-clause-cover
+add_covered-requires-2-clause-cover c =
+    let rows : map (λ (r : Bor Charge). r.now) c.as_slice-2.result.now ≡ c.args.rows.now = ap (map (λ (r : Bor Charge). r.now)) c.as_slice-2.ensures.value ∙ c.in_ok-each.ensures in
+    let e = c.in_ok-cover.ensures in
+    cover_is c.args.roster.now.commitments c.as_slice-2.result.now c.args.rows.now c.args.hour c.in_ok-cover.cover rows e.taken e.rows e.commitments e.takes e.row_left e.unused
 
 pub returns : goal.returns
 returns c =
-    let rows : map (λ (r : Bor Charge). r.now) c.as_slice.result.now ≡ c.args.rows.now = ap (map (λ (r : Bor Charge). r.now)) c.as_slice.ensures.value ∙ c.in_ok-each.ensures in
-    let cs = c.args.roster.now.commitments in
-    let own : AreOwnLines cs c.args.rows.now c.args.hour c.in_ok-own.own.lines.items = rw rows at c.in_ok-own.ensures.lines in
-    let left : (r : ℕ) → slice_index c.as_slice-3.result.now r ≡ left_of c.args.rows.now (hour_cover cs c.args.rows.now c.args.hour) r =
-    (λ r. ap (λ l. slice_index l r) c.as_slice-3.ensures.value ∙ (rw rows at (c.in_ok-own.ensures.left r))) in
-    IfOk-weaker c.correct_rows.result
-    (λ _. (costs : List Cost) → Counts c.add_lines.new.self costs → Counts c.correct_rows.new.self (costs ++ corrections c.args.key.now c.args.rows.now (slice_index c.as_slice-3.result.now)))
-    (λ _. (costs : List Cost) → Counts c.args.self.now (costs ++ map (row_cost c.args.key.now) c.args.rows.now) → CountsHour c.correct_rows.new.self costs c.args.key.now cs c.args.rows.now c.args.hour)
-    (λ _ corrected costs counts.
-    let lines : Counts c.add_lines.new.self ((costs ++ map (row_cost c.args.key.now) c.args.rows.now) ++ costs_of c.args.key.now c.in_ok-own.own.lines.items) =
-    rw c.as_slice-2.ensures.value at (c.in_ok-add_lines.ensures (costs ++ map (row_cost c.args.key.now) c.args.rows.now) counts) in
-    let all : Counts c.correct_rows.new.self (((costs ++ map (row_cost c.args.key.now) c.args.rows.now) ++ costs_of c.args.key.now c.in_ok-own.own.lines.items) ++ corrections c.args.key.now c.args.rows.now (left_of c.args.rows.now (hour_cover cs c.args.rows.now c.args.hour))) =
-    subst (λ f. Counts c.correct_rows.new.self (((costs ++ map (row_cost c.args.key.now) c.args.rows.now) ++ costs_of c.args.key.now c.in_ok-own.own.lines.items) ++ corrections c.args.key.now c.args.rows.now f)) (λ j r. left r j) (corrected _ lines) in
-    hour_corrected c.correct_rows.new.self costs c.args.key.now cs c.args.rows.now c.args.hour c.in_ok-own.own.lines.items own all)
-    c.correct_rows.ensures
+    let rows : map (λ (r : Bor Charge). r.now) c.as_slice-2.result.now ≡ c.args.rows.now = ap (map (λ (r : Bor Charge). r.now)) c.as_slice-2.ensures.value ∙ c.in_ok-each.ensures in
+    let e = c.in_ok-cover.ensures in
+    let cover : IsHourCover c.args.roster.now.commitments c.args.rows.now c.args.hour c.in_ok-cover.cover =
+    cover_is c.args.roster.now.commitments c.as_slice-2.result.now c.args.rows.now c.args.hour c.in_ok-cover.cover rows e.taken e.rows e.commitments e.takes e.row_left e.unused in
+    record {
+      kept = keeps_hour c.args.roster.now.commitments c.args.rows.now c.args.hour c.args.covers.now c.keep.new.self c.in_ok-cover.cover cover c.keep.ensures;
+      counts = c.in_ok-add_covered.ensures;
+    }

@@ -40,4 +40,7 @@ add_hours-requires-clause-counts c =
 pub returns : goal.returns
 returns c =
     let many : length c.in_ok-by_hour.by_hour.items ≡ c.args.hours = by_hour_long _ _ _ _ _ c.in_ok-by_hour.ensures ∙ ap length c.as_slice.ensures.value ∙ touched_long _ _ _ _ c.in_ok-touched.ensures in
-    rw (c.as_slice-3.ensures.value, many) at c.in_ok-add_hours.ensures
+    record {
+      kept = c.in_ok-add_hours.ensures.kept;
+      groups = rw (c.as_slice-3.ensures.value, many) at c.in_ok-add_hours.ensures.counts;
+    }
