@@ -17,7 +17,7 @@ use Rattle.fw_segment.specs.Groups.{group}
 use Rattle.fw_segment.specs.Heads.{heads}
 use Rattle.fw_segment.specs.Segments.{IsSegment}
 use Rattle.fw_segment.specs.States.{Spells, state, Cut, cut_rows}
-use Rattle.fw_segment.specs.declared.kind.Kind.{Kind}
+use Rattle.fw_segment.specs.declared.layout.SegmentLayout.{SegmentLayout}
 use Rattle.fw_snapshot.specs.Heads.{segment_rows}
 use Rattle.fw_snapshot.specs.History.{History, rows_posted}
 use Rattle.fw_recover.specs.Sides.{magic, made_of, generation_of, IsOpen}
@@ -36,7 +36,7 @@ empty_log side start = record { side = side; start = start; end = start; failed 
 
 -- ---- the body of an empty warehouse has 19 bytes
 
-abbrev IsLaid : Kind × List Charge → Type 0
+abbrev IsLaid : SegmentLayout × List Charge → Type 0
 IsLaid s = IsSegment s.1
 
 no_segment : (cut : Cut) → All IsLaid cut → segment_rows (cut_rows cut) ≡ [] → cut ≡ []

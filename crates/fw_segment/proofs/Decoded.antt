@@ -12,7 +12,7 @@ use Rattle.fw_segment.specs.declared.fault.DecodeFault.{DecodeFault}
 use Rattle.fw_segment.specs.Decoding.{IsAt, Decodes}
 use Rattle.fw_segment.specs.FaultPlace.{fault_of}
 use Rattle.fw_segment.specs.Segments.{segment, segment_at, IsSegment}
-use Rattle.fw_segment.specs.declared.kind.Kind.{Kind}
+use Rattle.fw_segment.specs.declared.layout.SegmentLayout.{SegmentLayout}
 use Rattle.fw_segment.proofs.SegmentFormat.{segment_whole}
 
 -- a fault of the reading is one of the decoder
@@ -35,9 +35,9 @@ whole_only {Y = Y} {read = read} view format bytes result h y fits e =
 
 -- a segment is answered for each of its spellings
 pub segment_only : {X : Type 0} (view : X → List Charge) (bytes : List ℕ) (result : Result X DecodeFault) → Decodes view (length bytes) result (whole segment_at bytes)
-    → (kind : Kind) (rows : List Charge) → IsSegment rows → bytes ≡ segment kind rows → Decodes view (length bytes) result (Ok rows)
-segment_only view bytes result h kind rows is e =
-    subst (λ (r : Result (List Charge) ℕ). Decodes view (length bytes) result r) (ap (whole segment_at) e ∙ segment_whole kind rows is) h
+    → (layout : SegmentLayout) (rows : List Charge) → IsSegment rows → bytes ≡ segment layout rows → Decodes view (length bytes) result (Ok rows)
+segment_only view bytes result h layout rows is e =
+    subst (λ (r : Result (List Charge) ℕ). Decodes view (length bytes) result r) (ap (whole segment_at) e ∙ segment_whole layout rows is) h
 
 -- what is spelled alike is alike
 pub one_spelling : {Y : Type 0} {read : List ℕ → Result (Y × List ℕ) ℕ} {spell spells : Y → List ℕ} {Fits : Y → Type 0} → IsFormat read spell Fits → IsFormat read spells Fits → (a b : Y) → Fits a → Fits b → spell a ≡ spells b → a ≡ b

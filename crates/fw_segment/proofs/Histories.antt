@@ -20,8 +20,8 @@ use Rattle.fw_entry_bytes.proofs.Facts.{name_fits}
 use Rattle.fw_snapshot.specs.Heads.{HeadValue, head_of, content_of, entries_of, row_counts, segment_rows}
 use Rattle.fw_snapshot.specs.History.{History, rows_posted, posted}
 use Rattle.fw_snapshot.proofs.HeadFacts.{row_counts_cons, row_count_back, rows_posted_entries, heads_of_entries, length_entries}
-use Rattle.fw_segment.specs.declared.kind.Kind.{Kind}
-use Rattle.fw_segment.specs.declared.kind.Kind.TheVariants.{Columns}
+use Rattle.fw_segment.specs.declared.layout.SegmentLayout.{SegmentLayout}
+use Rattle.fw_segment.specs.declared.layout.SegmentLayout.TheVariants.{Columns}
 use Rattle.fw_segment.specs.Segments.{segment, IsSegment}
 use Rattle.fw_segment.specs.Heads.{heads, IsContent, IsHead}
 use Rattle.fw_segment.specs.States.{state, Spells, most_segments, Cut, cut_rows, Parts, parts_at, bytes_before_heads, replayed, replayed_state, state_from, state_at}
@@ -54,7 +54,7 @@ head_short es each place h e =
 are_heads : (es : List EntryValue) → Fits64 (length es) → All IsEntry es → AreHeads (map head_of es)
 are_heads es count each = (rw (length-map es head_of) count, heads_are es each)
 
-abbrev pub IsLaid : Kind × List Charge → Type 0
+abbrev pub IsLaid : SegmentLayout × List Charge → Type 0
 IsLaid s = IsSegment s.1
 
 pub rows_each : (cut : Cut) → All IsLaid cut → All IsRow (segment_rows (cut_rows cut))
@@ -133,20 +133,20 @@ states_one bytes a b s t = ok_is a b (sym (state_again One bytes a s) ∙ state_
 abbrev pub by_column : List (List Charge) → Cut
 by_column segments = map (λ rows. (Columns, rows)) segments
 
-each_spelled : (segments : List (List Charge)) → flat_map (λ (s : Kind × List Charge). segment s.0 s.1) (by_column segments) ≡ flat_map (segment Columns) segments
+each_spelled : (segments : List (List Charge)) → flat_map (λ (s : SegmentLayout × List Charge). segment s.0 s.1) (by_column segments) ≡ flat_map (segment Columns) segments
 each_spelled [] = refl
 each_spelled (rows ∷ segments) = ap (λ (w : List ℕ). segment Columns rows ++ w) (each_spelled segments)
 
-all_spelled : (segments : List (List Charge)) → listed (λ (s : Kind × List Charge). segment s.0 s.1) (by_column segments) ≡ listed (segment Columns) segments
-all_spelled segments = rw (length-map {B = Kind × List Charge} segments (λ (rows : List Charge). (Columns, rows)), each_spelled segments) refl
+all_spelled : (segments : List (List Charge)) → listed (λ (s : SegmentLayout × List Charge). segment s.0 s.1) (by_column segments) ≡ listed (segment Columns) segments
+all_spelled segments = rw (length-map {B = SegmentLayout × List Charge} segments (λ (rows : List Charge). (Columns, rows)), each_spelled segments) refl
 
 -- the three parts, written one behind the other
 pub spelled_in_turn : (currency : List ℕ) (hs : List HeadValue) (segments : List (List Charge)) (first one two three : List ℕ) → one ≡ first ++ text currency → two ≡ one ++ heads hs → three ≡ two ++ listed (segment Columns) segments
     → three ≡ first ++ state currency hs (by_column segments)
 unfolding state
 spelled_in_turn currency hs segments first one two three a b c =
-    let laid : three ≡ two ++ listed (λ (s : Kind × List Charge). segment s.0 s.1) (by_column segments) = c ∙ ap (λ (w : List ℕ). two ++ w) (sym (all_spelled segments)) in
-    laid ∙ (ap (λ (w : List ℕ). w ++ listed (λ (s : Kind × List Charge). segment s.0 s.1) (by_column segments)) (b ∙ ap (λ (w : List ℕ). w ++ heads hs) a) ∙ (simp append_assoc))
+    let laid : three ≡ two ++ listed (λ (s : SegmentLayout × List Charge). segment s.0 s.1) (by_column segments) = c ∙ ap (λ (w : List ℕ). two ++ w) (sym (all_spelled segments)) in
+    laid ∙ (ap (λ (w : List ℕ). w ++ listed (λ (s : SegmentLayout × List Charge). segment s.0 s.1) (by_column segments)) (b ∙ ap (λ (w : List ℕ). w ++ heads hs) a) ∙ (simp append_assoc))
 
 pub same_rows : (segments : List (List Charge)) → cut_rows (by_column segments) ≡ segments
 same_rows [] = refl

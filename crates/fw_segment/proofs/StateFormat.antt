@@ -16,12 +16,12 @@ use Rattle.fw_entry_bytes.specs.declared.form.Form.{Form}
 use Rattle.fw_entry_bytes.specs.Whole.{whole}
 use Rattle.fw_entry_bytes.proofs.WholeFormat.{whole_takes, whole_again}
 use Rattle.fw_snapshot.specs.Heads.{HeadValue, segment_rows}
-use Rattle.fw_segment.specs.declared.kind.Kind.{Kind}
+use Rattle.fw_segment.specs.declared.layout.SegmentLayout.{SegmentLayout}
 use Rattle.fw_segment.specs.Segments.{segment, segment_at, IsSegment}
 use Rattle.fw_segment.specs.Heads.{heads, heads_at}
 use Rattle.fw_segment.specs.States.{state, is_currency, currency_at, most_segments, rows_at, Cut, cut_rows, Parts, parts_at}
 use Rattle.fw_segment.proofs.Viewed.{answered, second_viewed, both_same, both_seen, list_seen, seen_twice, whole_viewed}
-use Rattle.fw_segment.proofs.SegmentFormat.{kinded_at, kinded_format, segment_seen}
+use Rattle.fw_segment.proofs.SegmentFormat.{laid_out_at, laid_out_format, segment_seen}
 use Rattle.fw_segment.proofs.HeadFormat.{AreHeads, heads_format}
 
 -- ---- a currency
@@ -62,20 +62,20 @@ abbrev pub CutParts : Type 0
 CutParts = List ℕ × (List HeadValue × Cut)
 
 abbrev pub FitsCut : Cut → Type 0
-FitsCut cut = FitsList 0 most_segments (λ (s : Kind × List Charge). IsSegment s.1) cut
+FitsCut cut = FitsList 0 most_segments (λ (s : SegmentLayout × List Charge). IsSegment s.1) cut
 
 abbrev pub FitsParts : CutParts → Type 0
 FitsParts = FitsPair IsCode (FitsPair AreHeads FitsCut)
 
 cut_parts_at : Form → Reading CutParts
-cut_parts_at form = both currency_at (both (heads_at form) (list_at 0 most_segments kinded_at))
+cut_parts_at form = both currency_at (both (heads_at form) (list_at 0 most_segments laid_out_at))
 
 spelled : CutParts → List ℕ
-spelled = pair text (pair heads (listed (λ (s : Kind × List Charge). segment s.0 s.1)))
+spelled = pair text (pair heads (listed (λ (s : SegmentLayout × List Charge). segment s.0 s.1)))
 
 cut_format : (form : Form) → IsFormat (cut_parts_at form) spelled FitsParts
 unfolding cut_parts_at spelled
-cut_format form = both_format currency_format (both_format (heads_format form) (list_format 0 most_segments kinded_format))
+cut_format form = both_format currency_format (both_format (heads_format form) (list_format 0 most_segments laid_out_format))
 
 -- ---- and without the cuts
 
@@ -85,16 +85,16 @@ uncut cut = segment_rows (cut_rows cut)
 joined : CutParts → Parts
 joined p = (p.0, (p.1.0, uncut p.1.1))
 
-rows_seen : (bytes : List ℕ) → rows_at bytes ≡ seen uncut (list_at 0 most_segments kinded_at) bytes
+rows_seen : (bytes : List ℕ) → rows_at bytes ≡ seen uncut (list_at 0 most_segments laid_out_at) bytes
 unfolding rows_at
 rows_seen bytes =
-    seen_twice cut_rows segment_rows (list_at 0 most_segments kinded_at) (list_at 0 most_segments segment_at) bytes
-    (list_seen (λ (s : Kind × List Charge). s.1) kinded_at segment_at segment_seen 0 most_segments bytes)
+    seen_twice cut_rows segment_rows (list_at 0 most_segments laid_out_at) (list_at 0 most_segments segment_at) bytes
+    (list_seen (λ (s : SegmentLayout × List Charge). s.1) laid_out_at segment_at segment_seen 0 most_segments bytes)
 
 parts_joined : (form : Form) (bytes : List ℕ) → parts_at form bytes ≡ seen joined (cut_parts_at form) bytes
 unfolding parts_at cut_parts_at joined
 parts_joined form bytes =
-    let cuts = list_at 0 most_segments kinded_at in
+    let cuts = list_at 0 most_segments laid_out_at in
     let inner = both (heads_at form) cuts in
     both_same currency_at (both (heads_at form) rows_at) (both (heads_at form) (seen uncut cuts)) (both_same (heads_at form) rows_at (seen uncut cuts) rows_seen) bytes
     ∙ (both_same currency_at (both (heads_at form) (seen uncut cuts)) (seen (second_viewed uncut) inner) (both_seen uncut (heads_at form) cuts) bytes

@@ -7,12 +7,12 @@ use Rattle.fw_charge.specs.Spelling.{row, IsRow}
 use Rattle.fw_row_bytes.specs.Reading.{row_at}
 use Rattle.fw_column_bytes.specs.Spelling.{columns}
 use Rattle.fw_column_bytes.specs.Reading.{columns_at}
-use Rattle.fw_segment.specs.declared.kind.Kind.{Kind}
-use Rattle.fw_segment.specs.declared.kind.Kind.TheVariants.{Rows, Columns}
+use Rattle.fw_segment.specs.declared.layout.SegmentLayout.{SegmentLayout}
+use Rattle.fw_segment.specs.declared.layout.SegmentLayout.TheVariants.{Rows, Columns}
 use Rattle.fw_columns.specs.Table.{most_column_rows}
 
 -- a byte for how the rows are laid out, their number, and the rows in this layout: each in turn, or column after column behind their texts
-unfoldable pub segment : Kind → List Charge → List ℕ
+unfoldable pub segment : SegmentLayout → List Charge → List ℕ
 segment Rows rows = 1 ∷ listed row rows
 segment Columns rows = columns rows
 

@@ -14,7 +14,7 @@ use Rattle.fw_snapshot.specs.Heads.{HeadValue, head_of, entry_of, row_count, row
 use Rattle.fw_snapshot.specs.History.{History, rows_posted}
 use Rattle.fw_snapshot.specs.Judging.{judged, IsLegal}
 use Rattle.fw_snapshot.specs.Verdicts.{is_accept}
-use Rattle.fw_segment.specs.declared.kind.Kind.{Kind}
+use Rattle.fw_segment.specs.declared.layout.SegmentLayout.{SegmentLayout}
 use Rattle.fw_segment.specs.Segments.{segment, segment_at, IsSegment}
 use Rattle.fw_segment.specs.Heads.{head, heads, heads_at}
 
@@ -22,7 +22,7 @@ use Rattle.fw_segment.specs.Heads.{head, heads, heads_at}
 
 -- rows that are cut into segments, and how each segment is laid out
 abbrev pub Cut : Type 0
-Cut = List (Kind × List Charge)
+Cut = List (SegmentLayout × List Charge)
 
 -- the rows of the segments of a cut
 abbrev pub cut_rows : Cut → List (List Charge)

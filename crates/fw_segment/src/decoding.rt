@@ -11,7 +11,7 @@ ghost use Rattle.fw_segment.specs.Decoding.{Decodes};
 ghost use Rattle.fw_segment.specs.Groups.{group, group_at, IsGroup};
 ghost use Rattle.fw_segment.specs.Segments.{segment, segment_at, IsSegment};
 ghost use Rattle.fw_segment.specs.States.{state_at, Spells};
-ghost use Rattle.fw_segment.specs.declared.kind.Kind.{Kind};
+ghost use Rattle.fw_segment.specs.declared.layout.SegmentLayout.{SegmentLayout};
 
 use crate::fault::DecodeFault;
 use crate::groups::group_of;
@@ -103,8 +103,8 @@ pub fn decode_group(alloc: Global, form: Form, bytes: &[u8]) -> Result<Vec<Entry
 /// 1, found before any row is read. Of rows by column a fault of a field is at its place in its column, and the rules over several fields come behind
 /// all of them, as faults at offset 0, as does that the names are each text of the rows once, in the order in which it first occurs.
 pub fn decode_segment(alloc: Global, bytes: &[u8]) -> Result<Columns, DecodeFault>
-    ensures found { IfOk result (λ rows. IsSegment rows × (kind : Kind) × (bytes.now ≡ segment kind rows)) }
-    ensures only { (kind : Kind) (rows : List Charge) → IsSegment rows → bytes.now ≡ segment kind rows → Decodes (λ v. v) (length bytes.now) result (Ok rows) }
+    ensures found { IfOk result (λ rows. IsSegment rows × (layout : SegmentLayout) × (bytes.now ≡ segment layout rows)) }
+    ensures only { (layout : SegmentLayout) (rows : List Charge) → IsSegment rows → bytes.now ≡ segment layout rows → Decodes (λ v. v) (length bytes.now) result (Ok rows) }
     ensures exact { Decodes (λ v. v) (length bytes.now) result (whole segment_at bytes.now) }
 {
     match whole_segment(alloc, bytes) {

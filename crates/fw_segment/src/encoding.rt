@@ -6,7 +6,7 @@ ghost use Rattle.fw_segment.specs.Segments.{segment, IsSegment};
 ghost use Rattle.fw_segment.specs.States.{Spells};
 
 use crate::groups::put_group;
-use crate::kind::Kind;
+use crate::layout::SegmentLayout;
 use crate::segments::{put_segment, rows_have_spelling};
 use crate::states::append_state;
 use fw_columns::Columns;
@@ -35,13 +35,17 @@ pub fn encode_group(alloc: Global, entries: &[Entry]) -> Result<Vec<u8>, AllocEr
 }
 
 /// The bytes of a segment of these rows in this layout: its one spelling. The error comes where memory ran out.
-pub fn encode_segment(alloc: Global, columns: &Columns, kind: Kind) -> Result<Vec<u8>, AllocError>
-    ensures spelled { IfOk result (λ bytes. bytes.items ≡ segment kind columns.now) }
+pub fn encode_segment(
+    alloc: Global,
+    columns: &Columns,
+    layout: SegmentLayout,
+) -> Result<Vec<u8>, AllocError>
+    ensures spelled { IfOk result (λ bytes. bytes.items ≡ segment layout columns.now) }
     ensures valid { IfOk result (λ _. IsSegment columns.now) }
 {
     rows_have_spelling(columns);
     let mut out = Vec::new(alloc);
-    put_segment(&mut out, columns, kind)?;
+    put_segment(&mut out, columns, layout)?;
     Ok(out)
 }
 

@@ -5,7 +5,7 @@ ghost use Rattle.fw_charge.specs.Spelling.{IsRow};
 ghost use Rattle.fw_segment.specs.Segments.{segment, segment_at};
 ghost use Rattle.fw_columns.specs.Table.{most_column_rows};
 
-use crate::kind::Kind;
+use crate::layout::SegmentLayout;
 use fw_bytes::{ReadError, put_byte};
 use fw_column_bytes::{columns_of, put_columns};
 use fw_columns::Columns;
@@ -35,19 +35,23 @@ pub fn rows_have_spelling(columns: &Columns)
 
 /// Writes a segment at the end of the buffer.
 #[tactic(auto, unfolding(crate::specs::Segments::segment))]
-pub fn put_segment(out: &mut Vec<u8>, columns: &Columns, kind: Kind) -> Result<(), AllocError>
-    ensures spelled { OnOk result (out.new.items ≡ out.old.items ++ segment kind columns.now) }
+pub fn put_segment(
+    out: &mut Vec<u8>,
+    columns: &Columns,
+    layout: SegmentLayout,
+) -> Result<(), AllocError>
+    ensures spelled { OnOk result (out.new.items ≡ out.old.items ++ segment layout columns.now) }
     ensures some { 0 < length columns.now }
     ensures few { length columns.now ≤ most_column_rows }
 {
     // Proves that there are rows, and not too many.
     let _len = columns.len();
-    match kind {
-        Kind::Rows => {
+    match layout {
+        SegmentLayout::Rows => {
             put_byte(out, 1)?;
             put_rows(out, columns)?;
             Ok(())
         }
-        Kind::Columns => put_columns(out, columns),
+        SegmentLayout::Columns => put_columns(out, columns),
     }
 }

@@ -13,11 +13,11 @@ ghost use Rattle.fw_segment.specs.Replaying.{stepped, state_behind, with_rows, A
 ghost use Rattle.fw_segment.specs.RowsLeft.{rows_given, rows_left};
 ghost use Rattle.fw_segment.specs.Segments.{segment};
 ghost use Rattle.fw_segment.specs.States.{Spells, currency_at, followed, parts_at, rows_at, state_at};
-ghost use Rattle.fw_segment.specs.declared.kind.Kind.TheVariants as layout;
+ghost use Rattle.fw_segment.specs.declared.layout.SegmentLayout.TheVariants as layout;
 ghost use Rattle.fw_columns.specs.Table.{most_column_rows};
 
 use crate::heads::{ReadContent, ReadHead, heads_of, put_head};
-use crate::kind::Kind;
+use crate::layout::SegmentLayout;
 use crate::rows_left::RowsLeft;
 use crate::segments::put_segment;
 use fw_bytes::{ReadError, put_u32, put_u64, str_at, u32_at};
@@ -272,7 +272,7 @@ fn put_segments(out: &mut Vec<u8>, segments: &Sequence<Columns>) -> Result<(), A
     let count = segments.len();
     put_u32(out, count as u32)?;
     for place in 0..count {
-        put_segment(out, segments.get(place), Kind::Columns)?;
+        put_segment(out, segments.get(place), SegmentLayout::Columns)?;
     }
     Ok(())
 }

@@ -3,8 +3,8 @@ use crate::decoders::joined;
 use crate::vectors::TAX;
 use fw_entry_bytes::Form;
 use fw_segment::{
-    DecodeFault, Kind, decode_entry, decode_group, decode_segment, decode_state, encode_entry,
-    encode_group, encode_segment, encode_state,
+    DecodeFault, SegmentLayout, decode_entry, decode_group, decode_segment, decode_state,
+    encode_entry, encode_group, encode_segment, encode_state,
 };
 use std::alloc::{AllocError, Global};
 use std::test::Fail;
@@ -114,11 +114,11 @@ fn group_again(alloc: Global, bytes: &[u8]) -> Result<Vec<u8>, DecodeFault> {
 
 fn segment_again(alloc: Global, bytes: &[u8]) -> Result<Vec<u8>, DecodeFault> {
     let one = decode_segment(alloc, bytes)?;
-    let kind = match bytes {
-        [2, ..] => Kind::Columns,
-        _ => Kind::Rows,
+    let layout = match bytes {
+        [2, ..] => SegmentLayout::Columns,
+        _ => SegmentLayout::Rows,
     };
-    encode_segment(alloc, &one, kind).or(Err(DecodeFault::NoMemory))
+    encode_segment(alloc, &one, layout).or(Err(DecodeFault::NoMemory))
 }
 
 fn state_again(alloc: Global, bytes: &[u8]) -> Result<Vec<u8>, DecodeFault> {

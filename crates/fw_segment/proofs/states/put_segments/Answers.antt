@@ -1,6 +1,6 @@
 use Rattle.std.proofs.Common.{length}
 use Rattle.fw_bytes.specs.Spelling.{number32}
-use Rattle.fw_segment.specs.declared.kind.Kind.TheVariants.{Columns}
+use Rattle.fw_segment.specs.declared.layout.SegmentLayout.TheVariants.{Columns}
 use Rattle.fw_segment.specs.Segments.{segment}
 use Rattle.fw_segment.proofs.Histories.{IsSized}
 use Rattle.fw_row_bytes.proofs.Written.{written_more, all_more}

@@ -1,7 +1,7 @@
 use Rattle.std.proofs.Common.{◌≡◌, ◌++◌, length, take, All}
 use Rattle.std.specs.List.{flat_map}
 use Rattle.fw_bytes.specs.Spelling.{number32}
-use Rattle.fw_segment.specs.declared.kind.Kind.TheVariants.{Columns}
+use Rattle.fw_segment.specs.declared.layout.SegmentLayout.TheVariants.{Columns}
 use Rattle.fw_segment.specs.Segments.{segment}
 use Rattle.fw_segment.proofs.Histories.{IsSized}
 use Rattle.fw_segment.proofs.states.put_segments.Given as goal
