@@ -76,9 +76,8 @@ fn sums_text(alloc: Global, statistics: &Statistics) -> Result<String, AllocErro
 // The counts by category, currency and tag.
 fn counts_text(alloc: Global, statistics: &Statistics) -> Result<String, AllocError> {
     let mut text = String::new(alloc);
-    for place in 0..Category::COUNT {
-        let word = Category::ALL[place].word();
-        let count = statistics.categories[place];
+    for (category, count) in Category::ALL.iter().zip(statistics.categories.iter()) {
+        let word = category.word();
         write!(text, "category {word} {count}\n")?;
     }
     for (currency, count) in statistics.currencies.iter() {
@@ -197,12 +196,13 @@ fn put_json_statistics(
         text,
         "\"rows\":{rows},\"hours\":{hours},\"billed\":\"{billed}\",\"effective\":\"{effective}\",\"categories\":{{"
     )?;
-    for place in 0..Category::COUNT {
-        if place > 0 {
+    let mut is_first = true;
+    for (category, count) in Category::ALL.iter().zip(statistics.categories.iter()) {
+        if !is_first {
             text.push(',')?;
         }
-        let word = Category::ALL[place].word();
-        let count = statistics.categories[place];
+        is_first = false;
+        let word = category.word();
         write!(text, "\"{word}\":{count}")?;
     }
     text.push_str("},\"currencies\":{")?;
