@@ -16,12 +16,11 @@ use Rattle.fw_charge.specs.Codes.{category_code, class_code, kind_code, status_c
 use Rattle.fw_charge.specs.Spelling.{nanos, FitsNanos, FitsSecond, FitsShortText, FitsTagText, FitsTag, FitsTags, FitsDiscount, IsRow, is_short}
 use Rattle.fw_charge.specs.Tags.{TagText, most_tags}
 use Rattle.fw_charge.specs.declared.category.Category.{Category}
-use Rattle.fw_charge.specs.declared.category.Category.TheVariants as category
 use Rattle.fw_charge.specs.declared.discount.DiscountKind.{DiscountKind}
 use Rattle.fw_charge.specs.declared.discount.DiscountKind.TheVariants as kind
 use Rattle.fw_charge.specs.declared.discount.DiscountStatus.{DiscountStatus}
 use Rattle.fw_charge.specs.declared.discount.DiscountStatus.TheVariants as status
-use Rattle.fw_charge.proofs.CodeFacts.{category_there, class_there, kind_there, status_there}
+use Rattle.fw_charge.proofs.CodeFacts.{category_there, category_within, class_there, kind_there, status_there}
 use Rattle.fw_columns.specs.Codes.{text_code}
 use Rattle.fw_columns.specs.Lists.{tag_places, lists_of}
 use Rattle.fw_columns.specs.Names.{Text, place_of, with_text}
@@ -85,13 +84,11 @@ each_fits names value Fits one (r ∷ rs) h = (one r (All-head (FitsRow names) r
 times_fit : {A : Type 0} (names : List Text) (value : Charge → A) (Fits : A → Type 0) → ((c : Charge) → FitsRow names c → Fits (value c)) → (rows : List Charge) → All (FitsRow names) rows → FitsTimes (length rows) Fits (map value rows)
 times_fit names value Fits one rows h = (length-map rows value, each_fits names value Fits one rows h)
 
-category_within : (c : Category) → within 1 category_count (category_code c) ≡ true
-unfolding category_code
-category_within category.Usage = refl
-category_within category.Purchase = refl
-category_within category.Tax = refl
-category_within category.Credit = refl
-category_within category.Adjustment = refl
+within_from : (low high : Bool) → low ≡ false → high ≡ false → cond low false (cond high false true) ≡ true
+within_from low high l h = rw (l, h) refl
+
+category_fits : (c : Category) → FitsByte 1 category_count (category_code c)
+category_fits c = let w = category_within c in (tt, within_from _ _ (le-ltb _ _ w.0) (le-ltb _ _ w.1))
 
 class_within : (b : Bool) → within 0 1 (class_code b) ≡ true
 unfolding class_code
@@ -182,7 +179,7 @@ module _ (names : List Text) (few : length names < 4294967295) where
       (
         times_fit names (λ c. c.effective) FitsNanos (λ c k. k.0.effective) rows h,
         (
-          times_fit names (λ c. category_code c.category) (FitsByte 1 category_count) (λ c k. (tt, category_within c.category)) rows h,
+          times_fit names (λ c. category_code c.category) (FitsByte 1 category_count) (λ c k. category_fits c.category) rows h,
           times_fit names (λ c. class_code c.is_correction) (FitsByte 0 1) (λ c k. (tt, class_within c.is_correction)) rows h,
         ),
       ),
@@ -288,9 +285,6 @@ names_few rows h =
 names_fit : (rows : List Charge) → All IsRow rows → All FitsTagText (names_of rows)
 unfolding names_of
 names_fit rows h = with_texts-all FitsTagText [] (flat_map texts_of rows) (All-nil FitsTagText) (texts_fit rows h)
-
-within_from : (low high : Bool) → low ≡ false → high ≡ false → cond low false (cond high false true) ≡ true
-within_from low high l h = rw (l, h) refl
 
 pub parts_fit : (rows : List Charge) → AreRows rows → FitParts (fields_of_rows (names_of rows) rows)
 parts_fit rows h =
