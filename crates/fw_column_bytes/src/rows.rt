@@ -1,12 +1,11 @@
 //! The rows of columns that were read.
-ghost use Rattle.std.specs.Prelude.{◌≡◌, ◌<◌, ◌≤◌, ◌-◌, ◌==◌, ◌++◌, ◌∷◌, [], true, List, length, map, pos, nat_abs, slice_index_or, string_bytes, option_copied, take, All, IfErr, IfOk, OnOk};
+ghost use Rattle.std.specs.Prelude.{◌≡◌, ◌<◌, ◌≤◌, ◌-◌, ◌++◌, ◌∷◌, [], true, List, length, map, string_bytes, option_copied, take, All, IfErr, IfOk, OnOk};
 ghost use Rattle.std.specs.Str.{bytes_eq};
-ghost use Rattle.fw_money.specs.Amount.{most_nanos};
 ghost use Rattle.fw_bytes.specs.Reading.{Gives};
 ghost use Rattle.fw_charge.specs.Tags.{TagText};
 ghost use Rattle.fw_charge.specs.Spelling.{FitsTags};
 ghost use Rattle.fw_columns.specs.RowViews.{charge_with};
-ghost use Rattle.fw_columns.specs.Table.{category_at, class_at, quantity_of, tag_of, tags_of, text_of, most_column_rows};
+ghost use Rattle.fw_columns.specs.Table.{tag_of, tags_of, text_of, most_column_rows};
 ghost use Rattle.fw_row_bytes.specs.Reading.{discount_agrees, fields_agree, row_from};
 ghost use Rattle.fw_column_bytes.specs.Spelling.{columns};
 ghost use Rattle.fw_column_bytes.specs.Reading.{columns_at, fields_at_place};
@@ -18,8 +17,8 @@ use crate::direct::taken_over;
 use crate::reading::{PartsRead, parts_of};
 use crate::writing::put_columns;
 use fw_bytes::ReadError;
-use fw_charge::{Category, DiscountKind, DiscountStatus, Tag, class_from_code};
-use fw_columns::{Columns, ColumnsBuilder, RowView};
+use fw_charge::{Category, DiscountKind, DiscountStatus, Tag};
+use fw_columns::{Columns, ColumnsBuilder, RowView, amount_at, category_at, class_at, quantity_of};
 use fw_money::Nanos;
 use fw_row_bytes::{keys_rise, tags_in_order};
 use std::alloc::{AllocError, Global};
@@ -42,15 +41,6 @@ pub struct FieldsRead<'a> {
     pub sub_account: Option<&'a str>,
 }
 
-/// The amount at a place.
-fn amount_at(column: &[i64], place: usize) -> Nanos
-    requires within { place < length column.now }
-    requires in_range { nat_abs (slice_index_or column.now place (pos 0)) ≤ most_nanos }
-    ensures { result ≡ slice_index_or column.now place (pos 0) }
-{
-    Nanos::of_fields(column[place])
-}
-
 /// The text of a code.
 #[tactic(auto, unfolding(fw_columns::specs::Table::text_of, fw_columns::specs::Table::text_at))]
 fn text_of(names: &[String], code: u32) -> Option<&str>
@@ -61,28 +51,6 @@ fn text_of(names: &[String], code: u32) -> Option<&str>
         Some(place) => Some(names[place as usize].as_str()),
         None => None,
     }
-}
-
-/// The category with a code. Any other code counts as an adjustment.
-fn category_at(code: u8) -> Category
-    ensures { result ≡ category_at code }
-{
-    Category::from_code(code).unwrap_or(Category::Adjustment)
-}
-
-/// Whether the class with a code is that of a correction. Any other code counts as none.
-fn class_at(code: u8) -> bool
-    ensures { result ≡ class_at code }
-{
-    class_from_code(code).unwrap_or(false)
-}
-
-/// A quantity, where its flag is 1.
-#[tactic(auto, unfolding(fw_columns::specs::Table::quantity_of))]
-fn quantity_of(flag: u8, quantity: Nanos) -> Option<Nanos>
-    ensures { result ≡ quantity_of (flag == 1) quantity }
-{
-    if flag == 1 { Some(quantity) } else { None }
 }
 
 /// The fields of the row at a place.
@@ -96,15 +64,15 @@ fn fields_of(parts: &PartsRead, place: usize) -> FieldsRead<'_>
     FieldsRead {
         billed: amount_at(body.amounts.billed.as_slice(), place),
         effective: amount_at(body.amounts.effective.as_slice(), place),
-        category: category_at(body.amounts.categories[place]),
-        is_correction: class_at(body.amounts.classes[place]),
+        category: category_at(body.amounts.categories.as_slice(), place),
+        is_correction: class_at(body.amounts.classes.as_slice(), place),
         start: body.periods.starts[place],
         end: body.periods.ends[place],
         id: text_of(names, body.discounts.ids[place]),
         kind: DiscountKind::from_code(body.discounts.kinds[place]),
         status: DiscountStatus::from_code(body.discounts.statuses[place]),
         quantity: quantity_of(
-            body.quantities.are_there[place],
+            body.quantities.are_there[place] == 1,
             amount_at(body.quantities.counts.as_slice(), place),
         ),
         unit: text_of(names, body.texts.units[place]),

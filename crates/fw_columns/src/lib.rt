@@ -25,10 +25,12 @@ mod row_view;
 mod table;
 
 pub use builder::ColumnsBuilder;
+pub use codes::quantity_of;
 pub use columns::Columns;
 pub use laws::limits_agree;
 pub use lending::{LentDiscount, LentRow, LentTag, LentTags};
 pub use names::Names;
 pub use parts::Parts;
+pub use reading::{amount_at, category_at, class_at};
 pub use row_lists::RowLists;
 pub use row_view::RowView;

@@ -44,7 +44,7 @@ pub fn fields_at(alloc: Global, table: &Table, place: usize) -> Result<RowFields
 }
 
 /// The amount at a place.
-pub(crate) fn amount_at(column: &[i64], place: usize) -> Nanos
+pub fn amount_at(column: &[i64], place: usize) -> Nanos
     requires within { place < length column.now }
     requires in_range { nat_abs (slice_index_or column.now place (pos 0)) ≤ most_nanos }
     ensures { result ≡ slice_index_or column.now place (pos 0) }
@@ -53,7 +53,7 @@ pub(crate) fn amount_at(column: &[i64], place: usize) -> Nanos
 }
 
 /// The category at a place. The column has the codes of categories alone; any other code counts as an adjustment.
-pub(crate) fn category_at(column: &[u8], place: usize) -> Category
+pub fn category_at(column: &[u8], place: usize) -> Category
     requires { place < length column.now }
     ensures { result ≡ category_at (slice_index_or column.now place 0) }
 {
@@ -61,7 +61,7 @@ pub(crate) fn category_at(column: &[u8], place: usize) -> Category
 }
 
 /// Whether the class at a place is that of a correction. The column has the codes of classes alone; any other code counts as none.
-pub(crate) fn class_at(column: &[u8], place: usize) -> bool
+pub fn class_at(column: &[u8], place: usize) -> bool
     requires { place < length column.now }
     ensures { result ≡ class_at (slice_index_or column.now place 0) }
 {
