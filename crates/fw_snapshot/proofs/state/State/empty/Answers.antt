@@ -3,42 +3,38 @@ use Rattle.fw_snapshot.specs.History.{History}
 use Rattle.fw_snapshot.specs.declared.state.State.TheInside.{Inside}
 use Rattle.fw_snapshot.proofs.Following.{IsBlank, blank_entries, blank_keeps}
 use Rattle.fw_snapshot.proofs.state.State.empty.Goals as goal
+use Rattle.fw_snapshot.proofs.state.State.empty.Goals.{After-new-5}
+
+abbrev made : After-new-5 → Inside
+made c = record {
+  alloc = c.args.alloc;
+  currency = c.args.currency;
+  heads = c.new.result;
+  segments = c.new-2.result;
+  rows = 0;
+  commitments = None;
+  policy = None;
+  origins = c.new-3.result;
+  registered = c.new-4.result;
+  carried = c.new-5.result;
+}
+
+blank : (c : After-new-5) → IsBlank (made c)
+blank c = record {
+  heads = c.new.ensures;
+  segments = c.new-2.ensures;
+  row_count = refl;
+  commitments = refl;
+  policy = refl;
+  origins = c.new-3.ensures;
+  registered = c.new-4.ensures;
+  carried = c.new-5.ensures;
+}
 
 pub invariant_of-result : goal.invariant_of-result
-invariant_of-result c =
-    blank_keeps _ (record {
-      heads = c.new.ensures;
-      segments = c.new-2.ensures;
-      row_count = refl;
-      commitments = refl;
-      policy = refl;
-      origins = c.new-3.ensures;
-      registered = c.new-4.ensures;
-      carried = c.new-5.ensures;
-    })
+invariant_of-result c = let at = (goal.at.invariant_of-result c).After-new-5 in blank_keeps (made at) (blank at)
 
 pub returns : goal.returns
 returns c =
-    let made : Inside = record {
-      alloc = c.args.alloc;
-      currency = c.args.currency;
-      heads = c.new.result;
-      segments = c.new-2.result;
-      rows = 0;
-      commitments = None;
-      policy = None;
-      origins = c.new-3.result;
-      registered = c.new-4.result;
-      carried = c.new-5.result;
-    } in
-    let blank : IsBlank made = record {
-      heads = c.new.ensures;
-      segments = c.new-2.ensures;
-      row_count = refl;
-      commitments = refl;
-      policy = refl;
-      origins = c.new-3.ensures;
-      registered = c.new-4.ensures;
-      carried = c.new-5.ensures;
-    } in
-    ap (λ es. let history : History = record { currency = c.args.currency; entries = es } in history) (blank_entries made blank)
+    let at = (goal.at.returns c).After-new-5 in
+    ap (λ es. let history : History = record { currency = c.args.currency; entries = es } in history) (blank_entries (made at) (blank at))
