@@ -1,7 +1,7 @@
 -- The line that some fields stand for.
 use Rattle.std.specs.Prelude.{option_map, option_copied}
 use Rattle.fw_charge.specs.Charge.{DiscountText}
-use Rattle.fw_columns.specs.Lending.{tags_lent}
+use Rattle.fw_row_table.specs.Lending.{tags_lent}
 use Rattle.fw_amortise.specs.LineValue.{LineValue}
 use Rattle.fw_amortise.specs.declared.line.LineDiscount.{LineDiscount}
 use Rattle.fw_amortise.specs.declared.line.LineFields.{LineFields}

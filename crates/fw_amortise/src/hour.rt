@@ -16,8 +16,8 @@ use crate::line::Line;
 use crate::shared::push_commitment;
 use crate::single::{given_line, is_in_hour, purchase_line, rest_line};
 use fw_charge::Row;
-use fw_columns::LentRow;
 use fw_cover::{HourCover, Roster, Taken, is_eligible, is_in_term, lend, references};
+use fw_row_table::LentRow;
 use fw_terms::Commitment;
 use std::alloc::{AllocError, Global};
 

@@ -1,10 +1,10 @@
 //! A line of an hour.
 ghost use Rattle.std.specs.Prelude.{◌≡◌, option_map, option_copied};
-ghost use Rattle.fw_columns.specs.Lending.{tags_lent};
+ghost use Rattle.fw_row_table.specs.Lending.{tags_lent};
 
 use fw_charge::{Category, DiscountKind, DiscountStatus};
-use fw_columns::LentTags;
 use fw_money::Nanos;
+use fw_row_table::LentTags;
 use std::marker::Model;
 
 /// Where a line comes from.

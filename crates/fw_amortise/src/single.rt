@@ -8,9 +8,9 @@ ghost use Rattle.fw_amortise.specs.Lines.{purchase_line, given_line, used_line, 
 
 use crate::line::{Line, LineDiscount, LineFields, LineKind};
 use fw_charge::{Category, DiscountStatus, hour_of};
-use fw_columns::{LentRow, LentTags};
 use fw_cover::{Taken, in_proportion};
 use fw_money::Nanos;
+use fw_row_table::{LentRow, LentTags};
 use fw_terms::{Commitment, Purchase};
 
 /// Whether a second is one of an hour.

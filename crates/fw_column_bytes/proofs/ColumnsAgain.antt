@@ -21,15 +21,15 @@ use Rattle.fw_charge.specs.declared.discount.DiscountKind.TheVariants as kind
 use Rattle.fw_charge.specs.declared.discount.DiscountStatus.{DiscountStatus}
 use Rattle.fw_charge.specs.declared.discount.DiscountStatus.TheVariants as status
 use Rattle.fw_charge.proofs.CodeFacts.{category_there, category_within, class_there, kind_there, status_there}
-use Rattle.fw_columns.specs.Codes.{text_code}
-use Rattle.fw_columns.specs.Lists.{tag_places, lists_of}
-use Rattle.fw_columns.specs.Names.{Text, place_of, with_text}
-use Rattle.fw_columns.specs.Table.{id_kept, kind_kept, status_kept, quantity_kept, category_at, class_at, text_at, text_of, quantity_of, tags_of, most_column_rows}
-use Rattle.fw_columns.specs.Texts.{with_texts, texts_of_tags, texts_of, names_of}
-use Rattle.fw_columns.proofs.NameFacts.{text_at_place}
-use Rattle.fw_columns.proofs.TextFacts.{IsKnown, AreKnown, IsRowKnown, rows-known, with_text_adds_one}
-use Rattle.fw_columns.proofs.ListFacts.{with_texts-all}
-use Rattle.fw_columns.proofs.TableFacts.{text-back, tags-back}
+use Rattle.fw_row_table.specs.Codes.{text_code}
+use Rattle.fw_row_table.specs.Lists.{tag_places, lists_of}
+use Rattle.fw_row_table.specs.Names.{Text, place_of, with_text}
+use Rattle.fw_row_table.specs.Table.{id_kept, kind_kept, status_kept, quantity_kept, category_at, class_at, text_at, text_of, quantity_of, tags_of, most_column_rows}
+use Rattle.fw_row_table.specs.Texts.{with_texts, texts_of_tags, texts_of, names_of}
+use Rattle.fw_row_table.proofs.NameFacts.{text_at_place}
+use Rattle.fw_row_table.proofs.TextFacts.{IsKnown, AreKnown, IsRowKnown, rows-known, with_text_adds_one}
+use Rattle.fw_row_table.proofs.ListFacts.{with_texts-all}
+use Rattle.fw_row_table.proofs.TableFacts.{text-back, tags-back}
 use Rattle.fw_row_bytes.specs.Reading.{fields_agree, row_from}
 use Rattle.fw_row_bytes.proofs.RowFacts.{parts_of, parts_agree, tags_rise}
 use Rattle.fw_row_bytes.proofs.RowFormat.{row_to, row_from-to}

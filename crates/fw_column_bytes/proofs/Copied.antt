@@ -5,9 +5,9 @@ use Rattle.std.proofs.lemmas.List.Folds.{flat_map-map}
 use Rattle.fw_bytes.specs.Spelling.{number32, listed}
 use Rattle.fw_charge.specs.Charge.{Charge}
 use Rattle.fw_charge.specs.Tags.{TagText}
-use Rattle.fw_columns.specs.Lists.{tag_places, lists_of}
-use Rattle.fw_columns.specs.Names.{Text}
-use Rattle.fw_columns.specs.Texts.{texts_of_tags}
+use Rattle.fw_row_table.specs.Lists.{tag_places, lists_of}
+use Rattle.fw_row_table.specs.Names.{Text}
+use Rattle.fw_row_table.specs.Texts.{texts_of_tags}
 use Rattle.fw_column_bytes.specs.Spelling.{code, tag, tags}
 
 -- a column of what a function gives of each row

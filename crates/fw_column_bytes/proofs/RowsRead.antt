@@ -10,9 +10,9 @@ use Rattle.fw_bytes.specs.Spelling.{FitsOptional}
 use Rattle.fw_bytes.proofs.Laws.{list_fits, list_parts}
 use Rattle.fw_charge.specs.Spelling.{FitsNanos, FitsShortText, FitsTagText, FitsTag, FitsTags, IsRow, is_short}
 use Rattle.fw_charge.specs.Tags.{TagText, most_tags}
-use Rattle.fw_columns.specs.Names.{Text}
-use Rattle.fw_columns.specs.Table.{text_at, text_of, quantity_of, tag_of, tags_of, most_column_rows}
-use Rattle.fw_columns.proofs.LendingFacts.{tags_counted}
+use Rattle.fw_row_table.specs.Names.{Text}
+use Rattle.fw_row_table.specs.Table.{text_at, text_of, quantity_of, tag_of, tags_of, most_column_rows}
+use Rattle.fw_row_table.proofs.LendingFacts.{tags_counted}
 use Rattle.fw_row_bytes.specs.Reading.{fields_agree, row_from}
 use Rattle.fw_row_bytes.proofs.RowFormat.{FitFields, is_row_from}
 use Rattle.fw_charge.specs.Spelling.{FitsSecond}

@@ -2,11 +2,11 @@
 use Rattle.std.specs.Prelude.{◌≡◌, List, All, length, map, is_some}
 use Rattle.fw_charge.specs.Charge.{Charge, IsCharge}
 use Rattle.fw_charge.specs.Codes.{category_code, class_code}
-use Rattle.fw_columns.specs.Codes.{text_code}
-use Rattle.fw_columns.specs.Lists.{lists_of}
-use Rattle.fw_columns.specs.Names.{Text}
-use Rattle.fw_columns.specs.Table.{id_kept, kind_kept, status_kept, quantity_kept}
-use Rattle.fw_columns.specs.Texts.{names_of}
+use Rattle.fw_row_table.specs.Codes.{text_code}
+use Rattle.fw_row_table.specs.Lists.{lists_of}
+use Rattle.fw_row_table.specs.Names.{Text}
+use Rattle.fw_row_table.specs.Table.{id_kept, kind_kept, status_kept, quantity_kept}
+use Rattle.fw_row_table.specs.Texts.{names_of}
 use Rattle.fw_column_bytes.specs.PartsView.{front_view, amounts_view, periods_view, discounts_view, quantities_view, texts_view}
 use Rattle.fw_column_bytes.specs.Reading.{Body, Parts}
 use Rattle.fw_column_bytes.specs.Spelling.{flag, layout}

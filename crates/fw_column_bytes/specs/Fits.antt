@@ -4,10 +4,10 @@ use Rattle.std.specs.List.{AllByRecursion}
 use Rattle.fw_bytes.specs.Spelling.{within, Always, Fits32, FitsChecked, FitsPair, FitsList}
 use Rattle.fw_charge.specs.Spelling.{FitsNanos, FitsSecond, FitsTagText}
 use Rattle.fw_charge.specs.Tags.{most_tags}
-use Rattle.fw_columns.specs.Names.{Text}
+use Rattle.fw_row_table.specs.Names.{Text}
 use Rattle.fw_column_bytes.specs.Reading.{is_text_code, is_place_code, most_names, Front, Body, Parts}
 use Rattle.fw_column_bytes.specs.Spelling.{layout}
-use Rattle.fw_columns.specs.Table.{most_column_rows}
+use Rattle.fw_row_table.specs.Table.{most_column_rows}
 use Rattle.fw_charge.specs.Codes.{category_count}
 
 -- so many values, each in its range

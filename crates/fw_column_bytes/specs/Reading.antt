@@ -9,8 +9,8 @@ use Rattle.fw_charge.specs.Charge.{Charge}
 use Rattle.fw_charge.specs.Codes.{kind_of, status_of, category_count}
 use Rattle.fw_charge.specs.Spelling.{is_short}
 use Rattle.fw_charge.specs.Tags.{most_tags}
-use Rattle.fw_columns.specs.Names.{Text}
-use Rattle.fw_columns.specs.Table.{category_at, class_at, text_at, text_of, quantity_of, tags_of, most_column_rows}
+use Rattle.fw_row_table.specs.Names.{Text}
+use Rattle.fw_row_table.specs.Table.{category_at, class_at, text_at, text_of, quantity_of, tags_of, most_column_rows}
 use Rattle.fw_row_bytes.specs.Reading.{Fields, nanos_at, second_at, tag_text_at, fields_agree, row_from}
 use Rattle.fw_column_bytes.specs.Spelling.{columns, layout}
 

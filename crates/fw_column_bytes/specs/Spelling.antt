@@ -6,10 +6,10 @@ use Rattle.fw_charge.specs.Charge.{Charge}
 use Rattle.fw_charge.specs.Codes.{category_code, class_code}
 use Rattle.fw_charge.specs.Spelling.{nanos}
 use Rattle.fw_charge.specs.Tags.{TagText}
-use Rattle.fw_columns.specs.Codes.{text_code}
-use Rattle.fw_columns.specs.Names.{Text, place_of}
-use Rattle.fw_columns.specs.Table.{id_kept, kind_kept, status_kept, quantity_kept}
-use Rattle.fw_columns.specs.Texts.{names_of}
+use Rattle.fw_row_table.specs.Codes.{text_code}
+use Rattle.fw_row_table.specs.Names.{Text, place_of}
+use Rattle.fw_row_table.specs.Table.{id_kept, kind_kept, status_kept, quantity_kept}
+use Rattle.fw_row_table.specs.Texts.{names_of}
 
 -- ---- columns, each with a value for each row. A text that may be null is the code 0 where it is null, else 1 more than its place in the names
 

@@ -5,7 +5,7 @@ ghost use Rattle.fw_column_bytes.specs.Direct.{AreColumnsOf, whole_body_view, wh
 ghost use Rattle.fw_column_bytes.specs.Fits.{FitParts};
 ghost use Rattle.fw_column_bytes.specs.Reading.{body_at, columns_at, parts_at, place_at, tag_places_at};
 ghost use Rattle.fw_column_bytes.specs.Spelling.{flag};
-ghost use Rattle.fw_columns.specs.Table.{most_column_rows};
+ghost use Rattle.fw_row_table.specs.Table.{most_column_rows};
 
 use crate::fields::place_of;
 use crate::reading::{

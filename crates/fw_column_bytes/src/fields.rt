@@ -78,7 +78,7 @@ pub fn bytes_after(
 }
 
 /// Whether a code is 0 or that of a name of 1 to 256 bytes.
-#[tactic(auto, unfolding(fw_columns::specs::Table::text_at))]
+#[tactic(auto, unfolding(fw_row_table::specs::Table::text_at))]
 fn is_text_code(names: &[String], code: u32) -> bool
     ensures { result ≡ is_text_code (map string_bytes names.now) code }
 {

@@ -5,7 +5,7 @@ ghost use Rattle.fw_bytes.specs.Reading.{Gives};
 ghost use Rattle.fw_charge.specs.Tags.{TagText};
 ghost use Rattle.fw_charge.specs.Spelling.{FitsTags};
 ghost use Rattle.fw_columns.specs.RowViews.{charge_with};
-ghost use Rattle.fw_columns.specs.Table.{tag_of, tags_of, text_of, most_column_rows};
+ghost use Rattle.fw_row_table.specs.Table.{tag_of, tags_of, text_of, most_column_rows};
 ghost use Rattle.fw_row_bytes.specs.Reading.{discount_agrees, fields_agree, row_from};
 ghost use Rattle.fw_column_bytes.specs.Spelling.{columns};
 ghost use Rattle.fw_column_bytes.specs.Reading.{columns_at, fields_at_place};
@@ -18,9 +18,10 @@ use crate::reading::{PartsRead, parts_of};
 use crate::writing::put_columns;
 use fw_bytes::ReadError;
 use fw_charge::{Category, DiscountKind, DiscountStatus, Tag};
-use fw_columns::{Columns, ColumnsBuilder, RowView, amount_at, category_at, class_at, quantity_of};
+use fw_columns::{Columns, ColumnsBuilder, RowView};
 use fw_money::Nanos;
 use fw_row_bytes::{keys_rise, tags_in_order};
+use fw_row_table::{amount_at, category_at, class_at, quantity_of};
 use std::alloc::{AllocError, Global};
 
 /// The fields of a row but its tags, each in its range; they may break the rules over several of them. Texts are lent.
@@ -42,7 +43,7 @@ pub struct FieldsRead<'a> {
 }
 
 /// The text of a code.
-#[tactic(auto, unfolding(fw_columns::specs::Table::text_of, fw_columns::specs::Table::text_at))]
+#[tactic(auto, unfolding(fw_row_table::specs::Table::text_of, fw_row_table::specs::Table::text_at))]
 fn text_of(names: &[String], code: u32) -> Option<&str>
     requires { code ≤ length names.now }
     ensures { option_copied result ≡ text_of (map string_bytes names.now) code }
@@ -82,7 +83,7 @@ fn fields_of(parts: &PartsRead, place: usize) -> FieldsRead<'_>
 }
 
 /// The tag with the places of its key and of its text.
-#[tactic(auto, unfolding(fw_columns::specs::Table::tag_of, fw_columns::specs::Table::text_at))]
+#[tactic(auto, unfolding(fw_row_table::specs::Table::tag_of, fw_row_table::specs::Table::text_at))]
 fn tag_of(alloc: Global, names: &[String], key: u32, value: u32) -> Result<Tag, AllocError>
     requires key { key < length names.now }
     requires value { value < length names.now }

@@ -4,7 +4,7 @@
 ghost use Rattle.std.specs.Prelude.{◌≡◌, ◌≤◌, ◌^◌, ◌+◌, ◌++◌, map, All, OnOk};
 ghost use Rattle.std.specs.List.{flat_map};
 ghost use Rattle.fw_bytes.specs.Spelling.{number32, number64, signed64, listed, text};
-ghost use Rattle.fw_columns.specs.Texts.{names_of};
+ghost use Rattle.fw_row_table.specs.Texts.{names_of};
 ghost use Rattle.fw_column_bytes.specs.Spelling.{amounts, columns, discounts, flag, periods, quantities, tags, texts};
 
 use fw_bytes::{put_byte, put_i64, put_text, put_u32, put_u64};

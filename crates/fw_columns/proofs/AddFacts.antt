@@ -13,18 +13,18 @@ use Rattle.fw_charge.specs.declared.discount.DiscountKind.{DiscountKind}
 use Rattle.fw_charge.specs.declared.discount.DiscountStatus.{DiscountStatus}
 use Rattle.std.specs.Borrow.{Bor}
 use Rattle.fw_columns.specs.declared.row_view.RowView.{RowView}
-use Rattle.fw_columns.specs.declared.table.Table.{Table}
-use Rattle.fw_columns.specs.Names.{Text, place_of, with_text}
-use Rattle.fw_columns.specs.Texts.{with_texts, texts_of, texts_of_tags, names_of, most_texts}
-use Rattle.fw_columns.specs.Lists.{tag_places, lists_of}
-use Rattle.fw_columns.specs.Codes.{text_code}
+use Rattle.fw_row_table.specs.declared.table.Table.{Table}
+use Rattle.fw_row_table.specs.Names.{Text, place_of, with_text}
+use Rattle.fw_row_table.specs.Texts.{with_texts, texts_of, texts_of_tags, names_of, most_texts}
+use Rattle.fw_row_table.specs.Lists.{tag_places, lists_of}
+use Rattle.fw_row_table.specs.Codes.{text_code}
 use Rattle.fw_charge.specs.Codes.{category_code, class_code}
-use Rattle.fw_columns.specs.Table.{most_column_rows, AreColumns, id_kept, kind_kept, status_kept, quantity_kept, charge_at}
+use Rattle.fw_row_table.specs.Table.{most_column_rows, AreColumns, id_kept, kind_kept, status_kept, quantity_kept, charge_at}
 use Rattle.fw_columns.specs.RowViews.{charge_with, discount_with, tags_at}
 use Rattle.fw_columns.specs.Adding.{texts_of_view, AreCodesOf, HasMore}
-use Rattle.fw_columns.proofs.TextFacts.{IsKnown, AreKnown, AreKnown-left, AreKnown-right, AreKnown-seen, IsKnown-more, IsRowKnown, known_adds_nothing, with_texts-append, with_texts-grows}
-use Rattle.fw_columns.proofs.ListFacts.{AreListed, listed_more, lists_kept, lists_of-append, places_kept}
-use Rattle.fw_columns.proofs.TableFacts.{rows_known, texts_known, list_known, list-place}
+use Rattle.fw_row_table.proofs.TextFacts.{IsKnown, AreKnown, AreKnown-left, AreKnown-right, AreKnown-seen, IsKnown-more, IsRowKnown, known_adds_nothing, with_texts-append, with_texts-grows}
+use Rattle.fw_row_table.proofs.ListFacts.{AreListed, listed_more, lists_kept, lists_of-append, places_kept}
+use Rattle.fw_row_table.proofs.TableFacts.{rows_known, texts_known, list_known, list-place}
 
 -- ---- codes while more texts come
 

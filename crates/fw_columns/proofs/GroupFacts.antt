@@ -9,19 +9,18 @@ use Rattle.std.specs.Str.{bytes_eq}
 use Rattle.std.specs.Cmp.Lexicographic.{bytes_decides}
 use Rattle.fw_charge.specs.Tags.{TagText, tag_under, value_under, group_of}
 use Rattle.fw_charge.specs.Charge.{Charge}
-use Rattle.fw_columns.specs.declared.table.Table.{Table}
-use Rattle.fw_columns.specs.Names.{Text, place_of}
-use Rattle.fw_columns.specs.Texts.{texts_of_tags, most_texts}
-use Rattle.fw_columns.specs.Lists.{tag_places, lists_of}
+use Rattle.fw_row_table.specs.declared.table.Table.{Table}
+use Rattle.fw_row_table.specs.Names.{Text, place_of}
+use Rattle.fw_row_table.specs.Texts.{texts_of_tags, most_texts}
+use Rattle.fw_row_table.specs.Lists.{tag_places, lists_of}
 use Rattle.fw_columns.specs.Codes.{group_code, tag_code, AgreeWithGroups}
-use Rattle.fw_columns.specs.Table.{most_column_rows, AreColumns, text_at, text_of}
+use Rattle.fw_row_table.specs.Table.{most_column_rows, AreColumns, text_at, text_of}
 use Rattle.fw_columns.specs.Joining.{replaced}
 use Rattle.fw_columns.specs.Grouping.{found_code, group_at}
-use Rattle.fw_columns.proofs.NameFacts.{text_at_place}
-use Rattle.fw_columns.proofs.TextFacts.{IsKnown, AreKnown, IsRowKnown}
-use Rattle.fw_columns.proofs.ListFacts.{values_there}
-use Rattle.fw_columns.proofs.TableFacts.{texts_known, lists_known, rows_known, one_more}
-use Rattle.fw_columns.proofs.JoinFacts.{lists_within}
+use Rattle.fw_row_table.proofs.NameFacts.{text_at_place}
+use Rattle.fw_row_table.proofs.TextFacts.{IsKnown, AreKnown, IsRowKnown}
+use Rattle.fw_row_table.proofs.TableFacts.{texts_known, lists_known, rows_known, one_more}
+use Rattle.fw_columns.proofs.JoinFacts.{lists_within, values_there}
 
 -- a known text is the only one at its place
 known_place : (names : List Text) (t u : Text) → IsKnown names t → place_of names t ≡ place_of names u → t ≡ u

@@ -2,24 +2,34 @@
 use Rattle.std.proofs.Common.{◌≡◌, ℕ, ◌+◌, ◌*◌, ◌<◌, ◌≤◌, List, [], ◌∷◌, ◌++◌, length, map, Option, Some, None, refl, sym, ap, ◌∙◌, arith, length-append}
 use Rattle.std.specs.Prelude.{option_map, option_to_list, All, nat_abs}
 use Rattle.std.proofs.lemmas.List.{get_or-map, map-append}
+use Rattle.std.proofs.lemmas.Simd.{map-map}
 use Rattle.std.proofs.lemmas.List.Elements.{All-nil, All-head, All-tail, All-append, All-map, All-weaker}
 use Rattle.fw_charge.specs.Charge.{Charge, IsCharge}
 use Rattle.fw_money.specs.Amount.{most_nanos}
-use Rattle.fw_columns.specs.declared.table.Table.{Table}
+use Rattle.fw_row_table.specs.declared.table.Table.{Table}
 use Rattle.fw_columns.specs.declared.joining.Plain.{Plain}
 use Rattle.fw_columns.specs.declared.joining.Coded.{Coded}
 use Rattle.fw_columns.specs.declared.joining.Listed.{Listed}
-use Rattle.fw_columns.specs.Names.{Text, place_of}
-use Rattle.fw_columns.specs.Texts.{texts_of_tags, names_of, with_texts, most_texts}
-use Rattle.fw_columns.specs.Lists.{tag_places, lists_of}
-use Rattle.fw_columns.specs.Codes.{text_code}
-use Rattle.fw_columns.specs.Table.{most_column_rows, AreColumns}
+use Rattle.fw_row_table.specs.Names.{Text, place_of}
+use Rattle.fw_row_table.specs.Texts.{texts_of_tags, names_of, with_texts, most_texts}
+use Rattle.fw_row_table.specs.Lists.{tag_places, lists_of}
+use Rattle.fw_row_table.specs.Codes.{text_code}
+use Rattle.fw_row_table.specs.Table.{most_column_rows, AreColumns}
 use Rattle.fw_columns.specs.Joining.{replaced, replaced_code, AreCodesBelow, AreListsBelow, ArePlainOf, AreCodedOf, AreListsOf}
-use Rattle.fw_columns.proofs.NameFacts.{text_at_place}
-use Rattle.fw_columns.proofs.TextFacts.{AreKnown, IsRowKnown, names_of-append, images_in_turn}
-use Rattle.fw_columns.proofs.ListFacts.{places-within, with_texts-all, values_there, values_again, lists_of-append}
-use Rattle.fw_columns.proofs.TableFacts.{one_more, rows_known, lists_known}
-use Rattle.fw_columns.proofs.RowFacts.{text-within}
+use Rattle.fw_row_table.proofs.NameFacts.{text_at_place}
+use Rattle.fw_row_table.proofs.TextFacts.{AreKnown, IsRowKnown, names_of-append, images_in_turn}
+use Rattle.fw_row_table.proofs.ListFacts.{places-within, with_texts-all, lists_of-append}
+use Rattle.fw_row_table.proofs.TableFacts.{one_more, rows_known, lists_known}
+use Rattle.fw_row_table.proofs.RowFacts.{text-within}
+
+-- values at the places of known texts
+pub values_there : (names ts : List Text) (f : Text → ℕ) → AreKnown names ts → replaced (map f names) (map (place_of names) ts) ≡ map f ts
+values_there names [] f h = refl
+values_there names (t ∷ ts) f h = rw (get_or-map f names (place_of names t) [] 0 h.0.below, text_at_place names t [] h.0.below, values_there names ts f h.1) refl
+
+-- and those of their images
+values_again : (names ts : List Text) (r : Text → Text) (f : Text → ℕ) → AreKnown names ts → replaced (map f (map r names)) (map (place_of names) ts) ≡ map f (map r ts)
+values_again names ts r f h = (λ j. replaced (map-map f r names j) (map (place_of names) ts)) ∙ (values_there names ts (λ t. f (r t)) h ∙ sym (map-map f r ts))
 
 -- a list made from another twice
 map_again : {X B C : Type 0} (g : B → C) (f : X → B) (h : X → C) (P : X → Type 0) → ((x : X) → P x → g (f x) ≡ h x) → (xs : List X) → All P xs → map g (map f xs) ≡ map h xs

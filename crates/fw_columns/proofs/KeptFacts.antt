@@ -7,14 +7,14 @@ use Rattle.std.proofs.lemmas.Option.{slice_get-map}
 use Rattle.fw_charge.specs.Tags.{TagText, IsTagSized, longest_tag_text}
 use Rattle.fw_charge.specs.Charge.{Charge, DiscountText, IsShortText, IsDiscountOf, IsCharge}
 use Rattle.fw_charge.specs.declared.category.Category.{Category}
-use Rattle.fw_columns.specs.declared.table.Table.{Table}
-use Rattle.fw_columns.specs.Names.{Text}
-use Rattle.fw_columns.specs.Texts.{texts_of_tags, texts_of, names_of}
-use Rattle.fw_columns.specs.Lists.{tag_places, lists_of}
-use Rattle.fw_columns.specs.Table.{AreColumns, list_at, charge_at}
-use Rattle.fw_columns.proofs.ListFacts.{with_texts-all}
-use Rattle.fw_columns.proofs.TableFacts.{list-shown, row-shown}
-use Rattle.fw_columns.proofs.RowFacts.{row_there}
+use Rattle.fw_row_table.specs.declared.table.Table.{Table}
+use Rattle.fw_row_table.specs.Names.{Text}
+use Rattle.fw_row_table.specs.Texts.{texts_of_tags, texts_of, names_of}
+use Rattle.fw_row_table.specs.Lists.{tag_places, lists_of}
+use Rattle.fw_row_table.specs.Table.{AreColumns, list_at, charge_at}
+use Rattle.fw_row_table.proofs.ListFacts.{with_texts-all}
+use Rattle.fw_row_table.proofs.TableFacts.{list-shown, row-shown}
+use Rattle.fw_row_table.proofs.RowFacts.{row_there}
 
 -- ---- no text of a row has more than 1,024 bytes
 

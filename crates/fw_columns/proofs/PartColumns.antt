@@ -11,17 +11,17 @@ use Rattle.fw_money.specs.Amount.{most_nanos}
 use Rattle.fw_charge.specs.Tags.{TagText, most_tags}
 use Rattle.fw_charge.specs.Charge.{Charge, IsCharge}
 use Rattle.fw_charge.specs.Codes.{category_code, class_code}
-use Rattle.fw_columns.specs.declared.table.Table.{Table}
-use Rattle.fw_columns.specs.Names.{Text, AreDistinct, place_of, with_text}
-use Rattle.fw_columns.specs.Texts.{with_texts, texts_of_tags, texts_of, names_of, most_texts}
-use Rattle.fw_columns.specs.Lists.{tag_places, lists_of}
-use Rattle.fw_columns.specs.Codes.{text_code}
-use Rattle.fw_columns.specs.Table.{AreColumns, id_kept, kind_kept, status_kept, quantity_kept, text_at, text_of, discount_of, quantity_of, tag_of, tags_of, list_at, charge_at, rows_of, most_column_rows}
+use Rattle.fw_row_table.specs.declared.table.Table.{Table}
+use Rattle.fw_row_table.specs.Names.{Text, AreDistinct, place_of, with_text}
+use Rattle.fw_row_table.specs.Texts.{with_texts, texts_of_tags, texts_of, names_of, most_texts}
+use Rattle.fw_row_table.specs.Lists.{tag_places, lists_of}
+use Rattle.fw_row_table.specs.Codes.{text_code}
+use Rattle.fw_row_table.specs.Table.{AreColumns, id_kept, kind_kept, status_kept, quantity_kept, text_at, text_of, discount_of, quantity_of, tag_of, tags_of, list_at, charge_at, rows_of, most_column_rows}
 use Rattle.fw_columns.specs.Parts.{AreNumbered, lists_there, HaveLength, IsTagList, HaveRows, texts_there}
-use Rattle.fw_columns.proofs.NameFacts.{place_at}
-use Rattle.fw_columns.proofs.TextFacts.{AreKnown, AreKnown-seen, with_text_adds_one}
-use Rattle.fw_columns.proofs.ListFacts.{places-within}
-use Rattle.fw_columns.proofs.TableFacts.{one_more}
+use Rattle.fw_row_table.proofs.NameFacts.{place_at}
+use Rattle.fw_row_table.proofs.TextFacts.{AreKnown, AreKnown-seen, with_text_adds_one}
+use Rattle.fw_row_table.proofs.ListFacts.{places-within}
+use Rattle.fw_row_table.proofs.TableFacts.{one_more}
 
 -- ---- what texts and tags are kept as
 

@@ -17,13 +17,13 @@ use Rattle.fw_charge.specs.Charge.{IsShortText}
 use Rattle.fw_charge.specs.Codes.{category_code, category_of, class_code, class_of, kind_code, kind_of, status_code, status_of}
 use Rattle.fw_charge.specs.declared.category.Category.{Category}
 use Rattle.fw_charge.specs.declared.category.Category.TheVariants as category
-use Rattle.fw_columns.specs.Names.{Text, AreDistinct, place_of, with_text}
-use Rattle.fw_columns.specs.Texts.{with_texts}
-use Rattle.fw_columns.specs.Table.{category_at, class_at, kind_at, kind_kept, status_kept, quantity_kept, text_at, text_of, discount_of, quantity_of, tag_of, tags_of}
+use Rattle.fw_row_table.specs.Names.{Text, AreDistinct, place_of, with_text}
+use Rattle.fw_row_table.specs.Texts.{with_texts}
+use Rattle.fw_row_table.specs.Table.{category_at, class_at, kind_at, kind_kept, status_kept, quantity_kept, text_at, text_of, discount_of, quantity_of, tag_of, tags_of}
 use Rattle.fw_columns.specs.Parts.{IsStatusOf, IsShortCode, IsDiscountKept, HaveSeen, AreNumbered, lists_there}
-use Rattle.fw_columns.proofs.NameFacts.{place-kept, place-there, place_at, text_at_place}
-use Rattle.fw_columns.proofs.TextFacts.{IsKnown, AreKnown, AreKnown-seen, known_adds_nothing, with_texts-append}
-use Rattle.fw_columns.proofs.ListFacts.{listed_more}
+use Rattle.fw_row_table.proofs.NameFacts.{place-kept, place-there, place_at, text_at_place}
+use Rattle.fw_row_table.proofs.TextFacts.{IsKnown, AreKnown, AreKnown-seen, known_adds_nothing, with_texts-append}
+use Rattle.fw_row_table.proofs.ListFacts.{listed_more}
 
 -- ---- codes that are there
 

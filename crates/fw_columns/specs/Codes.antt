@@ -1,13 +1,8 @@
--- What columns hold in place of a text, a category and a class.
-use Rattle.std.specs.Prelude.{◌≡◌, ◌↔◌, ℕ, ◌+◌, List, [], ◌∷◌, slice_get, slice_index_or, Option, Some, None}
+-- The codes of the groups of rows.
+use Rattle.std.specs.Prelude.{◌≡◌, ◌↔◌, ℕ, ◌+◌, List, [], ◌∷◌, slice_get, slice_index_or, Some}
 use Rattle.fw_charge.specs.Charge.{Charge}
 use Rattle.fw_charge.specs.Tags.{group_of}
-use Rattle.fw_columns.specs.Names.{Text, place_of}
-
--- the code of a text that may be null: 0 for null, else 1 more than its place in the names
-unfoldable pub text_code : List Text → Option Text → ℕ
-text_code names None = 0
-text_code names (Some text) = 1 + place_of names text
+use Rattle.fw_row_table.specs.Names.{Text, place_of}
 
 -- the code of a group: 0 for the empty text, else 1 more than its place in the names
 unfoldable pub group_code : List Text → Text → ℕ

@@ -1,7 +1,7 @@
 -- How the code of a group is found among the places of tags. The private functions of the crate cite it.
 use Rattle.std.specs.Prelude.{ℕ, ◌+◌, ◌==◌, if◌then◌else◌, List, [], ◌∷◌, unwrap_or}
-use Rattle.fw_columns.specs.Names.{Text}
-use Rattle.fw_columns.specs.Table.{text_of}
+use Rattle.fw_row_table.specs.Names.{Text}
+use Rattle.fw_row_table.specs.Table.{text_of}
 
 -- the code of the group under the key of a place: 0 where no tag has the key, or its value is at the place of the empty text; else 1 more than
 -- the place of its value

@@ -1,11 +1,11 @@
 -- What becomes of columns where further rows come behind. The private functions of the crate cite it.
 use Rattle.std.specs.Prelude.{◌≡◌, ◌<◌, ◌≤◌, ◌+◌, ℕ, zero, suc, List, [], ◌++◌, length, map, slice_index, All}
-use Rattle.fw_columns.specs.Names.{place_of}
-use Rattle.fw_columns.specs.Texts.{with_texts}
+use Rattle.fw_row_table.specs.Names.{place_of}
+use Rattle.fw_row_table.specs.Texts.{with_texts}
 use Rattle.fw_columns.specs.declared.joining.Plain.{Plain}
 use Rattle.fw_columns.specs.declared.joining.Coded.{Coded}
 use Rattle.fw_columns.specs.declared.joining.Listed.{Listed}
-use Rattle.fw_columns.specs.declared.table.Table.{Table}
+use Rattle.fw_row_table.specs.declared.table.Table.{Table}
 
 -- places in one list, as places in another: for each place in the one there is that in the other
 abbrev pub replaced : List ℕ → List ℕ → List ℕ

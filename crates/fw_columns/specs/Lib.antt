@@ -1,13 +1,7 @@
-pub mod Names
-pub mod Texts
-pub mod Lists
 pub mod Codes
-pub mod Table
 pub mod Joining
 pub mod RowViews
 pub mod Adding
-pub mod Reading
 pub mod Grouping
-pub mod Lending
 pub mod Parts
 pub mod PartsView

@@ -7,10 +7,10 @@ use Rattle.fw_charge.specs.Codes.{category_code, class_code, status_code, status
 use Rattle.fw_charge.specs.declared.category.Category.{Category}
 use Rattle.fw_charge.specs.declared.category.Category.TheVariants as category
 use Rattle.fw_charge.specs.Tags.{IsTags}
-use Rattle.fw_columns.specs.Names.{Text, place_of}
-use Rattle.fw_columns.specs.Texts.{with_texts}
-use Rattle.fw_columns.specs.Table.{category_at, class_at, kind_kept, status_kept, quantity_kept, text_at, text_of, discount_of, quantity_of, tags_of, list_at}
-use Rattle.fw_columns.specs.declared.table.Table.{Table}
+use Rattle.fw_row_table.specs.Names.{Text, place_of}
+use Rattle.fw_row_table.specs.Texts.{with_texts}
+use Rattle.fw_row_table.specs.Table.{category_at, class_at, kind_kept, status_kept, quantity_kept, text_at, text_of, discount_of, quantity_of, tags_of, list_at}
+use Rattle.fw_row_table.specs.declared.table.Table.{Table}
 
 -- lists, each once and in the order in which it is first seen, and for each row the place of its list
 pub record AreNumbered (lists : List (List ℕ)) (codes : List ℕ) (of_rows : List (List ℕ)) : Type 0 where

@@ -2,10 +2,10 @@
 use Rattle.std.specs.Prelude.{◌≡◌, pos, List, map, is_some, All}
 use Rattle.fw_charge.specs.Charge.{Charge, IsCharge}
 use Rattle.fw_charge.specs.Codes.{category_code, class_code}
-use Rattle.fw_columns.specs.Codes.{text_code}
-use Rattle.fw_columns.specs.Lists.{lists_of}
-use Rattle.fw_columns.specs.Table.{id_kept, kind_kept, status_kept, quantity_kept}
-use Rattle.fw_columns.specs.Texts.{names_of}
+use Rattle.fw_row_table.specs.Codes.{text_code}
+use Rattle.fw_row_table.specs.Lists.{lists_of}
+use Rattle.fw_row_table.specs.Table.{id_kept, kind_kept, status_kept, quantity_kept}
+use Rattle.fw_row_table.specs.Texts.{names_of}
 use Rattle.fw_columns.specs.declared.parts.Parts.{Parts}
 
 -- rows, each of which keeps its rules, have these columns

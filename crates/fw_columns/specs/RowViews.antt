@@ -2,7 +2,7 @@
 use Rattle.std.specs.Prelude.{ℕ, List, [], Option, option_copied, option_map, unwrap_or, slice_get}
 use Rattle.fw_charge.specs.Tags.{TagText}
 use Rattle.fw_charge.specs.Charge.{Charge, DiscountText}
-use Rattle.fw_columns.specs.Names.{Text}
+use Rattle.fw_row_table.specs.Names.{Text}
 use Rattle.fw_columns.specs.declared.row_view.RowView.{RowView}
 use Rattle.fw_charge.specs.declared.discount.DiscountKind.{DiscountKind}
 use Rattle.fw_charge.specs.declared.discount.DiscountStatus.{DiscountStatus}

@@ -1,19 +1,17 @@
 //! One more row in columns.
 ghost use Rattle.std.specs.Prelude.{◌≡◌, ◌^◌, ◌<◌, ◌≤◌, ◌+◌, ◌++◌, [], ◌∷◌, ℕ, length, option_copied, option_map, option_to_list, All, IfOk, OnOk, IsTrue, Some};
 ghost use Rattle.fw_charge.specs.Charge.{IsCharge, last_second};
-ghost use Rattle.fw_columns.specs.Codes.{text_code};
-ghost use Rattle.fw_columns.specs.Texts.{with_texts};
+ghost use Rattle.fw_row_table.specs.Codes.{text_code};
+ghost use Rattle.fw_row_table.specs.Texts.{with_texts};
 ghost use Rattle.fw_columns.specs.Joining.{AreCodesBelow};
 ghost use Rattle.fw_columns.specs.RowViews.{charge_with, tags_at};
 ghost use Rattle.fw_columns.specs.Adding.{texts_of_view, AreCodesWithin, AreCodesOf, HasMore};
-ghost use Rattle.fw_columns.specs.Table.{most_column_rows, rows_of, AreColumns};
+ghost use Rattle.fw_row_table.specs.Table.{most_column_rows, rows_of, AreColumns};
 
 use crate::codes::{kind_kept, quantity_kept, status_kept};
-use crate::names::Names;
-use crate::naming::see_tags;
 use crate::row_view::RowView;
-use crate::table::Table;
 use fw_charge::{Tags, class_code};
+use fw_row_table::{Names, Table, see_tags};
 use std::alloc::AllocError;
 
 /// The codes of the texts of a row: 0 where a text is null, else 1 more than its place in the names.
@@ -107,7 +105,7 @@ fn see_texts(
 }
 
 /// Adds a text that is there and new. Returns its code, which is looked up only where it isn't the code before.
-#[tactic(auto, unfolding(crate::specs::Texts::with_texts, crate::specs::Codes::text_code))]
+#[tactic(auto, unfolding(fw_row_table::specs::Texts::with_texts, fw_row_table::specs::Codes::text_code))]
 fn see_code(names: &mut Names, before: u32, text: Option<&str>) -> Result<u32, AllocError>
     requires room { length names.old + 1 ≤ 2 ^ 30 }
     requires before { before ≤ length names.old }

@@ -2,13 +2,13 @@
 ghost use Rattle.std.specs.Prelude.{◌≡◌, ◌<◌, ◌≤◌, ◌++◌, [], ◌∷◌, length, OnErr, OnOk, IfOk};
 ghost use Rattle.fw_charge.specs.Charge.{IsCharge};
 ghost use Rattle.fw_columns.specs.RowViews.{charge_with, tags_at};
-ghost use Rattle.fw_columns.specs.Table.{most_column_rows};
+ghost use Rattle.fw_row_table.specs.Table.{most_column_rows};
 
 use crate::adding::{add_row, add_row_like};
 use crate::columns::Columns;
 use crate::row_view::{RowView, view_of};
-use crate::table::Table;
 use fw_charge::{Row, Tags};
+use fw_row_table::Table;
 use std::alloc::{AllocError, Global};
 use std::marker::Model;
 
@@ -23,7 +23,7 @@ pub struct ColumnsBuilder {
 impl Model for ColumnsBuilder {
     ghost use Rattle.std.specs.Prelude.{List};
     ghost use Rattle.fw_charge.specs.Charge.{Charge};
-    ghost use Rattle.fw_columns.specs.Table.{rows_of, AreColumns};
+    ghost use Rattle.fw_row_table.specs.Table.{rows_of, AreColumns};
 
     ghost Value = { List Charge };
 

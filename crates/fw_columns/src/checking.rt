@@ -4,18 +4,15 @@ ghost use Rattle.fw_charge.specs.Codes.{category_code, class_code};
 ghost use Rattle.fw_charge.specs.Tags.{longest_tag_text};
 ghost use Rattle.fw_money.specs.Amount.{most_nanos};
 ghost use Rattle.fw_columns.specs.Parts.{AreNumbered, lists_there, HaveLength, HaveRows, HaveShortCodes, HasValues, IsTagList, IsDiscountKept, IsPeriod, IsShortCode, IsStatusOf, HaveSeen, texts_there};
-ghost use Rattle.fw_columns.specs.Table.{AreColumns, rows_of, category_at, class_at, quantity_kept, quantity_of, text_at, text_of, tags_of};
+ghost use Rattle.fw_row_table.specs.Table.{AreColumns, rows_of, category_at, class_at, quantity_kept, quantity_of, text_at, text_of, tags_of};
 ghost use Rattle.fw_bytes.specs.Order.{rise};
 
 use crate::columns::Columns;
-use crate::lists::Lists;
-use crate::names::Names;
-use crate::reading::category_at;
-use crate::table::Table;
 use fw_charge::{
     Category, DiscountKind, DiscountStatus, LAST_SECOND, Tag, Tags, class_from_code, is_short_text,
 };
 use fw_money::Nanos;
+use fw_row_table::{Lists, Names, Table, category_at};
 
 /// Whether columns are those of rows, 1 to 65,536 of them.
 pub fn are_columns(table: &Table) -> bool

@@ -1,31 +1,17 @@
-//! What columns hold in place of texts, discounts and tags, and what it stands for.
-ghost use Rattle.std.specs.Prelude.{Option, ◌≡◌, ◌<◌, ◌≤◌, length, nat_abs, option_map, string_bytes, IfOk};
+//! What columns hold in place of discounts and quantities.
+ghost use Rattle.std.specs.Prelude.{Option, ◌≡◌, ◌≤◌, nat_abs};
 ghost use Rattle.fw_money.specs.Amount.{most_nanos};
 ghost use Rattle.fw_charge.specs.Codes.{status_code};
 ghost use Rattle.fw_charge.specs.declared.discount.DiscountKind.{DiscountKind};
 ghost use Rattle.fw_charge.specs.declared.discount.DiscountStatus.{DiscountStatus};
 ghost use Rattle.fw_columns.specs.RowViews.{discount_with};
-ghost use Rattle.fw_columns.specs.Table.{text_of, text_at, kind_kept, status_kept, quantity_kept, discount_of, quantity_of, tag_of};
+ghost use Rattle.fw_row_table.specs.Table.{kind_kept, status_kept, quantity_kept};
 
-use crate::names::Names;
-use fw_charge::{Discount, DiscountKind, DiscountStatus, Tag};
+use fw_charge::{DiscountKind, DiscountStatus};
 use fw_money::Nanos;
-use std::alloc::{AllocError, Global};
-
-/// The text of a code.
-#[tactic(auto, unfolding(crate::specs::Table::text_of, crate::specs::Table::text_at))]
-pub fn text_of(alloc: Global, names: &Names, code: u32) -> Result<Option<String>, AllocError>
-    requires { code ≤ length names.now }
-    ensures { IfOk result (λ text. option_map string_bytes text ≡ text_of names.now code) }
-{
-    match code.checked_sub(1) {
-        Some(place) => Ok(Some(String::from_str(alloc, names.text(place))?)),
-        None => Ok(None),
-    }
-}
 
 /// The code of a discount's kind, 0 where there is no discount.
-#[tactic(auto, unfolding(crate::specs::Table::kind_kept))]
+#[tactic(auto, unfolding(fw_row_table::specs::Table::kind_kept))]
 pub fn kind_kept(discount: Option<&str>, kind: DiscountKind) -> u8
     ensures { (status : Option DiscountStatus) → result ≡ kind_kept (discount_with discount.entry kind status) }
 {
@@ -36,7 +22,7 @@ pub fn kind_kept(discount: Option<&str>, kind: DiscountKind) -> u8
 }
 
 /// The code of a discount's status, 0 where it is null or there is no discount.
-#[tactic(auto, unfolding(crate::specs::Table::status_kept))]
+#[tactic(auto, unfolding(fw_row_table::specs::Table::status_kept))]
 pub fn status_kept(discount: Option<&str>, status: Option<DiscountStatus>) -> u8
     ensures { (kind : DiscountKind) → result ≡ status_kept (discount_with discount.entry kind status) }
 {
@@ -57,23 +43,8 @@ fn status_code(status: Option<DiscountStatus>) -> u8
     }
 }
 
-/// The discount with an id that may be null, and with the codes of its kind and of its status. A code that is no kind's counts as a kind of use.
-#[tactic(auto, unfolding(crate::specs::Table::discount_of))]
-pub fn discount_of(id: Option<String>, kind: u8, status: u8) -> Option<Discount>
-    ensures { result ≡ discount_of (option_map string_bytes id) kind status }
-{
-    match id {
-        Some(id) => Some(Discount::of_fields(
-            id,
-            DiscountKind::from_code(kind).unwrap_or(DiscountKind::Usage),
-            DiscountStatus::from_code(status),
-        )),
-        None => None,
-    }
-}
-
 /// The count of a quantity, 0 where it is null.
-#[tactic(auto, unfolding(crate::specs::Table::quantity_kept))]
+#[tactic(auto, unfolding(fw_row_table::specs::Table::quantity_kept))]
 pub fn quantity_kept(quantity: Option<Nanos>) -> i64
     ensures value { result ≡ quantity_kept quantity }
     ensures in_range { nat_abs result ≤ most_nanos }
@@ -82,24 +53,4 @@ pub fn quantity_kept(quantity: Option<Nanos>) -> i64
         Some(quantity) => quantity.count(),
         None => 0,
     }
-}
-
-/// A quantity that may be null, from its amount and whether it is there.
-#[tactic(auto, unfolding(crate::specs::Table::quantity_of))]
-pub fn quantity_of(is_there: bool, quantity: Nanos) -> Option<Nanos>
-    ensures { result ≡ quantity_of is_there quantity }
-{
-    if is_there { Some(quantity) } else { None }
-}
-
-/// The tag with the places of its key and of its value.
-#[tactic(auto, unfolding(crate::specs::Table::tag_of, crate::specs::Table::text_at))]
-pub fn tag_of(alloc: Global, names: &Names, key: u32, value: u32) -> Result<Tag, AllocError>
-    requires key { key < length names.now }
-    requires value { value < length names.now }
-    ensures { IfOk result (λ tag. tag ≡ tag_of names.now key value) }
-{
-    let key = String::from_str(alloc, names.text(key))?;
-    let value = String::from_str(alloc, names.text(value))?;
-    Ok(Tag::of_fields(key, value))
 }

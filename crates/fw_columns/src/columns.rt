@@ -2,19 +2,16 @@
 ghost use Rattle.std.specs.Prelude.{◌≡◌, ◌<◌, ◌≤◌, ◌+◌, ◌++◌, Some, length, map, nat_abs, pos, slice_get, All, IfOk};
 ghost use Rattle.fw_charge.specs.Charge.{Charge};
 ghost use Rattle.fw_money.specs.Amount.{most_nanos};
-ghost use Rattle.fw_columns.specs.Table.{most_column_rows, rows_of, AreColumns};
-ghost use Rattle.fw_columns.specs.Texts.{names_of};
+ghost use Rattle.fw_row_table.specs.Table.{most_column_rows, rows_of, AreColumns};
+ghost use Rattle.fw_row_table.specs.Texts.{names_of};
 ghost use Rattle.fw_charge.specs.Codes.{category_code, class_code};
 ghost use Rattle.fw_columns.specs.Codes.{tag_code, AgreeWithGroups};
 
 use crate::builder::ColumnsBuilder;
 use crate::grouping::group_codes;
 use crate::joining::joined;
-use crate::lending::{LentRow, lent_row, lent_tags};
-use crate::names::Names;
-use crate::reading::fields_at;
-use crate::table::Table;
 use fw_charge::Row;
+use fw_row_table::{LentRow, Names, Table, fields_at, lent_row, lent_tags};
 use std::alloc::{AllocError, Global};
 use std::marker::Model;
 use std::sync::Arc;
@@ -30,7 +27,7 @@ pub struct Columns {
 impl Model for Columns {
     ghost use Rattle.std.specs.Prelude.{◌<◌, List, length};
     ghost use Rattle.fw_charge.specs.Charge.{Charge};
-    ghost use Rattle.fw_columns.specs.Table.{rows_of, AreColumns};
+    ghost use Rattle.fw_row_table.specs.Table.{rows_of, AreColumns};
 
     ghost Value = { List Charge };
 

@@ -1,12 +1,11 @@
 //! The groups of rows under a tag key.
 ghost use Rattle.std.specs.Prelude.{◌≡◌, ◌≤◌, ◌<◌, ◌^◌, length, map, All, IfOk};
 ghost use Rattle.fw_columns.specs.Codes.{tag_code};
-ghost use Rattle.fw_columns.specs.Table.{AreColumns, rows_of};
+ghost use Rattle.fw_row_table.specs.Table.{AreColumns, rows_of};
 ghost use Rattle.fw_columns.specs.Grouping.{found_code};
 
 use crate::joining::push_replaced;
-use crate::lists::Lists;
-use crate::table::Table;
+use fw_row_table::{Lists, Table};
 use std::alloc::{AllocError, Global};
 
 /// The code of each row's group under a key: each list of tags is searched once.

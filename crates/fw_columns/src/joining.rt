@@ -1,13 +1,11 @@
 //! The columns of rows and of further rows.
 ghost use Rattle.std.specs.Prelude.{◌≡◌, ◌≤◌, ◌<◌, ◌+◌, ◌++◌, ◌^◌, length, map, All, IfOk, OnOk};
-ghost use Rattle.fw_columns.specs.Names.{place_of};
-ghost use Rattle.fw_columns.specs.Texts.{with_texts};
-ghost use Rattle.fw_columns.specs.Table.{most_column_rows, rows_of, AreColumns};
+ghost use Rattle.fw_row_table.specs.Names.{place_of};
+ghost use Rattle.fw_row_table.specs.Texts.{with_texts};
+ghost use Rattle.fw_row_table.specs.Table.{most_column_rows, rows_of, AreColumns};
 ghost use Rattle.fw_columns.specs.Joining.{replaced, replaced_code, AreCodesBelow, AreListsBelow, ArePlainOf, AreCodedOf, AreListsOf};
 
-use crate::lists::Lists;
-use crate::naming::{joined_names, places_in};
-use crate::table::Table;
+use fw_row_table::{Lists, Table, joined_names, places_in};
 use std::alloc::{AllocError, Global};
 
 /// Columns without places of texts.

@@ -1,10 +1,10 @@
 //! The columns as they are kept, for those who copy them.
 ghost use Rattle.std.specs.Prelude.{◌≡◌, ◌<◌, ◌≤◌, ◌^◌, ◌/◌, Some, length, map, is_some, slice_get, All};
 ghost use Rattle.fw_charge.specs.Tags.{longest_tag_text, most_tags};
-ghost use Rattle.fw_columns.specs.Codes.{text_code};
-ghost use Rattle.fw_columns.specs.Lists.{lists_of};
-ghost use Rattle.fw_columns.specs.Table.{id_kept, kind_kept, quantity_kept, status_kept};
-ghost use Rattle.fw_columns.specs.Texts.{names_of};
+ghost use Rattle.fw_row_table.specs.Codes.{text_code};
+ghost use Rattle.fw_row_table.specs.Lists.{lists_of};
+ghost use Rattle.fw_row_table.specs.Table.{id_kept, kind_kept, quantity_kept, status_kept};
+ghost use Rattle.fw_row_table.specs.Texts.{names_of};
 
 use crate::columns::Columns;
 

@@ -1,6 +1,6 @@
 //! Proof-only functions: they say something of the crate's constants, and do nothing.
 ghost use Rattle.std.specs.Prelude.{◌≡◌};
-ghost use Rattle.fw_columns.specs.Table.{most_column_rows};
+ghost use Rattle.fw_row_table.specs.Table.{most_column_rows};
 
 use crate::columns::Columns;
 

@@ -4,9 +4,8 @@ ghost use Rattle.fw_columns.specs.PartsView.{AreParts};
 
 use crate::checking::are_columns;
 use crate::columns::Columns;
-use crate::names::Names;
 use crate::row_lists::RowLists;
-use crate::table::Table;
+use fw_row_table::{Names, Table};
 use std::alloc::{AllocError, Global};
 
 /// What is to be the columns of rows: a value for each row in each, as [`Columns`] shows them.

@@ -1,9 +1,9 @@
 //! The lists of places of rows.
 ghost use Rattle.std.specs.Prelude.{◌≡◌, ◌<◌, ◌≤◌, ◌+◌, ◌^◌, ◌++◌, [], ◌∷◌, length, OnOk};
-ghost use Rattle.fw_columns.specs.Names.{place_of, with_text};
+ghost use Rattle.fw_row_table.specs.Names.{place_of, with_text};
 ghost use Rattle.fw_columns.specs.Parts.{AreNumbered, lists_there};
 
-use crate::lists::Lists;
+use fw_row_table::Lists;
 use std::alloc::{AllocError, Global};
 use std::marker::Model;
 

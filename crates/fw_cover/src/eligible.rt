@@ -3,8 +3,8 @@ ghost use Rattle.std.specs.Prelude.{◌≡◌};
 ghost use Rattle.fw_cover.specs.Eligible.{is_eligible, is_open_use, is_measured, is_one_hour, is_positive};
 
 use fw_charge::{Category, SECONDS_PER_HOUR};
-use fw_columns::LentRow;
 use fw_money::Nanos;
+use fw_row_table::LentRow;
 
 #[tactic(auto, unfolding(crate::specs::Eligible::is_eligible))]
 /// Whether commitments may cover a row: it is a use, belongs to no commitment yet, is no correction, has a period of exactly one clock

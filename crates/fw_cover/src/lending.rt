@@ -2,7 +2,7 @@
 ghost use Rattle.std.specs.Prelude.{◌≡◌, map, IfOk};
 
 use fw_charge::Row;
-use fw_columns::LentRow;
+use fw_row_table::LentRow;
 use std::alloc::{AllocError, Global};
 
 /// Rows, lent.

@@ -13,7 +13,7 @@ use crate::eligible::is_eligible;
 use crate::offers::{Offer, offered};
 use crate::order::is_in_term;
 use crate::pair::Pair;
-use fw_columns::LentRow;
+use fw_row_table::LentRow;
 use fw_terms::{Commitment, Terms};
 use std::alloc::{AllocError, Global};
 use std::cmp::Ordering;

@@ -4,7 +4,7 @@ ghost use Rattle.std.specs.Prelude.{unsigned_abs};
 ghost use Rattle.fw_terms.specs.Commitment.{IsCommitment};
 ghost use Rattle.fw_cover.specs.Hour.{quantity_of, billed_of, quantities_of, capacities_of};
 
-use fw_columns::LentRow;
+use fw_row_table::LentRow;
 use fw_terms::Commitment;
 use std::alloc::{AllocError, Global};
 

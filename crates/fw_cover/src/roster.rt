@@ -11,7 +11,7 @@ use crate::matching::pairs_in_order;
 use crate::numbers::{billed_costs, capacities, quantities};
 use crate::offers::{Offer, table};
 use crate::order::{Placed, ordered, places};
-use fw_columns::LentRow;
+use fw_row_table::LentRow;
 use fw_terms::Commitment;
 use std::alloc::{AllocError, Global};
 use std::marker::Model;

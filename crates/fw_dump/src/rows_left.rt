@@ -2,7 +2,7 @@
 ghost use Rattle.std.specs.Prelude.{◌≡◌, ◌≤◌, IfOk, length, take, drop};
 ghost use Rattle.fw_snapshot.specs.Heads.{segment_rows};
 ghost use Rattle.fw_dump.specs.RowsLeft.{rows_left};
-ghost use Rattle.fw_columns.specs.Table.{most_column_rows};
+ghost use Rattle.fw_row_table.specs.Table.{most_column_rows};
 
 use fw_columns::{Columns, ColumnsBuilder};
 use fw_persistent::Sequence;

@@ -10,8 +10,8 @@ use Rattle.std.proofs.lemmas.Option.{get_or_from_slice_get}
 use Rattle.fw_charge.specs.Charge.{Charge, DiscountText}
 use Rattle.fw_charge.specs.Tags.{TagText, group_of, tag_under, value_under}
 use Rattle.fw_columns.specs.Codes.{group_code, tag_code}
-use Rattle.fw_columns.specs.Names.{Text, place_of, with_text}
-use Rattle.fw_columns.specs.Texts.{names_of, texts_of, texts_of_tags, with_texts}
+use Rattle.fw_row_table.specs.Names.{Text, place_of, with_text}
+use Rattle.fw_row_table.specs.Texts.{names_of, texts_of, texts_of_tags, with_texts}
 use Rattle.fw_query.specs.CodeSums.{code_text}
 
 -- whether a text is one of these

@@ -14,8 +14,8 @@ use Rattle.std.specs.Prelude.{MatchBool}
 use Rattle.std.specs.Str.{bytes_eq}
 use Rattle.fw_charge.specs.Charge.{Charge}
 use Rattle.fw_columns.specs.Codes.{tag_code}
-use Rattle.fw_columns.specs.Names.{Text}
-use Rattle.fw_columns.specs.Texts.{names_of}
+use Rattle.fw_row_table.specs.Names.{Text}
+use Rattle.fw_row_table.specs.Texts.{names_of}
 use Rattle.fw_cover.proofs.Sorting.{two_ways}
 use Rattle.fw_lanes.specs.Masked.{is_at_code, mask_of_code, masked_sum_of}
 use Rattle.fw_money.specs.Amount.{most_nanos}

@@ -1,8 +1,8 @@
 -- What the rows of a segment bring, by the codes of their groups. The private functions of the report cite it.
 use Rattle.std.specs.Prelude.{◌<◌, ◌≤◌, ◌^◌, ℕ, zero, suc, pos, nat_abs, Bool, List, [], length, map, slice_index_or, All}
 use Rattle.fw_charge.specs.Charge.{Charge}
-use Rattle.fw_columns.specs.Names.{Text}
-use Rattle.fw_columns.specs.Texts.{names_of}
+use Rattle.fw_row_table.specs.Names.{Text}
+use Rattle.fw_row_table.specs.Texts.{names_of}
 use Rattle.fw_columns.specs.Codes.{tag_code}
 use Rattle.fw_lanes.specs.Masked.{AreSumsByCode, AreMarksByCode}
 use Rattle.fw_query.specs.Costs.{Cost}

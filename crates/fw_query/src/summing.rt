@@ -4,7 +4,7 @@ ghost use Rattle.fw_query.specs.CodeSums.{AreCodeSums, code_cost, code_text};
 ghost use Rattle.fw_query.specs.Costs.{Cost};
 ghost use Rattle.fw_query.specs.Hours.{all_rows, lent, row_cost, rows_marked};
 ghost use Rattle.fw_query.specs.Sums.{AddsLine, Counts, HasRoom, sums_at};
-ghost use Rattle.fw_columns.specs.Table.{most_column_rows};
+ghost use Rattle.fw_row_table.specs.Table.{most_column_rows};
 
 use crate::groups::{Groups, Sums};
 use crate::marks::{has_mark, mask_of};

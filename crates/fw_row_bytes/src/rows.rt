@@ -2,7 +2,7 @@
 ghost use Rattle.std.specs.Prelude.{◌≡◌, ◌≤◌, length, IfOk};
 ghost use Rattle.fw_bytes.specs.Reading.{Gives, times, list_at};
 ghost use Rattle.fw_row_bytes.specs.Reading.{row_at};
-ghost use Rattle.fw_columns.specs.Table.{most_column_rows};
+ghost use Rattle.fw_row_table.specs.Table.{most_column_rows};
 
 use crate::row::row_of;
 use fw_bytes::{ReadError, u32_at};

@@ -7,7 +7,7 @@ ghost use Rattle.fw_bytes.specs.Spelling.{listed, text, optional};
 ghost use Rattle.fw_charge.specs.Charge.{IsShortText};
 ghost use Rattle.fw_charge.specs.Tags.{longest_tag_text, IsTags, IsTagSized};
 ghost use Rattle.fw_charge.specs.Spelling.{nanos, tag, tags, amounts, period, discount, consumed, row, IsRow};
-ghost use Rattle.fw_columns.specs.Lending.{tag_lent, tags_lent};
+ghost use Rattle.fw_row_table.specs.Lending.{tag_lent, tags_lent};
 
 use fw_bytes::{put_byte, put_i64, put_text, put_u32, put_u64};
 use fw_charge::class_code;

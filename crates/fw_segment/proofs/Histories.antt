@@ -28,7 +28,7 @@ use Rattle.fw_segment.specs.States.{state, Spells, most_segments, Cut, cut_rows,
 use Rattle.fw_segment.proofs.HeadFormat.{AreHeads}
 use Rattle.fw_segment.proofs.StateFormat.{FitsCut, parts_taken, parts_again}
 use Rattle.fw_segment.proofs.Replay.{no_row_counts, replay_taken, replay_again}
-use Rattle.fw_columns.specs.Table.{most_column_rows}
+use Rattle.fw_row_table.specs.Table.{most_column_rows}
 
 -- ---- heads of entries, rows of segments
 

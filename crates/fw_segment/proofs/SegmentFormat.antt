@@ -20,7 +20,7 @@ use Rattle.fw_segment.specs.declared.layout.SegmentLayout.TheVariants.{Rows, Col
 use Rattle.fw_segment.specs.Groups.{group, group_at, IsGroup, most_group_entries}
 use Rattle.fw_segment.specs.Segments.{segment, segment_at, IsSegment}
 use Rattle.fw_segment.proofs.Viewed.{answered, whole_viewed}
-use Rattle.fw_columns.specs.Table.{most_column_rows}
+use Rattle.fw_row_table.specs.Table.{most_column_rows}
 
 is_group : (es : List EntryValue) → FitsList 1 most_group_entries IsEntry es → IsGroup es
 is_group es h = let p = list_parts IsEntry 1 most_group_entries es h in record { some = p.0; few = p.1; each = p.2 }

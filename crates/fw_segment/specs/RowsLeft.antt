@@ -5,7 +5,7 @@ use Rattle.fw_charge.specs.Charge.{Charge}
 use Rattle.fw_snapshot.specs.Heads.{segment_rows}
 use Rattle.fw_segment.specs.Segments.{segment_at}
 use Rattle.fw_segment.specs.declared.rows_left.RowsLeft.{RowsLeft}
-use Rattle.fw_columns.specs.Table.{most_column_rows}
+use Rattle.fw_row_table.specs.Table.{most_column_rows}
 
 -- what was read before, and what is still read
 abbrev pub behind : List Charge → Result (List Charge × List ℕ) ℕ → Result (List Charge × List ℕ) ℕ

@@ -9,7 +9,7 @@ use Rattle.fw_column_bytes.specs.Spelling.{columns}
 use Rattle.fw_column_bytes.specs.Reading.{columns_at}
 use Rattle.fw_segment.specs.declared.layout.SegmentLayout.{SegmentLayout}
 use Rattle.fw_segment.specs.declared.layout.SegmentLayout.TheVariants.{Rows, Columns}
-use Rattle.fw_columns.specs.Table.{most_column_rows}
+use Rattle.fw_row_table.specs.Table.{most_column_rows}
 
 -- a byte for how the rows are laid out, their number, and the rows in this layout: each in turn, or column after column behind their texts
 unfoldable pub segment : SegmentLayout → List Charge → List ℕ

@@ -2,7 +2,7 @@
 ghost use Rattle.std.specs.Prelude.{◌≡◌, ◌≤◌, ◌<◌, ◌∷◌, ◌==◌, ◌&&◌, [], false, length, nat_lt, IfOk, IfErr, OnOk};
 ghost use Rattle.fw_bytes.specs.Reading.{Fails};
 ghost use Rattle.fw_segment.specs.RowsLeft.{behind, held, most_left, rows_given, rows_left, segments_at, AreReadOut, AreTaken};
-ghost use Rattle.fw_columns.specs.Table.{most_column_rows};
+ghost use Rattle.fw_row_table.specs.Table.{most_column_rows};
 
 use crate::segments::segment_of;
 use fw_bytes::ReadError;

@@ -3,7 +3,7 @@ ghost use Rattle.std.specs.Prelude.{◌≡◌, ◌<◌, ◌≤◌, ◌++◌, len
 ghost use Rattle.fw_bytes.specs.Reading.{Gives};
 ghost use Rattle.fw_charge.specs.Spelling.{IsRow};
 ghost use Rattle.fw_segment.specs.Segments.{segment, segment_at};
-ghost use Rattle.fw_columns.specs.Table.{most_column_rows};
+ghost use Rattle.fw_row_table.specs.Table.{most_column_rows};
 
 use crate::layout::SegmentLayout;
 use fw_bytes::{ReadError, put_byte};

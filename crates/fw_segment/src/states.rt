@@ -14,7 +14,7 @@ ghost use Rattle.fw_segment.specs.RowsLeft.{rows_given, rows_left};
 ghost use Rattle.fw_segment.specs.Segments.{segment};
 ghost use Rattle.fw_segment.specs.States.{Spells, currency_at, followed, parts_at, rows_at, state_at};
 ghost use Rattle.fw_segment.specs.declared.layout.SegmentLayout.TheVariants as layout;
-ghost use Rattle.fw_columns.specs.Table.{most_column_rows};
+ghost use Rattle.fw_row_table.specs.Table.{most_column_rows};
 
 use crate::heads::{ReadContent, ReadHead, heads_of, put_head};
 use crate::layout::SegmentLayout;

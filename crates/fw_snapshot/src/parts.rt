@@ -10,7 +10,7 @@ ghost use Rattle.fw_snapshot.specs.History.{posted, committed, policy_after};
 ghost use Rattle.fw_snapshot.specs.Judging.{carries, has_id};
 ghost use Rattle.fw_snapshot.specs.Uses.{commitments_with};
 ghost use Rattle.fw_snapshot.specs.Held.{held_commitments, held_policy, held_rows};
-ghost use Rattle.fw_columns.specs.Table.{most_column_rows};
+ghost use Rattle.fw_row_table.specs.Table.{most_column_rows};
 
 use crate::head::Content;
 use fw_columns::{Columns, LentRow};

@@ -11,8 +11,8 @@ ghost use Rattle.fw_terms.specs.TermsView.{terms_view};
 ghost use Rattle.fw_terms.specs.Spelling.{rate, purchase, committed, names, term, commitment, target, given, rule, policy};
 
 use fw_bytes::{put_byte, put_text, put_u32, put_u64};
-use fw_columns::LentTags;
 use fw_row_bytes::{put_nanos, put_optional_text, put_tags};
+use fw_row_table::LentTags;
 use fw_terms::{Commitment, Give, Policy, Purchase, Rate, Rule, Target, Terms};
 use std::alloc::AllocError;
 

@@ -2,7 +2,7 @@ use Rattle.std.proofs.Common.{◌≡◌, ◌≤◌, ◌-◌, ℕ, List, length}
 use Rattle.std.specs.Prelude.{map, string_bytes}
 use Rattle.fw_bytes.specs.Reading.{times}
 use Rattle.fw_bytes.proofs.Loop.{with_front}
-use Rattle.fw_columns.specs.Names.{Text}
+use Rattle.fw_row_table.specs.Names.{Text}
 use Rattle.fw_column_bytes.specs.Reading.{tag_places_at}
 use Rattle.fw_column_bytes.proofs.direct.row_lists_after.Given as goal
 

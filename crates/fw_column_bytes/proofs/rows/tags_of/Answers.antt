@@ -2,9 +2,9 @@ use Rattle.std.proofs.Common.{◌≡◌, ◌∙◌, ◌++◌, [], ◌∷◌, ap,
 use Rattle.std.specs.Prelude.{map, string_bytes}
 use Rattle.std.proofs.lemmas.List.{length-map}
 use Rattle.fw_charge.specs.Tags.{TagText}
-use Rattle.fw_columns.specs.Table.{tag_of, tags_of}
-use Rattle.fw_columns.proofs.ListFacts.{behind_two}
-use Rattle.fw_columns.proofs.TableFacts.{AreSplit, no_tag_more, one_tag_more}
+use Rattle.fw_row_table.specs.Table.{tag_of, tags_of}
+use Rattle.fw_row_table.proofs.ListFacts.{behind_two}
+use Rattle.fw_row_table.proofs.TableFacts.{AreSplit, no_tag_more, one_tag_more}
 use Rattle.fw_column_bytes.proofs.rows.tags_of.Goals as goal
 
 pub loop-rest-init : goal.loop-rest-init

@@ -1,6 +1,6 @@
 use Rattle.std.proofs.Common.{length}
 use Rattle.std.specs.Prelude.{map, string_bytes}
-use Rattle.fw_columns.proofs.TableFacts.{AreSplit}
+use Rattle.fw_row_table.proofs.TableFacts.{AreSplit}
 use Rattle.fw_column_bytes.proofs.rows.tags_of.Given as goal
 
 abbrev pub invariant-loop-rest : goal.invariant-loop-rest

@@ -1,7 +1,7 @@
 use Rattle.std.proofs.Common.{◌≡◌, ◌∙◌, ◌<◌, suc, [], Some, length, ap, sym, arith}
 use Rattle.std.specs.Prelude.{string_bytes}
 use Rattle.std.proofs.lemmas.List.{get_or-map}
-use Rattle.fw_columns.specs.Table.{text_of, text_at}
+use Rattle.fw_row_table.specs.Table.{text_of, text_at}
 use Rattle.fw_column_bytes.proofs.rows.text_of.Goals as goal
 
 pub returns-in-Some : goal.returns-in-Some

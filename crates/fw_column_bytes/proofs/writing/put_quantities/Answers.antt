@@ -2,7 +2,7 @@ use Rattle.std.proofs.Common.{◌≡◌, ◌∙◌, append_assoc, ap, map}
 use Rattle.std.specs.Prelude.{is_some}
 use Rattle.std.proofs.lemmas.Simd.{map-map}
 use Rattle.fw_bytes.specs.Spelling.{signed64}
-use Rattle.fw_columns.specs.Table.{quantity_kept}
+use Rattle.fw_row_table.specs.Table.{quantity_kept}
 use Rattle.fw_column_bytes.specs.Spelling.{flag, quantities}
 use Rattle.fw_column_bytes.proofs.Copied.{copied}
 use Rattle.fw_column_bytes.proofs.writing.put_quantities.Goals as goal

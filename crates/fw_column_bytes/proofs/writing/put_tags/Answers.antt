@@ -1,8 +1,8 @@
 use Rattle.std.proofs.Common.{◌≡◌, ◌∙◌, ◌++◌, ◌/◌, ℕ, List, length, ap, sym, append_assoc, arith}
 use Rattle.std.proofs.lemmas.Option.{slice_get_within, get_or_from_slice_get}
 use Rattle.fw_bytes.specs.Spelling.{number32}
-use Rattle.fw_columns.specs.Lists.{lists_of}
-use Rattle.fw_columns.specs.Texts.{names_of}
+use Rattle.fw_row_table.specs.Lists.{lists_of}
+use Rattle.fw_row_table.specs.Texts.{names_of}
 use Rattle.fw_column_bytes.proofs.Copied.{codes, places_spelled, lists_spelled, lists_counted}
 use Rattle.fw_column_bytes.proofs.Written.{spelled_more, spelled_all}
 use Rattle.fw_column_bytes.proofs.writing.put_tags.Goals as goal

@@ -1,7 +1,7 @@
 use Rattle.std.proofs.Common.{◌≡◌, ◌++◌, take}
 use Rattle.std.specs.List.{flat_map}
-use Rattle.fw_columns.specs.Lists.{lists_of}
-use Rattle.fw_columns.specs.Texts.{names_of}
+use Rattle.fw_row_table.specs.Lists.{lists_of}
+use Rattle.fw_row_table.specs.Texts.{names_of}
 use Rattle.fw_column_bytes.proofs.Copied.{places_spelled}
 use Rattle.fw_column_bytes.proofs.writing.put_tags.Given as goal
 

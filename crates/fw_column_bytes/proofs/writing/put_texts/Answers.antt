@@ -1,7 +1,7 @@
 use Rattle.std.proofs.Common.{append_assoc}
 use Rattle.fw_bytes.specs.Spelling.{number32}
-use Rattle.fw_columns.specs.Codes.{text_code}
-use Rattle.fw_columns.specs.Texts.{names_of}
+use Rattle.fw_row_table.specs.Codes.{text_code}
+use Rattle.fw_row_table.specs.Texts.{names_of}
 use Rattle.fw_column_bytes.specs.Spelling.{texts}
 use Rattle.fw_column_bytes.proofs.Copied.{copied}
 use Rattle.fw_column_bytes.proofs.writing.put_texts.Goals as goal

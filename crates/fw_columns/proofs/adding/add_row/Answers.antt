@@ -1,8 +1,8 @@
 use Rattle.std.proofs.Common.{◌≡◌, ◌∙◌, ◌≤◌, ◌+◌, ◌*◌, length, ap, sym, refl, arith}
-use Rattle.fw_columns.specs.Lists.{tag_places}
-use Rattle.fw_columns.specs.Names.{place_of, with_text}
-use Rattle.fw_columns.specs.Table.{rows_of}
-use Rattle.fw_columns.specs.Texts.{with_texts, texts_of_tags}
+use Rattle.fw_row_table.specs.Lists.{tag_places}
+use Rattle.fw_row_table.specs.Names.{place_of, with_text}
+use Rattle.fw_row_table.specs.Table.{rows_of}
+use Rattle.fw_row_table.specs.Texts.{with_texts, texts_of_tags}
 use Rattle.fw_columns.proofs.AddFacts.{pushed_columns}
 use Rattle.fw_columns.proofs.JoinFacts.{codes_below}
 use Rattle.fw_columns.proofs.adding.add_row.Goals as goal

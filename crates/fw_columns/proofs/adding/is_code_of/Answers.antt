@@ -1,9 +1,9 @@
 use Rattle.std.proofs.Common.{◌≡◌, ◌∙◌, [], true, get_or, sym, ap, rules, arith}
 use Rattle.std.proofs.lemmas.Option.{slice_get_within, get_or_from_slice_get}
 use Rattle.std.specs.Cmp.Lexicographic.{bytes_decides}
-use Rattle.fw_columns.specs.Codes.{text_code}
-use Rattle.fw_columns.specs.Names.{place_of}
-use Rattle.fw_columns.proofs.NameFacts.{place_at}
+use Rattle.fw_row_table.specs.Codes.{text_code}
+use Rattle.fw_row_table.specs.Names.{place_of}
+use Rattle.fw_row_table.proofs.NameFacts.{place_at}
 use Rattle.fw_columns.proofs.adding.is_code_of.Goals as goal
 
 pub returns-in-Some : goal.returns-in-Some

@@ -1,7 +1,7 @@
 use Rattle.std.proofs.Common.{◌≤◌, ℤ, refl, subst, rules}
 use Rattle.std.specs.Prelude.{nat_abs}
 use Rattle.fw_money.specs.Amount.{most_nanos}
-use Rattle.fw_columns.specs.Table.{quantity_kept}
+use Rattle.fw_row_table.specs.Table.{quantity_kept}
 use Rattle.fw_columns.proofs.AddFacts.{last_is}
 use Rattle.fw_columns.proofs.adding.push_values.Goals as goal
 

@@ -1,8 +1,8 @@
 use Rattle.std.proofs.Common.{◌≡◌, ◌+◌, sym, rules, arith}
-use Rattle.fw_columns.specs.Codes.{text_code}
-use Rattle.fw_columns.specs.Names.{place_of}
-use Rattle.fw_columns.specs.Texts.{with_texts}
-use Rattle.fw_columns.proofs.TextFacts.{known_adds_nothing, with_text_takes_none}
+use Rattle.fw_row_table.specs.Codes.{text_code}
+use Rattle.fw_row_table.specs.Names.{place_of}
+use Rattle.fw_row_table.specs.Texts.{with_texts}
+use Rattle.fw_row_table.proofs.TextFacts.{known_adds_nothing, with_text_takes_none}
 use Rattle.fw_columns.proofs.adding.see_code.Goals as goal
 
 pub returns-then-is_code_of-clause-seen : goal.returns-then-is_code_of-clause-seen

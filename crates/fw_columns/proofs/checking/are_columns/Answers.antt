@@ -1,6 +1,6 @@
 use Rattle.std.proofs.Common.{◌≤◌, length, arith}
 use Rattle.fw_columns.specs.Parts.{lists_there}
-use Rattle.fw_columns.specs.Table.{most_column_rows}
+use Rattle.fw_row_table.specs.Table.{most_column_rows}
 use Rattle.fw_columns.proofs.PartColumns.{lists_within, some_rows, are_columns_of_rows}
 use Rattle.fw_columns.proofs.checking.are_columns.Goals as goal
 

@@ -1,7 +1,7 @@
 use Rattle.std.proofs.Common.{◌≤◌, ◌<◌, [], length, subst, sym, arith}
 use Rattle.std.proofs.lemmas.Option.{get_or_from_slice_get}
 use Rattle.fw_charge.specs.Tags.{longest_tag_text}
-use Rattle.fw_columns.specs.Names.{Text}
+use Rattle.fw_row_table.specs.Names.{Text}
 use Rattle.fw_columns.proofs.PartFacts.{all_more, all_taken}
 use Rattle.fw_columns.proofs.checking.are_sized.Goals as goal
 

@@ -6,7 +6,7 @@ use Rattle.fw_charge.specs.Codes.{category_code, class_code}
 use Rattle.fw_charge.specs.declared.category.Category.{Category}
 use Rattle.std.specs.Prelude.{Bool}
 use Rattle.fw_columns.specs.Parts.{IsPeriod, IsDiscountKept}
-use Rattle.fw_columns.specs.Table.{category_at, class_at, quantity_kept, quantity_of}
+use Rattle.fw_row_table.specs.Table.{category_at, class_at, quantity_kept, quantity_of}
 use Rattle.fw_columns.proofs.checking.has_values.Goals as goal
 
 pub returns : goal.returns

@@ -1,6 +1,6 @@
 use Rattle.std.proofs.Common.{ℕ, ◌<◌}
 use Rattle.std.specs.List.{flat_map, range_with_len}
-use Rattle.fw_columns.specs.declared.table.Table.{Table}
+use Rattle.fw_row_table.specs.declared.table.Table.{Table}
 use Rattle.fw_columns.specs.Parts.{HasValues, HaveSeen, texts_there}
 use Rattle.fw_columns.proofs.checking.have_rows.Given as goal
 

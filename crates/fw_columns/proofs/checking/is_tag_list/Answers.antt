@@ -1,9 +1,9 @@
 use Rattle.std.proofs.Common.{◌≡◌, ◌≤◌, ◌/◌, ◌%◌, List, length, map, arith}
 use Rattle.fw_bytes.proofs.Rising.{sorted_from_rise}
 use Rattle.fw_charge.specs.Tags.{most_tags}
-use Rattle.fw_columns.specs.Names.{Text}
-use Rattle.fw_columns.specs.Table.{tags_of}
-use Rattle.fw_columns.proofs.LendingFacts.{tags_counted}
+use Rattle.fw_row_table.specs.Names.{Text}
+use Rattle.fw_row_table.specs.Table.{tags_of}
+use Rattle.fw_row_table.proofs.LendingFacts.{tags_counted}
 use Rattle.fw_columns.proofs.PartFacts.{tags_sized}
 use Rattle.fw_columns.proofs.checking.is_tag_list.Goals as goal
 

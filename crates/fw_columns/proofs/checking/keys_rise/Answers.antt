@@ -5,10 +5,10 @@ use Rattle.std.proofs.lemmas.Bool.{and_from}
 use Rattle.std.proofs.lemmas.List.Elements.{All-drop}
 use Rattle.std.proofs.lemmas.Option.{get_or_from_slice_get}
 use Rattle.fw_bytes.specs.Order.{is_before, rise_from, rise}
-use Rattle.fw_columns.specs.Names.{Text}
-use Rattle.fw_columns.specs.Table.{tag_of, tags_of, text_at}
-use Rattle.fw_columns.proofs.ListFacts.{behind_two}
-use Rattle.fw_columns.proofs.TableFacts.{tags_step, tags_nowhere}
+use Rattle.fw_row_table.specs.Names.{Text}
+use Rattle.fw_row_table.specs.Table.{tag_of, tags_of, text_at}
+use Rattle.fw_row_table.proofs.ListFacts.{behind_two}
+use Rattle.fw_row_table.proofs.TableFacts.{tags_step, tags_nowhere}
 use Rattle.fw_columns.proofs.checking.keys_rise.Invariants.{AreRising}
 use Rattle.fw_columns.proofs.checking.keys_rise.Goals as goal
 

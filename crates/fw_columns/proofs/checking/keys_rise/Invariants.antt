@@ -3,8 +3,8 @@ use Rattle.std.specs.Prelude.{All}
 use denote.Shadow.{shadow}
 use denote.Text.{Utf8}
 use Rattle.fw_bytes.specs.Order.{rise_from, rise}
-use Rattle.fw_columns.specs.Names.{Text}
-use Rattle.fw_columns.specs.Table.{tags_of}
+use Rattle.fw_row_table.specs.Names.{Text}
+use Rattle.fw_row_table.specs.Table.{tags_of}
 use Rattle.fw_columns.proofs.checking.keys_rise.Given as goal
 
 -- where the keys that are left rise above the last one, all of them rise

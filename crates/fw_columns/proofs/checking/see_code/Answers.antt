@@ -1,6 +1,6 @@
 use Rattle.std.proofs.Common.{List, subst, sym}
 use Rattle.std.specs.Prelude.{IfSome}
-use Rattle.fw_columns.specs.Names.{Text}
+use Rattle.fw_row_table.specs.Names.{Text}
 use Rattle.fw_columns.specs.Parts.{HaveSeen}
 use Rattle.fw_columns.proofs.PartFacts.{seen_none, null_texts, code_texts}
 use Rattle.fw_columns.proofs.checking.see_code.Goals as goal

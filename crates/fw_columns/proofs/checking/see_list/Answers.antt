@@ -1,6 +1,6 @@
 use Rattle.std.proofs.Common.{get_or, map, take, subst, sym, ◌∷◌, []}
 use Rattle.std.proofs.lemmas.List.{map_more}
-use Rattle.fw_columns.specs.Table.{text_at}
+use Rattle.fw_row_table.specs.Table.{text_at}
 use Rattle.fw_columns.specs.Parts.{HaveSeen}
 use Rattle.fw_columns.proofs.PartFacts.{seen_none, seen_then}
 use Rattle.fw_columns.proofs.checking.see_list.Goals as goal

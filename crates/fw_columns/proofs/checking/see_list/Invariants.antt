@@ -1,5 +1,5 @@
 use Rattle.std.proofs.Common.{map, take}
-use Rattle.fw_columns.specs.Table.{text_at}
+use Rattle.fw_row_table.specs.Table.{text_at}
 use Rattle.fw_columns.specs.Parts.{HaveSeen}
 use Rattle.fw_columns.proofs.checking.see_list.Given as goal
 

@@ -1,5 +1,5 @@
 use Rattle.std.proofs.Common.{◌≡◌, ◌<◌, ◌+◌, ◌∷◌, [], ℕ, length, subst, sym, arith}
-use Rattle.fw_columns.specs.Table.{text_at}
+use Rattle.fw_row_table.specs.Table.{text_at}
 use Rattle.fw_columns.specs.Parts.{HaveSeen}
 use Rattle.fw_columns.proofs.PartFacts.{seen_again, seen_new}
 use Rattle.fw_columns.proofs.checking.see_place.Goals as goal

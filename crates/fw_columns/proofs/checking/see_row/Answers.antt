@@ -3,7 +3,7 @@ use Rattle.std.specs.Prelude.{IfSome, option_to_list}
 use Rattle.std.proofs.lemmas.List.{get_or_read}
 use Rattle.std.proofs.lemmas.Option.{get_or_from_slice_get}
 use Rattle.fw_columns.specs.Parts.{HaveSeen, texts_there}
-use Rattle.fw_columns.specs.Table.{text_at, text_of, list_at}
+use Rattle.fw_row_table.specs.Table.{text_at, text_of, list_at}
 use Rattle.fw_columns.proofs.PartFacts.{seen_in_turn}
 use Rattle.fw_columns.proofs.checking.see_row.Goals as goal
 

@@ -1,6 +1,6 @@
 use Rattle.std.proofs.Common.{◌∙◌, ◌<◌, ◌^◌, sym, subst, arith, length, List, ℕ}
 use Rattle.std.proofs.lemmas.List.Elements.{All-drop}
-use Rattle.fw_columns.proofs.ListFacts.{behind_two}
+use Rattle.fw_row_table.proofs.ListFacts.{behind_two}
 use Rattle.fw_columns.proofs.GroupFacts.{found_empty, found_value, found_later, found_nowhere}
 use Rattle.fw_columns.proofs.grouping.found_code.Invariants.{IsLeft}
 use Rattle.fw_columns.proofs.grouping.found_code.Goals as goal

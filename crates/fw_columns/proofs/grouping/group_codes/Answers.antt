@@ -2,10 +2,10 @@ use Rattle.std.proofs.Common.{◌≡◌, ◌∙◌, ◌<◌, ◌++◌, ℕ, [], 
 use Rattle.std.specs.Prelude.{All}
 use Rattle.std.proofs.lemmas.List.{length-map}
 use Rattle.std.proofs.lemmas.List.Elements.{All-same}
-use Rattle.fw_columns.specs.Names.{place_of}
+use Rattle.fw_row_table.specs.Names.{place_of}
 use Rattle.fw_columns.specs.Joining.{replaced}
 use Rattle.fw_columns.specs.Grouping.{found_code}
-use Rattle.fw_columns.specs.Table.{rows_of}
+use Rattle.fw_row_table.specs.Table.{rows_of}
 use Rattle.fw_columns.proofs.JoinFacts.{tags_within}
 use Rattle.fw_columns.proofs.GroupFacts.{groups_shown, lists_few}
 use Rattle.fw_columns.proofs.grouping.group_codes.Goals as goal

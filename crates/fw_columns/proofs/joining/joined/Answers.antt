@@ -2,9 +2,9 @@ use Rattle.std.proofs.Common.{◌≤◌, ◌*◌, ◌^◌, ◌∙◌, ap, subst,
 use Rattle.std.proofs.lemmas.List.Elements.{All-same}
 use Rattle.std.proofs.lemmas.List.{length-map}
 use Rattle.fw_columns.specs.Joining.{AreCodedOf, AreListsOf}
-use Rattle.fw_columns.specs.Names.{place_of}
-use Rattle.fw_columns.specs.Table.{rows_of}
-use Rattle.fw_columns.specs.Texts.{most_texts}
+use Rattle.fw_row_table.specs.Names.{place_of}
+use Rattle.fw_row_table.specs.Table.{rows_of}
+use Rattle.fw_row_table.specs.Texts.{most_texts}
 use Rattle.fw_columns.proofs.JoinFacts.{codes_below, lists_below, joined_columns}
 use Rattle.fw_columns.proofs.joining.joined.Goals as goal
 

@@ -2,11 +2,11 @@ use Rattle.std.proofs.Common.{◌≡◌, ◌∙◌, ◌<◌, ◌++◌, ℕ, List
 use Rattle.std.specs.Prelude.{All}
 use Rattle.std.proofs.lemmas.List.{length-map}
 use Rattle.std.proofs.lemmas.List.Elements.{All-same}
-use Rattle.fw_columns.specs.Names.{place_of}
-use Rattle.fw_columns.specs.Texts.{with_texts}
+use Rattle.fw_row_table.specs.Names.{place_of}
+use Rattle.fw_row_table.specs.Texts.{with_texts}
 use Rattle.fw_columns.specs.Joining.{replaced}
-use Rattle.fw_columns.proofs.TextFacts.{AreKnown, AreKnown-seen}
-use Rattle.fw_columns.proofs.ListFacts.{places_kept}
+use Rattle.fw_row_table.proofs.TextFacts.{AreKnown, AreKnown-seen}
+use Rattle.fw_row_table.proofs.ListFacts.{places_kept}
 use Rattle.fw_columns.proofs.joining.joined_lists.Goals as goal
 
 pub see_lists-requires-clause-few : goal.see_lists-requires-clause-few

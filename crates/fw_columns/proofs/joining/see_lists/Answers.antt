@@ -2,10 +2,10 @@ use Rattle.std.proofs.Common.{◌≡◌, ◌∙◌, ◌≤◌, ◌++◌, ◌<◌
 use Rattle.std.specs.Prelude.{All}
 use Rattle.std.proofs.lemmas.List.{map_more, take_all}
 use Rattle.std.proofs.lemmas.Option.{slice_get_within, get_or_from_slice_get}
-use Rattle.fw_columns.specs.Names.{with_text, place_of}
-use Rattle.fw_columns.specs.Texts.{with_texts}
+use Rattle.fw_row_table.specs.Names.{with_text, place_of}
+use Rattle.fw_row_table.specs.Texts.{with_texts}
 use Rattle.fw_columns.specs.Joining.{replaced}
-use Rattle.fw_columns.proofs.ListFacts.{AreListed, listed_none, listed_more}
+use Rattle.fw_row_table.proofs.ListFacts.{AreListed, listed_none, listed_more}
 use Rattle.fw_columns.proofs.joining.see_lists.Goals as goal
 
 pub loop-place-init : goal.loop-place-init

@@ -1,6 +1,6 @@
 use Rattle.std.proofs.Common.{◌+◌, ◌≤◌, ℕ, List, length, map, take}
 use Rattle.fw_columns.specs.Joining.{replaced}
-use Rattle.fw_columns.proofs.ListFacts.{AreListed}
+use Rattle.fw_row_table.proofs.ListFacts.{AreListed}
 use Rattle.fw_columns.proofs.joining.see_lists.Given as goal
 
 -- the lists once the first of the others were seen, and the place of each of these

@@ -1,5 +1,5 @@
 use Rattle.std.proofs.Common.{◌≡◌, ◌∙◌, ◌∷◌, ap, arith, length}
-use Rattle.fw_columns.specs.Lending.{tag_lent, tags_lent, tags_split}
+use Rattle.fw_row_table.specs.Lending.{tag_lent, tags_lent, tags_split}
 use Rattle.fw_dump.proofs.values.push_tags.Goals as goal
 
 pub loop-tag-smaller : goal.loop-tag-smaller

@@ -1,5 +1,5 @@
 use Rattle.std.proofs.Common.{length}
-use Rattle.fw_columns.specs.Lending.{tags_lent}
+use Rattle.fw_row_table.specs.Lending.{tags_lent}
 use Rattle.fw_dump.proofs.values.push_tags.Given as goal
 
 -- each turn takes a tag

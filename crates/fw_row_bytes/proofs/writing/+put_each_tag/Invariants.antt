@@ -1,5 +1,5 @@
 use Rattle.std.proofs.Common.{length}
-use Rattle.fw_columns.specs.Lending.{tags_lent}
+use Rattle.fw_row_table.specs.Lending.{tags_lent}
 use Rattle.fw_row_bytes.proofs.writing.+put_each_tag.Given as goal
 
 abbrev pub decreases-put_each_tag : goal.decreases-put_each_tag

@@ -1,7 +1,7 @@
 use Rattle.std.proofs.Common.{◌≡◌, ◌∙◌, ◌<◌, ◌≤◌, ◌++◌, [], ◌∷◌, ℕ, List, length, get_or, sym, ap, subst, arith}
 use Rattle.std.proofs.lemmas.List.{get_or_read}
 use Rattle.fw_charge.specs.Charge.{Charge}
-use Rattle.fw_columns.specs.Names.{Text, place_of, with_text}
+use Rattle.fw_row_table.specs.Names.{Text, place_of, with_text}
 use Rattle.fw_columns.specs.RowViews.{charge_with}
 use Rattle.fw_rows.specs.Parts.{texts_of}
 use Rattle.fw_rows.specs.declared.column.Column.TheVariants as column

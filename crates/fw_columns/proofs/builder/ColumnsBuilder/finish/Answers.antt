@@ -1,6 +1,6 @@
 use Rattle.std.proofs.Common.{◌≡◌, ◌∙◌, length, ap, arith}
-use Rattle.fw_columns.specs.Table.{rows_of}
-use Rattle.fw_columns.proofs.TableFacts.{shown, columns_shown}
+use Rattle.fw_row_table.specs.Table.{rows_of}
+use Rattle.fw_row_table.proofs.TableFacts.{shown, columns_shown}
 use Rattle.fw_columns.proofs.builder.ColumnsBuilder.finish.Goals as goal
 
 pub of_table-requires-clause-some : goal.of_table-requires-clause-some

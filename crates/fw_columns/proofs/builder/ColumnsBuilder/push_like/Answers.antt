@@ -1,6 +1,6 @@
 use Rattle.std.proofs.Common.{◌∙◌, ◌++◌, [], ◌∷◌}
 use Rattle.fw_columns.specs.RowViews.{charge_with, tags_at}
-use Rattle.fw_columns.proofs.TableFacts.{shown, columns_shown}
+use Rattle.fw_row_table.proofs.TableFacts.{shown, columns_shown}
 use Rattle.fw_columns.proofs.builder.ColumnsBuilder.push_like.Goals as goal
 
 pub invariant_of-self : goal.invariant_of-self

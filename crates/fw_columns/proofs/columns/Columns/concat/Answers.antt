@@ -1,6 +1,6 @@
 use Rattle.std.proofs.Common.{◌≡◌, ◌++◌, ◌∙◌, ap, length, length-append, ◌<◌, arith}
-use Rattle.fw_columns.specs.Table.{rows_of}
-use Rattle.fw_columns.proofs.TableFacts.{shown, columns_shown}
+use Rattle.fw_row_table.specs.Table.{rows_of}
+use Rattle.fw_row_table.proofs.TableFacts.{shown, columns_shown}
 use Rattle.fw_columns.proofs.columns.Columns.concat.Goals as goal
 
 pub joined-requires-clause-few : goal.joined-requires-clause-few

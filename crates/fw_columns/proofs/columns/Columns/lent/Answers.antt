@@ -1,7 +1,7 @@
 use Rattle.std.proofs.Common.{◌<◌, List, length, sym, subst}
 use Rattle.fw_charge.specs.Charge.{Charge}
-use Rattle.fw_columns.specs.Table.{rows_of}
-use Rattle.fw_columns.proofs.RowFacts.{has_row, row_there, row_charge}
+use Rattle.fw_row_table.specs.Table.{rows_of}
+use Rattle.fw_row_table.proofs.RowFacts.{has_row, row_there, row_charge}
 use Rattle.fw_columns.proofs.columns.Columns.lent.Goals as goal
 
 pub lent_tags-tags-requires : goal.lent_tags-tags-requires

@@ -1,8 +1,8 @@
 use Rattle.std.proofs.Common.{◌≤◌, List, length, All, subst}
 use Rattle.fw_charge.specs.Tags.{longest_tag_text}
 use Rattle.fw_charge.specs.Charge.{Charge}
-use Rattle.fw_columns.specs.Table.{rows_of}
-use Rattle.fw_columns.specs.Texts.{names_of}
+use Rattle.fw_row_table.specs.Table.{rows_of}
+use Rattle.fw_row_table.specs.Texts.{names_of}
 use Rattle.fw_columns.proofs.KeptFacts.{names_sized}
 use Rattle.fw_columns.proofs.columns.Columns.name_count.Goals as goal
 

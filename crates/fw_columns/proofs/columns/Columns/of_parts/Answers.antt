@@ -1,10 +1,10 @@
 use Rattle.std.proofs.Common.{◌≡◌, ◌∙◌, ℕ, List, sym, subst, map}
 use Rattle.fw_charge.specs.Charge.{Charge}
-use Rattle.fw_columns.specs.Codes.{text_code}
-use Rattle.fw_columns.specs.Lists.{lists_of}
-use Rattle.fw_columns.specs.Names.{Text}
+use Rattle.fw_row_table.specs.Codes.{text_code}
+use Rattle.fw_row_table.specs.Lists.{lists_of}
+use Rattle.fw_row_table.specs.Names.{Text}
 use Rattle.fw_columns.specs.PartsView.{AreParts}
-use Rattle.fw_columns.specs.Table.{id_kept}
+use Rattle.fw_row_table.specs.Table.{id_kept}
 use Rattle.fw_columns.proofs.PartFacts.{numbered_there}
 use Rattle.fw_columns.proofs.columns.Columns.of_parts.Goals as goal
 

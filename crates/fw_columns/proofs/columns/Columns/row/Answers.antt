@@ -1,7 +1,7 @@
 use Rattle.std.proofs.Common.{◌<◌, List, length, sym, subst}
 use Rattle.fw_charge.specs.Charge.{Charge, IsCharge}
-use Rattle.fw_columns.specs.Table.{rows_of}
-use Rattle.fw_columns.proofs.RowFacts.{has_row, row_there, row_charge}
+use Rattle.fw_row_table.specs.Table.{rows_of}
+use Rattle.fw_row_table.proofs.RowFacts.{has_row, row_there, row_charge}
 use Rattle.fw_columns.proofs.columns.Columns.row.Goals as goal
 
 pub fields_at-requires : goal.fields_at-requires

@@ -1,8 +1,8 @@
 use Rattle.std.proofs.Common.{◌≡◌, ◌∙◌, sym, ap, subst, ℕ, List, map}
 use Rattle.fw_charge.specs.Charge.{Charge}
-use Rattle.fw_columns.specs.Texts.{names_of}
+use Rattle.fw_row_table.specs.Texts.{names_of}
 use Rattle.fw_columns.specs.Codes.{tag_code, AgreeWithGroups}
-use Rattle.fw_columns.specs.Table.{rows_of}
+use Rattle.fw_row_table.specs.Table.{rows_of}
 use Rattle.fw_columns.proofs.GroupFacts.{groups_agree}
 use Rattle.fw_columns.proofs.columns.Columns.tag_codes.Goals as goal
 

@@ -3,13 +3,13 @@ use Rattle.std.proofs.lemmas.List.{get_or_read}
 use Rattle.std.proofs.lemmas.Option.{get_or_from_slice_get}
 use Rattle.fw_charge.specs.Charge.{Charge}
 use Rattle.fw_charge.specs.Tags.{most_tags}
-use Rattle.fw_columns.specs.Lists.{lists_of}
-use Rattle.fw_columns.specs.Names.{Text}
-use Rattle.fw_columns.specs.Reading.{HasRow}
-use Rattle.fw_columns.specs.Table.{rows_of, list_at, tags_of}
-use Rattle.fw_columns.specs.Texts.{names_of}
-use Rattle.fw_columns.proofs.LendingFacts.{tags_counted}
-use Rattle.fw_columns.proofs.RowFacts.{has_row}
+use Rattle.fw_row_table.specs.Lists.{lists_of}
+use Rattle.fw_row_table.specs.Names.{Text}
+use Rattle.fw_row_table.specs.Reading.{HasRow}
+use Rattle.fw_row_table.specs.Table.{rows_of, list_at, tags_of}
+use Rattle.fw_row_table.specs.Texts.{names_of}
+use Rattle.fw_row_table.proofs.LendingFacts.{tags_counted}
+use Rattle.fw_row_table.proofs.RowFacts.{has_row}
 use Rattle.fw_columns.proofs.KeptFacts.{list_there}
 use Rattle.fw_columns.proofs.columns.Columns.tag_places.Goals as goal
 use Rattle.fw_columns.proofs.columns.Columns.tag_places.Goals.{After-table-kept, After-list}

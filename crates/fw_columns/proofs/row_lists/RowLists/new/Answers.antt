@@ -1,5 +1,5 @@
 use Rattle.std.proofs.Common.{refl, arith}
-use Rattle.fw_columns.specs.Texts.{with_texts}
+use Rattle.fw_row_table.specs.Texts.{with_texts}
 use Rattle.fw_columns.proofs.row_lists.RowLists.new.Goals as goal
 
 pub invariant_of-result : goal.invariant_of-result

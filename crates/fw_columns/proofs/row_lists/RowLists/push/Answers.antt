@@ -1,6 +1,6 @@
 use Rattle.std.proofs.Common.{◌≡◌, ◌+◌, ◌≤◌, ◌∷◌, [], ◌++◌, ◌∙◌, ap, sym, subst, refl, length, length-append, arith}
-use Rattle.fw_columns.specs.Names.{place_of}
-use Rattle.fw_columns.specs.Texts.{with_texts}
+use Rattle.fw_row_table.specs.Names.{place_of}
+use Rattle.fw_row_table.specs.Texts.{with_texts}
 use Rattle.fw_columns.specs.Parts.{AreNumbered, lists_there}
 use Rattle.fw_columns.proofs.PartFacts.{numbered_there, numbered_more}
 use Rattle.fw_columns.proofs.row_lists.RowLists.push.Goals as goal

@@ -2,7 +2,7 @@ use Rattle.std.proofs.Common.{◌≡◌, ◌∙◌, ◌++◌, [], Bool, List, Ma
 use Rattle.std.specs.List.{list_any}
 use Rattle.std.proofs.lemmas.Simd.{map-map}
 use Rattle.fw_charge.specs.Charge.{Charge, hour_of}
-use Rattle.fw_columns.specs.Texts.{names_of}
+use Rattle.fw_row_table.specs.Texts.{names_of}
 use Rattle.fw_query.specs.CodeSums.{code_cost}
 use Rattle.fw_query.specs.Hours.{is_marked, row_cost, rows_marked}
 use Rattle.fw_query.specs.Sums.{AddsLine, Counts}

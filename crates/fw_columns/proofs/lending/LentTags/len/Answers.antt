@@ -1,7 +1,0 @@
-use Rattle.std.proofs.Common.{◌∙◌, ap, sym, length}
-use Rattle.fw_columns.specs.Lending.{tags_lent}
-use Rattle.fw_columns.proofs.LendingFacts.{tags_counted}
-use Rattle.fw_columns.proofs.lending.LentTags.len.Goals as goal
-
-pub returns-in-Listed : goal.returns-in-Listed
-returns-in-Listed c = tags_counted c.in-Listed.names.now c.in-Listed.list.now ∙ ap (λ tags. length (tags_lent tags)) (sym c.in-Listed.is)

@@ -1,0 +1,6 @@
+pub mod NameFacts
+pub mod TextFacts
+pub mod ListFacts
+pub mod TableFacts
+pub mod RowFacts
+pub mod LendingFacts

@@ -1,0 +1,107 @@
+-- Facts on names: where a text stands among them, and what a text adds to them.
+use Rattle.std.proofs.Common.{◌≡◌, ℕ, zero, suc, ◌+◌, ◌<◌, Bool, true, false, cond, eqb, List, [], ◌∷◌, ◌++◌, length, map, get_or, refl, sym, ap, ◌∙◌, true≢false, arith, if◌then◌else◌, Some, None, position}
+use Rattle.std.specs.List.{list_any, position_or_len, IsDistinct, AllByRecursion}
+use Rattle.std.specs.Str.{bytes_eq}
+use Rattle.std.specs.Cmp.Lexicographic.{bytes_decides}
+use Rattle.std.proofs.lemmas.List.Sums.{passes_at_first}
+use Rattle.std.proofs.lemmas.List.Folds.{position_or_len_push}
+use Rattle.std.proofs.lemmas.List.{map_push, length-map}
+use Rattle.fw_row_table.specs.Names.{Text, AreDistinct, place_of, with_text}
+
+-- a test of a list's images
+pub position_or_len-map : {X : Type 0} (f : X → Text) (p : Text → Bool) (xs : List X) → position_or_len (λ x. p (f x)) xs ≡ position_or_len p (map f xs)
+position_or_len-map f p [] = refl
+position_or_len-map f p (x ∷ xs) = rw (position_or_len-map f p xs) refl
+
+pub position-map : {X : Type 0} (f : X → Text) (p : Text → Bool) (xs : List X) → position (λ x. p (f x)) xs ≡ position p (map f xs)
+position-map f p xs = rw (position_or_len-map f p xs, length-map xs f) refl
+
+pub list_any-map : {X : Type 0} (f : X → Text) (p : Text → Bool) (xs : List X) → list_any (λ x. p (f x)) xs ≡ list_any p (map f xs)
+list_any-map f p [] = refl
+list_any-map f p (x ∷ xs) = rw (list_any-map f p xs) refl
+
+pub distinct_images : {X : Type 0} (f : X → Text) (xs : List X) → IsDistinct (λ x y. bytes_eq (f x) (f y)) xs → AreDistinct (map f xs)
+unfolding IsDistinct
+distinct_images f [] h = tt
+distinct_images {X} f (x ∷ xs) h = (differ xs h.0, distinct_images f xs h.1)
+  where
+    differ : (ys : List X) → AllByRecursion (λ y. bytes_eq (f x) (f y) ≡ false) ys → AllByRecursion (λ t. bytes_eq (f x) t ≡ false) (map f ys)
+    differ [] a = tt
+    differ (y ∷ ys) a = (a.0, differ ys a.1)
+
+-- a text that is there has a place, one that isn't has none
+pub place-there : (p : Text → Bool) (names : List Text) → list_any p names ≡ true → position_or_len p names < length names
+place-there p [] h = absurd (true≢false (sym h))
+place-there p (x ∷ xs) h = by (p x) refl (place-there p xs)
+  where
+    by : (b : Bool) → p x ≡ b → (list_any p xs ≡ true → position_or_len p xs < length xs) → position_or_len p (x ∷ xs) < length (x ∷ xs)
+    by true e rest = rw e (omega arith)
+    by false e rest = rw e (let there : position_or_len p xs < length xs = rest (rw e at h) in omega arith)
+
+pub place-missing : (p : Text → Bool) (names : List Text) → list_any p names ≡ false → position_or_len p names ≡ length names
+place-missing p [] h = refl
+place-missing p (x ∷ xs) h = by (p x) refl (place-missing p xs)
+  where
+    by : (b : Bool) → p x ≡ b → (list_any p xs ≡ false → position_or_len p xs ≡ length xs) → position_or_len p (x ∷ xs) ≡ length (x ∷ xs)
+    by true e rest = absurd (true≢false (rw e at h))
+    by false e rest = rw e (let missing : position_or_len p xs ≡ length xs = rest (rw e at h) in omega arith)
+
+-- a place stays where more names come behind
+pub place-kept : (p : Text → Bool) (names more : List Text) → position_or_len p names < length names → position_or_len p (names ++ more) ≡ position_or_len p names
+place-kept p [] more h = absurd (omega arith)
+place-kept p (x ∷ xs) more h = by (p x) refl (place-kept p xs more)
+  where
+    by : (b : Bool) → p x ≡ b → (position_or_len p xs < length xs → position_or_len p (xs ++ more) ≡ position_or_len p xs) → position_or_len p (x ∷ (xs ++ more)) ≡ position_or_len p (x ∷ xs)
+    by true e rest = rw e refl
+    by false e rest = rw e (let there : position_or_len p xs < length xs = (let k = rw e at h in omega (arith, k)) in ap (λ n. 1 + n) (rest there))
+
+-- the name at a text's place is the text
+pub text_at_place : (names : List Text) (text d : Text) → place_of names text < length names → get_or names (place_of names text) d ≡ text
+unfolding place_of
+text_at_place names text d h = sym ((bytes_decides text _).0 (passes_at_first (bytes_eq text) names d h))
+
+-- names with a text that was found among them, and with one that wasn't
+picked : (b : Bool) (n i : ℕ) → cond b (Some n) None ≡ Some i → i ≡ n
+picked true n i e = cc
+picked false n i e = cc
+
+pub found_text : {X : Type 0} (f : X → Text) (keys : List X) (text : Text) (i : ℕ) → position (λ x. bytes_eq text (f x)) keys ≡ Some i → list_any (λ x. bytes_eq text (f x)) keys ≡ true
+    → (map f keys ≡ with_text (map f keys) text) × (i ≡ place_of (map f keys) text)
+unfolding with_text place_of
+found_text f keys text i at there = (rw (← list_any-map f (bytes_eq text) keys, there) refl, picked _ _ i at ∙ position_or_len-map f (bytes_eq text) keys)
+
+either : (b : Bool) (n : ℕ) → n ≡ cond b (n + 0) n
+either true n = omega arith
+either false n = refl
+
+-- the place of a text that isn't there
+pub missing_text : {X : Type 0} (f : X → Text) (keys : List X) (text : Text) → list_any (λ x. bytes_eq text (f x)) keys ≡ false → length keys ≡ place_of (map f keys) text
+unfolding place_of
+missing_text f keys text missing = sym (length-map keys f) ∙ sym (place-missing (bytes_eq text) (map f keys) (sym (list_any-map f (bytes_eq text) keys) ∙ missing))
+
+-- a new text stands behind the names
+pub at_its_end : (names : List Text) (text : Text) → list_any (bytes_eq text) names ≡ false → position_or_len (bytes_eq text) (names ++ text ∷ []) ≡ length names
+at_its_end names text gone = rw (position_or_len_push (bytes_eq text) names text, place-missing (bytes_eq text) names gone, (bytes_decides text text).1 refl) (sym (either (eqb (length names) (length names)) (length names)))
+
+pub new_text : {X : Type 0} (f : X → Text) (keys : List X) (key : X) (text : Text) → f key ≡ text → list_any (λ x. bytes_eq text (f x)) keys ≡ false
+    → (map f (if list_any (λ x. bytes_eq (f key) (f x)) keys then keys else keys ++ key ∷ []) ≡ with_text (map f keys) text) × (length keys ≡ place_of (with_text (map f keys) text) text)
+unfolding with_text place_of
+new_text f keys key text same missing =
+    let gone : list_any (bytes_eq text) (map f keys) ≡ false = sym (list_any-map f (bytes_eq text) keys) ∙ missing in
+    (rw (same, missing, gone, map_push f keys key, same) refl, rw gone (sym (length-map keys f) ∙ sym (at_its_end (map f keys) text gone)))
+
+-- the place of a text that stands among distinct names
+pub place_at : (names : List Text) (i : ℕ) (d : Text) → AreDistinct names → i < length names → place_of names (get_or names i d) ≡ i
+unfolding place_of IsDistinct
+place_at [] i d h lt = absurd (omega arith)
+place_at (x ∷ xs) zero d h lt = rw ((bytes_decides x x).1 refl) refl
+place_at (x ∷ xs) (suc i) d h lt = let next : 1 + i ≡ suc i = omega arith in rw (other xs i (omega arith) h.0) (ap (λ n. 1 + n) (place_at xs i d h.1 (omega arith)) ∙ next)
+  where
+    other : (ys : List Text) (k : ℕ) → k < length ys → AllByRecursion (λ y. bytes_eq x y ≡ false) ys → bytes_eq (get_or ys k d) x ≡ false
+    other [] k lt all = absurd (omega arith)
+    other (y ∷ ys) zero lt all = by (bytes_eq y x) refl
+      where
+        by : (b : Bool) → bytes_eq y x ≡ b → bytes_eq y x ≡ false
+        by true e = absurd (true≢false (sym ((bytes_decides x y).1 (sym ((bytes_decides y x).0 e))) ∙ all.0))
+        by false e = e
+    other (y ∷ ys) (suc k) lt all = other ys k (omega arith) all.1

@@ -1,0 +1,21 @@
+//! The table that charge rows are kept in by column, each of their texts and each of their lists of tags once.
+//!
+//! A table lends its rows: a lent row has its texts and tags where the table keeps them, and knows how many bytes it is written in.
+#![tactic(auto)]
+
+mod codes;
+mod lending;
+mod lengths;
+mod lists;
+mod names;
+mod naming;
+mod reading;
+mod table;
+
+pub use codes::quantity_of;
+pub use lending::{LentDiscount, LentRow, LentTag, LentTags, lent_row, lent_tags};
+pub use lists::Lists;
+pub use names::Names;
+pub use naming::{joined_names, places_in, see_tags};
+pub use reading::{amount_at, category_at, class_at, fields_at};
+pub use table::Table;
