@@ -227,17 +227,3 @@ pub numbered_more : (lists now : List (List ℕ)) (codes more : List ℕ) (xs : 
 numbered_more lists now codes more xs list h is pushed =
     let listed = listed_more [] lists codes xs (record { seen = h.seen; places = h.places }) now list (place_of now list) more is refl pushed in
     record { seen = listed.seen; places = listed.places }
-
--- ---- texts that are there once
-
--- a text whose place is behind the names is new
-pub text_is_new : (names : List Text) (t : Text) (code : ℕ) → code ≡ place_of (with_text names t) t → code ≡ length names → with_text names t ≡ names ++ t ∷ []
-unfolding with_text place_of
-text_is_new names t code is end = by (list_any (bytes_eq t) names) refl
-  where
-    by : (b : Bool) → list_any (bytes_eq t) names ≡ b → with_text names t ≡ names ++ t ∷ []
-    by true e =
-        let below : position_or_len (bytes_eq t) names < length names = place-there (bytes_eq t) names e in
-        let same : code ≡ position_or_len (bytes_eq t) names = rw e at is in
-        absurd (omega (arith, below, same, end))
-    by false e = rw e refl

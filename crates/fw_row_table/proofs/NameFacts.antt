@@ -105,3 +105,15 @@ place_at (x ∷ xs) (suc i) d h lt = let next : 1 + i ≡ suc i = omega arith in
         by true e = absurd (true≢false (sym ((bytes_decides x y).1 (sym ((bytes_decides y x).0 e))) ∙ all.0))
         by false e = e
     other (y ∷ ys) (suc k) lt all = other ys k (omega arith) all.1
+
+-- a text whose place is behind the names is new
+pub text_is_new : (names : List Text) (t : Text) (code : ℕ) → code ≡ place_of (with_text names t) t → code ≡ length names → with_text names t ≡ names ++ t ∷ []
+unfolding with_text place_of
+text_is_new names t code is end = by (list_any (bytes_eq t) names) refl
+  where
+    by : (b : Bool) → list_any (bytes_eq t) names ≡ b → with_text names t ≡ names ++ t ∷ []
+    by true e =
+        let below : position_or_len (bytes_eq t) names < length names = place-there (bytes_eq t) names e in
+        let same : code ≡ position_or_len (bytes_eq t) names = rw e at is in
+        absurd (omega (arith, below, same, end))
+    by false e = rw e refl

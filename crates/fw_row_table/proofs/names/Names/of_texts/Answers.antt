@@ -1,7 +1,7 @@
 use Rattle.std.proofs.Common.{◌≡◌, ◌<◌, ◌∙◌, ◌++◌, ◌∷◌, [], get_or, length, map, string_bytes, sym, ap, arith}
 use Rattle.std.proofs.lemmas.List.{length-map, length-take-le, take_more, get_or-map}
 use Rattle.fw_row_table.specs.Names.{place_of, with_text}
-use Rattle.fw_row_table.proofs.PartFacts.{text_is_new}
+use Rattle.fw_row_table.proofs.NameFacts.{text_is_new}
 use Rattle.fw_row_table.proofs.names.Names.of_texts.Goals as goal
 
 pub loop-place-preserved : goal.loop-place-preserved
