@@ -6,7 +6,7 @@
                               commit's hash picks
     tools/gate.py --all       tries every edit
     tools/gate.py --program   tries none: proves and builds focusd and the crates that it stands on, and no more
-    tools/gate.py --list      says which edits are due, and runs nothing
+    tools/gate.py --list      says which edits are due and what they will cost about, and runs nothing
 
 Every run proves every crate and its tests, runs them, and prints what each crate cost. It proves from nothing, but for what `rt ci` has passed on this
 machine, of the same files over the same libraries: that it takes as it is, and says so. The edits alone are
@@ -43,6 +43,8 @@ LANDING = "tools/last-landing"
 PROGRAMS = ("focusd", "fw_simulate")
 # The crates that did not change are tried in so many parts, one a run.
 PARTS = 8
+# What the edits of each crate cost: lines `crate first further`, in seconds of the processor. It says more in its head.
+COSTS = "tools/edit-costs"
 # A line of `rt ci` that says no more than that all is well with one item.
 ITEM = re.compile(r"(fn|struct|enum|union|impl|trait|type|const|static) \S.*: (proved|assumed)$|statements |crate .*: modules ")
 
@@ -167,14 +169,40 @@ def is_turned(top, edit, files):
     return any(path in turned or path.startswith(f"{crate}/specs/") for path in files)
 
 
-def part_of(counts, commit):
-    """An eighth of the crates by their number of edits, which the commit's hash picks: eight picks see them all."""
+def read_costs(top):
+    """What the first step of each crate's edits costs, and each further one; of no crate where there is no such file."""
+    try:
+        with open(os.path.join(top, COSTS), encoding="utf-8") as file:
+            lines = [line.split() for line in file if line.strip() and not line.startswith("#")]
+        return {crate: (float(first), float(further)) for crate, first, further in lines}
+    except FileNotFoundError:
+        return {}
+    except ValueError as error:
+        raise GateError(f"{COSTS} can't be read: {error}") from error
+
+
+def costs_of(counts, known):
+    """What so many edits of each crate cost, in seconds of the processor. A crate that isn't known costs the mean of those that are."""
+    mean = [sum(column) / len(known) for column in zip(*known.values())] or [1, 1]
+    def cost(crate):
+        first, further = known.get(crate, mean)
+        return first + (counts[crate] + 1) * further
+    return {crate: cost(crate) for crate in counts if counts[crate]}
+
+
+def parts_of(costs):
+    """The crates in eighths that cost about as much: the dearest first, each to the eighth that costs least so far."""
     parts, loads = [[] for _ in range(PARTS)], [0] * PARTS
-    for crate in sorted(counts, key=lambda crate: (-counts[crate], crate)):
+    for crate in sorted(costs, key=lambda crate: (-costs[crate], crate)):
         lightest = loads.index(min(loads))
         parts[lightest].append(crate)
-        loads[lightest] += counts[crate]
-    return set(parts[int(commit[:8], 16) % PARTS])
+        loads[lightest] += costs[crate]
+    return parts
+
+
+def part_of(costs, commit):
+    """An eighth of the crates by what their edits cost, which the commit's hash picks: eight picks see them all."""
+    return set(parts_of(costs)[int(commit[:8], 16) % PARTS])
 
 
 @dataclass
@@ -211,7 +239,7 @@ def choose(top, files, kit, tries_all):
     head = output_of(["git", "rev-parse", "HEAD"], top)
     if head is None:
         raise GateError("git names no commit")
-    part = part_of(counts, head)
+    part = part_of(costs_of(counts, read_costs(top)), head)
     turned = {path for path in edits if is_turned(top, path, changes.files)}
     chosen = {path for path in edits if crate_of(path) in part} | turned | changes.edits
     changed = {crate_of(path) for path in turned}
@@ -219,13 +247,15 @@ def choose(top, files, kit, tries_all):
     return Choice(reasons, chosen, f"the last full run was of {record.commit[:12]}, on {record.date}, and the last landing of {base[:12]}")
 
 
-def show_choice(counts, choice):
+def show_choice(counts, choice, known):
     names = lambda some: " ".join(some) or "none"
     tried = edit_counts(choice.edits)
     print(f"must-fail edits: {len(choice.edits)} of {sum(counts.values())}, of {len(tried)} of {len(counts)} crates; {choice.why}")
     print(f"  tried: {names(f'{crate} ({choice.reasons[crate]}, {tried[crate]})' for crate in counts if crate in tried)}")
     left = {crate: count - tried.get(crate, 0) for crate, count in counts.items()}
-    print(f"  left: {names(f'{crate} ({count})' for crate, count in left.items() if count)}", flush=True)
+    print(f"  left: {names(f'{crate} ({count})' for crate, count in left.items() if count)}")
+    if known:
+        print(f"  estimated by {COSTS}: {sum(costs_of(tried, known).values()) / 60:.0f} processor minutes for these edits", flush=True)
 
 
 def copy_tree(top, to, crates, edits):
@@ -295,7 +325,7 @@ def main():
     which = parser.add_mutually_exclusive_group()
     which.add_argument("--all", action="store_true", help="try every must-fail edit")
     which.add_argument("--program", action="store_true", help="prove and build focusd, and try no edit")
-    which.add_argument("--list", action="store_true", help="say which edits are due, and run nothing")
+    which.add_argument("--list", action="store_true", help="say which edits are due and what they will cost about, and run nothing")
     parser.add_argument("--top", default=TOP, metavar="FOLDER", help="the repository (default: this one)")
     options = parser.parse_args()
     top = os.path.abspath(options.top)
@@ -310,7 +340,7 @@ def main():
         if not options.program:
             choice = choose(top, files, kit, options.all)
             edits = choice.edits
-            show_choice(edit_counts(files), choice)
+            show_choice(edit_counts(files), choice, read_costs(top))
         if options.list:
             return 0
     except (GateError, OSError) as error:

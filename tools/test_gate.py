@@ -13,6 +13,7 @@ import refuse_allocations  # noqa: E402
 
 TOOL = os.path.join(os.path.dirname(os.path.abspath(__file__)), "gate.py")
 COUNTS = {"a": 9, "b": 7, "c": 5, "d": 3, "e": 3, "f": 1}
+COSTS = {"a": (100.0, 20.0), "b": (300.0, 40.0)}
 
 SOURCE = """//! One function.
 #![tactic(auto)]
@@ -33,13 +34,38 @@ ACCEPTED = "file: src/lib.rt\nold:     u16::from(byte) + 1\nnew:     1 + u16::fr
 
 class Choice(unittest.TestCase):
     def test_eight_picks_see_each_crate_once(self):
-        parts = [gate.part_of(COUNTS, f"{digit:08x}") for digit in range(8)]
+        parts = [gate.part_of(gate.costs_of(COUNTS, COSTS), f"{digit:08x}") for digit in range(8)]
         self.assertEqual(sorted(crate for part in parts for crate in part), sorted(COUNTS))
 
-    def test_the_parts_have_about_as_many_edits(self):
-        counts = {f"crate{number}": number for number in range(1, 40)}
-        loads = [sum(counts[crate] for crate in gate.part_of(counts, f"{digit:08x}")) for digit in range(8)]
-        self.assertLessEqual(max(loads) - min(loads), 8)
+    def test_the_parts_cost_about_as_much(self):
+        costs = {f"crate{number}": 10 * number for number in range(1, 40)}
+        loads = [sum(costs[crate] for crate in part) for part in gate.parts_of(costs)]
+        self.assertLessEqual(max(loads) - min(loads), 80)
+
+    def test_a_dear_crate_has_a_part_of_its_own(self):
+        costs = gate.costs_of({"dear": 2, **{f"cheap{number}": 20 for number in range(7)}}, {"dear": (900, 100), **{f"cheap{number}": (20, 5) for number in range(7)}})
+        self.assertIn(["dear"], gate.parts_of(costs))
+
+    def test_edits_cost_their_first_step_and_one_for_each_and_one_behind_them(self):
+        costs = gate.costs_of({"a": 9, "b": 1, "c": 3, "d": 0}, COSTS)
+        self.assertEqual(costs, {"a": 100 + 10 * 20, "b": 300 + 2 * 40, "c": 200 + 4 * 30}, "c costs the mean, and d has none")
+        self.assertEqual(gate.costs_of({"a": 2, "b": 5}, {}), {"a": 4, "b": 7}, "where nothing is known, a step costs one")
+
+    def test_costs_are_read_from_their_file(self):
+        with tempfile.TemporaryDirectory() as top:
+            self.assertEqual(gate.read_costs(top), {}, "there is no such file")
+            os.makedirs(os.path.join(top, "tools"))
+            for text, costs in [("# a note\n\na 100 20.0\nb 300 40\n", COSTS), ("a 100\n", None), ("a 100 dear\n", None)]:
+                with open(os.path.join(top, gate.COSTS), "w", encoding="utf-8") as file:
+                    file.write(text)
+                if costs is None:
+                    self.assertRaises(gate.GateError, gate.read_costs, top)
+                else:
+                    self.assertEqual(gate.read_costs(top), costs)
+
+    def test_the_file_of_this_repository_names_crates_that_have_edits(self):
+        known, counts = gate.read_costs(gate.TOP), gate.edit_counts(gate.files_of(gate.TOP))
+        self.assertEqual([crate for crate in known if not counts.get(crate)], [])
 
     def test_counts_are_of_edits(self):
         files = ["crates/a/must-fail/x.edit", "crates/a/must-fail/notes.md", "crates/a/src/lib.rt", "crates/b/src/lib.rt"]
@@ -179,9 +205,9 @@ class Repository:
 
     def leave_all(self):
         """Commits until the commit's hash picks no crate."""
-        counts = gate.edit_counts(gate.files_of(self.top))
+        costs = gate.costs_of(gate.edit_counts(gate.files_of(self.top)), {})
         for number in range(1000):
-            if not gate.part_of(counts, self.commit(f"change {number}")):
+            if not gate.part_of(costs, self.commit(f"change {number}")):
                 return
         raise AssertionError("each commit picks a crate")
 
