@@ -28,30 +28,32 @@ Example:
 
 Exit status: 0 where no file has a fault, 1 where one has or can't be read, 2 where the command line is wrong.";
 
-/// The command's part of the command line.
-pub(crate) fn command<'a>(alloc: Global) -> Result<Command<'a>, AllocError> {
-    let files = files_argument(
-        alloc,
-        "A CSV with the columns of FOCUS 1.0, or `-` for standard input",
-    );
-    let format = format_option(
-        alloc,
-        FORMATS.as_slice(),
-        "text",
-        "How the answer is written",
-    );
-    let currency = Arg::new(alloc, CURRENCY)
+// The option that names the currency of all costs.
+fn cost_currency<'a>(alloc: Global) -> Arg<'a> {
+    Arg::new(alloc, CURRENCY)
         .long("currency")
         .value_name("CUR")
         .default_value("USD")
-        .help("The currency that all costs must have: three capital letters");
+        .help("The currency that all costs must have: three capital letters")
+}
+
+/// The command's part of the command line.
+pub(crate) fn command<'a>(alloc: Global) -> Result<Command<'a>, AllocError> {
     Command::new(alloc, "check")
         .about("Lists all faults of CSV exports, and what is in them")
         .after_help(HELP)
-        .arg(format)?
-        .arg(currency)?
+        .arg(format_option(
+            alloc,
+            FORMATS.as_slice(),
+            "text",
+            "How the answer is written",
+        ))?
+        .arg(cost_currency(alloc))?
         .arg(quiet_option(alloc))?
-        .arg(files)
+        .arg(files_argument(
+            alloc,
+            "A CSV with the columns of FOCUS 1.0, or `-` for standard input",
+        ))
 }
 
 /// Checks the files that the options name.

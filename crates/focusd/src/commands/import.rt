@@ -44,17 +44,17 @@ Example: an export into a new warehouse, and one that is compressed
 Exit status: 0 where all rows are in the warehouse, 1 where a file or the warehouse was refused or failed, 2 where the command
 line is wrong.";
 
-/// The command's part of the command line.
-pub(crate) fn command<'a>(alloc: Global) -> Result<Command<'a>, AllocError> {
-    let origin = Arg::new(alloc, ORIGIN)
+// The option that names who sends the rows.
+fn origin_option<'a>(alloc: Global) -> Arg<'a> {
+    Arg::new(alloc, ORIGIN)
         .long("origin")
         .value_name("NAME")
         .required(true)
-        .help("Who sends the rows");
-    let files = files_argument(
-        alloc,
-        "A CSV with the columns of FOCUS 1.0, or `-` for standard input",
-    );
+        .help("Who sends the rows")
+}
+
+/// The command's part of the command line.
+pub(crate) fn command<'a>(alloc: Global) -> Result<Command<'a>, AllocError> {
     Command::new(alloc, "import")
         .about("Takes CSV exports of any length into a warehouse")
         .after_help(HELP)
@@ -64,9 +64,12 @@ pub(crate) fn command<'a>(alloc: Global) -> Result<Command<'a>, AllocError> {
             "Creates a warehouse where the folder, which has to be there, holds none",
         ))?
         .arg(currency_option(alloc))?
-        .arg(origin)?
+        .arg(origin_option(alloc))?
         .arg(quiet_option(alloc))?
-        .arg(files)
+        .arg(files_argument(
+            alloc,
+            "A CSV with the columns of FOCUS 1.0, or `-` for standard input",
+        ))
 }
 
 /// Where an import stands.

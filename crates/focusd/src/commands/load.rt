@@ -43,36 +43,41 @@ Example: three files into a new warehouse, then two more
 
 Exit status: 0 where each file was answered, also by `refused`; 1 where the disk failed or had no room; 2 where the command line is wrong.";
 
-/// The command's part of the command line.
-pub(crate) fn command<'a>(alloc: Global) -> Result<Command<'a>, AllocError> {
-    let folder = dir_option(alloc).help(
-        "Keeps the warehouse in this folder, which has to be there; without it the warehouse is in memory",
-    );
-    let create = create_option(
-        alloc,
-        "Creates the warehouse in the folder; without --dir it changes nothing",
-    );
-    let analysts = Arg::new(alloc, ANALYSTS)
+// The option that says how many analysts there are.
+fn analysts_option<'a>(alloc: Global) -> Arg<'a> {
+    Arg::new(alloc, ANALYSTS)
         .long("analysts")
         .value_name("N")
         .default_value("1")
         .value_parser(value_parser!(u8).range(1..=16))
-        .help("How many analysts view the warehouse meanwhile: 1 to 16");
-    let origin = Arg::new(alloc, ORIGIN)
+        .help("How many analysts view the warehouse meanwhile: 1 to 16")
+}
+
+// The option that names the origins.
+fn origin_option<'a>(alloc: Global) -> Arg<'a> {
+    Arg::new(alloc, ORIGIN)
         .long("origin")
         .value_name("NAME")
         .default_value("f")
-        .help("The first part of the names of the origins");
-    let files = files_argument(alloc, "A CSV with the columns of FOCUS 1.0");
+        .help("The first part of the names of the origins")
+}
+
+/// The command's part of the command line.
+pub(crate) fn command<'a>(alloc: Global) -> Result<Command<'a>, AllocError> {
     Command::new(alloc, "load")
         .about("Takes up to 64 CSV files into a warehouse side by side")
         .after_help(HELP)
         .arg(currency_option(alloc))?
-        .arg(folder)?
-        .arg(create)?
-        .arg(analysts)?
-        .arg(origin)?
-        .arg(files)
+        .arg(dir_option(alloc).help(
+            "Keeps the warehouse in this folder, which has to be there; without it the warehouse is in memory",
+        ))?
+        .arg(create_option(
+            alloc,
+            "Creates the warehouse in the folder; without --dir it changes nothing",
+        ))?
+        .arg(analysts_option(alloc))?
+        .arg(origin_option(alloc))?
+        .arg(files_argument(alloc, "A CSV with the columns of FOCUS 1.0"))
 }
 
 /// Loads the files that the options name.

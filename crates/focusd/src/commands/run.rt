@@ -52,19 +52,17 @@ Example: what a script has is kept in a folder, and the answers in a file
 
 /// The command's part of the command line.
 pub(crate) fn command<'a>(alloc: Global) -> Result<Command<'a>, AllocError> {
-    let folder = dir_option(alloc).help(
-        "The folder of the warehouse, which has to be there; without it the warehouse is in memory",
-    );
-    let create = create_option(
-        alloc,
-        "Creates the warehouse in the folder; without --dir it changes nothing",
-    );
     Command::new(alloc, "run")
         .about("Reads a script from standard input and prints the answers")
         .after_help(SCRIPT)
         .arg(currency_option(alloc))?
-        .arg(folder)?
-        .arg(create)
+        .arg(dir_option(alloc).help(
+            "The folder of the warehouse, which has to be there; without it the warehouse is in memory",
+        ))?
+        .arg(create_option(
+            alloc,
+            "Creates the warehouse in the folder; without --dir it changes nothing",
+        ))
 }
 
 /// Opens or creates the warehouse that the options name, and serves the script on standard input from it.
