@@ -55,29 +55,41 @@ Examples:
   the sums by team, for a program
     focusd report --dir costs --tag team --from 2024-01 --to 2024-02 --format json | jq '.total'";
 
-/// The command's part of the command line.
-pub(crate) fn command<'a>(alloc: Global) -> Result<Command<'a>, AllocError> {
-    let tag = Arg::new(alloc, TAG)
+// The option that names the tag.
+fn tag_option<'a>(alloc: Global) -> Arg<'a> {
+    Arg::new(alloc, TAG)
         .long("tag")
         .value_name("KEY")
         .required(true)
-        .help("The tag whose values are the groups");
-    let by = Arg::new(alloc, BY)
+        .help("The tag whose values are the groups")
+}
+
+// The option that cuts the range into periods.
+fn by_option<'a>(alloc: Global) -> Arg<'a> {
+    Arg::new(alloc, BY)
         .long("by")
         .value_name("PERIOD")
         .value_parser(STEPS.as_slice())
-        .help("Cuts the range into hours, days or months, each with a report of its own");
-    let top = Arg::new(alloc, TOP).long("top").value_name("N").help(
+        .help("Cuts the range into hours, days or months, each with a report of its own")
+}
+
+// The option that shows the groups that are charged most.
+fn top_option<'a>(alloc: Global) -> Arg<'a> {
+    Arg::new(alloc, TOP).long("top").value_name("N").help(
         "Shows the N groups that are charged most, and the sums of all others: 1 to 1,000",
-    );
+    )
+}
+
+/// The command's part of the command line.
+pub(crate) fn command<'a>(alloc: Global) -> Result<Command<'a>, AllocError> {
     let command = Command::new(alloc, "report")
         .about("Sums the costs of a range of time by the values of a tag")
         .after_help(EXAMPLE)
         .arg(folder_option(alloc))?
-        .arg(tag)?;
+        .arg(tag_option(alloc))?;
     with_range(alloc, command)?
-        .arg(by)?
-        .arg(top)?
+        .arg(by_option(alloc))?
+        .arg(top_option(alloc))?
         .arg(format_option(
             alloc,
             FORMATS.as_slice(),
