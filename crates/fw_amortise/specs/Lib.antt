@@ -5,4 +5,3 @@ pub mod Lines
 pub mod Adding
 pub mod Carrying
 pub mod Sources
-pub mod HourCovers

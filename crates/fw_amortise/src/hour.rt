@@ -6,7 +6,7 @@ ghost use Rattle.fw_cover.specs.Eligible.{is_of_hour};
 ghost use Rattle.fw_terms.specs.Commitment.{CommitmentValue};
 ghost use Rattle.fw_cover.specs.Applies.{is_in_term};
 ghost use Rattle.fw_cover.specs.Cover.{IsTakeWithin, taken_of_row, used_of};
-ghost use Rattle.fw_amortise.specs.HourCovers.{IsHourCover};
+ghost use Rattle.fw_cover.specs.HourCovers.{IsHourCover};
 ghost use Rattle.fw_cover.specs.Hour.{quantity_of, quantities_of, capacities_of, takes_of, unused_of};
 ghost use Rattle.fw_cover.specs.RosterView.{HasHour, roster_order};
 ghost use Rattle.fw_amortise.specs.Lines.{AreHourLines, AreLines, AreOwnLines, rows_in, purchase_lines, purchase_lines_of, given_lines, rest_of, rest_lines, running};

@@ -4,6 +4,7 @@ pub mod Applies
 pub mod Order
 pub mod Cover
 pub mod Hour
+pub mod HourCovers
 pub mod PlacedView
 pub mod Ranked
 pub mod Offers

@@ -1,6 +1,7 @@
 //! What each pair takes.
-ghost use Rattle.std.specs.Prelude.{◌≡◌, ℕ, ◌^◌, ◌<◌, ◌≤◌, length, All, IfOk, IfSome, OnOk, [], ◌∷◌, ◌++◌, filter, ◌+◌, slice_index};
-ghost use Rattle.fw_cover.specs.Cover.{IsPairWithin, IsTakeWithin, cover_of, taken_of_row, used_of, takes_something};
+ghost use Rattle.std.specs.Prelude.{◌≡◌, ◌^◌, ◌<◌, ◌≤◌, length, All, IfOk, IfSome, OnOk, [], ◌∷◌, ◌++◌, filter};
+ghost use Rattle.fw_cover.specs.Cover.{IsPairWithin, cover_of, takes_something};
+ghost use Rattle.fw_cover.specs.HourCovers.{IsCover};
 ghost use Rattle.fw_cover.specs.Part.{part_of};
 
 use crate::hour::HourCover;
@@ -48,12 +49,7 @@ pub(crate) fn cover_pairs(
 ) -> Result<HourCover, AllocError>
     requires one_each { length billed.now ≡ length quantities.now }
     requires pairs { All (IsPairWithin billed.now quantities.now capacities.now) pairs.now }
-    ensures taken { IfOk result (λ h. h.taken.items ≡ cover_of billed.now quantities.now capacities.now pairs.now) }
-    ensures rows { IfOk result (λ h. length h.row_left.items ≡ length quantities.now) }
-    ensures commitments { IfOk result (λ h. length h.unused.items ≡ length capacities.now) }
-    ensures takes { IfOk result (λ h. All (IsTakeWithin (length capacities.now) (length quantities.now)) h.taken.items) }
-    ensures row_left { IfOk result (λ h. (r : ℕ) → taken_of_row r h.taken.items + slice_index h.row_left.items r ≡ slice_index quantities.now r) }
-    ensures unused { IfOk result (λ h. (c : ℕ) → used_of c h.taken.items + slice_index h.unused.items c ≡ slice_index capacities.now c) }
+    ensures { IfOk result (IsCover (cover_of billed.now quantities.now capacities.now pairs.now) quantities.now capacities.now) }
 {
     let mut row_left = quantities.to_vec(alloc)?;
     let mut capacity_left = capacities.to_vec(alloc)?;

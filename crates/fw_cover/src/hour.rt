@@ -1,7 +1,7 @@
 //! What commitments cover of an hour's rows.
-ghost use Rattle.std.specs.Prelude.{◌≡◌, ◌+◌, ◌<◌, ℕ, length, map, slice_index, All, IfOk};
-ghost use Rattle.fw_cover.specs.Cover.{IsTakeWithin, taken_of_row, used_of};
-ghost use Rattle.fw_cover.specs.Hour.{hour_cover, quantities_of, capacities_of};
+ghost use Rattle.std.specs.Prelude.{◌≡◌, map, IfOk};
+ghost use Rattle.fw_cover.specs.Hour.{hour_cover};
+ghost use Rattle.fw_cover.specs.HourCovers.{IsHourCover};
 
 use crate::lending::{lend, references};
 use crate::roster::Roster;
@@ -30,12 +30,7 @@ pub fn cover_hour(
     rows: &[&Row],
     hour: u32,
 ) -> Result<HourCover, AllocError>
-    ensures taken { IfOk result (λ h. h.taken.items ≡ hour_cover commitments.now (map (λ r. r.now) rows.now) hour) }
-    ensures rows { IfOk result (λ h. length h.row_left.items ≡ length rows.now) }
-    ensures commitments { IfOk result (λ h. length h.unused.items ≡ length commitments.now) }
-    ensures takes { IfOk result (λ h. All (IsTakeWithin (length commitments.now) (length rows.now)) h.taken.items) }
-    ensures row_left { IfOk result (λ h. (r : ℕ) → taken_of_row r h.taken.items + slice_index h.row_left.items r ≡ slice_index (quantities_of (map (λ r. r.now) rows.now)) r) }
-    ensures unused { IfOk result (λ h. (c : ℕ) → used_of c h.taken.items + slice_index h.unused.items c ≡ slice_index (capacities_of commitments.now) c) }
+    ensures { IfOk result (IsHourCover commitments.now (map (λ r. r.now) rows.now) hour) }
 {
     let lent = lend(alloc, rows)?;
     let rows = references(alloc, &lent)?;

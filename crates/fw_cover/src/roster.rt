@@ -1,7 +1,6 @@
 //! Commitments made ready to cover hour after hour.
-ghost use Rattle.std.specs.Prelude.{◌≡◌, ◌+◌, ℕ, length, map, slice_index, All, IfOk};
-ghost use Rattle.fw_cover.specs.Cover.{IsTakeWithin, taken_of_row, used_of};
-ghost use Rattle.fw_cover.specs.Hour.{hour_cover, quantities_of, capacities_of};
+ghost use Rattle.std.specs.Prelude.{◌≡◌, map, IfOk};
+ghost use Rattle.fw_cover.specs.HourCovers.{IsHourCover};
 ghost use Rattle.fw_cover.specs.PlacedView.{placed_of};
 ghost use Rattle.fw_cover.specs.RosterView.{HasHour, roster_order, runs_between};
 
@@ -111,12 +110,7 @@ impl<'a> Roster<'a> {
         hour: u32,
     ) -> Result<HourCover, AllocError>
         requires { HasHour self.now hour }
-        ensures taken { IfOk result (λ h. h.taken.items ≡ hour_cover self.now.commitments (map (λ r. r.now) rows.now) hour) }
-        ensures rows { IfOk result (λ h. length h.row_left.items ≡ length rows.now) }
-        ensures commitments { IfOk result (λ h. length h.unused.items ≡ length self.now.commitments) }
-        ensures takes { IfOk result (λ h. All (IsTakeWithin (length self.now.commitments) (length rows.now)) h.taken.items) }
-        ensures row_left { IfOk result (λ h. (r : ℕ) → taken_of_row r h.taken.items + slice_index h.row_left.items r ≡ slice_index (quantities_of (map (λ r. r.now) rows.now)) r) }
-        ensures unused { IfOk result (λ h. (c : ℕ) → used_of c h.taken.items + slice_index h.unused.items c ≡ slice_index (capacities_of self.now.commitments) c) }
+        ensures { IfOk result (IsHourCover self.now.commitments (map (λ r. r.now) rows.now) hour) }
     {
         let pairs = pairs_in_order(alloc, &self.table, self.order.len(), rows, hour)?;
         let billed = billed_costs(alloc, rows)?;

@@ -1,16 +1,14 @@
 -- What commitments cover in hours, as it is kept.
-use Rattle.std.proofs.Common.{◌≡◌, ◌∙◌, ◌⊎◌, inl, inr, ⊎_elim, Bool, true, IfSome, MatchBool, [], ◌+◌, ℕ, List, All, Bor, Some, length, map, arith, sym, subst}
+use Rattle.std.proofs.Common.{◌≡◌, ◌⊎◌, inl, inr, ⊎_elim, Bool, true, IfSome, MatchBool, [], ℕ, List, Some, arith, sym, subst}
 use Rattle.std.specs.Bool.{OnTrue}
-use Rattle.std.proofs.lemmas.List.{length-map}
 use Rattle.std.proofs.lemmas.Bool.{OnTrue_from, MatchBool-at_true, MatchBool-at_false}
 use Rattle.fw_cover.proofs.Sorting.{two_ways}
 use Rattle.std.specs.Prelude.{slice_index}
 use Rattle.fw_charge.specs.Charge.{Charge}
 use Rattle.fw_terms.specs.Commitment.{CommitmentValue}
-use Rattle.fw_cover.specs.Cover.{IsTakeWithin, taken_of_row, used_of}
-use Rattle.fw_cover.specs.Hour.{capacities_of, hour_cover, left_of, quantities_of}
+use Rattle.fw_cover.specs.Hour.{hour_cover, left_of}
 use Rattle.fw_cover.specs.declared.hour.HourCover.{HourCover}
-use Rattle.fw_amortise.specs.HourCovers.{IsHourCover}
+use Rattle.fw_cover.specs.HourCovers.{IsHourCover}
 use Rattle.fw_amortise.specs.Lines.{rows_in}
 use Rattle.fw_query.specs.Covers.{AreKept, KeepsHour, kept_at}
 
@@ -20,22 +18,6 @@ unfolding left_of
 left_in_cover cs rows hour h cover r =
     let whole = cover.row_left r in
     rw (← cover.taken) (omega (arith, whole))
-
--- what `Roster::cover` answers
-pub cover_is : (cs : List CommitmentValue) (each : List (Bor Charge)) (rows : List Charge) (hour : ℕ) (h : HourCover) → map (λ (r : Bor Charge). r.now) each ≡ rows → h.taken.items ≡ hour_cover cs (map (λ (r : Bor Charge). r.now) each) hour
-    → length h.row_left.items ≡ length each → length h.unused.items ≡ length cs → All (IsTakeWithin (length cs) (length each)) h.taken.items
-    → ((r : ℕ) → taken_of_row r h.taken.items + slice_index h.row_left.items r ≡ slice_index (quantities_of (map (λ (r : Bor Charge). r.now) each)) r)
-    → ((c : ℕ) → used_of c h.taken.items + slice_index h.unused.items c ≡ slice_index (capacities_of cs) c) → IsHourCover cs rows hour h
-cover_is cs each rows hour h same taken one_each one_each_commitment takes row_left unused =
-    let long : length each ≡ length (map (λ (r : Bor Charge). r.now) each) = sym (length-map each (λ (r : Bor Charge). r.now)) in
-    subst (λ l. IsHourCover cs l hour h) same (record {
-      taken = taken;
-      one_each = one_each ∙ long;
-      one_each_commitment = one_each_commitment;
-      takes = subst (λ n. All (IsTakeWithin (length cs) n) h.taken.items) long takes;
-      row_left = row_left;
-      unused = unused;
-    })
 
 -- what is kept of the hour is this cover, or as it was
 pub keeps_hour : (cs : List CommitmentValue) (rows : List Charge) (hour : ℕ) (old new : List (ℕ × HourCover)) (h : HourCover) → IsHourCover cs rows hour h

@@ -4,7 +4,7 @@ use Rattle.std.specs.Map.{lookup}
 use Rattle.fw_charge.specs.Charge.{Charge}
 use Rattle.fw_terms.specs.Commitment.{CommitmentValue}
 use Rattle.fw_cover.specs.declared.hour.HourCover.{HourCover}
-use Rattle.fw_amortise.specs.HourCovers.{IsHourCover}
+use Rattle.fw_cover.specs.HourCovers.{IsHourCover}
 use Rattle.fw_amortise.specs.Lines.{rows_in}
 
 -- what is kept of an hour

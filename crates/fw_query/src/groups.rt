@@ -2,7 +2,7 @@
 ghost use Rattle.std.specs.Prelude.{◌≡◌, ◌+ℤ◌, ◌+◌, ◌<◌, ◌^◌, length, ◌++◌, ◌∷◌, List, [], map, replicate, true, All, IfOk, IfSome, MatchBool, OnOk};
 ghost use Rattle.std.specs.Bool.{OnTrue};
 ghost use Rattle.std.specs.List.{range_with_len};
-ghost use Rattle.fw_amortise.specs.HourCovers.{IsHourCover};
+ghost use Rattle.fw_cover.specs.HourCovers.{IsHourCover};
 ghost use Rattle.fw_amortise.specs.Lines.{rows_in};
 ghost use Rattle.fw_charge.specs.Charge.{hour_of};
 ghost use Rattle.fw_cover.specs.RosterView.{HasHour};

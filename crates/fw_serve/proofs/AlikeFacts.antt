@@ -1,7 +1,6 @@
 -- Stores that are alike answer alike.
 use Rattle.std.proofs.Common.{◌≡◌, ◌≢◌, ◌⊎◌, ◌∙◌, ◌+◌, ◌∷◌, [], ℕ, List, All, get_or, length, Ok, Err, refl, sym, ap, subst, inl, inr, arith}
 use Rattle.std.specs.Prelude.{Result}
-use Rattle.fw_recover.specs.declared.fault.StoreFault.TheVariants as store_fault
 use Rattle.std.proofs.lemmas.List.Elements.{All-head, All-tail}
 use Rattle.fw_entry.specs.Entry.{CommandValue, EntryValue}
 use Rattle.fw_entry.specs.declared.fault.EntryFault.{EntryFault}
@@ -16,9 +15,10 @@ use Rattle.fw_snapshot.specs.declared.verdict.Verdict.TheVariants as verdict
 use Rattle.fw_serve.specs.Answers.{Answer, Checkpoints, Entered, HasNoRoom, Judges, Makes, Renews, SequenceReads, Stays, Submits, Takes, entry_made, with_entry}
 use Rattle.fw_serve.specs.Contents.{ContentReads}
 use Rattle.fw_serve.specs.Questions.{LinesAnswer, ReportAnswer, lines_answer, report_answer}
-use Rattle.fw_serve.specs.Replies.{accepted_line, checkpointed_line, no_memory_line, state_line, store_fault_line, store_line}
+use Rattle.fw_serve.specs.Replies.{accepted_line, checkpointed_line, no_memory_line, state_line}
 use Rattle.fw_serve.specs.Runs.{AnswersEach, AreAlike, AreSame, IsCutShort, IsOfASide, NoneCutShort}
 use Rattle.fw_serve.specs.Standings.{Standing}
+use Rattle.fw_serve.proofs.FailedFacts.{checkpointed_silent, device_code, failed_code, full_code, generations_code, store_code}
 use Rattle.fw_serve.proofs.MoveFacts.{not_both}
 use Rattle.fw_serve.proofs.OneAnswerFacts.{UnlessOut, content_one, number_one, reports_same, same_lines}
 
@@ -160,43 +160,15 @@ checkpoints_alike a b c d s t like (inr (inr p)) (inl q) = absurd (not_both b.fa
 checkpoints_alike a b c d s t like (inr (inr p)) (inr (inl q)) = absurd (p.1 (like.generation ∙ q.1))
 checkpoints_alike a b c d s t like (inr (inr p)) (inr (inr q)) = inr (renews_side a s c p.2, renews_side b t d q.2)
 
--- the first letter tells the line of a checkpoint that was made from the others
-abbrev letter : List ℕ → ℕ
-letter text = get_or text 0 0
+-- the line of a checkpoint that was made is none of those that say that the store didn't do it, nor that memory ran out
+code_if_made : (s line : List ℕ) → s ≡ checkpointed_line → s ≡ line → store_code line ≡ 0
+code_if_made s line made is = ap store_code (sym is ∙ made) ∙ checkpointed_silent
 
-made_letter : letter checkpointed_line ≡ 99
-unfolding checkpointed_line
-made_letter = refl
-
-failed_letter : letter (store_fault_line store_fault.Failed) ≡ 115
-unfolding store_fault_line store_line
-failed_letter = refl
-
-generations_letter : letter (store_fault_line store_fault.Generations) ≡ 115
-unfolding store_fault_line store_line
-generations_letter = refl
-
-room_letter : letter (store_fault_line store_fault.TooLarge) ≡ 115
-unfolding store_fault_line store_line
-room_letter = refl
-
-device_letter : letter (store_fault_line store_fault.Device) ≡ 115
-unfolding store_fault_line store_line
-device_letter = refl
-
-memory_letter : letter no_memory_line ≡ 110
-unfolding no_memory_line
-memory_letter = refl
-
-not_store : (s line : List ℕ) → s ≡ checkpointed_line → letter line ≡ 115 → s ≡ line → ⊥
-not_store s line made code is =
-    let both : 99 ≡ 115 = sym made_letter ∙ ap letter (sym made ∙ is) ∙ code in
-    omega (arith, both)
-
-not_memory : (s : List ℕ) → s ≡ checkpointed_line → s ≡ no_memory_line → ⊥
-not_memory s made is =
-    let both : 99 ≡ 110 = sym made_letter ∙ ap letter (sym made ∙ is) ∙ memory_letter in
-    omega (arith, both)
+not_memory : no_memory_line ≢ checkpointed_line
+unfolding no_memory_line checkpointed_line
+not_memory is =
+    let first : 110 ≡ 99 = ap (λ text. get_or text 0 0) is in
+    omega (arith, first)
 
 -- a checkpoint that was made leaves all as it was, but for the generation and the room
 abbrev IsRenewed : Standing → Standing → Type 0
@@ -204,14 +176,14 @@ IsRenewed a c = (c.history ≡ a.history) × (c.failed ≡ a.failed) × (c.gener
 
 renewed : (a : Standing) (s : List ℕ) (c : Standing) → s ≡ checkpointed_line → Renews a s c → IsRenewed a c
 renewed a s c made (inl is) = (ap (λ (x : Standing). x.history) is.4, ap (λ (x : Standing). x.failed) is.4, ap (λ (x : Standing). x.generation) is.4)
-renewed a s c made (inr (inl full)) = absurd (not_store s _ made room_letter full.0.0)
-renewed a s c made (inr (inr (inl device))) = absurd (not_store s _ made device_letter device.0)
-renewed a s c made (inr (inr (inr out))) = absurd (not_memory s made out.0)
+renewed a s c made (inr (inl full)) = absurd (omega (arith, sym full_code ∙ code_if_made s _ made full.0.0))
+renewed a s c made (inr (inr (inl device))) = absurd (omega (arith, sym device_code ∙ code_if_made s _ made device.0))
+renewed a s c made (inr (inr (inr out))) = absurd (not_memory (sym out.0 ∙ made))
 
 made_leaves : (a : Standing) (s : List ℕ) (c : Standing) → s ≡ checkpointed_line → Checkpoints a s c → IsRenewed a c
 unfolding Checkpoints
-made_leaves a s c made (inl failed) = absurd (not_store s _ made failed_letter failed.1.0)
-made_leaves a s c made (inr (inl last)) = absurd (not_store s _ made generations_letter last.2.0)
+made_leaves a s c made (inl failed) = absurd (omega (arith, sym failed_code ∙ code_if_made s _ made failed.1.0))
+made_leaves a s c made (inr (inl last)) = absurd (omega (arith, sym generations_code ∙ code_if_made s _ made last.2.0))
 made_leaves a s c made (inr (inr renews)) = renewed a s c made renews.2
 
 pub checkpoints_made : (a b c d : Standing) → AreAlike a b → Answer a checkpoint checkpointed_line c → Answer b checkpoint checkpointed_line d

@@ -40,7 +40,7 @@ use Rattle.fw_serve.proofs.WrittenFacts.{same_currency}
 
 -- ---- the lines that say that the store didn't do it
 -- the digit of a line of the store, which has the `o` of `store` in its place, and 0 of any other text
-abbrev store_code : List ℕ → ℕ
+abbrev pub store_code : List ℕ → ℕ
 store_code text = if get_or text 2 0 == 111 then get_or text 7 0 else 0
 
 house_code : store_code (store_fault_line store_fault.NoHouse) ≡ 49
@@ -51,19 +51,19 @@ corrupt_code : (side : Side) (place : ℕ) → store_code (store_fault_line (sto
 unfolding store_fault_line store_line
 corrupt_code side place = refl
 
-device_code : store_code (store_fault_line store_fault.Device) ≡ 51
+pub device_code : store_code (store_fault_line store_fault.Device) ≡ 51
 unfolding store_fault_line store_line
 device_code = refl
 
-failed_code : store_code (store_fault_line store_fault.Failed) ≡ 52
+pub failed_code : store_code (store_fault_line store_fault.Failed) ≡ 52
 unfolding store_fault_line store_line
 failed_code = refl
 
-generations_code : store_code (store_fault_line store_fault.Generations) ≡ 53
+pub generations_code : store_code (store_fault_line store_fault.Generations) ≡ 53
 unfolding store_fault_line store_line
 generations_code = refl
 
-full_code : store_code (store_fault_line store_fault.TooLarge) ≡ 54
+pub full_code : store_code (store_fault_line store_fault.TooLarge) ≡ 54
 unfolding store_fault_line store_line
 full_code = refl
 
@@ -158,7 +158,7 @@ state_silent : (held : History) → store_code (state_line held) ≡ 0
 unfolding state_line counts_line
 state_silent held = refl
 
-checkpointed_silent : store_code checkpointed_line ≡ 0
+pub checkpointed_silent : store_code checkpointed_line ≡ 0
 unfolding checkpointed_line
 checkpointed_silent = refl
 

@@ -39,8 +39,8 @@ returns c =
     let done = rw (take_all c.loop-pair.pair-index c.args.pairs.now c.loop-pair-test.false) at c.loop-pair.invariant in
     record {
       taken = done.kept_is;
-      rows = done.rows;
-      commitments = done.commitments;
+      one_each = done.rows;
+      one_each_commitment = done.commitments;
       takes = rw done.kept_is (All-filter takes_something (IsTakeWithin (length c.args.capacities.now) (length c.args.quantities.now)) (taken_by_all c.args.billed.now c.args.quantities.now c.args.capacities.now all) done.within);
       row_left = λ r. rw (done.kept_is, taken_kept r (taken_by_all c.args.billed.now c.args.quantities.now c.args.capacities.now all)) (done.row_is r);
       unused = λ i. rw (done.kept_is, used_kept i (taken_by_all c.args.billed.now c.args.quantities.now c.args.capacities.now all) done.nothing) (done.capacity_is i);

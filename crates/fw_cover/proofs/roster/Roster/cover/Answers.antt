@@ -18,9 +18,9 @@ cover_pairs-requires-clause-pairs c =
     let capacities : c.deref-5.result.now ≡ capacities_of cs = c.deref-5.ensures.value ∙ c.self.invariant.capacities in
     rw (pairs, billed, quantities, capacities) (pairs_within cs rows c.args.hour c.self.invariant.valid (rw c.in_ok-billed.ensures.values at c.in_ok-billed.ensures.most) (rw c.in_ok-quantities.ensures.values at c.in_ok-quantities.ensures.most))
 
-pub returns-clause-taken : goal.returns-clause-taken
+pub returns : goal.returns
 unfolding hour_cover
-returns-clause-taken c =
+returns c =
     let r : RosterValue = record { commitments = c.self.inside.commitments.now; from = c.self.inside.from; to = c.self.inside.to } in
     let cs = r.commitments in
     let rows = map (λ r. r.now) c.args.rows.now in
@@ -29,7 +29,7 @@ returns-clause-taken c =
     let billed : c.deref-3.result.now ≡ billed_of rows = c.deref-3.ensures.value ∙ c.in_ok-billed.ensures.values in
     let quantities : c.deref-4.result.now ≡ quantities_of rows = c.deref-4.ensures.value ∙ c.in_ok-quantities.ensures.values in
     let capacities : c.deref-5.result.now ≡ capacities_of cs = c.deref-5.ensures.value ∙ c.self.invariant.capacities in
-    rw (← c.self.view_is) (rw (pairs, billed, quantities, capacities) at c.cover_pairs.ensures.taken)
+    rw (← c.self.view_is) (rw (pairs, billed, quantities, capacities) at c.cover_pairs.ensures)
 
 pub pairs_in_order-requires-clause-ranks : goal.pairs_in_order-requires-clause-ranks
 pairs_in_order-requires-clause-ranks c =
