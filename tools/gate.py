@@ -2,7 +2,7 @@
 """Runs the toolchain's gate, `rt ci`, over a copy of the tree that has only the must-fail edits that are due.
 
     tools/gate.py             tries the edits of each file that changed since the last landing, those of each crate whose
-                              definitions changed, edits that are new, and those of an eighth of all crates, which the
+                              definitions changed, edits that are new, and those of a twelfth of all crates, which the
                               commit's hash picks
     tools/gate.py --all       tries every edit
     tools/gate.py --program   tries none: proves and builds focusd and the crates that it stands on, and no more
@@ -42,7 +42,7 @@ LANDING = "tools/last-landing"
 # The crates that are programs: what is built of them is kept.
 PROGRAMS = ("focusd", "fw_simulate")
 # The crates that did not change are tried in so many parts, one a run.
-PARTS = 8
+PARTS = 12
 # What the edits of each crate cost: lines `crate first further`, in seconds of the processor. It says more in its head.
 COSTS = "tools/edit-costs"
 # A line of `rt ci` that says no more than that all is well with one item.
@@ -191,7 +191,7 @@ def costs_of(counts, known):
 
 
 def parts_of(costs):
-    """The crates in eighths that cost about as much: the dearest first, each to the eighth that costs least so far."""
+    """The crates in parts that cost about as much: the dearest first, each to the part that costs least so far."""
     parts, loads = [[] for _ in range(PARTS)], [0] * PARTS
     for crate in sorted(costs, key=lambda crate: (-costs[crate], crate)):
         lightest = loads.index(min(loads))
@@ -201,7 +201,7 @@ def parts_of(costs):
 
 
 def part_of(costs, commit):
-    """An eighth of the crates by what their edits cost, which the commit's hash picks: eight picks see them all."""
+    """The part of the crates, by what their edits cost, that the commit's hash picks: as many picks as there are parts see them all."""
     return set(parts_of(costs)[int(commit[:8], 16) % PARTS])
 
 
@@ -243,7 +243,7 @@ def choose(top, files, kit, tries_all):
     turned = {path for path in edits if is_turned(top, path, changes.files)}
     chosen = {path for path in edits if crate_of(path) in part} | turned | changes.edits
     changed = {crate_of(path) for path in turned}
-    reasons = {crate_of(path): "its eighth" if crate_of(path) in part else "changed" if crate_of(path) in changed else "new edits" for path in chosen}
+    reasons = {crate_of(path): "its turn" if crate_of(path) in part else "changed" if crate_of(path) in changed else "new edits" for path in chosen}
     return Choice(reasons, chosen, f"the last full run was of {record.commit[:12]}, on {record.date}, and the last landing of {base[:12]}")
 
 
