@@ -15,15 +15,12 @@ mod FindFacts
 pub mod MovedFacts
 pub mod RangeFacts
 mod ListingFacts
-mod TurnFacts
+pub mod TurnFacts
 pub mod TotalFacts
 pub mod OneAnswer
 pub mod DirectFacts
 pub mod CarriedFacts
 pub mod AccountedFacts
 pub mod BoughtFacts
-mod LineSumFacts
-mod TallyFacts
-mod CoverageFacts
 mod ShareFacts
 mod ExistFacts

@@ -1,4 +1,4 @@
--- Rows by hour, and the hours in which commitments have lines. The private functions of the reports cite it.
+-- Rows by hour, and the hours in which commitments have lines. What is computed over a range of hours cites it.
 use Rattle.std.specs.Prelude.{◌≡◌, ◌<◌, ◌≤◌, ◌+◌, ◌-◌, ◌^◌, ℕ, nat_le, ◌==◌, ◌||◌, ◌&&◌, Bool, true, false, List, [], length, map, filter, slice_get, slice_index_or, Option, Some, None, All, Vec}
 use Rattle.std.specs.Borrow.{Bor}
 use Rattle.std.specs.declared.alloc.Global.{Global}

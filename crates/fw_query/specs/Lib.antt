@@ -16,5 +16,3 @@ pub mod OfHistory
 pub mod OneAnswer
 pub mod Carried
 pub mod Accounted
-pub mod Coverage
-pub mod Tallies

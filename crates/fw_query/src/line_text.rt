@@ -187,8 +187,8 @@ fn or_empty(text: Option<&str>) -> &str
     }
 }
 
-// The id of a discount, which is empty where there is none.
-pub(crate) fn id_of(discount: Option<LineDiscount<'_>>) -> &str
+/// The id of a discount, as the text of a line has it: empty where there is none.
+pub fn id_of(discount: Option<LineDiscount<'_>>) -> &str
     ensures { result.now ≡ id_text (option_map discount_of discount.entry) }
 {
     match discount {
@@ -207,8 +207,8 @@ fn kind_of(discount: Option<LineDiscount<'_>>) -> &'static str
     }
 }
 
-// The status of a discount, which is empty where there is none.
-pub(crate) fn status_of(discount: Option<LineDiscount<'_>>) -> &'static str
+/// The status of a discount, as the text of a line has it: empty where there is none.
+pub fn status_of(discount: Option<LineDiscount<'_>>) -> &'static str
     ensures { result.now ≡ status_text (option_map discount_of discount.entry) }
 {
     match discount {

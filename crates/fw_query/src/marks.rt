@@ -16,8 +16,9 @@ pub(crate) fn every_hour(alloc: Global, hours: usize) -> Result<Vec<bool>, Alloc
     Ok(vec![in alloc; true; hours]?)
 }
 
-// The marks of the hours in which some commitment has a line, among so many hours from this one on.
-pub(crate) fn touched_hours(
+/// The marks of the hours in which some commitment has a line, among so many hours from `from` on, counted from 1970. The one error is that
+/// memory ran out.
+pub fn touched_hours(
     alloc: Global,
     commitments: &[Commitment],
     from: u64,

@@ -3,7 +3,7 @@ ghost use Rattle.std.specs.Prelude.{◌≡◌, ◌↔◌, IsTrue};
 ghost use Rattle.fw_query.specs.Limits.{IsRange};
 
 /// The most hours of a range.
-pub(crate) const MOST_HOURS: u64 = 26_304;
+pub const MOST_HOURS: u64 = 26_304;
 
 /// A tag key and a range of hours.
 #[derive(Clone, Copy, Debug, PartialEq, Eq)]

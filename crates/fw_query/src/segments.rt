@@ -6,8 +6,8 @@ use crate::hours::RowPlace;
 use fw_columns::{Columns, LentRow};
 use std::alloc::{AllocError, Global};
 
-// The rows at places, lent.
-pub(crate) fn rows_at<'s>(
+/// The rows at places, lent. The one error is that memory ran out.
+pub fn rows_at<'s>(
     alloc: Global,
     segments: &[&'s Columns],
     places: &[RowPlace],

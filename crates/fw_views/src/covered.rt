@@ -4,7 +4,8 @@ ghost use Rattle.fw_query.specs.Refusals.{AreRefused};
 
 use crate::report::Format;
 use csv::{Writer, WriterBuilder};
-use fw_query::{Coverage, QueryFault, coverage};
+use fw_coverage::{Coverage, coverage};
+use fw_query::QueryFault;
 use fw_snapshot::Snapshot;
 use fw_table::{Align, Line, cents_text, share_text, table_text};
 use fw_terms::Terms;

@@ -1,0 +1,3 @@
+mod LineSumFacts
+mod TallyFacts
+mod CoverageFacts
