@@ -7,4 +7,4 @@ mod filling;
 mod reading;
 mod view;
 
-pub use reading::read_columns;
+pub use reading::{read_columns, read_columns_after};

@@ -8,14 +8,18 @@ ghost use Rattle.fw_column_rows.specs.Views.{view_rules, ViewStands};
 
 use fw_charge::{Currency, DiscountKind, DiscountStatus};
 use fw_columns::RowView;
-use fw_rows::{Cells, Column, NamedDiscount, RecordFault};
+use fw_rows::{Cells, Column, NamedDiscount, PeriodReaders, RecordFault};
 
 /// The values of the row that a record stands for, with its texts where they stand in the record, or the first rule that is broken, but those of tags and
 /// of lengths.
-pub(crate) fn view_of<'a>(cells: &Cells<'a>, currency: Currency) -> Result<RowView<'a>, RecordFault>
+pub(crate) fn view_of<'a>(
+    cells: &Cells<'a>,
+    currency: Currency,
+    periods: &mut PeriodReaders,
+) -> Result<RowView<'a>, RecordFault>
     ensures { let at = texts_of cells.now in Judged (view_rules currency at) (ViewStands at) result }
 {
-    let charged = cells.charged(currency)?;
+    let charged = cells.charged(currency, periods)?;
     let discount = cells.discount()?;
     let quantity = cells.quantity()?;
     let (discount, kind, status) = discount_parts(discount);

@@ -15,7 +15,8 @@ pub(crate) fn framed(alloc: Global, payload: &[u8]) -> Result<Vec<u8>, AllocErro
     requires { length payload.now ≤ 8388608 }
     ensures { IfOk result (λ frame. frame.items ≡ sized payload.now ++ 0 ∷ []) }
 {
-    let mut frame = (payload.len() as u32).to_le_bytes().to_vec(alloc)?;
+    let mut frame = Vec::with_capacity(alloc, payload.len() + 5)?;
+    frame.extend_from_slice(&(payload.len() as u32).to_le_bytes())?;
     frame.extend_from_slice(payload)?;
     frame.push(0)?;
     Ok(frame)

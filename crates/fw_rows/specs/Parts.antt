@@ -1,5 +1,7 @@
 -- The parts of a record as the reader takes them out. Its private functions cite it.
 use Rattle.std.specs.Prelude.{◌≡◌, ◌≤◌, ◌++◌, List, [], ℕ, map, slice_index_or, Option, Some, None, Result, Ok, Err, MatchOption}
+use Rattle.std.specs.Map.{lookup}
+use Rattle.std.specs.Str.{bytes_eq}
 use Rattle.fw_charge.specs.Charge.{DiscountText, last_second}
 use Rattle.fw_charge.specs.Codes.{category_word, class_word}
 use Rattle.fw_charge.specs.Tags.{TagText, IsTags}
@@ -69,6 +71,14 @@ discount_text (Some named) = Some (record { id = named.id.now; kind = named.kind
 
 abbrev pub NamedOrNull : Texts → Option NamedDiscount → Type 0
 NamedOrNull at named = MatchOption named (at column.CommitmentDiscountId ≡ []) (NamedStands at)
+
+-- tags are noted of no longer text
+abbrev pub longest_known : ℕ
+longest_known = 1024
+
+-- the tags that are known of a text
+abbrev pub tags_known : List (List ℕ × List TagText) → List ℕ → Option (List TagText)
+tags_known known text = lookup (bytes_eq text) known
 
 -- what reading the tags answers; it may run out of memory on any text
 abbrev pub TagsAnswer : List ℕ → Result (List TagText) TagFault → Type 0

@@ -10,7 +10,7 @@ use crate::column::Column;
 use crate::fault::RecordFault;
 use crate::values::amount_of;
 use fw_charge::{Category, Currency, class_from_word};
-use fw_instants::second_of;
+use fw_instants::InstantReader;
 use fw_money::Nanos;
 
 /// ChargeCategory, and whether ChargeClass is that of a correction.
@@ -42,14 +42,35 @@ pub struct Charged {
     pub period: Period,
 }
 
+/// The readers of the two instants of charge periods, each of which knows the last one.
+#[derive(Debug, Drop)]
+pub struct PeriodReaders {
+    starts: InstantReader,
+    ends: InstantReader,
+}
+
+impl PeriodReaders {
+    /// Readers that know no instant.
+    pub fn new() -> PeriodReaders {
+        PeriodReaders {
+            starts: InstantReader::new(),
+            ends: InstantReader::new(),
+        }
+    }
+}
+
 impl<'a> Cells<'a> {
     /// What is charged.
-    pub fn charged(&self, currency: Currency) -> Result<Charged, RecordFault>
+    pub fn charged(
+        &self,
+        currency: Currency,
+        periods: &mut PeriodReaders,
+    ) -> Result<Charged, RecordFault>
         ensures { let at = texts_of self.now in Judged (charged_rules currency at) (ChargedStands at) result }
     {
         let words = self.words()?;
         let costs = self.costs(currency)?;
-        let period = self.period()?;
+        let period = self.period(periods)?;
         Ok(Charged {
             words,
             costs,
@@ -97,13 +118,16 @@ impl<'a> Cells<'a> {
     }
 
     /// The charge period.
-    pub(crate) fn period(&self) -> Result<Period, RecordFault>
+    pub(crate) fn period(&self, periods: &mut PeriodReaders) -> Result<Period, RecordFault>
         ensures { let at = texts_of self.now in Judged (period_rules at) (PeriodStands at) result }
     {
-        let Some(start) = second_of(self.text(Column::ChargePeriodStart)) else {
+        let Some(start) = periods
+            .starts
+            .second_of(self.text(Column::ChargePeriodStart))
+        else {
             return Err(RecordFault::Time);
         };
-        let Some(end) = second_of(self.text(Column::ChargePeriodEnd)) else {
+        let Some(end) = periods.ends.second_of(self.text(Column::ChargePeriodEnd)) else {
             return Err(RecordFault::Time);
         };
         if end < start {

@@ -19,13 +19,14 @@ mod sink;
 mod values;
 
 pub use cells::Cells;
-pub use charged::{Charged, Costs, Period, Words};
+pub use charged::{Charged, Costs, Period, PeriodReaders, Words};
 pub use column::Column;
 pub use details::NamedDiscount;
 pub use fault::{RecordFault, Refusal, RowFault};
 pub use fw_charge::{
     Category, Currency, Discount, DiscountKind, DiscountStatus, Row, RowFields, Tag, Tags,
 };
+pub use known::KnownTags;
 pub use laws::rows_read_as_one;
 pub use reading::{read_into, read_rows};
 pub use sink::RowSink;

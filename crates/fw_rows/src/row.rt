@@ -5,7 +5,7 @@ ghost use Rattle.fw_rows.specs.Parts.{texts_of, ChargedStands, DetailsStand, Nam
 ghost use Rattle.fw_rows.specs.Rules.{Stands, text_rules};
 
 use crate::cells::Cells;
-use crate::charged::Charged;
+use crate::charged::{Charged, PeriodReaders};
 use crate::column::Column;
 use crate::details::{Details, NamedDiscount};
 use crate::fault::Refusal;
@@ -60,11 +60,12 @@ impl<'a> Cells<'a> {
         &self,
         alloc: Global,
         known: &mut KnownTags,
+        periods: &mut PeriodReaders,
         currency: Currency,
     ) -> Result<Row, Refusal>
         ensures { let at = texts_of self.now in JudgedWithin (text_rules currency at) (Stands at) result }
     {
-        let charged = self.charged(currency)?;
+        let charged = self.charged(currency, periods)?;
         let details = self.details(alloc, known)?;
         Ok(self.made(alloc, charged, details)?)
     }

@@ -8,6 +8,7 @@ ghost use Rattle.fw_rows.specs.Rules.{text_rules};
 ghost use Rattle.fw_rows.specs.Sinks.{AddsRow};
 
 use crate::cells::Cells;
+use crate::charged::PeriodReaders;
 use crate::fault::Refusal;
 use crate::known::KnownTags;
 use fw_charge::{Currency, Row};
@@ -29,11 +30,12 @@ pub trait RowSink {
         ensures ready { OnOk result (is_ready self.new) };
 }
 
-/// Rows, and the tags of the texts that were read for them.
+/// Rows, and what was read for them: the tags of texts, and the last period.
 #[derive(Drop)]
 pub(crate) struct Rows {
     pub(crate) rows: Vec<Row>,
     known: KnownTags,
+    periods: PeriodReaders,
 }
 
 impl Rows {
@@ -44,6 +46,7 @@ impl Rows {
         Rows {
             rows: Vec::new(alloc),
             known: KnownTags::new(alloc),
+            periods: PeriodReaders::new(),
         }
     }
 }
@@ -55,7 +58,7 @@ impl RowSink for Rows {
 
     fn add(&mut self, cells: &Cells<'_>, currency: Currency) -> Result<(), Refusal> {
         let alloc = *self.rows.allocator();
-        let row = cells.row(alloc, &mut self.known, currency)?;
+        let row = cells.row(alloc, &mut self.known, &mut self.periods, currency)?;
         self.rows.push(row)?;
         Ok(())
     }

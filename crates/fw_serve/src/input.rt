@@ -49,16 +49,14 @@ pub fn read_within<R: Read>(
 
 // One read, whose bytes go to the end of the script. It gives none only at the end of the input.
 fn read_piece<R: Read>(reader: &mut R, script: &mut Vec<u8>) -> Result<usize, ServeFault>
-    requires { length script.old.items ≤ most_bytes }
     ensures read { IfOk result (λ count. (piece : List ℕ) × (script.new.items ≡ script.old.items ++ piece) × (length piece ≡ count)
         × Consumes (R.remaining reader.old) (R.remaining reader.new) piece × (count ≡ 0 → IsAtEnd (R.remaining reader.new))) }
     ensures faults { IfErr result (λ why. (why ≡ ServeFault.Read) ⊎ (why ≡ ServeFault.NoMemory)) }
 {
-    let filled = script.len();
-    script.resize(filled + PIECE, 0)?;
-    match reader.read(&mut script[filled..]) {
+    let mut piece = [0; PIECE];
+    match reader.read(&mut piece) {
         Ok(count) => {
-            script.truncate(filled + count);
+            script.extend_from_slice(&piece[..count])?;
             Ok(count)
         }
         Err(_) => Err(ServeFault::Read),
