@@ -30,6 +30,7 @@ mod summing;
 mod tally;
 mod text;
 mod total;
+mod workers;
 
 pub use coverage_laws::coverage_adds_up;
 pub use covered::Coverage;
@@ -43,5 +44,5 @@ pub use laws::{
 };
 pub use listing::lines_csv;
 pub use query::Query;
-pub use reporting::{report, report_keeping};
+pub use reporting::{report, report_alone, report_keeping};
 pub use text::report_csv;
