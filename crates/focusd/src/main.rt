@@ -66,7 +66,7 @@ fn run_command<R: Threads + Wait + Sync>(
     matches: &ArgMatches<'_>,
 ) -> Result<ExitCode, Fault> {
     match matches.subcommand() {
-        Some(("run", options)) => run::run(rt, options),
+        Some(("run", options)) => run::run(rt, threads, options),
         Some(("import", options)) => import::run(rt, options),
         Some(("load", options)) => load::run(rt, threads, options),
         Some(("check", options)) => check::run(rt, options),

@@ -8,6 +8,8 @@ pub mod MarkFacts
 pub mod CodeFacts
 pub mod CodeSumFacts
 pub mod SameFacts
+pub mod MergeFacts
+pub mod PieceFacts
 pub mod CorrectionFacts
 pub mod CoverFacts
 pub mod CountedFacts

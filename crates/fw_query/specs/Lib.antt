@@ -7,6 +7,7 @@ pub mod Texts
 pub mod Writers
 pub mod Hours
 pub mod Sums
+pub mod Parts
 pub mod Corrections
 pub mod Covers
 pub mod CodeSums

@@ -15,7 +15,7 @@ ghost use Rattle.fw_query.specs.Sums.{AddsLine, AreAmounts, AreEntries, AreSums,
 use crate::covers::Covers;
 use crate::entries::Entry;
 use crate::hours::{RowPlace, rows_by_hour};
-use crate::marks::{every_hour, touched_hours};
+use crate::marks::touched_hours;
 use crate::segments::rows_at;
 use fw_amortise::{Line, own_lines};
 use fw_columns::{Columns, LentRow};
@@ -25,7 +25,7 @@ use indexmap::IndexMap;
 use std::alloc::{AllocError, Global};
 
 // Sums of costs, in nanos.
-#[derive(Drop)]
+#[derive(Clone, Copy, Drop)]
 pub(crate) struct Sums {
     billed: i128,
     effective: i128,
@@ -67,7 +67,7 @@ impl Sums {
 #[derive(Drop)]
 pub(crate) struct Groups {
     pub(crate) alloc: Global,
-    by_group: IndexMap<String, Sums>,
+    pub(crate) by_group: IndexMap<String, Sums>,
     pub(crate) lines: u64,
 }
 
@@ -84,10 +84,10 @@ impl Groups {
         }
     }
 
-    // The sums of the lines of so many hours from this one on. The rows of all of them are summed by column first. Where no commitment has a
-    // line in an hour, its lines bring what its rows do; so only the rows of other hours are sorted by hour.
+    // The sums of the lines of so many hours from this one on, given those of their rows. Where no commitment has a line in an hour, its lines bring
+    // what its rows do; so only the rows of other hours are sorted by hour.
     pub(crate) fn of_hours<'a>(
-        alloc: Global,
+        mut rows: Groups,
         key: &str,
         segments: &[&'a Columns],
         roster: &Roster<'a>,
@@ -97,16 +97,14 @@ impl Groups {
     ) -> Result<Groups, AllocError>
         requires fits { from + hours < 2 ^ 64 }
         requires roster { HasHours roster.now from hours }
+        requires rows { Counts rows (map (row_cost key.now) (rows_marked (replicate hours true) from (all_rows (lent segments.now)))) }
         requires kept { AreKept roster.now.commitments (all_rows (lent segments.now)) covers.old }
         ensures kept { AreKept roster.now.commitments (all_rows (lent segments.now)) covers.new }
         ensures groups { IfOk result (λ groups. CountsHours groups [] key.now roster.now.commitments (map (λ h. rows_in h (all_rows (lent segments.now))) (range_with_len from hours)) from) }
     {
-        let touched = touched_hours(alloc, roster.commitments(), from, hours)?;
-        let every = every_hour(alloc, hours)?;
-        let by_hour = rows_by_hour(alloc, segments, from, touched.as_slice())?;
-        let mut groups = Groups::new(alloc);
-        groups.add_segments(key, segments, from, every.as_slice())?;
-        groups.add_hours(
+        let touched = touched_hours(rows.alloc, roster.commitments(), from, hours)?;
+        let by_hour = rows_by_hour(rows.alloc, segments, from, touched.as_slice())?;
+        rows.add_hours(
             key,
             segments,
             roster,
@@ -115,7 +113,7 @@ impl Groups {
             touched.as_slice(),
             from,
         )?;
-        Ok(groups)
+        Ok(rows)
     }
 
     // Counts the lines of the hours, where their rows are counted; those of the touched hours are at these places. The first place of either list

@@ -25,6 +25,7 @@ mod segments;
 mod summing;
 mod text;
 mod total;
+mod workers;
 
 pub use covers::Covers;
 pub use entries::{Entry, Report};
@@ -38,6 +39,6 @@ pub use line_text::{id_of, status_of};
 pub use listing::lines_csv;
 pub use marks::touched_hours;
 pub use query::{MOST_HOURS, Query};
-pub use reporting::{report, report_keeping};
+pub use reporting::{report, report_alone, report_keeping};
 pub use segments::rows_at;
 pub use text::report_csv;

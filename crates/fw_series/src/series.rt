@@ -7,7 +7,7 @@ ghost use Rattle.fw_snapshot.specs.History.{commitments_of, policy_of, rows_of};
 ghost use Rattle.fw_series.specs.Series.{AreParts, IsPartReport, IsSeries, IsSeriesRefused};
 
 use fw_calendar::{Period, Step, periods};
-use fw_query::{Query, QueryFault, Report, report};
+use fw_query::{Query, QueryFault, Report, report_alone};
 use fw_snapshot::Snapshot;
 use std::alloc::Global;
 
@@ -42,7 +42,7 @@ pub fn series_of(
     ensures series { IfOk result (IsSeries snapshot.now.entries query.now.key.now query.now.from_hour query.now.to_hour step) }
     ensures fault { IfErr result (IsSeriesRefused snapshot.now.entries query.now.key.now query.now.from_hour query.now.to_hour) }
 {
-    let whole = report(alloc, snapshot, query, 1)?;
+    let whole = report_alone(alloc, snapshot, query)?;
     let parts = match step {
         Some(step) => parts_of(alloc, snapshot, query, step)?,
         None => Vec::new(alloc),
@@ -88,6 +88,6 @@ fn part_of(
         from_hour: period.from,
         to_hour: period.to,
     };
-    let report = report(alloc, snapshot, &query, 1)?;
+    let report = report_alone(alloc, snapshot, &query)?;
     Ok(Part { period, report })
 }

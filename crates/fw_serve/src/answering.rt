@@ -1,5 +1,5 @@
 //! Commands that are run on a store, and what they are answered.
-ghost use Rattle.std.specs.Prelude.{◌≡◌, ◌⊎◌, Ok};
+ghost use Rattle.std.specs.Prelude.{◌≡◌, ◌≤◌, ◌⊎◌, Ok};
 ghost use Rattle.fw_entry.specs.Spelling.{HasRowCount, IsEntry};
 ghost use Rattle.fw_entry.specs.View.{command_view};
 ghost use Rattle.fw_query.specs.Covers.{AreKept};
@@ -8,6 +8,7 @@ ghost use Rattle.fw_script.specs.Plain.{plain_command};
 ghost use Rattle.fw_serve.specs.Answers.{Answer, Entered, Takes, Submits, Checkpoints, RanOut};
 ghost use Rattle.fw_serve.specs.Flight.{FailsOnMade, FailsOnSent, FailsOnThis};
 ghost use Rattle.fw_serve.specs.ReplyText.{reply_text};
+ghost use Rattle.fw_serve.specs.Served.{most_workers};
 ghost use Rattle.fw_serve.specs.Standings.{standing_of, Moves};
 ghost use Rattle.fw_snapshot.specs.History.{commitments_of, rows_of};
 
@@ -21,6 +22,7 @@ use fw_query::Covers;
 use fw_recover::Store;
 use fw_script::{Command, EntryKind, sequence_number};
 use std::alloc::Global;
+use std::thread::Threads;
 
 /// Runs a command, and returns the reply. Only an entry that is accepted changes the warehouse, and it is on the volume, synced,
 /// before this returns. Where the content of an entry is refused, where it was accepted before, leaves a gap or is refused, where the
@@ -28,15 +30,19 @@ use std::alloc::Global;
 /// still answers questions, from the entries that were accepted by then. What a crash leaves from then on has these, and perhaps the entry that the
 /// command sends, and no other one.
 ///
-/// A report is answered by what reports before it kept of what commitments cover. Nothing of this is kept behind an entry, which may bring rows or
+/// A report is made by so many workers, and by what reports before it kept of what commitments cover. Nothing of this is kept behind an entry, which may bring rows or
 /// commitments.
 pub(crate) fn answer<V: Volume>(
+    rt: &(impl Threads + Sync),
     alloc: Global,
     store: &mut Store<V>,
     covers: &mut Covers,
     command: Command<'_>,
+    workers: u32,
 ) -> Reply
-    requires { AreKept (commitments_of store.old.history.entries) (rows_of store.old.history.entries) covers.old }
+    requires some_workers { 1 ≤ workers }
+    requires few_workers { workers ≤ most_workers }
+    requires kept { AreKept (commitments_of store.old.history.entries) (rows_of store.old.history.entries) covers.old }
     ensures kept { AreKept (commitments_of store.new.history.entries) (rows_of store.new.history.entries) covers.new }
     ensures answer { Answer (standing_of V.view store.old) (plain_command command.entry) (reply_text result) (standing_of V.view store.new) }
     ensures moves { Moves V.tells V.view (FailsOnSent (standing_of V.view store.old) (plain_command command.entry) (reply_text result)) store.old store.new }
@@ -53,7 +59,7 @@ pub(crate) fn answer<V: Volume>(
         }
         Command::Checkpoint => checkpoint(alloc, store),
         Command::Report { key, from, to } => {
-            answer_report(alloc, store.state(), covers, key, from, to)
+            answer_report(rt, alloc, store.state(), covers, key, from, to, workers)
         }
         Command::Lines { from, to } => answer_lines(alloc, store.state(), from, to),
         Command::State => answer_state(store.state()),

@@ -1,16 +1,18 @@
 //! Questions, which are answered from the state of a warehouse and change nothing.
-ghost use Rattle.std.specs.Prelude.{◌≡◌};
+ghost use Rattle.std.specs.Prelude.{◌≡◌, ◌≤◌};
 ghost use Rattle.fw_query.specs.Covers.{AreKept};
 ghost use Rattle.fw_snapshot.specs.History.{commitments_of, rows_of};
 ghost use Rattle.fw_serve.specs.Questions.{IsReportText, ReportAnswer, LinesAnswer};
 ghost use Rattle.fw_serve.specs.Replies.{state_line};
 ghost use Rattle.fw_serve.specs.ReplyText.{reply_text};
+ghost use Rattle.fw_serve.specs.Served.{most_workers};
 
 use crate::refusals::query_reply;
 use crate::reply::Reply;
 use fw_query::{Covers, Query, QueryFault, lines_csv, report_csv, report_keeping};
 use fw_snapshot::Snapshot;
 use std::alloc::Global;
+use std::thread::Threads;
 
 /// The counts of a warehouse.
 pub fn answer_state(snapshot: &Snapshot) -> Reply
@@ -27,18 +29,22 @@ pub fn answer_state(snapshot: &Snapshot) -> Reply
 
 /// The report under a key over the hours from `from` up to, and not including, `to`, by what reports before it kept.
 pub(crate) fn answer_report(
+    rt: &(impl Threads + Sync),
     alloc: Global,
     snapshot: &Snapshot,
     covers: &mut Covers,
     key: &str,
     from: u64,
     to: u64,
+    workers: u32,
 ) -> Reply
-    requires { AreKept (commitments_of snapshot.now.entries) (rows_of snapshot.now.entries) covers.old }
+    requires some_workers { 1 ≤ workers }
+    requires few_workers { workers ≤ most_workers }
+    requires kept { AreKept (commitments_of snapshot.now.entries) (rows_of snapshot.now.entries) covers.old }
     ensures kept { AreKept (commitments_of snapshot.now.entries) (rows_of snapshot.now.entries) covers.new }
     ensures answer { ReportAnswer snapshot.now key.now from to (reply_text result) }
 {
-    match report_text(alloc, snapshot, covers, key, from, to) {
+    match report_text(rt, alloc, snapshot, covers, key, from, to, workers) {
         Ok(text) => Reply::Text(text),
         Err(fault) => query_reply(&fault),
     }
@@ -46,14 +52,18 @@ pub(crate) fn answer_report(
 
 // The text of the report.
 fn report_text(
+    rt: &(impl Threads + Sync),
     alloc: Global,
     snapshot: &Snapshot,
     covers: &mut Covers,
     key: &str,
     from: u64,
     to: u64,
+    workers: u32,
 ) -> Result<Vec<u8>, QueryFault>
-    requires { AreKept (commitments_of snapshot.now.entries) (rows_of snapshot.now.entries) covers.old }
+    requires some_workers { 1 ≤ workers }
+    requires few_workers { workers ≤ most_workers }
+    requires kept { AreKept (commitments_of snapshot.now.entries) (rows_of snapshot.now.entries) covers.old }
     ensures kept { AreKept (commitments_of snapshot.now.entries) (rows_of snapshot.now.entries) covers.new }
     ensures text { IsReportText snapshot.now key.now from to result }
 {
@@ -62,7 +72,7 @@ fn report_text(
         from_hour: from,
         to_hour: to,
     };
-    let report = report_keeping(alloc, snapshot, covers, &query, 1)?;
+    let report = report_keeping(rt, alloc, snapshot, covers, &query, workers)?;
     Ok(report_csv(alloc, &report)?)
 }
 

@@ -17,6 +17,7 @@ use fw_recover::Store;
 use fw_script::Script;
 use std::alloc::Global;
 use std::io::{Read, Write};
+use std::thread::Threads;
 
 /// Reads a script to its end, runs its commands on the store in order, writes their answers, and flushes the writer.
 ///
@@ -32,16 +33,17 @@ use std::io::{Read, Write};
 /// moment of one leaves what the commands before it left, perhaps with the entry that it sends, and after it what it left. Once the device has failed, a crash
 /// leaves what the commands left, perhaps with the entry that the failed one sent. A store that had failed before stays as it was, and so does its volume.
 ///
-/// There are 1 to 64 workers. Their number has no effect yet.
+/// Each report is made by 1 to 64 workers, each of which counts a piece of the rows. Their number changes no answer.
 pub fn serve<R: Read, W: Write, V: Volume>(
+    rt: &(impl Threads + Sync),
     alloc: Global,
     reader: &mut R,
     writer: &mut W,
     store: &mut Store<V>,
-    _workers: u32,
+    workers: u32,
 ) -> Result<(), ServeFault>
-    requires some_worker { 1 ≤ _workers }
-    requires few_workers { _workers ≤ most_workers }
+    requires some_worker { 1 ≤ workers }
+    requires few_workers { workers ≤ most_workers }
     ensures done { OnOk result (IsServed (R.remaining reader.old) (standing_of V.view store.old) (standing_of V.view store.new) (W.contents writer.old) (W.contents writer.new)) }
     ensures write { result ≡ Err ServeFault.Write → IsServedInPart (R.remaining reader.old) (standing_of V.view store.old) (standing_of V.view store.new) (W.contents writer.old) (W.contents writer.new) }
     ensures untouched { IfErr result (λ why. (why ≢ ServeFault.Write) → (store.new ≡ store.old) × (writer.new ≡ writer.old)) }
@@ -56,18 +58,22 @@ pub fn serve<R: Read, W: Write, V: Volume>(
 {
     store.keeps();
     let text = read_script(alloc, reader)?;
-    let served = answer_all(alloc, text.as_slice(), writer, store);
+    let served = answer_all(rt, alloc, text.as_slice(), writer, store, workers);
     store.keeps();
     served
 }
 
 // Runs the commands of a script, and writes their answers.
 fn answer_all<W: Write, V: Volume>(
+    rt: &(impl Threads + Sync),
     alloc: Global,
     text: &[u8],
     writer: &mut W,
     store: &mut Store<V>,
+    workers: u32,
 ) -> Result<(), ServeFault>
+    requires some_worker { 1 ≤ workers }
+    requires few_workers { workers ≤ most_workers }
     ensures done { OnOk result (Serves text.now (standing_of V.view store.old) (standing_of V.view store.new) (W.contents writer.old) (W.contents writer.new)) }
     ensures write { IfErr result (λ why. (why ≡ ServeFault.Write) × ServesInPart text.now (standing_of V.view store.old) (standing_of V.view store.new) (W.contents writer.old) (W.contents writer.new)) }
     ensures runs { Runs V.tells V.view text.now store.old store.new (W.contents writer.old) (W.contents writer.new) }
@@ -76,7 +82,7 @@ fn answer_all<W: Write, V: Volume>(
     let mut covers = Covers::new(alloc);
     while let Some(command) = script.next_command() {
         store.keeps();
-        let reply = answer(alloc, store, &mut covers, command);
+        let reply = answer(rt, alloc, store, &mut covers, command, workers);
         store.keeps();
         write_reply(writer, &reply)?;
     }

@@ -21,3 +21,5 @@ mod shares;
 mod snapshot;
 #[cfg(test)]
 mod warehouse;
+#[cfg(test)]
+mod workers;

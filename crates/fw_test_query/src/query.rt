@@ -1,7 +1,7 @@
 //! The group at which direct costs are too large, which no answer names.
 use crate::given::check;
 use crate::warehouse::{empty, posted};
-use fw_query::{Query, QueryFault, report};
+use fw_query::{Query, QueryFault, report_alone};
 use fw_snapshot::Snapshot;
 use std::alloc::{AllocError, Global};
 use std::test::Fail;
@@ -32,7 +32,7 @@ fn records(alloc: Global, more: &str) -> Result<String, AllocError> {
 
 /// Whether the direct costs of a warehouse are too large at this group.
 fn is_past_at(alloc: Global, snapshot: &Snapshot, group: &str) -> Result<bool, AllocError> {
-    match report(alloc, snapshot, &QUERY, 1) {
+    match report_alone(alloc, snapshot, &QUERY) {
         Err(QueryFault::TotalTooLarge { group: found }) => Ok(found.as_str() == group),
         Err(QueryFault::NoMemory) => Err(AllocError),
         _ => Ok(false),

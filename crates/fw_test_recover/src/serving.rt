@@ -11,6 +11,7 @@ use std::alloc::Global;
 use std::io;
 use std::io::{ErrorKind, Read, Write};
 use std::test::Fail;
+use std::thread::Threads;
 
 // Gives the text, at most `piece` bytes at a time, and fails where it ends.
 #[derive(Drop)]
@@ -89,28 +90,32 @@ fn text_of(answers: &[u8]) -> Result<&str, ServeFault> {
 
 // Whether these are the answers to a script, which have room in 64 bytes.
 fn answers_are<V: Volume>(
+    rt: &(impl Threads + Sync),
     alloc: Global,
     store: &mut Store<V>,
     script: &str,
     wanted: &str,
 ) -> Result<bool, ServeFault> {
     let mut output = Vec::with_capacity(alloc, 64)?;
-    serve(alloc, &mut script.as_bytes(), &mut output, store, 1)?;
+    serve(rt, alloc, &mut script.as_bytes(), &mut output, store, 1)?;
     Ok(text_of(&output)? == wanted)
 }
 
 // Whether a post that ends early is answered so, and the next script finds nothing kept.
-fn an_early_end_keeps_nothing(alloc: Global) -> Result<bool, ServeFault> {
+fn an_early_end_keeps_nothing(
+    rt: &(impl Threads + Sync),
+    alloc: Global,
+) -> Result<bool, ServeFault> {
     let mut store = dollar_store(alloc, LIMIT)?;
     Ok(
-        answers_are(alloc, &mut store, "post a 1 2\nx\n", "bad end\n")?
-            && answers_are(alloc, &mut store, "state\n", "state 0 0 0 0\n")?,
+        answers_are(rt, alloc, &mut store, "post a 1 2\nx\n", "bad end\n")?
+            && answers_are(rt, alloc, &mut store, "state\n", "state 0 0 0 0\n")?,
     )
 }
 
 #[test]
 fn a_post_that_ends_early_keeps_nothing(rt: HostRuntime) -> Result<(), Fail> {
-    let kept_nothing = an_early_end_keeps_nothing(rt.alloc())?;
+    let kept_nothing = an_early_end_keeps_nothing(&rt, rt.alloc())?;
     assert!(rt; kept_nothing);
     Ok(())
 }
@@ -122,14 +127,18 @@ BilledCost,EffectiveCost,BillingCurrency,ChargeCategory,ChargePeriodStart,Charge
 
 // Whether a reader that gives so many bytes at a time and fails where the script ends is a fault of reading, nothing is
 // written and nothing kept.
-fn a_failing_reader_is_reported(alloc: Global, piece: usize) -> Result<bool, ServeFault> {
+fn a_failing_reader_is_reported(
+    rt: &(impl Threads + Sync),
+    alloc: Global,
+    piece: usize,
+) -> Result<bool, ServeFault> {
     let mut store = dollar_store(alloc, LIMIT)?;
     let mut output = Vec::new(alloc);
     let mut reader = FailingReader {
         text: POST.as_bytes(),
         piece,
     };
-    match serve(alloc, &mut reader, &mut output, &mut store, 1) {
+    match serve(rt, alloc, &mut reader, &mut output, &mut store, 1) {
         Err(ServeFault::NoMemory) => Err(ServeFault::NoMemory),
         Err(ServeFault::Read) => Ok(output.is_empty() && store.state().state().entries() == 0),
         _ => Ok(false),
@@ -137,9 +146,12 @@ fn a_failing_reader_is_reported(alloc: Global, piece: usize) -> Result<bool, Ser
 }
 
 // The first of some sizes of a read for which that isn't so.
-fn first_wrong_piece(alloc: Global) -> Result<Option<usize>, ServeFault> {
+fn first_wrong_piece(
+    rt: &(impl Threads + Sync),
+    alloc: Global,
+) -> Result<Option<usize>, ServeFault> {
     for piece in [1, 7, 4096] {
-        if !a_failing_reader_is_reported(alloc, piece)? {
+        if !a_failing_reader_is_reported(rt, alloc, piece)? {
             return Ok(Some(piece));
         }
     }
@@ -148,7 +160,7 @@ fn first_wrong_piece(alloc: Global) -> Result<Option<usize>, ServeFault> {
 
 #[test]
 fn a_reader_that_fails_runs_no_command(rt: HostRuntime) -> Result<(), Fail> {
-    let wrong = first_wrong_piece(rt.alloc())?;
+    let wrong = first_wrong_piece(&rt, rt.alloc())?;
     assert!(rt; wrong.is_none(), "{wrong:?} bytes a read");
     Ok(())
 }
@@ -169,6 +181,7 @@ const ROOMS: &[(usize, usize)] = &[(10, 1), (21, 2), (22, 2), (33, 2), (100, 2)]
 
 // Whether a writer with so much room that fails at a flush is a fault of writing, with so many posts done.
 fn a_failing_writer_is_reported(
+    rt: &(impl Threads + Sync),
     alloc: Global,
     room: usize,
     accepted: usize,
@@ -179,7 +192,14 @@ fn a_failing_writer_is_reported(
         room,
         flushes: false,
     };
-    match serve(alloc, &mut TWO_POSTS.as_bytes(), &mut writer, &mut store, 1) {
+    match serve(
+        rt,
+        alloc,
+        &mut TWO_POSTS.as_bytes(),
+        &mut writer,
+        &mut store,
+        1,
+    ) {
         Err(ServeFault::NoMemory) => Err(ServeFault::NoMemory),
         Err(ServeFault::Write) => {
             let wanted = ANSWERS.get(..room).unwrap_or(ANSWERS);
@@ -190,9 +210,12 @@ fn a_failing_writer_is_reported(
 }
 
 // The first room for which that isn't so.
-fn first_wrong_room(alloc: Global) -> Result<Option<usize>, ServeFault> {
+fn first_wrong_room(
+    rt: &(impl Threads + Sync),
+    alloc: Global,
+) -> Result<Option<usize>, ServeFault> {
     for (room, accepted) in ROOMS {
-        if !a_failing_writer_is_reported(alloc, *room, *accepted)? {
+        if !a_failing_writer_is_reported(rt, alloc, *room, *accepted)? {
             return Ok(Some(*room));
         }
     }
@@ -201,20 +224,27 @@ fn first_wrong_room(alloc: Global) -> Result<Option<usize>, ServeFault> {
 
 #[test]
 fn a_writer_that_fails_leaves_what_is_done(rt: HostRuntime) -> Result<(), Fail> {
-    let wrong = first_wrong_room(rt.alloc())?;
+    let wrong = first_wrong_room(&rt, rt.alloc())?;
     assert!(rt; wrong.is_none(), "with room for {wrong:?} bytes");
     Ok(())
 }
 
 // Whether a writer with just the room for an answer is given it, in dollars and with as many workers as there may be.
-fn a_writer_takes_all(alloc: Global) -> Result<bool, ServeFault> {
+fn a_writer_takes_all(rt: &(impl Threads + Sync), alloc: Global) -> Result<bool, ServeFault> {
     let mut store = dollar_store(alloc, LIMIT)?;
     let mut writer = ShortWriter {
         text: Vec::with_capacity(alloc, 64)?,
         room: 12,
         flushes: true,
     };
-    serve(alloc, &mut b"x\n".as_slice(), &mut writer, &mut store, 64)?;
+    serve(
+        rt,
+        alloc,
+        &mut b"x\n".as_slice(),
+        &mut writer,
+        &mut store,
+        64,
+    )?;
     Ok(
         text_of(&writer.text)? == "bad command\n"
             && store.state().state().currency().code() == b"USD".as_slice(),
@@ -223,7 +253,7 @@ fn a_writer_takes_all(alloc: Global) -> Result<bool, ServeFault> {
 
 #[test]
 fn a_writer_that_takes_all(rt: HostRuntime) -> Result<(), Fail> {
-    let taken = a_writer_takes_all(rt.alloc())?;
+    let taken = a_writer_takes_all(&rt, rt.alloc())?;
     assert!(rt; taken);
     Ok(())
 }
@@ -231,10 +261,10 @@ fn a_writer_that_takes_all(rt: HostRuntime) -> Result<(), Fail> {
 const POLICY: &str = "policy a 1 1\nkey = \"t\"\n";
 
 // The first of some limits at which an entry whose frame ends at 77 isn't answered as it should be.
-fn first_wrong_limit(alloc: Global) -> Result<Option<u64>, ServeFault> {
+fn first_wrong_limit(rt: &(impl Threads + Sync), alloc: Global) -> Result<Option<u64>, ServeFault> {
     for (limit, wanted) in [(76, "store S6 TooLarge\n"), (77, "accepted 1\n")] {
         let mut store = dollar_store(alloc, limit)?;
-        if !answers_are(alloc, &mut store, POLICY, wanted)? {
+        if !answers_are(rt, alloc, &mut store, POLICY, wanted)? {
             return Ok(Some(limit));
         }
     }
@@ -243,18 +273,18 @@ fn first_wrong_limit(alloc: Global) -> Result<Option<u64>, ServeFault> {
 
 #[test]
 fn a_full_volume_takes_no_entry(rt: HostRuntime) -> Result<(), Fail> {
-    let wrong = first_wrong_limit(rt.alloc())?;
+    let wrong = first_wrong_limit(&rt, rt.alloc())?;
     assert!(rt; wrong.is_none(), "with a limit of {wrong:?} bytes");
     Ok(())
 }
 
 // Whether the warehouse is the same after a checkpoint, also where it is opened again.
-fn a_checkpoint_keeps_all(alloc: Global) -> Result<bool, ServeFault> {
+fn a_checkpoint_keeps_all(rt: &(impl Threads + Sync), alloc: Global) -> Result<bool, ServeFault> {
     let mut store = dollar_store(alloc, LIMIT)?;
     let script = "policy a 1 1\nkey = \"t\"\ncheckpoint\nstate\npolicy a 1 1\nkey = \"t\"\n";
     let wanted = "accepted 1\ncheckpointed\nstate 1 0 0 1\nalready 1\n";
     Ok(
-        answers_are(alloc, &mut store, script, wanted)?
+        answers_are(rt, alloc, &mut store, script, wanted)?
             && opens_with(alloc, Box::into_inner(store).close(), 1)?,
     )
 }
@@ -270,7 +300,7 @@ fn opens_with(alloc: Global, volume: MemVolume, entries: usize) -> Result<bool, 
 
 #[test]
 fn a_checkpoint_changes_no_answer(rt: HostRuntime) -> Result<(), Fail> {
-    let kept = a_checkpoint_keeps_all(rt.alloc())?;
+    let kept = a_checkpoint_keeps_all(&rt, rt.alloc())?;
     assert!(rt; kept);
     Ok(())
 }
@@ -279,7 +309,10 @@ fn a_checkpoint_changes_no_answer(rt: HostRuntime) -> Result<(), Fail> {
 const CREATING: u64 = 8;
 
 // Whether the device's failure in the first entry, each entry after it and a question are answered as they should be.
-fn a_failed_device_is_reported(alloc: Global) -> Result<bool, ServeFault> {
+fn a_failed_device_is_reported(
+    rt: &(impl Threads + Sync),
+    alloc: Global,
+) -> Result<bool, ServeFault> {
     let Some(currency) = Currency::new(b"USD") else {
         return Err(ServeFault::Read);
     };
@@ -291,7 +324,14 @@ fn a_failed_device_is_reported(alloc: Global) -> Result<bool, ServeFault> {
     let script = "policy a 1 1\nkey = \"t\"\npolicy a 1 1\nkey = \"t\"\ncheckpoint\nstate\n";
     let wanted = "store S3 Device\nstore S4 Failed\nstore S4 Failed\nstate 0 0 0 0\n";
     let mut output = Vec::with_capacity(alloc, 64)?;
-    serve(alloc, &mut script.as_bytes(), &mut output, &mut store, 1)?;
+    serve(
+        rt,
+        alloc,
+        &mut script.as_bytes(),
+        &mut output,
+        &mut store,
+        1,
+    )?;
     let text = str::from_utf8(&output).unwrap_or("no text");
     if text.contains("no memory") {
         return Err(ServeFault::NoMemory);
@@ -301,7 +341,7 @@ fn a_failed_device_is_reported(alloc: Global) -> Result<bool, ServeFault> {
 
 #[test]
 fn a_device_that_failed_takes_no_entry(rt: HostRuntime) -> Result<(), Fail> {
-    let reported = a_failed_device_is_reported(rt.alloc())?;
+    let reported = a_failed_device_is_reported(&rt, rt.alloc())?;
     assert!(rt; reported);
     Ok(())
 }

@@ -4,7 +4,7 @@ ghost use Rattle.std.specs.Prelude.{◌≡◌};
 use crate::ends::{Held, Left, created, decoded, ends_of, outcome_of, post};
 use crate::seats::{IMPORTERS, Posting, Signs};
 use fw_disk::{Choice, MemVolume};
-use fw_query::{Query, Report, report, report_csv};
+use fw_query::{Query, Report, report_alone, report_csv};
 use fw_recover::{Store, StoreFault};
 use fw_threads::{Analyst, Naming, Opened};
 use std::alloc::{AllocError, Global};
@@ -161,7 +161,7 @@ type Nanos = Result<[u64; REPORTS], Untimed>;
 // A report of what is viewed.
 fn report_seen<J: Naming>(alloc: Global, analyst: &mut Analyst<J>) -> Option<Report> {
     match analyst.view() {
-        Ok(seen) => report(alloc, &seen, &QUERY, 1).ok(),
+        Ok(seen) => report_alone(alloc, &seen, &QUERY).ok(),
         Err(_) => None,
     }
 }

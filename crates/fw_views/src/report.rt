@@ -7,7 +7,7 @@ ghost use Rattle.fw_snapshot.specs.History.{commitments_of, policy_of, rows_of};
 ghost use Rattle.fw_views.specs.declared.report.Format.TheVariants.{Csv};
 
 use crate::tables::report_table;
-use fw_query::{Query, QueryFault, report, report_csv};
+use fw_query::{Query, QueryFault, report_alone, report_csv};
 use fw_snapshot::Snapshot;
 use std::alloc::Global;
 
@@ -31,7 +31,7 @@ pub fn report_text(
     ensures csv { format ≡ Csv → IfOk result (λ text. (entries : List EntryValue) × IsReport (commitments_of snapshot.now.entries) (rows_of snapshot.now.entries) (policy_of snapshot.now.entries) query.now.key.now query.now.from_hour query.now.to_hour entries × (text.items ≡ report_text entries)) }
     ensures fault { IfErr result (IsRefused (commitments_of snapshot.now.entries) (rows_of snapshot.now.entries) query.now.key.now query.now.from_hour query.now.to_hour) }
 {
-    let report = report(alloc, snapshot, query, 1)?;
+    let report = report_alone(alloc, snapshot, query)?;
     match format {
         Format::Csv => Ok(report_csv(alloc, &report)?),
         Format::Table => Ok(report_table(alloc, &report)?.into_bytes()),

@@ -1,9 +1,12 @@
 //! `focusd run`: a script is read from standard input and answered.
+ghost use Rattle.std.specs.Prelude.{◌≤◌};
+ghost use Rattle.fw_serve.specs.Served.{most_workers};
+
 use crate::advice::advised;
 use crate::command_line::{CREATE, DIR, create_option, currency_option, dir_option, read_currency};
 use crate::fault::Fault;
 use crate::wrong_use;
-use clap::{ArgMatches, Command};
+use clap::{Arg, ArgMatches, Command, value_parser};
 use fw_disk::{Choice, FileVolume, MemVolume, Volume};
 use fw_recover::{Store, StoreFault};
 use fw_rows::Currency;
@@ -11,9 +14,13 @@ use fw_serve::serve;
 use std::alloc::{AllocError, Global};
 use std::io::{BufWriter, LineWriter, Write};
 use std::process::ExitCode;
+use std::thread::Threads;
 
 /// How many bytes of answers are written at once.
 const OUTPUT_BUFFER: usize = 64 * 1024;
+
+/// The id of the option that says how many workers make a report.
+const WORKERS: &str = "workers";
 
 const SCRIPT: &str = "Commands of a script, one a line, which a line feed alone ends:
   post ORIGIN SEQUENCE LINES    accept the charge rows of the CSV on the next LINES lines
@@ -62,31 +69,64 @@ pub(crate) fn command<'a>(alloc: Global) -> Result<Command<'a>, AllocError> {
         .arg(create_option(
             alloc,
             "Creates the warehouse in the folder; without --dir it changes nothing",
-        ))
+        ))?
+        .arg(
+            Arg::new(alloc, WORKERS)
+                .long("workers")
+                .value_name("N")
+                .default_value("1")
+                .value_parser(value_parser!(u8).range(1..=64))
+                .help("How many workers share the rows of a report: 1 to 64; each answer stays the same"),
+        )
 }
 
 /// Opens or creates the warehouse that the options name, and serves the script on standard input from it.
-pub(crate) fn run(rt: &HostRuntime, options: &ArgMatches<'_>) -> Result<ExitCode, Fault> {
+pub(crate) fn run(
+    rt: &HostRuntime,
+    threads: &(impl Threads + Sync),
+    options: &ArgMatches<'_>,
+) -> Result<ExitCode, Fault> {
     let Some(currency) = read_currency(options) else {
         return Ok(wrong_use(rt, "currency"));
     };
+    let workers = read_workers(options);
     match options.get_str(DIR) {
         Some(folder) => {
-            let served = serve_folder(rt, folder, options.get_flag(CREATE), currency);
+            let served = serve_folder(
+                rt,
+                threads,
+                folder,
+                options.get_flag(CREATE),
+                currency,
+                workers,
+            );
             Ok(advised(rt, folder, served))
         }
-        None => serve_memory(rt, currency),
+        None => serve_memory(rt, threads, currency, workers),
     }
+}
+
+// How many workers share the rows of a report. The command line lets no other number pass.
+fn read_workers(options: &ArgMatches<'_>) -> u32
+    ensures some { 1 ≤ result }
+    ensures few { result ≤ most_workers }
+{
+    options.get_one(WORKERS).unwrap_or(1).clamp(1, 64)
 }
 
 // Serves the script from the warehouse of a folder. Each answer is written as soon as its line ends: whoever reads `accepted`
 // knows then that the entry is stored.
 fn serve_folder(
     rt: &HostRuntime,
+    threads: &(impl Threads + Sync),
     folder: &str,
     creates: bool,
     currency: Currency,
-) -> Result<ExitCode, Fault> {
+    workers: u32,
+) -> Result<ExitCode, Fault>
+    requires some_workers { 1 ≤ workers }
+    requires few_workers { workers ≤ most_workers }
+{
     let alloc = rt.alloc();
     let Ok(mut output) = LineWriter::with_capacity(alloc, OUTPUT_BUFFER, rt.stdout()) else {
         return Err(Fault::NoMemory);
@@ -97,28 +137,49 @@ fn serve_folder(
     } else {
         Store::open(alloc, volume)
     };
-    serve_streams(rt, &mut output, opened)
+    serve_streams(rt, threads, &mut output, opened, workers)
 }
 
 // Serves the script from an empty warehouse in memory.
-fn serve_memory(rt: &HostRuntime, currency: Currency) -> Result<ExitCode, Fault> {
+fn serve_memory(
+    rt: &HostRuntime,
+    threads: &(impl Threads + Sync),
+    currency: Currency,
+    workers: u32,
+) -> Result<ExitCode, Fault>
+    requires some_workers { 1 ≤ workers }
+    requires few_workers { workers ≤ most_workers }
+{
     let alloc = rt.alloc();
     let Ok(mut output) = BufWriter::with_capacity(alloc, OUTPUT_BUFFER, rt.stdout()) else {
         return Err(Fault::NoMemory);
     };
     let volume = MemVolume::new(alloc, FileVolume::LIMIT, Choice::Old);
-    serve_streams(rt, &mut output, Store::create(alloc, volume, currency))
+    let created = Store::create(alloc, volume, currency);
+    serve_streams(rt, threads, &mut output, created, workers)
 }
 
 // Serves the script on standard input from a store.
 fn serve_streams<W: Write, V: Volume + Drop>(
     rt: &HostRuntime,
+    threads: &(impl Threads + Sync),
     output: &mut W,
     opened: Result<Store<V>, (V, StoreFault)>,
-) -> Result<ExitCode, Fault> {
+    workers: u32,
+) -> Result<ExitCode, Fault>
+    requires some_workers { 1 ≤ workers }
+    requires few_workers { workers ≤ most_workers }
+{
     match opened {
         Ok(mut store) => {
-            serve(rt.alloc(), &mut rt.stdin(), output, &mut store, 1)?;
+            serve(
+                threads,
+                rt.alloc(),
+                &mut rt.stdin(),
+                output,
+                &mut store,
+                workers,
+            )?;
             Ok(ExitCode::SUCCESS)
         }
         Err((_, fault)) => Err(Fault::Store(fault)),

@@ -61,10 +61,10 @@ returns-in-Entry-clause-kept g c = none_kept _ _ _ c.clear.ensures
 pub returns-in-Checkpoint-clause-kept : goal.returns-in-Checkpoint-clause-kept
 returns-in-Checkpoint-clause-kept g c =
     let same : c.checkpoint.new.store.history ≡ c.args.store.now.history = (checkpoint_leaves _ _ _ c.checkpoint.ensures.checkpoints).1 in
-    rw same c.requires
+    rw same c.requires.kept
 
-pub answer_report-requires : goal.answer_report-requires
-answer_report-requires g c = rw c.state.ensures c.requires
+pub answer_report-requires-clause-kept : goal.answer_report-requires-clause-kept
+answer_report-requires-clause-kept g c = rw c.state.ensures c.requires.kept
 
 pub returns-in-Report-clause-kept : goal.returns-in-Report-clause-kept
 returns-in-Report-clause-kept g c = rw c.state.ensures at c.answer_report.ensures.kept

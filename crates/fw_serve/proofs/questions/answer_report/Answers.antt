@@ -4,7 +4,7 @@ use Rattle.fw_serve.proofs.questions.answer_report.Goals as goal
 
 pub returns-in-Ok-clause-answer : goal.returns-in-Ok-clause-answer
 unfolding reply_text
-returns-in-Ok-clause-answer c = ReportAnswer-text _ _ _ _ c.in-Ok.text c.in-Ok.ensures.text
+returns-in-Ok-clause-answer g c = ReportAnswer-text _ _ _ _ c.in-Ok.text c.in-Ok.ensures.text
 
 pub returns-in-Err-clause-answer : goal.returns-in-Err-clause-answer
-returns-in-Err-clause-answer c = rw c.query_reply.ensures (ReportAnswer-none _ _ _ _ _ c.in-Err.ensures.text)
+returns-in-Err-clause-answer g c = rw c.query_reply.ensures (ReportAnswer-none _ _ _ _ _ c.in-Err.ensures.text)
