@@ -20,6 +20,7 @@ use fw_disk::Volume;
 use fw_entry::{Command as EntryCommand, Entry};
 use fw_query::Covers;
 use fw_recover::Store;
+use fw_rows::KnownTags;
 use fw_script::{Command, EntryKind, sequence_number};
 use std::alloc::Global;
 use std::thread::Threads;
@@ -31,12 +32,13 @@ use std::thread::Threads;
 /// command sends, and no other one.
 ///
 /// A report is made by so many workers, and by what reports before it kept of what commitments cover. Nothing of this is kept behind an entry, which may bring rows or
-/// commitments.
+/// commitments. The tags that are known of texts from the posts before have no effect on an answer.
 pub(crate) fn answer<V: Volume>(
     rt: &(impl Threads + Sync),
     alloc: Global,
     store: &mut Store<V>,
     covers: &mut Covers,
+    known: &mut KnownTags,
     command: Command<'_>,
     workers: u32,
 ) -> Reply
@@ -55,7 +57,7 @@ pub(crate) fn answer<V: Volume>(
             content,
         } => {
             covers.clear();
-            enter(alloc, store, kind, origin, sequence, content)
+            enter(alloc, store, known, kind, origin, sequence, content)
         }
         Command::Checkpoint => checkpoint(alloc, store),
         Command::Report { key, from, to } => {
@@ -72,6 +74,7 @@ pub(crate) fn answer<V: Volume>(
 fn enter<V: Volume>(
     alloc: Global,
     store: &mut Store<V>,
+    known: &mut KnownTags,
     kind: EntryKind,
     origin: &[u8],
     sequence: &[u8],
@@ -81,7 +84,13 @@ fn enter<V: Volume>(
     ensures moves { Moves V.tells V.view (FailsOnSent (standing_of V.view store.old) (plain.entry kind origin.now sequence.now content.now) (reply_text result)) store.old store.new }
 {
     let number = sequence_number(sequence).unwrap_or(0);
-    match read_content(alloc, kind, content, store.state().state().currency()) {
+    match read_content(
+        alloc,
+        kind,
+        content,
+        store.state().state().currency(),
+        known,
+    ) {
         Ok(command) => take(alloc, store, origin, number, command),
         Err(reply) => reply,
     }

@@ -14,6 +14,7 @@ use crate::writing::write_reply;
 use fw_disk::Volume;
 use fw_query::Covers;
 use fw_recover::Store;
+use fw_rows::KnownTags;
 use fw_script::Script;
 use std::alloc::Global;
 use std::io::{Read, Write};
@@ -80,9 +81,10 @@ fn answer_all<W: Write, V: Volume>(
 {
     let mut script = Script::new(text);
     let mut covers = Covers::new(alloc);
+    let mut known = KnownTags::new(alloc);
     while let Some(command) = script.next_command() {
         store.keeps();
-        let reply = answer(rt, alloc, store, &mut covers, command, workers);
+        let reply = answer(rt, alloc, store, &mut covers, &mut known, command, workers);
         store.keeps();
         write_reply(writer, &reply)?;
     }

@@ -5,14 +5,14 @@ use Rattle.fw_serve.proofs.content.read_content.Goals as goal
 
 pub returns-in-Ok-clause-reads : goal.returns-in-Ok-clause-reads
 unfolding ContentReads
-returns-in-Ok-clause-reads c = rw c.in-Post.is (c.in-Ok.rows, refl, rw c.in-Ok.is at c.read_columns.ensures)
+returns-in-Ok-clause-reads c = rw c.in-Post.is (c.in-Ok.rows, refl, rw c.in-Ok.is at c.read_columns_after.ensures)
 
 pub returns-in-Ok-clause-sized : goal.returns-in-Ok-clause-sized
-returns-in-Ok-clause-sized c = IsRowCount-read _ _ c.in-Ok.rows (rw c.in-Ok.is at c.read_columns.ensures)
+returns-in-Ok-clause-sized c = IsRowCount-read _ _ c.in-Ok.rows (rw c.in-Ok.is at c.read_columns_after.ensures)
 
 pub returns-in-Err-clause-reads : goal.returns-in-Err-clause-reads
 unfolding ContentReads
-returns-in-Err-clause-reads c = rw c.in-Post.is (c.in-Err.fault, c.row_reply.ensures, rw c.in-Err.is at c.read_columns.ensures)
+returns-in-Err-clause-reads c = rw c.in-Post.is (c.in-Err.fault, c.row_reply.ensures, rw c.in-Err.is at c.read_columns_after.ensures)
 
 pub returns-in-Ok-read_commitment-clause-reads : goal.returns-in-Ok-read_commitment-clause-reads
 unfolding ContentReads
