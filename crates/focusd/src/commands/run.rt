@@ -76,7 +76,9 @@ pub(crate) fn command<'a>(alloc: Global) -> Result<Command<'a>, AllocError> {
                 .value_name("N")
                 .default_value("1")
                 .value_parser(value_parser!(u8).range(1..=64))
-                .help("How many workers share the rows of a report: 1 to 64; each answer stays the same"),
+                .help(
+                    "How many workers share the rows of a report: 1 to 64; each answer stays the same",
+                ),
         )
 }
 
