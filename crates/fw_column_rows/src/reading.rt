@@ -2,11 +2,11 @@
 ghost use Rattle.fw_rows.specs.Rows.{RowsRead};
 
 use crate::filling::Filling;
-use core::mem::replace;
 use fw_charge::Currency;
 use fw_columns::Columns;
 use fw_rows::{KnownTags, RowFault, read_into};
 use std::alloc::Global;
+use std::mem::replace;
 
 /// Reads the rows of a CSV text into columns: those that [`fw_rows::read_rows`] answers, in the same order, or the same fault. Costs are in
 /// `currency`. `NoMemory` comes where memory runs out, at any place.
