@@ -64,7 +64,7 @@ returns-in-Checkpoint-clause-kept g c =
     rw same c.requires.kept
 
 pub answer_report-requires-clause-kept : goal.answer_report-requires-clause-kept
-answer_report-requires-clause-kept g c = rw c.state.ensures c.requires.kept
+answer_report-requires-clause-kept g c κs lives = rw c.state.ensures c.requires.kept
 
 pub returns-in-Report-clause-kept : goal.returns-in-Report-clause-kept
 returns-in-Report-clause-kept g c = rw c.state.ensures at c.answer_report.ensures.kept
