@@ -8,6 +8,10 @@ reports are over all hours by the tag `team`, half over a quarter of the hours b
 a run with many reports less that of a run with 2, by their number, so that reading is left out, and so is what is made once for all
 reports. The programs take turns, and all answers must be equal. Progress goes to standard error.
 
+    python3 bench/reports.py --workers 1 2 4
+
+measures focusd with each of these numbers of workers, each time by the clock and not by the processor: several workers take no less of that.
+
 The plain Rust program (peers/reports) keeps its rows clustered by hour. Needs cargo, and on Debian 12
 librust-csv-dev, librust-serde-json-dev and librust-toml-dev. Exit status: 0 measured, 1 a program failed or the answers differ, 2 a wrong
 command line or a machine on which nothing can be measured.
@@ -94,21 +98,37 @@ def write_script(path, options, count, pairs):
 class Program:
     def __init__(self, name, command):
         self.name, self.command, self.seconds, self.answers = name, command, [], set()
+        self.clock = []
 
     def take_turn(self, scripts, reports, options):
-        took = []
+        took, clock = [], []
         for script in scripts:
             turn = measure(self.command, script, options)
             if turn.status != 0:
                 raise Stopped(f"{self.name} failed: {turn.complaint.strip()[-200:] or 'it took too long'}")
             took.append(turn.processor_seconds)
+            clock.append(turn.seconds)
         self.answers.add(hashlib.sha256(turn.output).hexdigest())
         self.seconds.append((took[1] - took[0]) / reports)
-        say(f"  {self.name}: {self.seconds[-1] * 1000:.1f} ms a report")
+        self.clock.append((clock[1] - clock[0]) / reports)
+        say(f"  {self.name}: {self.seconds[-1] * 1000:.1f} ms a report, {self.clock[-1] * 1000:.1f} by the clock")
 
     @property
     def middle(self):
         return statistics.median(self.seconds)
+
+    @property
+    def middle_by_clock(self):
+        return statistics.median(self.clock)
+
+
+def print_workers(measured, options):
+    """Prints what a report takes by the clock with each number of workers, and how many times as fast as the first it is."""
+    print(f"| program | milliseconds a report by the clock, {options.turns} turns | median | times as fast | of the processor |\n|---|---|---|---|---|")
+    for program in measured:
+        turns = ", ".join(f"{it * 1000:.1f}" for it in program.clock)
+        faster = measured[0].middle_by_clock / program.middle_by_clock
+        print(f"| {program.name} | {turns} | {program.middle_by_clock * 1000:.1f} | {faster:.2f} | {program.middle * 1000:.1f} |")
 
 
 def compare(programs, count, options):
@@ -125,6 +145,9 @@ def compare(programs, count, options):
             program.take_turn(paths, 2 * (many - FEW), options)
     rust = next((it.middle for it in measured if it.name == RUST), None)
     print(f"\n{options.rows:,} rows over {options.hours} hours, {count} commitments:\n")
+    if options.workers:
+        print_workers(measured, options)
+        return len(set.union(*(it.answers for it in measured))) == 1
     print(f"| program | milliseconds a report, {options.turns} turns | median | times plain Rust |\n|---|---|---|---|")
     for program in measured:
         turns = ", ".join(f"{it * 1000:.1f}" for it in program.seconds)
@@ -142,7 +165,9 @@ def run(options):
         raise Stopped(f"{options.program} isn't there: build it by `examples/run --proved`")
     notes = []
     programs = [(FOCUSD, [os.path.abspath(options.program), "run"])]
-    rust = build_rust(options, notes, "reports", ("csv", "serde-json", "toml"))
+    if options.workers:
+        programs = [(f"{FOCUSD} --workers {it}", [*programs[0][1], "--workers", str(it)]) for it in options.workers]
+    rust = not options.workers and build_rust(options, notes, "reports", ("csv", "serde-json", "toml"))
     if rust:
         programs.append((RUST, [rust]))
     before = load()
@@ -164,6 +189,7 @@ def main():
     parser.add_argument("--rows", type=whole_number, default=1_000_000, help="default: 1,000,000")
     parser.add_argument("--hours", type=whole_number, default=720, help="default: 720")
     parser.add_argument("--commitments", type=int, nargs="+", default=[0, 40], help="default: 0 40")
+    parser.add_argument("--workers", type=whole_number, nargs="+", default=[], help="numbers of workers to compare by the clock (default: none, and plain Rust beside one)")
     parser.add_argument("--turns", type=whole_number, default=3, help="default: 3")
     parser.add_argument("--seed", type=int, default=7, help="default: 7")
     parser.add_argument("--limit", type=whole_number, default=600, help="seconds for one run (default: 600)")
