@@ -25,7 +25,7 @@ const QUERY: Query<'static> = Query {
     to_hour: 473_354,
 };
 
-/// What these hours cost.
+/// The report: what these hours cost.
 const TEXT: &str = "Group,BilledCost,EffectiveCost,ChargedCost
 a,11.000000000,22.000000000,22.000000000
 b,20.000000000,40.000000000,40.000000000
@@ -40,8 +40,8 @@ fn warehouse(alloc: Global) -> Result<Snapshot, AllocError> {
     Ok(snapshot)
 }
 
-/// Whether so many workers tell it.
-fn is_told_by(
+/// Whether so many workers make it.
+fn is_made_by(
     rt: &(impl Threads + Sync),
     alloc: Global,
     snapshot: &Snapshot,
@@ -56,28 +56,28 @@ fn is_told_by(
     }
 }
 
-/// Whether whoever starts no threads is told it.
-fn is_told_alone(alloc: Global, snapshot: &Snapshot) -> Result<bool, AllocError> {
+/// Whether it is made without threads.
+fn is_made_alone(alloc: Global, snapshot: &Snapshot) -> Result<bool, AllocError> {
     match report_alone(alloc, snapshot, &QUERY) {
         Ok(report) => Ok(report_csv(alloc, &report)?.as_slice() == TEXT.as_bytes()),
         Err(_) => Err(AllocError),
     }
 }
 
-/// Whether fewer workers than segments, as many and more tell it.
-fn is_told(rt: &(impl Threads + Sync), alloc: Global) -> Result<bool, AllocError> {
+/// Whether fewer workers than segments, as many and more make it.
+fn is_made(rt: &(impl Threads + Sync), alloc: Global) -> Result<bool, AllocError> {
     let snapshot = warehouse(alloc)?;
     Ok(
-        is_told_alone(alloc, &snapshot)?
-            && is_told_by(rt, alloc, &snapshot, 1)?
-            && is_told_by(rt, alloc, &snapshot, 2)?
-            && is_told_by(rt, alloc, &snapshot, 3)?
-            && is_told_by(rt, alloc, &snapshot, 5)?
-            && is_told_by(rt, alloc, &snapshot, 64)?,
+        is_made_alone(alloc, &snapshot)?
+            && is_made_by(rt, alloc, &snapshot, 1)?
+            && is_made_by(rt, alloc, &snapshot, 2)?
+            && is_made_by(rt, alloc, &snapshot, 3)?
+            && is_made_by(rt, alloc, &snapshot, 5)?
+            && is_made_by(rt, alloc, &snapshot, 64)?,
     )
 }
 
 #[test]
 fn a_report_by_several_workers(rt: HostRuntime) -> Result<(), Fail> {
-    check(&rt, is_told(&rt, rt.alloc()))
+    check(&rt, is_made(&rt, rt.alloc()))
 }
