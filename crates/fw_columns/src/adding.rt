@@ -7,11 +7,12 @@ ghost use Rattle.fw_columns.specs.Joining.{AreCodesBelow};
 ghost use Rattle.fw_columns.specs.RowViews.{charge_with, tags_at};
 ghost use Rattle.fw_columns.specs.Adding.{texts_of_view, AreCodesWithin, AreCodesOf, HasMore};
 ghost use Rattle.fw_row_table.specs.Table.{most_column_rows, rows_of, AreColumns};
+ghost use Rattle.fw_row_table.specs.Lending.{tags_lent};
 
 use crate::codes::{kind_kept, quantity_kept, status_kept};
 use crate::row_view::RowView;
-use fw_charge::{Tags, class_code};
-use fw_row_table::{Names, Table, see_tags};
+use fw_charge::class_code;
+use fw_row_table::{LentTags, Names, Table, see_tags};
 use std::alloc::AllocError;
 
 /// The codes of the texts of a row: 0 where a text is null, else 1 more than its place in the names.
@@ -28,16 +29,16 @@ pub fn add_row(
     table: &mut Table,
     list: &mut Vec<u32>,
     row: &RowView<'_>,
-    tags: &Tags,
+    tags: LentTags<'_>,
 ) -> Result<(), AllocError>
     requires columns { AreColumns table.old (rows_of table.old) }
     requires few { length (rows_of table.old) < most_column_rows }
-    requires valid { IsCharge (charge_with row.now tags.now) }
-    ensures { OnOk result (AreColumns table.new (rows_of table.old ++ charge_with row.now tags.now ∷ [])) }
+    requires valid { IsCharge (charge_with row.now (tags_lent tags)) }
+    ensures { OnOk result (AreColumns table.new (rows_of table.old ++ charge_with row.now (tags_lent tags.entry) ∷ [])) }
 {
     let before = last_codes(table);
     let codes = see_texts(&mut table.names, before, row)?;
-    see_tags(&mut table.names, tags.as_slice(), list)?;
+    see_tags(&mut table.names, tags, list)?;
     let place = table.lists.code(list.as_slice())?;
     push_values(table, row, codes, place)?;
     Ok(())

@@ -3,12 +3,13 @@ ghost use Rattle.std.specs.Prelude.{◌≡◌, ◌<◌, ◌≤◌, ◌++◌, [],
 ghost use Rattle.fw_charge.specs.Charge.{IsCharge};
 ghost use Rattle.fw_columns.specs.RowViews.{charge_with, tags_at};
 ghost use Rattle.fw_row_table.specs.Table.{most_column_rows};
+ghost use Rattle.fw_row_table.specs.Lending.{tags_lent};
 
 use crate::adding::{add_row, add_row_like};
 use crate::columns::Columns;
 use crate::row_view::{RowView, view_of};
 use fw_charge::{Row, Tags};
-use fw_row_table::Table;
+use fw_row_table::{LentRow, LentTags, Table};
 use std::alloc::{AllocError, Global};
 use std::marker::Model;
 
@@ -58,6 +59,16 @@ impl ColumnsBuilder {
         ensures added { OnOk result (self.new ≡ self.old ++ charge_with row.now tags.now ∷ []) }
         ensures refused { OnErr result (self.new ≡ []) }
     {
+        self.push_parts(row, LentTags::of_tags(tags))
+    }
+
+    // Adds a row with these values and these tags.
+    fn push_parts(&mut self, row: &RowView<'_>, tags: LentTags<'_>) -> Result<(), AllocError>
+        requires few { length self.old < most_column_rows }
+        requires valid { IsCharge (charge_with row.now (tags_lent tags)) }
+        ensures added { OnOk result (self.new ≡ self.old ++ charge_with row.now (tags_lent tags.entry) ∷ []) }
+        ensures refused { OnErr result (self.new ≡ []) }
+    {
         match add_row(&mut self.table, &mut self.list, row, tags) {
             Ok(()) => Ok(()),
             Err(refused) => {
@@ -91,9 +102,17 @@ impl ColumnsBuilder {
         ensures added { OnOk result (self.new ≡ self.old ++ row.now ∷ []) }
         ensures refused { OnErr result (self.new ≡ []) }
     {
+        self.push_lent(&LentRow::of_row(row))
+    }
+
+    /// Adds a row that is lent, as by other columns. Where memory is refused, no rows are left.
+    pub fn push_lent(&mut self, row: &LentRow<'_>) -> Result<(), AllocError>
+        requires { length self.old < most_column_rows }
+        ensures added { OnOk result (self.new ≡ self.old ++ row.now ∷ []) }
+        ensures refused { OnErr result (self.new ≡ []) }
+    {
         let view = view_of(row);
-        self.push(&view, row.tags())?;
-        Ok(())
+        self.push_parts(&view, row.tags())
     }
 
     /// The columns of the rows, of which there is one at least.
