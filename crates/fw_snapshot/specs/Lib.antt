@@ -8,3 +8,4 @@ pub mod Held
 pub mod StateView
 pub mod SnapshotView
 pub mod Verdicts
+pub mod Merging

@@ -13,6 +13,7 @@
 mod head;
 mod judging;
 mod laws;
+mod merging;
 mod parts;
 mod snapshot;
 mod state;
