@@ -8,7 +8,7 @@ use Rattle.std.specs.Prelude.{slice_get}
 use Rattle.fw_charge.specs.Charge.{Charge}
 use Rattle.fw_snapshot.specs.Heads.{segment_rows}
 use Rattle.fw_snapshot.specs.Merging.{joined_to, merged, merged_from}
-use Rattle.fw_columns.specs.Table.{most_column_rows}
+use Rattle.fw_row_table.specs.Table.{most_column_rows}
 
 two_ways : {P : Type 0} (b : Bool) → (b ≡ true → P) → (b ≡ false → P) → P
 two_ways true f g = f refl

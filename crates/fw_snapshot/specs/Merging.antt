@@ -1,7 +1,7 @@
 -- Segments that are joined from the front, each with the next one, as long as they have at most 65,536 rows together.
 use Rattle.std.specs.Prelude.{ℕ, zero, suc, ◌+◌, nat_le, List, [], ◌∷◌, ◌++◌, length, if◌then◌else◌}
 use Rattle.fw_charge.specs.Charge.{Charge}
-use Rattle.fw_columns.specs.Table.{most_column_rows}
+use Rattle.fw_row_table.specs.Table.{most_column_rows}
 
 -- how many of the segments that come next are joined to so many rows
 unfoldable pub joined_to : ℕ → List (List Charge) → ℕ

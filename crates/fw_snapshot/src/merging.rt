@@ -2,7 +2,7 @@
 ghost use Rattle.std.specs.Prelude.{◌≡◌, ◌<◌, ◌≤◌, ◌++◌, length, map, IfOk};
 ghost use Rattle.fw_snapshot.specs.Heads.{segment_rows};
 ghost use Rattle.fw_snapshot.specs.Merging.{joined_to, merged};
-ghost use Rattle.fw_columns.specs.Table.{most_column_rows};
+ghost use Rattle.fw_row_table.specs.Table.{most_column_rows};
 
 use fw_columns::Columns;
 use fw_persistent::Sequence;

@@ -5,7 +5,7 @@ use Rattle.std.proofs.lemmas.List.{nil_from_length}
 use Rattle.std.proofs.lemmas.Result.{IfOk-weaker}
 use Rattle.fw_snapshot.proofs.MergeFacts.{merged_run, run_fits}
 use Rattle.fw_snapshot.proofs.merging.+with_merged.Goals as goal
-use Rattle.fw_columns.specs.Table.{most_column_rows}
+use Rattle.fw_row_table.specs.Table.{most_column_rows}
 
 pub returns-in_default : goal.returns-in_default
 unfolding merged

@@ -5,7 +5,7 @@ use Rattle.std.proofs.lemmas.Option.{slice_get-map, slice_get_read}
 use Rattle.fw_snapshot.specs.Merging.{joined_to}
 use Rattle.fw_snapshot.proofs.MergeFacts.{joined_at_end, joined_more, joined_no_more}
 use Rattle.fw_snapshot.proofs.merging.joined_to.Goals as goal
-use Rattle.fw_columns.specs.Table.{most_column_rows}
+use Rattle.fw_row_table.specs.Table.{most_column_rows}
 
 pub returns-then-rows-gt-MOST_ROWS-clause-joined :
     goal.returns-then-rows-gt-MOST_ROWS-clause-joined

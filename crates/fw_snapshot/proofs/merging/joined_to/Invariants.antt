@@ -1,7 +1,7 @@
 use Rattle.std.proofs.Common.{◌≡◌, ◌+◌, ◌≤◌, drop, map}
 use Rattle.fw_snapshot.specs.Merging.{joined_to}
 use Rattle.fw_snapshot.proofs.merging.joined_to.Given as goal
-use Rattle.fw_columns.specs.Table.{most_column_rows}
+use Rattle.fw_row_table.specs.Table.{most_column_rows}
 
 -- the segments so far are joined, and those of the others that fit beside their rows
 abbrev pub invariant-loop-count : goal.invariant-loop-count
