@@ -12,6 +12,7 @@ use fw_charge::{Row, Tags};
 use fw_row_table::{LentRow, LentTags, Table};
 use std::alloc::{AllocError, Global};
 use std::marker::Model;
+use std::mem::swap;
 
 /// Columns to which rows are added one by one, at most [`Columns::MOST_ROWS`]. A contract sees the list of the rows.
 #[derive(Drop)]
@@ -19,6 +20,8 @@ pub struct ColumnsBuilder {
     table: Table,
     /// Where the places of a row's tags are put together.
     list: Vec<u32>,
+    /// The places of the tags of the row before that had a list put together.
+    like: Vec<u32>,
 }
 
 impl Model for ColumnsBuilder {
@@ -41,6 +44,7 @@ impl ColumnsBuilder {
         ColumnsBuilder {
             table: Table::empty(alloc),
             list: Vec::new(alloc),
+            like: Vec::new(alloc),
         }
     }
 
@@ -69,7 +73,9 @@ impl ColumnsBuilder {
         ensures added { OnOk result (self.new ≡ self.old ++ charge_with row.now (tags_lent tags.entry) ∷ []) }
         ensures refused { OnErr result (self.new ≡ []) }
     {
-        match add_row(&mut self.table, &mut self.list, row, tags) {
+        swap(&mut self.list, &mut self.like);
+        let like = self.like.as_slice();
+        match add_row(&mut self.table, like, &mut self.list, row, tags) {
             Ok(()) => Ok(()),
             Err(refused) => {
                 self.table = Table::empty(*self.list.allocator());

@@ -45,9 +45,11 @@ pub fn places_in(alloc: Global, names: &Names, other: &Names) -> Result<Vec<u32>
     Ok(places)
 }
 
-/// Adds the texts of tags that are new, and puts their places into a list.
+/// Adds the texts of tags that are new, and puts their places into a list. A text that has the place which stands for it in a list like that isn't
+/// looked up.
 pub fn see_tags(
     names: &mut Names,
+    like: &[u32],
     tags: LentTags<'_>,
     list: &mut Vec<u32>,
 ) -> Result<(), AllocError>
@@ -59,9 +61,9 @@ pub fn see_tags(
     list.clear();
     let mut rest = tags;
     while let Some((tag, after)) = rest.split_first() {
-        let key = names.code(tag.key)?;
+        let key = names.code_near(like.get(list.len()).copied(), tag.key)?;
         list.push(key)?;
-        let value = names.code(tag.value)?;
+        let value = names.code_near(like.get(list.len()).copied(), tag.value)?;
         list.push(value)?;
         rest = after;
     }

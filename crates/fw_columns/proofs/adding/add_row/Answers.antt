@@ -5,12 +5,7 @@ use Rattle.fw_row_table.specs.Names.{place_of, with_text}
 use Rattle.fw_row_table.specs.Table.{rows_of}
 use Rattle.fw_row_table.specs.Texts.{with_texts, texts_of_tags}
 use Rattle.fw_columns.proofs.AddFacts.{pushed_columns}
-use Rattle.fw_columns.proofs.JoinFacts.{codes_below}
 use Rattle.fw_columns.proofs.adding.add_row.Goals as goal
-
-pub see_texts-requires-clause-before : goal.see_texts-requires-clause-before
-see_texts-requires-clause-before c =
-    let t = c.args.table.now in c.last_codes-before.ensures (length t.names) (codes_below t (rows_of t) c.requires.columns (length t.names) refl)
 
 pub returns : goal.returns
 returns c =

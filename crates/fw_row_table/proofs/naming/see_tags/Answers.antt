@@ -35,20 +35,20 @@ loop-tag-preserved c =
     record {
       done = so_far.done ++ first ∷ [];
       parted = append_assoc so_far.done (first ∷ []) rest ∙ ((λ j. so_far.done ++ sym parted j) ∙ so_far.parted);
-      listed = subst (AreListed before c.code-in-Some.new.self c.push-in-Some.new.self.items) (tags_then so_far.done first) two;
+      listed = subst (AreListed before c.code_near-in-Some.new.self c.push-in-Some.new.self.items) (tags_then so_far.done first) two;
       room = omega (arith, size, so_far.room, c.in_ok-key.ensures.few, c.in_ok-value.ensures.few);
     }
 
-pub code-requires : goal.code-requires
+pub code_near-requires : goal.code_near-requires
 unfolding tags_split
-code-requires c =
+code_near-requires c =
     let parted : tags_lent c.loop-tag.rest ≡ tag_lent c.in-Some.tag ∷ tags_lent c.in-Some.after = c.split_first.ensures ∙ ap tags_split c.in-Some.is in
     let size : length (tags_lent c.loop-tag.rest) ≡ length (tag_lent c.in-Some.tag ∷ tags_lent c.in-Some.after) = ap length parted in
     omega (arith, size, c.loop-tag.invariant.room, c.requires)
 
-pub code-requires-in-Some : goal.code-requires-in-Some
+pub code_near-requires-in-Some : goal.code_near-requires-in-Some
 unfolding tags_split
-code-requires-in-Some c =
+code_near-requires-in-Some c =
     let parted : tags_lent c.loop-tag.rest ≡ tag_lent c.in-Some.tag ∷ tags_lent c.in-Some.after = c.split_first.ensures ∙ ap tags_split c.in-Some.is in
     let size : length (tags_lent c.loop-tag.rest) ≡ length (tag_lent c.in-Some.tag ∷ tags_lent c.in-Some.after) = ap length parted in
     omega (arith, size, c.loop-tag.invariant.room, c.in_ok-key.ensures.few, c.requires)
