@@ -22,10 +22,14 @@ use commands::{
 };
 use fault::Fault;
 use fw_serve::ServeFault;
+use std::alloc::Global;
 use std::process::ExitCode;
 use std::sync::Wait;
 use std::thread::Threads;
 use std::{env, io};
+
+/// How many bytes of a block that the C library, once it was freed, keeps blocks of from then on: nearly the most that it takes for that.
+const KEPT_BLOCK: usize = 31 << 20;
 
 /// Where the command line is wrong.
 pub(crate) const WRONG_USE: u8 = 2;
@@ -43,9 +47,17 @@ pub(crate) fn failed(rt: &HostRuntime, fault: &Fault) -> ExitCode {
     ExitCode::from(fault.status())
 }
 
+// Has the C library keep large blocks that are freed for the next ones. Else it gives those of each post back to the system, and takes the pages of the
+// next post's from there one by one, which is a tenth of the time of an import. The block itself has none of its pages touched. Where memory for it is
+// refused, all goes on as before.
+fn keep_freed_blocks(alloc: Global) {
+    let _ = Vec::<u8>::with_capacity(alloc, KEPT_BLOCK);
+}
+
 // Reads the command line, and runs its command.
 fn start<R: Threads + Wait + Sync>(rt: &HostRuntime, threads: &R) -> Result<ExitCode, Fault> {
     let alloc = rt.alloc();
+    keep_freed_blocks(alloc);
     let words: Vec<String> = match env::args(rt) {
         Ok(words) => words.collect(alloc)?,
         Err(error) if error.kind() == io::ErrorKind::OutOfMemory => {

@@ -7,7 +7,7 @@ use crate::command_line::{CREATE, DIR, create_option, currency_option, dir_optio
 use crate::fault::Fault;
 use crate::wrong_use;
 use clap::{Arg, ArgMatches, Command, value_parser};
-use fw_disk::{Choice, FileVolume, MemVolume, Volume};
+use fw_disk::{FileVolume, NullVolume, Volume};
 use fw_recover::{Store, StoreFault};
 use fw_rows::Currency;
 use fw_serve::serve;
@@ -142,7 +142,7 @@ fn serve_folder(
     serve_streams(rt, threads, &mut output, opened, workers)
 }
 
-// Serves the script from an empty warehouse in memory.
+// Serves the script from an empty warehouse in memory. It can't be opened again, so no byte of its log is kept.
 fn serve_memory(
     rt: &HostRuntime,
     threads: &(impl Threads + Sync),
@@ -156,8 +156,7 @@ fn serve_memory(
     let Ok(mut output) = BufWriter::with_capacity(alloc, OUTPUT_BUFFER, rt.stdout()) else {
         return Err(Fault::NoMemory);
     };
-    let volume = MemVolume::new(alloc, FileVolume::LIMIT, Choice::Old);
-    let created = Store::create(alloc, volume, currency);
+    let created = Store::create(alloc, NullVolume::new(), currency);
     serve_streams(rt, threads, &mut output, created, workers)
 }
 
