@@ -93,6 +93,13 @@ impl Names {
         self.text(code) == text
     }
 
+    /// Gives back the memory that no text needs.
+    pub fn shrink(&mut self)
+        ensures { self.new ≡ self.old }
+    {
+        self.texts.shrink_to_fit();
+    }
+
     /// Texts as they stand, if each is there once; else `None`.
     pub fn of_texts(alloc: Global, texts: &[String]) -> Result<Option<Names>, AllocError>
         ensures { IfOk result (λ made. IfSome made (λ names. names ≡ map string_bytes texts.now)) }
