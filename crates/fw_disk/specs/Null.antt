@@ -1,4 +1,4 @@
--- What is said of a volume that keeps no byte: how long its files are, and how often a read has failed.
+-- What is said of a volume that keeps no byte: how long its files are.
 use Rattle.std.specs.Prelude.{◌≡◌, ℕ, ◌^◌, ◌≤◌, []}
 use Rattle.std.proofs.Common.{arith}
 use Rattle.fw_disk.specs.declared.volume.Side.{Side}
@@ -11,7 +11,7 @@ abbrev pub size_of : NullVolume → Side → ℕ
 size_of volume Left = volume.left
 size_of volume Right = volume.right
 
--- lengths, the limit and the count of failures; all else is open
+-- lengths and the limit; the device never fails, and all else is open
 abbrev pub view_of : NullVolume → View
 view_of volume = record {
   seen = λ s. [];
@@ -20,7 +20,7 @@ view_of volume = record {
   left_since = λ t c. Unit {0};
   limit = most;
   size = size_of volume;
-  failures = volume.failures;
+  failures = 0;
 }
 
 pub sizes_within : (volume : NullVolume) (s : Side) → size_of volume s ≤ most

@@ -1,21 +1,19 @@
 //! A volume that keeps no byte, for a warehouse that stays in memory.
-ghost use Rattle.std.specs.Prelude.{◌≡◌, ℕ, ◌+◌, ◌^◌, ◌<◌, ◌≤◌, ◌↔◌, length, false, IsErrOf, IsOk, IsTrue};
+ghost use Rattle.std.specs.Prelude.{◌≡◌, ℕ, ◌+◌, ◌^◌, ◌<◌, ◌≤◌, ◌↔◌, length, false, All, IsErrOf, IsOk, IsTrue};
 ghost use Rattle.fw_disk.specs.Volume.{SameSizes, Grows, HasCause};
 ghost use Rattle.fw_disk.specs.declared.volume.Side.{Side};
 ghost use Rattle.fw_disk.specs.declared.volume.VolumeFault.TheVariants.{Io, TooLarge};
 
-use crate::volume::count_failure;
 use crate::{FileVolume, Side, Volume, VolumeFault};
 
-/// Two files of which only the lengths are kept. What is written is dropped, so each read fails with [`VolumeFault::Io`].
+/// Two files of which only the lengths are kept. What is written is dropped, and each byte that is read is 0. No call fails but a write past the limit.
 ///
-/// A store that is made on such a volume takes entries as on any other. It can't be opened again: what was accepted is gone with it. Its
-/// type says nothing of what the files hold (`tells` is false).
+/// A store that is made on such a volume takes entries and makes checkpoints as on any other. It can't be opened again: what was accepted is gone with
+/// it. Its type says nothing of what the files hold (`tells` is false).
 #[derive(Debug, Drop)]
 pub struct NullVolume {
     left: u64,
     right: u64,
-    failures: u64,
     ghost left_fits: { left ≤ 2 ^ 40 },
     ghost right_fits: { right ≤ 2 ^ 40 },
 }
@@ -25,14 +23,9 @@ impl NullVolume {
 
     /// Two files of no byte.
     pub fn new() -> NullVolume
-        ensures empty { (s : Side) → (view_of result).size s ≡ 0 }
-        ensures start { (view_of result).failures ≡ 0 }
+        ensures { (s : Side) → (view_of result).size s ≡ 0 }
     {
-        NullVolume {
-            left: 0,
-            right: 0,
-            failures: 0,
-        }
+        NullVolume { left: 0, right: 0 }
     }
 }
 
@@ -67,14 +60,16 @@ impl Volume for NullVolume {
         }
     }
 
-    /// `Io` comes always: no byte is kept.
+    /// `Io` comes never.
     fn read(&mut self, side: Side, at: u64, into: &mut [u8]) -> Result<(), VolumeFault>
         requires { at + length into.old ≤ (view_of self.old).size side }
         ensures sizes { SameSizes (view_of self.old) (view_of self.new) }
         ensures cause { HasCause (view_of self.old) (view_of self.new) result }
-        ensures fails { IsErrOf result Io }
+        ensures zeros { All (λ byte. byte ≡ 0) into.new }
+        ensures works { IsOk result }
     {
-        Err(count_failure(&mut self.failures))
+        into.fill(0);
+        Ok(())
     }
 
     /// `Io` comes never.

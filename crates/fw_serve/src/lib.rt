@@ -5,6 +5,7 @@
 //! group is on the volume, synced.
 #![tactic(auto)]
 
+mod ahead;
 mod answering;
 mod content;
 mod fault;
