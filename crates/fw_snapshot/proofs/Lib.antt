@@ -7,5 +7,3 @@ pub mod IdFacts
 pub mod RepeatFacts
 pub mod SenderFacts
 pub mod RuleFacts
-pub mod MergeFacts
-pub mod MergedState

@@ -8,4 +8,3 @@ pub mod Held
 pub mod StateView
 pub mod SnapshotView
 pub mod Verdicts
-pub mod Merging

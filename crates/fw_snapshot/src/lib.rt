@@ -13,7 +13,6 @@
 mod head;
 mod judging;
 mod laws;
-mod merging;
 mod parts;
 mod snapshot;
 mod state;
