@@ -28,8 +28,8 @@ use std::sync::Wait;
 use std::thread::Threads;
 use std::{env, io};
 
-/// How many bytes of a block that the C library, once it was freed, keeps blocks of from then on: nearly the most that it takes for that.
-const KEPT_BLOCK: usize = 31 << 20;
+/// The most bytes of a freed block that the C library keeps for later ones, less what it adds to a block of its own.
+const LARGEST_KEPT: usize = 31 << 20;
 
 /// Where the command line is wrong.
 pub(crate) const WRONG_USE: u8 = 2;
@@ -47,11 +47,11 @@ pub(crate) fn failed(rt: &HostRuntime, fault: &Fault) -> ExitCode {
     ExitCode::from(fault.status())
 }
 
-// Has the C library keep large blocks that are freed for the next ones. Else it gives those of each post back to the system, and takes the pages of the
-// next post's from there one by one, which is a tenth of the time of an import. The block itself has none of its pages touched. Where memory for it is
-// refused, all goes on as before.
+// Has the C library keep blocks that are freed. It keeps those that are no larger than the largest one freed so far, and gives others back to the system, so
+// that each post's would be taken from there again, page by page. None of this block's pages is touched. Where memory for it is refused, nothing
+// else changes.
 fn keep_freed_blocks(alloc: Global) {
-    let _ = Vec::<u8>::with_capacity(alloc, KEPT_BLOCK);
+    let _ = Vec::<u8>::with_capacity(alloc, LARGEST_KEPT);
 }
 
 // Reads the command line, and runs its command.

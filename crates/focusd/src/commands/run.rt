@@ -19,7 +19,7 @@ use std::thread::Threads;
 /// How many bytes of answers are written at once.
 const OUTPUT_BUFFER: usize = 64 * 1024;
 
-/// The id of the option that says how many workers make a report.
+/// The id of the option that says how many workers read posts and make a report.
 const WORKERS: &str = "workers";
 
 const SCRIPT: &str = "Commands of a script, one a line, which a line feed alone ends:
@@ -77,7 +77,7 @@ pub(crate) fn command<'a>(alloc: Global) -> Result<Command<'a>, AllocError> {
                 .default_value("1")
                 .value_parser(value_parser!(u8).range(1..=64))
                 .help(
-                    "How many workers share the rows of a report: 1 to 64; each answer stays the same",
+                    "How many workers read posts ahead and share the rows of a report: 1 to 64; each answer stays the same",
                 ),
         )
 }
@@ -108,7 +108,7 @@ pub(crate) fn run(
     }
 }
 
-// How many workers share the rows of a report. The command line lets no other number pass.
+// How many workers read posts and share the rows of a report. The command line lets no other number pass.
 fn read_workers(options: &ArgMatches<'_>) -> u32
     ensures some { 1 ≤ result }
     ensures few { result ≤ most_workers }
