@@ -12,11 +12,11 @@ ghost use Rattle.fw_serve.specs.Served.{most_workers};
 ghost use Rattle.fw_serve.specs.Standings.{standing_of, Moves};
 ghost use Rattle.fw_snapshot.specs.History.{commitments_of, rows_of};
 
-use crate::ahead::Posts;
 use crate::content::read_content;
 use crate::questions::{answer_lines, answer_report, answer_state};
 use crate::refusals::{entry_reply, store_reply, verdict_reply};
 use crate::reply::Reply;
+use fw_ahead::Posts;
 use fw_disk::Volume;
 use fw_entry::{Command as EntryCommand, Entry};
 use fw_query::Covers;

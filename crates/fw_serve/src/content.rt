@@ -5,9 +5,9 @@ ghost use Rattle.fw_serve.specs.ReplyText.{reply_text};
 ghost use Rattle.fw_entry.specs.Spelling.{HasRowCount};
 ghost use Rattle.fw_entry.specs.View.{command_view};
 
-use crate::ahead::Posts;
 use crate::refusals::{commitment_reply, policy_reply, row_reply};
 use crate::reply::Reply;
+use fw_ahead::Posts;
 use fw_commitment::read_commitment;
 use fw_entry::Command;
 use fw_policy::read_policy;

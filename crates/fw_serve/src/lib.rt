@@ -5,7 +5,6 @@
 //! group is on the volume, synced.
 #![tactic(auto)]
 
-mod ahead;
 mod answering;
 mod content;
 mod fault;

@@ -7,11 +7,11 @@ ghost use Rattle.fw_serve.specs.Flight.{CrashLeaves, Runs, RunsByCommand};
 ghost use Rattle.fw_serve.specs.Served.{IsServed, IsServedInPart, Serves, ServesInPart, most_bytes, most_workers};
 ghost use Rattle.fw_serve.specs.Standings.{standing_of};
 
-use crate::ahead::Posts;
 use crate::answering::answer;
 use crate::fault::ServeFault;
 use crate::input::read_script;
 use crate::writing::write_reply;
+use fw_ahead::Posts;
 use fw_disk::Volume;
 use fw_query::Covers;
 use fw_recover::Store;

@@ -1,4 +1,8 @@
-//! Posts that are read by workers before their commands are run.
+//! The posts of a script, read in the order of its commands, by several workers ahead of them.
+//!
+//! What a post reads as is that of [`fw_column_rows::read_columns`], whoever read it and when.
+#![tactic(auto)]
+
 ghost use Rattle.std.specs.Prelude.{IfOk, IfSome};
 ghost use Rattle.fw_rows.specs.Rows.{RowsRead};
 
@@ -8,6 +12,7 @@ use fw_rows::{Currency, KnownTags, RowFault};
 use fw_script::{Command, EntryKind, Script};
 use rayon::prelude::*;
 use std::alloc::Global;
+use std::marker::Model;
 use std::thread::Threads;
 
 /// What the content of a post reads as, under a currency.
@@ -16,7 +21,19 @@ struct ReadPost<'a> {
     currency: Currency,
     content: &'a [u8],
     rows: Result<Columns, RowFault>,
-    ghost reads: { RowsRead currency content.now rows },
+}
+
+impl<'a> Model for ReadPost<'a> {
+    ghost use Rattle.std.specs.Prelude.{ℕ, List, Result};
+    ghost use Rattle.fw_charge.specs.Charge.{Charge};
+    ghost use Rattle.fw_rows.specs.Rows.{RowsRead};
+    ghost use Rattle.fw_rows.specs.declared.fault.RowFault.{RowFault};
+
+    ghost Value = { List ℕ × (List ℕ × Result (List Charge) RowFault) };
+
+    ghost view = { λ p. (p.currency, (p.content.now, p.rows)) };
+
+    ghost invariant = { λ p. RowsRead p.currency p.content.now p.rows };
 }
 
 impl<'a> ReadPost<'a> {
@@ -96,9 +113,10 @@ impl<'a> Reader<'a> {
     }
 }
 
-/// The posts of a script, read in the order of its commands. Several workers read ahead of the commands, each one post at a time.
+/// The posts of a script, which are asked for in the order of its commands. Several workers read ahead, each one post at a time; one worker
+/// reads each post when it is asked for.
 #[derive(Drop)]
-pub(crate) struct Posts<'a> {
+pub struct Posts<'a> {
     /// What is left to read ahead.
     script: Script<'a>,
     /// The workers, of which there are two at least, or none.
@@ -108,8 +126,8 @@ pub(crate) struct Posts<'a> {
 }
 
 impl<'a> Posts<'a> {
-    /// The posts of a script, read by so many workers. Where memory for these is refused, each post is read when its command is run.
-    pub(crate) fn new(alloc: Global, text: &'a [u8], workers: u32) -> Posts<'a> {
+    /// The posts of a script, read by so many workers. Where memory for these is refused, there are fewer.
+    pub fn new(alloc: Global, text: &'a [u8], workers: u32) -> Posts<'a> {
         let mut posts = Posts {
             script: Script::new(text),
             readers: Vec::new(alloc),
@@ -125,8 +143,9 @@ impl<'a> Posts<'a> {
         posts
     }
 
-    /// What the content of a post reads as, under a currency. It was read ahead, or is read now.
-    pub(crate) fn rows_of(
+    /// What the content of a post reads as, where costs are in `currency`. It was read ahead, or is read now. `NoMemory` comes where memory ran out when it was
+    /// read, at any place.
+    pub fn rows_of(
         &mut self,
         rt: &(impl Threads + Sync),
         alloc: Global,
@@ -146,7 +165,12 @@ impl<'a> Posts<'a> {
 
     // Whether a post was read that wasn't taken yet.
     fn has_read(&self) -> bool {
-        self.readers.iter().any(|reader| reader.post.is_some())
+        for reader in &self.readers {
+            if reader.post.is_some() {
+                return true;
+            }
+        }
+        false
     }
 
     // Has each worker read one of the next posts.
@@ -154,9 +178,11 @@ impl<'a> Posts<'a> {
         for reader in self.readers.iter_mut() {
             reader.content = next_post(&mut self.script);
         }
-        par_for_each_mut(rt, self.readers.as_mut_slice(), |_, reader| {
-            reader.read(alloc, currency)
-        });
+        par_for_each_mut(
+            rt,
+            self.readers.as_mut_slice(),
+            |_worker: usize, reader: &mut Reader<'_>| reader.read(alloc, currency),
+        );
     }
 
     // What the content of a post reads as, if a worker has read it.
