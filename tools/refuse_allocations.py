@@ -8,11 +8,9 @@ is refused has to end in one of two ways: it passes (it looked at the answer, an
 with an error that says that memory ran out. An assertion that fails is an answer that changed in place of the error, and
 so is a crash.
 
-The program, out/focusd, is run on the scripts of examples/cases. It has to end in one of four ways: with the answers
+The program, out/focusd, is run on the scripts of examples/cases. It has to end in one of three ways: with the answers
 that stand beside the script; with one answer `no memory`, and all others as if that command did not stand in the
-script; with one answer `store S3 Device`, since its volume in memory could not grow, after which each command that the
-store would take is answered `store S4 Failed`, and all others as if these commands did not stand in the script; or with
-`focusd: NoMemory` or `focusd: S3 Device` and status 1, and no answer.
+script; or with `focusd: NoMemory` and status 1, and no answer.
 
 Where a run allocates more than --most times, the first --most are refused, and as many as half of that, spread over the rest.
 
@@ -39,11 +37,10 @@ SHIM = os.path.join(TOP, "tools", "refuse_allocation.c")
 # The errors by which a test may end under a refused allocation: those that say that memory ran out, and a device that
 # failed because a volume in memory could not grow.
 OUT_OF_MEMORY = {"AllocError", "AllocFailed", "NoMemory", "Io", "Device", "OutOfMemory"}
-# How the program ends where memory runs out before the first command; its volume in memory may be what could not grow.
-NOT_BEGUN = (b"focusd: NoMemory\n", b"focusd: S3 Device\n")
-# What a command that wasn't done is answered, and what the answers of a store begin with that takes commands.
-NO_MEMORY, LOST, REFUSED = b"no memory\n", b"store S3 Device\n", b"store S4 Failed\n"
-TAKEN = (b"accepted ", b"already ", b"gap ", b"refused J", b"checkpointed")
+# How the program ends where memory runs out before the first command.
+NOT_BEGUN = b"focusd: NoMemory\n"
+# What a command is answered that ran out of memory.
+NO_MEMORY = b"no memory\n"
 # The crates of tests on threads, which are run only where they are named: where memory for a thread can't be had, the toolchain's `join` makes its
 # two calls one after the other, and calls that wait for each other then wait for ever.
 ON_THREADS = {"fw_test_threads"}
@@ -120,29 +117,25 @@ def sweep_case(program, name, most, shim, room):
     wrong = [] if status == 0 and len(answers_of(right)) == len(commands) else [f"{name}: a run with no allocation refused has not one answer a command"]
     without = {}
 
-    def answers_without(places):
-        """The answers to the script without the commands at these places."""
-        if places not in without:
-            kept = [command for place, command in enumerate(commands) if place not in places]
-            without[places] = answers_of(run(words, b"".join(kept), 0, shim, room)[2])
-        return without[places]
+    def answers_without(missed):
+        """The answers to the script without the command at this place."""
+        if missed not in without:
+            kept = [command for place, command in enumerate(commands) if place != missed]
+            without[missed] = answers_of(run(words, b"".join(kept), 0, shim, room)[2])
+        return without[missed]
 
     def is_case_right(answers):
         """Whether one command ran out of memory, and nothing else is different."""
-        missed = tuple(place for place, answer in enumerate(answers) if answer in (NO_MEMORY, LOST, REFUSED))
-        others = [answer for place, answer in enumerate(answers) if place not in missed]
-        if not missed or others != answers_without(missed):
+        if answers.count(NO_MEMORY) != 1:
             return False
-        first, *later = [answers[place] for place in missed]
-        if first == NO_MEMORY:
-            return not later
-        return first == LOST and set(later) <= {REFUSED} and not any(answer.startswith(TAKEN) for answer in answers[missed[0] :])
+        missed = answers.index(NO_MEMORY)
+        return answers[:missed] + answers[missed + 1 :] == answers_without(missed)
 
     chosen = numbers(allocations, most)
     for number in chosen:
         _, status, said, error = run(words, script, number, shim, room)
         answers = answers_of(said)
-        if status == 1 and error in NOT_BEGUN and not said:
+        if status == 1 and error == NOT_BEGUN and not said:
             continue
         if status == 0 and (said == right or is_case_right(answers)):
             continue

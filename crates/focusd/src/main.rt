@@ -22,10 +22,14 @@ use commands::{
 };
 use fault::Fault;
 use fw_serve::ServeFault;
+use std::alloc::Global;
 use std::process::ExitCode;
 use std::sync::Wait;
 use std::thread::Threads;
 use std::{env, io};
+
+/// The most bytes of a freed block that the C library keeps for later ones, less what it adds to a block of its own.
+const LARGEST_KEPT: usize = 31 << 20;
 
 /// Where the command line is wrong.
 pub(crate) const WRONG_USE: u8 = 2;
@@ -43,9 +47,17 @@ pub(crate) fn failed(rt: &HostRuntime, fault: &Fault) -> ExitCode {
     ExitCode::from(fault.status())
 }
 
+// Has the C library keep blocks that are freed. It keeps those that are no larger than the largest one freed so far, and gives others back to the system, so
+// that each post's would be taken from there again, page by page. None of this block's pages is touched. Where memory for it is refused, nothing
+// else changes.
+fn keep_freed_blocks(alloc: Global) {
+    let _ = Vec::<u8>::with_capacity(alloc, LARGEST_KEPT);
+}
+
 // Reads the command line, and runs its command.
 fn start<R: Threads + Wait + Sync>(rt: &HostRuntime, threads: &R) -> Result<ExitCode, Fault> {
     let alloc = rt.alloc();
+    keep_freed_blocks(alloc);
     let words: Vec<String> = match env::args(rt) {
         Ok(words) => words.collect(alloc)?,
         Err(error) if error.kind() == io::ErrorKind::OutOfMemory => {

@@ -22,6 +22,8 @@ pub(crate) struct Filling {
     texts: Names,
     /// For each text of tags the first row that has it.
     places: Vec<u32>,
+    /// The code that the next row's text of tags may have: rows of one hour mostly come in the order of those of the hour before.
+    next_text: u32,
     periods: PeriodReaders,
     known: KnownTags,
 }
@@ -36,6 +38,7 @@ impl Filling {
             columns: ColumnsBuilder::new(alloc),
             texts: Names::new(alloc),
             places: Vec::new(alloc),
+            next_text: 0,
             periods: PeriodReaders::new(),
             known,
         }
@@ -57,7 +60,8 @@ impl Filling {
         ensures tags { OnOk result (AreTagsOf self.new.texts self.new.places.items self.new.columns) }
     {
         let tags_text = cells.text(Column::Tags);
-        let found = self.texts.code(tags_text)?;
+        let found = self.texts.code_near(Some(self.next_text), tags_text)?;
+        self.next_text = found.saturating_add(1);
         if (found as usize) < self.places.len() {
             let place = self.places[found as usize];
             add_known(&mut self.columns, row, cells, place as usize)?;

@@ -14,13 +14,6 @@ use Rattle.fw_row_table.specs.declared.table.Table.{Table}
 unfoldable pub texts_of_view : RowView → List Text
 texts_of_view row = option_to_list (option_copied row.discount) ++ (option_to_list (option_copied row.unit) ++ (option_to_list (option_copied row.sku) ++ option_to_list (option_copied row.sub_account)))
 
--- codes are those of so many names
-pub record AreCodesWithin (n : ℕ) (codes : TextCodes) : Type 0 where
-  pub discount : codes.discount ≤ n
-  pub unit : codes.unit ≤ n
-  pub sku : codes.sku ≤ n
-  pub sub_account : codes.sub_account ≤ n
-
 -- codes are those of the texts of a row
 pub record AreCodesOf (names : List Text) (row : RowView) (codes : TextCodes) : Type 0 where
   pub discount : codes.discount ≡ text_code names (option_copied row.discount)

@@ -1,17 +1,17 @@
 //! One more row in columns.
-ghost use Rattle.std.specs.Prelude.{◌≡◌, ◌^◌, ◌<◌, ◌≤◌, ◌+◌, ◌++◌, [], ◌∷◌, ℕ, length, option_copied, option_map, option_to_list, All, IfOk, OnOk, IsTrue, Some};
+ghost use Rattle.std.specs.Prelude.{◌≡◌, ◌^◌, ◌<◌, ◌≤◌, ◌+◌, ◌++◌, [], ◌∷◌, length, option_copied, option_map, option_to_list, IfOk, OnOk};
 ghost use Rattle.fw_charge.specs.Charge.{IsCharge, last_second};
 ghost use Rattle.fw_row_table.specs.Codes.{text_code};
 ghost use Rattle.fw_row_table.specs.Texts.{with_texts};
-ghost use Rattle.fw_columns.specs.Joining.{AreCodesBelow};
 ghost use Rattle.fw_columns.specs.RowViews.{charge_with, tags_at};
-ghost use Rattle.fw_columns.specs.Adding.{texts_of_view, AreCodesWithin, AreCodesOf, HasMore};
+ghost use Rattle.fw_columns.specs.Adding.{texts_of_view, AreCodesOf, HasMore};
 ghost use Rattle.fw_row_table.specs.Table.{most_column_rows, rows_of, AreColumns};
+ghost use Rattle.fw_row_table.specs.Lending.{tags_lent};
 
 use crate::codes::{kind_kept, quantity_kept, status_kept};
 use crate::row_view::RowView;
-use fw_charge::{Tags, class_code};
-use fw_row_table::{Names, Table, see_tags};
+use fw_charge::class_code;
+use fw_row_table::{LentTags, Names, Table, see_tags};
 use std::alloc::AllocError;
 
 /// The codes of the texts of a row: 0 where a text is null, else 1 more than its place in the names.
@@ -23,27 +23,29 @@ pub struct TextCodes {
     pub sub_account: u32,
 }
 
-/// Adds a row with these tags, whose texts' places go into a list that is kept for that.
+/// Adds a row with these tags, whose texts' places go into a list that is kept for that. The list of another row's tags saves looking up the texts
+/// that stand at the same place there.
 pub fn add_row(
     table: &mut Table,
+    like: &[u32],
     list: &mut Vec<u32>,
     row: &RowView<'_>,
-    tags: &Tags,
+    tags: LentTags<'_>,
 ) -> Result<(), AllocError>
     requires columns { AreColumns table.old (rows_of table.old) }
     requires few { length (rows_of table.old) < most_column_rows }
-    requires valid { IsCharge (charge_with row.now tags.now) }
-    ensures { OnOk result (AreColumns table.new (rows_of table.old ++ charge_with row.now tags.now ∷ [])) }
+    requires valid { IsCharge (charge_with row.now (tags_lent tags)) }
+    ensures { OnOk result (AreColumns table.new (rows_of table.old ++ charge_with row.now (tags_lent tags.entry) ∷ [])) }
 {
-    let before = last_codes(table);
-    let codes = see_texts(&mut table.names, before, row)?;
-    see_tags(&mut table.names, tags.as_slice(), list)?;
+    let last = codes_at(table, table.tags.len().wrapping_sub(1));
+    let codes = see_texts(&mut table.names, last, row)?;
+    see_tags(&mut table.names, like, tags, list)?;
     let place = table.lists.code(list.as_slice())?;
     push_values(table, row, codes, place)?;
     Ok(())
 }
 
-/// Adds a row with the tags of the row at a place.
+/// Adds a row with the tags of the row at a place. Rows with the same tags mostly have their other texts in common too.
 pub fn add_row_like(table: &mut Table, row: &RowView<'_>, place: usize) -> Result<(), AllocError>
     requires columns { AreColumns table.old (rows_of table.old) }
     requires few { length (rows_of table.old) < most_column_rows }
@@ -51,51 +53,39 @@ pub fn add_row_like(table: &mut Table, row: &RowView<'_>, place: usize) -> Resul
     requires valid { IsCharge (charge_with row.now (tags_at (rows_of table.old) place)) }
     ensures { OnOk result (AreColumns table.new (rows_of table.old ++ charge_with row.now (tags_at (rows_of table.old) place) ∷ [])) }
 {
-    let before = last_codes(table);
-    let codes = see_texts(&mut table.names, before, row)?;
+    let other = codes_at(table, place);
+    let codes = see_texts(&mut table.names, other, row)?;
     let list = table.tags[place];
     push_values(table, row, codes, list)?;
     Ok(())
 }
 
-/// The codes of the texts of the last row; of null texts where there is none.
-fn last_codes(table: &Table) -> TextCodes
-    ensures { (n : ℕ) → AreCodesBelow table.now n → AreCodesWithin n result }
-{
+/// The codes of the texts of the row at a place; of null texts where there is no such row.
+fn codes_at(table: &Table, place: usize) -> TextCodes {
     TextCodes {
-        discount: last_code(table.discounts.as_slice()),
-        unit: last_code(table.units.as_slice()),
-        sku: last_code(table.skus.as_slice()),
-        sub_account: last_code(table.sub_accounts.as_slice()),
+        discount: code_at(table.discounts.as_slice(), place),
+        unit: code_at(table.units.as_slice(), place),
+        sku: code_at(table.skus.as_slice(), place),
+        sub_account: code_at(table.sub_accounts.as_slice(), place),
     }
 }
 
-/// The last code of a column, 0 where it has none.
-fn last_code(column: &[u32]) -> u32
-    ensures { (n : ℕ) → All (λ code. code ≤ n) column.now → result ≤ n }
-{
-    match column.len().checked_sub(1) {
-        Some(last) => column[last],
-        None => 0,
-    }
+/// The code at a place of a column, 0 where it has no such place.
+fn code_at(column: &[u32], place: usize) -> u32 {
+    column.get(place).copied().unwrap_or(0)
 }
 
-/// Adds the texts of a row that are new, but those of its tags, and returns the codes of all. A text that the row before has too isn't looked up.
-fn see_texts(
-    names: &mut Names,
-    before: TextCodes,
-    row: &RowView<'_>,
-) -> Result<TextCodes, AllocError>
-    requires room { length names.old + 4 ≤ 2 ^ 30 }
-    requires before { AreCodesWithin (length names.old) before }
+/// Adds the texts of a row that are new, but those of its tags, and returns the codes of all. A text that a row like it has too isn't looked up.
+fn see_texts(names: &mut Names, like: TextCodes, row: &RowView<'_>) -> Result<TextCodes, AllocError>
+    requires { length names.old + 4 ≤ 2 ^ 30 }
     ensures seen { OnOk result (names.new ≡ with_texts names.old (texts_of_view row.now)) }
     ensures codes { IfOk result (λ codes. AreCodesOf names.new row.now codes) }
     ensures few { OnOk result (length names.new ≤ length names.old + 4) }
 {
-    let discount = see_code(names, before.discount, row.discount)?;
-    let unit = see_code(names, before.unit, row.unit)?;
-    let sku = see_code(names, before.sku, row.sku)?;
-    let sub_account = see_code(names, before.sub_account, row.sub_account)?;
+    let discount = see_code(names, like.discount, row.discount)?;
+    let unit = see_code(names, like.unit, row.unit)?;
+    let sku = see_code(names, like.sku, row.sku)?;
+    let sub_account = see_code(names, like.sub_account, row.sub_account)?;
     Ok(TextCodes {
         discount,
         unit,
@@ -104,11 +94,10 @@ fn see_texts(
     })
 }
 
-/// Adds a text that is there and new. Returns its code, which is looked up only where it isn't the code before.
+/// Adds a text that is there and new. Returns its code, which is looked up only where it isn't that of a row like it.
 #[tactic(auto, unfolding(fw_row_table::specs::Texts::with_texts, fw_row_table::specs::Codes::text_code))]
-fn see_code(names: &mut Names, before: u32, text: Option<&str>) -> Result<u32, AllocError>
-    requires room { length names.old + 1 ≤ 2 ^ 30 }
-    requires before { before ≤ length names.old }
+fn see_code(names: &mut Names, like: u32, text: Option<&str>) -> Result<u32, AllocError>
+    requires { length names.old + 1 ≤ 2 ^ 30 }
     ensures seen { OnOk result (names.new ≡ with_texts names.old (option_to_list (option_copied text.entry))) }
     ensures code { IfOk result (λ code. code ≡ text_code names.new (option_copied text.entry)) }
     ensures grown { OnOk result (length names.old ≤ length names.new) }
@@ -117,22 +106,7 @@ fn see_code(names: &mut Names, before: u32, text: Option<&str>) -> Result<u32, A
     let Some(text) = text else {
         return Ok(0);
     };
-    if is_code_of(names, before, text) {
-        return Ok(before);
-    }
-    Ok(names.code(text)? + 1)
-}
-
-/// Whether a code is that of a text.
-fn is_code_of(names: &Names, code: u32, text: &str) -> bool
-    requires { code ≤ length names.now }
-    ensures { IsTrue result → code ≡ text_code names.now (Some text.now) }
-{
-    prove!(names.len() <= 1 << 30);
-    match code.checked_sub(1) {
-        Some(place) => names.text(place) == text,
-        None => false,
-    }
+    Ok(names.code_near(like.checked_sub(1), text)? + 1)
 }
 
 /// Adds a value to each column.

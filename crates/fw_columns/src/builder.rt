@@ -3,14 +3,16 @@ ghost use Rattle.std.specs.Prelude.{◌≡◌, ◌<◌, ◌≤◌, ◌++◌, [],
 ghost use Rattle.fw_charge.specs.Charge.{IsCharge};
 ghost use Rattle.fw_columns.specs.RowViews.{charge_with, tags_at};
 ghost use Rattle.fw_row_table.specs.Table.{most_column_rows};
+ghost use Rattle.fw_row_table.specs.Lending.{tags_lent};
 
 use crate::adding::{add_row, add_row_like};
 use crate::columns::Columns;
 use crate::row_view::{RowView, view_of};
 use fw_charge::{Row, Tags};
-use fw_row_table::Table;
+use fw_row_table::{LentRow, LentTags, Table};
 use std::alloc::{AllocError, Global};
 use std::marker::Model;
+use std::mem::swap;
 
 /// Columns to which rows are added one by one, at most [`Columns::MOST_ROWS`]. A contract sees the list of the rows.
 #[derive(Drop)]
@@ -18,6 +20,8 @@ pub struct ColumnsBuilder {
     table: Table,
     /// Where the places of a row's tags are put together.
     list: Vec<u32>,
+    /// The places of the tags of the row before that had a list put together.
+    like: Vec<u32>,
 }
 
 impl Model for ColumnsBuilder {
@@ -40,6 +44,7 @@ impl ColumnsBuilder {
         ColumnsBuilder {
             table: Table::empty(alloc),
             list: Vec::new(alloc),
+            like: Vec::new(alloc),
         }
     }
 
@@ -58,7 +63,19 @@ impl ColumnsBuilder {
         ensures added { OnOk result (self.new ≡ self.old ++ charge_with row.now tags.now ∷ []) }
         ensures refused { OnErr result (self.new ≡ []) }
     {
-        match add_row(&mut self.table, &mut self.list, row, tags) {
+        self.push_parts(row, LentTags::of_tags(tags))
+    }
+
+    // Adds a row with these values and these tags.
+    fn push_parts(&mut self, row: &RowView<'_>, tags: LentTags<'_>) -> Result<(), AllocError>
+        requires few { length self.old < most_column_rows }
+        requires valid { IsCharge (charge_with row.now (tags_lent tags)) }
+        ensures added { OnOk result (self.new ≡ self.old ++ charge_with row.now (tags_lent tags.entry) ∷ []) }
+        ensures refused { OnErr result (self.new ≡ []) }
+    {
+        swap(&mut self.list, &mut self.like);
+        let like = self.like.as_slice();
+        match add_row(&mut self.table, like, &mut self.list, row, tags) {
             Ok(()) => Ok(()),
             Err(refused) => {
                 self.table = Table::empty(*self.list.allocator());
@@ -91,9 +108,17 @@ impl ColumnsBuilder {
         ensures added { OnOk result (self.new ≡ self.old ++ row.now ∷ []) }
         ensures refused { OnErr result (self.new ≡ []) }
     {
+        self.push_lent(&LentRow::of_row(row))
+    }
+
+    /// Adds a row that is lent, as by other columns. Where memory is refused, no rows are left.
+    pub fn push_lent(&mut self, row: &LentRow<'_>) -> Result<(), AllocError>
+        requires { length self.old < most_column_rows }
+        ensures added { OnOk result (self.new ≡ self.old ++ row.now ∷ []) }
+        ensures refused { OnErr result (self.new ≡ []) }
+    {
         let view = view_of(row);
-        self.push(&view, row.tags())?;
-        Ok(())
+        self.push_parts(&view, row.tags())
     }
 
     /// The columns of the rows, of which there is one at least.

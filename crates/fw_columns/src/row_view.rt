@@ -1,10 +1,12 @@
 //! A charge row as it is added to columns.
-ghost use Rattle.std.specs.Prelude.{◌≡◌, option_copied};
+ghost use Rattle.std.specs.Prelude.{◌≡◌, option_map};
 ghost use Rattle.fw_charge.specs.Charge.{IsCharge};
 ghost use Rattle.fw_columns.specs.RowViews.{charge_with, discount_with};
+ghost use Rattle.fw_row_table.specs.Lending.{discount_lent};
 
-use fw_charge::{Category, Discount, DiscountKind, DiscountStatus, Row};
+use fw_charge::{Category, DiscountKind, DiscountStatus};
 use fw_money::Nanos;
+use fw_row_table::{LentDiscount, LentRow};
 
 /// The values of a charge row but its tags. Its texts stand where they are. An `Option` is `None` where the column is null.
 #[derive(Clone, Copy, Debug, Drop)]
@@ -37,8 +39,8 @@ pub struct RowView<'a> {
     pub sub_account: Option<&'a str>,
 }
 
-/// A row as it stands, but its tags.
-pub(crate) fn view_of(row: &Row) -> RowView<'_>
+/// A lent row, but its tags.
+pub(crate) fn view_of<'a>(row: &LentRow<'a>) -> RowView<'a>
     ensures row { charge_with result row.now.tags ≡ row.now }
     ensures valid { IsCharge row.now }
 {
@@ -62,12 +64,12 @@ pub(crate) fn view_of(row: &Row) -> RowView<'_>
 
 /// The id, the kind and the status of a discount. Where there is none, any kind will do.
 fn discount_parts(
-    discount: Option<&Discount>,
+    discount: Option<LentDiscount<'_>>,
 ) -> (Option<&str>, DiscountKind, Option<DiscountStatus>)
-    ensures { discount_with result.0 result.1 result.2 ≡ option_copied discount.entry }
+    ensures { discount_with result.0 result.1 result.2 ≡ option_map discount_lent discount.entry }
 {
     match discount {
-        Some(discount) => (Some(discount.id()), discount.kind(), discount.status()),
+        Some(discount) => (Some(discount.id), discount.kind, discount.status),
         None => (None, DiscountKind::Usage, None),
     }
 }

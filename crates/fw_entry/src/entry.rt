@@ -5,7 +5,7 @@ ghost use Rattle.std.specs.List.{list_all};
 ghost use Rattle.fw_charge.specs.Spelling.{row, IsRow};
 ghost use Rattle.fw_entry.specs.Entry.{is_origin, is_origin_byte};
 ghost use Rattle.fw_entry.specs.Refusals.{IsRefused};
-ghost use Rattle.fw_entry.specs.Spelling.{HasRowCount, IsEntry};
+ghost use Rattle.fw_entry.specs.Spelling.{entry, HasRowCount, IsEntry};
 ghost use Rattle.fw_entry.specs.View.{command_view};
 ghost use Rattle.fw_charge.specs.Charge.{most_post_rows};
 
@@ -114,11 +114,16 @@ pub fn is_origin(bytes: &[u8]) -> bool
     !bytes.is_empty() && bytes.len() <= Entry::LONGEST_ORIGIN && are_origin_bytes(bytes)
 }
 
-// The name of the origin, where the parts make an entry.
+// The name of the origin, and how many bytes the entry is written in, where the parts make one.
 #[tactic(auto, unfolding(crate::specs::Spelling::entry))]
-fn checked<'a>(origin: &'a [u8], seq: u64, command: &Command) -> Result<&'a str, EntryFault>
+fn checked<'a>(
+    origin: &'a [u8],
+    seq: u64,
+    command: &Command,
+) -> Result<(&'a str, usize), EntryFault>
     requires { HasRowCount (command_view command.now) }
-    ensures name { IfOk result (λ name. name.now ≡ origin.now) }
+    ensures name { IfOk result (λ found. found.0.now ≡ origin.now) }
+    ensures length { IfOk result (λ found. found.1 ≡ length (entry (record { origin = origin.now; seq = seq; command = command_view command.now }))) }
     ensures entry { IfOk result (λ _. IsEntry (record { origin = origin.now; seq = seq; command = command_view command.now })) }
     ensures fault { IfErr result (IsRefused origin.now seq (command_view command.now)) }
 {
@@ -128,11 +133,12 @@ fn checked<'a>(origin: &'a [u8], seq: u64, command: &Command) -> Result<&'a str,
     if seq == 0 {
         return Err(EntryFault::Seq);
     }
-    if 12 + origin.len() + command.encoded_len() > Entry::MOST_BYTES {
+    let len = 12 + origin.len() + command.encoded_len();
+    if len > Entry::MOST_BYTES {
         return Err(EntryFault::TooLarge);
     }
     match str::from_utf8(origin) {
-        Ok(name) => Ok(name),
+        Ok(name) => Ok((name, len)),
         Err(_) => Err(EntryFault::Origin),
     }
 }
@@ -143,6 +149,8 @@ pub struct Entry {
     origin: String,
     seq: u64,
     command: Command,
+    /// How many bytes it is written in.
+    len: usize,
 }
 
 impl Model for Entry {
@@ -150,12 +158,13 @@ impl Model for Entry {
 
     ghost Value = { EntryValue };
 
-    ghost use Rattle.fw_entry.specs.Spelling.{IsEntry};
+    ghost use Rattle.std.specs.Prelude.{◌≡◌, length};
+    ghost use Rattle.fw_entry.specs.Spelling.{entry, IsEntry};
     ghost use Rattle.fw_entry.specs.View.{entry_view};
 
     ghost view = { entry_view };
 
-    ghost invariant = { λ e. IsEntry (entry_view e) };
+    ghost invariant = { λ e. IsEntry (entry_view e) × (e.len ≡ length (entry (entry_view e))) };
 }
 
 impl Entry {
@@ -181,23 +190,36 @@ impl Entry {
         ensures entry { IfOk result (λ e. e ≡ record { origin = origin.now; seq = seq; command = command_view command }) }
         ensures fault { IfErr result (IsRefused origin.now seq (command_view command)) }
     {
-        let name = checked(origin, seq, &command)?;
+        let (name, len) = checked(origin, seq, &command)?;
         Ok(Entry {
             origin: String::from_str(alloc, name)?,
             seq,
             command,
+            len,
         })
     }
 
     /// The entry of a name, a number and a command that keep the limits of an entry.
+    #[tactic(auto, unfolding(crate::specs::Spelling::entry))]
     pub fn of_fields(origin: String, seq: u64, command: Command) -> Entry
         requires { IsEntry (record { origin = string_bytes origin; seq = seq; command = command_view command }) }
+        ensures { result ≡ record { origin = string_bytes origin; seq = seq; command = command_view command } }
+    {
+        let len = 12 + origin.len() + command.encoded_len();
+        Entry::of_measured(origin, seq, command, len)
+    }
+
+    /// The entry of a name, a number and a command that keep the limits of an entry and are written in so many bytes.
+    pub fn of_measured(origin: String, seq: u64, command: Command, len: usize) -> Entry
+        requires kept { IsEntry (record { origin = string_bytes origin; seq = seq; command = command_view command }) }
+        requires length { len ≡ length (entry (record { origin = string_bytes origin; seq = seq; command = command_view command })) }
         ensures { result ≡ record { origin = string_bytes origin; seq = seq; command = command_view command } }
     {
         Entry {
             origin,
             seq,
             command,
+            len,
         }
     }
 
@@ -225,12 +247,11 @@ impl Entry {
         &self.command
     }
 
-    /// How many bytes the entry is written in: at most 4,194,304. It reads the lengths of all texts, and takes no memory.
-    #[tactic(auto, unfolding(crate::specs::Spelling::entry))]
+    /// How many bytes the entry is written in: at most 4,194,304.
     pub fn encoded_len(&self) -> usize
         ensures { result ≡ length (entry self.now) }
     {
-        12 + self.origin.len() + self.command.encoded_len()
+        self.len
     }
 
     /// An equal entry.
@@ -241,6 +262,7 @@ impl Entry {
             origin: String::from_str(alloc, &self.origin)?,
             seq: self.seq,
             command: self.command.copy(alloc)?,
+            len: self.len,
         })
     }
 }

@@ -12,7 +12,7 @@ use Rattle.fw_entry_bytes.specs.Reading.{Fields, fields_at, entry_from, is_small
 use Rattle.fw_entry_bytes.proofs.EntryFormat.{fields_format, entry_format}
 
 -- what was read and what follows are all of the bytes
-size_is : (form : Form) (bytes : List ℕ) (f : Fields × List ℕ) → IsBytes bytes → fields_at form bytes ≡ Ok f → length (entry (entry_from f.0)) + length f.1 ≡ length bytes
+pub size_is : (form : Form) (bytes : List ℕ) (f : Fields × List ℕ) → IsBytes bytes → fields_at form bytes ≡ Ok f → length (entry (entry_from f.0)) + length f.1 ≡ length bytes
 unfolding entry
 size_is form bytes f is e =
     let t = (fields_format form).takes bytes f is e in

@@ -85,11 +85,12 @@ pub fn entry_of(alloc: Global, form: Form, bytes: &[u8]) -> Result<(Entry, &[u8]
 {
     match fields_of(alloc, form, bytes) {
         Ok((fields, rest)) => {
-            if bytes.len() - rest.len() > Entry::MOST_BYTES {
+            let len = bytes.len() - rest.len();
+            if len > Entry::MOST_BYTES {
                 return Err(ReadError::Corrupt(bytes.len()));
             }
             Ok((
-                Entry::of_fields(fields.origin, fields.seq, fields.command),
+                Entry::of_measured(fields.origin, fields.seq, fields.command, len),
                 rest,
             ))
         }

@@ -16,6 +16,10 @@ use Rattle.fw_query.specs.Hours.{AreTouched, is_marked, is_touched, rows_marked}
 use Rattle.fw_query.proofs.AccountedFacts.{either_passes}
 use Rattle.fw_query.proofs.UntouchedFacts.{neither}
 
+and_false : (b : Bool) → b && false ≡ false
+and_false true = refl
+and_false false = refl
+
 -- ---- the mark of an hour
 
 -- at its place
@@ -25,6 +29,21 @@ marked_at marks from hour k at =
     let first : nat_le from hour ≡ true = grind (arith, nat_tests) in
     let place : hour - from ≡ k = omega arith in
     rw (first, place) refl
+
+-- where no hour is marked
+none_marked_at : (marks : List Bool) (k : ℕ) → list_any (λ (mark : Bool). mark) marks ≡ false → get_or marks k false ≡ false
+none_marked_at [] k none = refl
+none_marked_at (mark ∷ marks) zero none = (neither mark (list_any (λ (mark : Bool). mark) marks) none).0
+none_marked_at (mark ∷ marks) (suc k) none = none_marked_at marks k (neither mark (list_any (λ (mark : Bool). mark) marks) none).1
+
+-- no row is of a marked hour then
+pub no_hour_marked : (marks : List Bool) (from : ℕ) (rows : List Charge) → list_any (λ (mark : Bool). mark) marks ≡ false → rows_marked marks from rows ≡ []
+unfolding is_marked
+no_hour_marked marks from [] none = refl
+no_hour_marked marks from (row ∷ rows) none = rw (not_this (hour_of row.start)) (no_hour_marked marks from rows none)
+  where
+    not_this : (hour : ℕ) → is_marked marks from hour ≡ false
+    not_this hour = rw (none_marked_at marks (hour - from) none) (and_false (nat_le from hour))
 
 -- before the first
 pub marked_before : (marks : List Bool) (from hour : ℕ) → hour < from → is_marked marks from hour ≡ false

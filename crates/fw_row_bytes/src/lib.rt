@@ -10,6 +10,7 @@
 mod fields;
 mod row;
 mod rows;
+mod spelled;
 mod writing;
 
 pub use fields::{
@@ -18,4 +19,5 @@ pub use fields::{
 };
 pub use row::row_of;
 pub use rows::rows_of;
+pub use spelled::rows_have_spelling;
 pub use writing::{put_nanos, put_optional_nanos, put_optional_text, put_row, put_rows, put_tags};

@@ -9,6 +9,7 @@ ghost use Rattle.fw_charge.specs.Tags.{longest_tag_text, IsTags, IsTagSized};
 ghost use Rattle.fw_charge.specs.Spelling.{nanos, tag, tags, amounts, period, discount, consumed, row, IsRow};
 ghost use Rattle.fw_row_table.specs.Lending.{tag_lent, tags_lent};
 
+use crate::spelled::names_are_text;
 use fw_bytes::{put_byte, put_i64, put_text, put_u32, put_u64};
 use fw_charge::class_code;
 use fw_columns::{Columns, LentRow, LentTag, LentTags};
@@ -172,12 +173,12 @@ pub fn put_rows(out: &mut Vec<u8>, rows: &Columns) -> Result<(), AllocError>
     ensures spelled { OnOk result (out.new.items ≡ out.old.items ++ listed row rows.now) }
     ensures valid { OnOk result (All IsRow rows.now) }
 {
+    names_are_text(rows.names());
     let len = rows.len();
     put_u32(out, len as u32)?;
     for place in 0..len {
         let one = rows.lent(place);
-        // Proves that the row has a spelling.
-        let _len = one.encoded_len();
+        one.has_spelling();
         put_row(out, &one)?;
     }
     Ok(())

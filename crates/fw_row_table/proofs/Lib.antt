@@ -4,3 +4,4 @@ pub mod ListFacts
 pub mod TableFacts
 pub mod RowFacts
 pub mod LendingFacts
+pub mod SpelledFacts

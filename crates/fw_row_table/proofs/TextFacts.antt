@@ -136,13 +136,11 @@ pub with_text_takes_none : (names : List Text) (t : Text) → length names ≤ l
 with_text_takes_none names t = let grown = with_text-grows names t in rw (grown.1, length-append) (omega arith)
 
 -- one more tag
-pub tags_in_turn : (tags : List TagText) (i : ℕ) (d : TagText) → i < length tags
-    → (texts_of_tags (take i tags) ++ (get_or tags i d).key ∷ []) ++ (get_or tags i d).value ∷ [] ≡ texts_of_tags (take (i + 1) tags)
+pub tags_then : (tags : List TagText) (t : TagText) → (texts_of_tags tags ++ t.key ∷ []) ++ t.value ∷ [] ≡ texts_of_tags (tags ++ t ∷ [])
 unfolding texts_of_tags
-tags_in_turn tags i d h =
+tags_then tags t =
     let texts = λ (t : TagText). t.key ∷ t.value ∷ [] in
-    append_assoc (flat_map texts (take i tags)) ((get_or tags i d).key ∷ []) ((get_or tags i d).value ∷ [])
-    ∙ sym (ap (flat_map texts) (take_more tags i d h) ∙ flat_map-append texts (take i tags) (get_or tags i d ∷ []))
+    append_assoc (flat_map texts tags) (t.key ∷ []) (t.value ∷ []) ∙ sym (flat_map-append texts tags (t ∷ []))
 
 -- one more of other names
 pub seen_more : (names other : List Text) (i : ℕ) (t : Text) → slice_get other i ≡ Some t → with_texts (with_texts names (take i other)) (t ∷ []) ≡ with_texts names (take (i + 1) other)

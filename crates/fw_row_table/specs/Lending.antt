@@ -1,5 +1,5 @@
 -- Lent rows: what their fields stand for.
-use Rattle.std.specs.Prelude.{ℕ, List, [], ◌∷◌, Option, Some, None, option_copied}
+use Rattle.std.specs.Prelude.{ℕ, List, [], ◌∷◌, Option, Some, None, option_copied, IsUtf8}
 use Rattle.fw_charge.specs.Charge.{Charge, DiscountText}
 use Rattle.fw_charge.specs.Tags.{TagText}
 use Rattle.fw_charge.specs.declared.discount.DiscountKind.{DiscountKind}
@@ -47,3 +47,8 @@ row_lent fields = record {
   sub_account = option_copied fields.sub_account;
   tags = tags_lent fields.tags;
 }
+
+-- a tag whose key and text are UTF-8
+pub record IsTextTag (t : TagText) : Type 0 where
+  pub key : IsUtf8 t.key
+  pub value : IsUtf8 t.value

@@ -5,7 +5,7 @@ ghost use Rattle.fw_charge.specs.Charge.{IsCharge};
 ghost use Rattle.fw_charge.specs.Tags.{IsTagSized, longest_tag_text, most_tags};
 ghost use Rattle.fw_charge.specs.Spelling.{consumed, discount, row, tag, FitsDiscount, FitsTag, FitsTagText, IsRow};
 ghost use Rattle.fw_bytes.specs.Spelling.{text, FitsOptional};
-ghost use Rattle.fw_row_table.specs.Lending.{tag_lent, tags_lent};
+ghost use Rattle.fw_row_table.specs.Lending.{tag_lent, tags_lent, IsTextTag};
 
 use crate::lending::{LentRow, LentTag, LentTags};
 use fw_bytes::text_len;
@@ -99,5 +99,22 @@ impl<'a> LentRow<'a> {
         optional_text_has_spelling(self.sku());
         optional_text_has_spelling(self.sub_account());
         38 + discount_len(self) + consumed_len(self) + tags_len(self.tags())
+    }
+
+    /// Proves that the row has a spelling, where its tags are text. It looks at no tag and takes no memory.
+    pub fn has_spelling(&self)
+        requires { All IsTextTag self.now.tags }
+        ensures { IsRow self.now }
+    {
+        // Proves that the row keeps its rules.
+        let _start = self.start();
+        nanos_has_spelling(self.billed());
+        nanos_has_spelling(self.effective());
+        optional_nanos_has_spelling(self.quantity());
+        // Proves that the discount has a spelling.
+        let _discount = discount_len(self);
+        optional_text_has_spelling(self.unit());
+        optional_text_has_spelling(self.sku());
+        optional_text_has_spelling(self.sub_account());
     }
 }

@@ -61,6 +61,13 @@ impl Lists {
         }
     }
 
+    /// Gives back the memory that no list needs.
+    pub fn shrink(&mut self)
+        ensures { self.new ≡ self.old }
+    {
+        self.lists.shrink_to_fit();
+    }
+
     /// The list of a code.
     pub fn list(&self, code: u32) -> &[u32]
         requires { code < length self.now }

@@ -1,5 +1,5 @@
 //! Texts that are numbered.
-ghost use Rattle.std.specs.Prelude.{◌≡◌, ◌^◌, ◌<◌, ◌≤◌, ◌+◌, [], Some, length, map, slice_get, string_bytes, IfOk, IfSome, OnOk, OnErr};
+ghost use Rattle.std.specs.Prelude.{◌≡◌, ◌^◌, ◌<◌, ◌≤◌, ◌+◌, [], Some, length, map, slice_get, string_bytes, IfOk, IfSome, IsTrue, OnOk, OnErr};
 
 use indexmap::IndexSet;
 use std::alloc::{AllocError, Global};
@@ -62,6 +62,42 @@ impl Names {
                 Ok(place as u32)
             }
         }
+    }
+
+    /// The code of a text, as [`Names::code`] has it, and what comes to be known is the same. Where the text has the code that it may have, it isn't
+    /// looked up.
+    pub fn code_near(&mut self, guess: Option<u32>, text: &str) -> Result<u32, AllocError>
+        requires { length self.old < 2 ^ 30 }
+        ensures names { OnOk result (self.new ≡ with_text self.old text.now) }
+        ensures place { IfOk result (λ code. code ≡ place_of self.new text.now) }
+        ensures within { IfOk result (λ code. code < length self.new) }
+        ensures few { length self.new ≤ length self.old + 1 }
+        ensures refused { OnErr result (self.new ≡ self.old) }
+    {
+        if let Some(place) = guess {
+            if self.is_at(place, text) {
+                return Ok(place);
+            }
+        }
+        self.code(text)
+    }
+
+    // Whether a text is the one with this code.
+    fn is_at(&self, code: u32, text: &str) -> bool
+        ensures place { IsTrue result → code ≡ place_of self.now text.now }
+        ensures within { IsTrue result → code < length self.now }
+    {
+        if code as usize >= self.len() {
+            return false;
+        }
+        self.text(code) == text
+    }
+
+    /// Gives back the memory that no text needs.
+    pub fn shrink(&mut self)
+        ensures { self.new ≡ self.old }
+    {
+        self.texts.shrink_to_fit();
     }
 
     /// Texts as they stand, if each is there once; else `None`.

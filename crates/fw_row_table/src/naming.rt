@@ -3,9 +3,10 @@ ghost use Rattle.std.specs.Prelude.{◌≡◌, ◌+◌, ◌*◌, ◌^◌, ◌≤
 ghost use Rattle.fw_row_table.specs.Names.{place_of};
 ghost use Rattle.fw_row_table.specs.Texts.{with_texts, texts_of_tags};
 ghost use Rattle.fw_row_table.specs.Lists.{tag_places};
+ghost use Rattle.fw_row_table.specs.Lending.{tags_lent};
 
+use crate::lending::LentTags;
 use crate::names::Names;
-use fw_charge::Tag;
 use std::alloc::{AllocError, Global};
 
 /// The names of two lists of names, the second behind the first.
@@ -44,19 +45,27 @@ pub fn places_in(alloc: Global, names: &Names, other: &Names) -> Result<Vec<u32>
     Ok(places)
 }
 
-/// Adds the texts of tags that are new, and puts their places into a list.
-pub fn see_tags(names: &mut Names, tags: &[Tag], list: &mut Vec<u32>) -> Result<(), AllocError>
-    requires { length names.old + 2 * length tags.now ≤ 2 ^ 30 }
-    ensures seen { OnOk result (names.new ≡ with_texts names.old (texts_of_tags tags.now)) }
-    ensures few { OnOk result (length names.new ≤ length names.old + 2 * length tags.now) }
-    ensures list { OnOk result (list.new.items ≡ tag_places names.new tags.now) }
+/// Adds the texts of tags that are new, and puts their places into a list. A text that has the place which stands for it in a list like that isn't
+/// looked up.
+pub fn see_tags(
+    names: &mut Names,
+    like: &[u32],
+    tags: LentTags<'_>,
+    list: &mut Vec<u32>,
+) -> Result<(), AllocError>
+    requires { length names.old + 2 * length (tags_lent tags) ≤ 2 ^ 30 }
+    ensures seen { OnOk result (names.new ≡ with_texts names.old (texts_of_tags (tags_lent tags.entry))) }
+    ensures few { OnOk result (length names.new ≤ length names.old + 2 * length (tags_lent tags.entry)) }
+    ensures list { OnOk result (list.new.items ≡ tag_places names.new (tags_lent tags.entry)) }
 {
     list.clear();
-    for tag in tags {
-        let key = names.code(tag.key())?;
+    let mut rest = tags;
+    while let Some((tag, after)) = rest.split_first() {
+        let key = names.code_near(like.get(list.len()).copied(), tag.key)?;
         list.push(key)?;
-        let value = names.code(tag.value())?;
+        let value = names.code_near(like.get(list.len()).copied(), tag.value)?;
         list.push(value)?;
+        rest = after;
     }
     Ok(())
 }

@@ -93,5 +93,7 @@ impl Table {
         self.skus.shrink_to_fit();
         self.sub_accounts.shrink_to_fit();
         self.tags.shrink_to_fit();
+        self.names.shrink();
+        self.lists.shrink();
     }
 }

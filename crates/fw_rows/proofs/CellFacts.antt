@@ -1,7 +1,10 @@
 -- What the places of the columns, and the texts that the reader has taken out, say of a record.
-use Rattle.std.proofs.Common.{◌≡◌, ◌<◌, ◌≤◌, ◌≢◌, ◌+◌, ℕ, zero, suc, Option, None, List, [], ◌∷◌, length, get_or, set, refl, sym, ap, ◌∙◌, arith, map, subst, below_more, get_or-set_other, get_or-set_same, length-set}
-use Rattle.std.specs.Prelude.{IsUtf8, slice_index_or}
+use Rattle.std.proofs.Common.{◌≡◌, ◌<◌, ◌≤◌, ◌≢◌, ◌+◌, ◌-◌, ℕ, zero, suc, Option, Some, None, List, take, drop, [], ◌∷◌, length, get_or, set, refl, sym, ap, ◌∙◌, arith, map, subst, below_more, get_or-set_other, get_or-set_same, length-set}
+use Rattle.std.specs.Prelude.{IsUtf8, slice_index_or, unwrap_or}
 use Rattle.std.specs.Borrow.{Bor}
+use Rattle.std.specs.Str.{IsAscii}
+use Rattle.std.proofs.lemmas.Str.{IsUtf8-from_ascii, IsUtf8-nil, IsAscii-take, IsAscii-drop}
+use Rattle.csv.specs.Records.{AllText, cut_from, field_at}
 use Rattle.fw_rows.specs.Columns.{Record, columns, index_of, place_in, text_at, text_in}
 use Rattle.fw_rows.specs.Header.{ArePlaces, place_of}
 use Rattle.fw_rows.specs.Parts.{AreCells}
@@ -70,6 +73,27 @@ cells_are header fields p cells n are done taken = record {
       h.4 text;
   texts = λ c. text_among cells.texts (index_of c) (text_at fields (place_of p c)) (omega (arith, taken.size, index_within c)) (λ d. taken.at (index_of c) d (omega (arith, index_within c))) ∙ text_is header fields p c are;
 }
+
+-- ---- records of text
+
+-- each part of a text of ASCII is UTF-8
+pub ascii_is_text : (start : ℕ) (ends bytes : List ℕ) → IsAscii bytes → AllText (cut_from start ends bytes)
+unfolding AllText cut_from
+ascii_is_text start [] bytes ascii = tt
+ascii_is_text start (end ∷ ends) bytes ascii =
+    let field = take (end - start) (drop start bytes) in
+    (IsUtf8-from_ascii field (IsAscii-take (drop start bytes) (end - start) (IsAscii-drop bytes start ascii)), ascii_is_text end ends bytes ascii)
+
+-- of fields that are all UTF-8 the one at a place is, or there is none
+utf8_at : (fields : Record) (place : ℕ) → AllText fields → IsUtf8 (unwrap_or (field_at fields place) [])
+unfolding AllText field_at
+utf8_at [] place all = IsUtf8-nil
+utf8_at (f ∷ fields) zero all = all.0
+utf8_at (f ∷ fields) (suc place) all = utf8_at fields place all.1
+
+pub text_somewhere : (fields : Record) (place : Option ℕ) → AllText fields → IsUtf8 (text_at fields place)
+text_somewhere fields None all = IsUtf8-nil
+text_somewhere fields (Some place) all = utf8_at fields place all
 
 -- within a list the default is not read
 get_or-any : (cs : List Column) (k : ℕ) (d e : Column) → k < length cs → get_or cs k d ≡ get_or cs k e

@@ -1,6 +1,6 @@
 //! The texts of a record in the columns that are read.
 ghost use Rattle.std.specs.Prelude.{◌≡◌, IsUtf8, MatchOption};
-ghost use Rattle.csv.specs.Records.{fields_of};
+ghost use Rattle.csv.specs.Records.{AllText, fields_of};
 ghost use Rattle.fw_rows.specs.Columns.{Record, text_at};
 ghost use Rattle.fw_rows.specs.Header.{ArePlaces};
 ghost use Rattle.fw_rows.specs.Parts.{AreCells, texts_of};
@@ -8,7 +8,7 @@ ghost use Rattle.fw_rows.specs.Rules.{HasNonText};
 
 use crate::column::{COUNT, Column};
 use crate::header::Places;
-use csv::ByteRecord;
+use csv::{ByteRecord, StringRecord};
 
 /// The texts of a record in the columns that are read, in their order. A text that is null is empty.
 #[derive(Clone, Copy, Drop)]
@@ -29,6 +29,16 @@ fn text_at<'r>(fields: &'r ByteRecord, place: Option<usize>) -> Option<&'r str>
     str::from_utf8(field).ok()
 }
 
+/// The field of a record of text at a place; the empty text where there is no place, or the record has no such field.
+fn field_at<'r>(fields: &'r StringRecord, place: Option<usize>) -> &'r str
+    ensures { result.now ≡ text_at (fields_of fields.now) place }
+{
+    match place {
+        Some(place) => fields.get(place).unwrap_or(""),
+        None => "",
+    }
+}
+
 impl<'a> Cells<'a> {
     /// The texts of a record, if all are UTF-8.
     pub(crate) fn of_record(fields: &'a ByteRecord, places: &Places) -> Option<Cells<'a>>
@@ -39,6 +49,18 @@ impl<'a> Cells<'a> {
             texts[index] = text_at(fields, places.places[index])?;
         }
         Some(Cells { texts })
+    }
+
+    /// The texts of a record of which every field is known to be UTF-8: no byte of them is looked at.
+    pub(crate) fn of_text(fields: &'a StringRecord, places: &Places) -> Cells<'a>
+        requires { AllText (fields_of fields.now) }
+        ensures { (header : Record) → ArePlaces header places.now → AreCells header (fields_of fields.now) result }
+    {
+        let mut texts = [""; COUNT];
+        for index in 0..COUNT {
+            texts[index] = field_at(fields, places.places[index]);
+        }
+        Cells { texts }
     }
 
     /// The text in a column.

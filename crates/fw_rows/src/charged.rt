@@ -8,7 +8,7 @@ ghost use Rattle.fw_rows.specs.declared.column.Column.TheVariants as column;
 use crate::cells::Cells;
 use crate::column::Column;
 use crate::fault::RecordFault;
-use crate::values::amount_of;
+use crate::values::{amount_beside, amount_of};
 use fw_charge::{Category, Currency, class_from_word};
 use fw_instants::InstantReader;
 use fw_money::Nanos;
@@ -98,10 +98,12 @@ impl<'a> Cells<'a> {
     pub(crate) fn costs(&self, currency: Currency) -> Result<Costs, RecordFault>
         ensures { let at = texts_of self.now in Judged (cost_rules currency at) (CostsStand at) result }
     {
-        let Some(billed) = amount_of(self.text(Column::BilledCost)) else {
+        let billed_text = self.text(Column::BilledCost);
+        let Some(billed) = amount_of(billed_text) else {
             return Err(RecordFault::Cost);
         };
-        let Some(effective) = amount_of(self.text(Column::EffectiveCost)) else {
+        let effective_text = self.text(Column::EffectiveCost);
+        let Some(effective) = amount_beside(effective_text, billed_text, billed) else {
             return Err(RecordFault::Cost);
         };
         if !self.is_in(currency) {

@@ -13,6 +13,17 @@ pub(crate) fn amount_of(text: &str) -> Option<Nanos>
     fw_money::parse(text.as_bytes()).ok()
 }
 
+/// The amount that a text reads as, beside another text whose amount is known: where both are the same, it isn't read again.
+pub(crate) fn amount_beside(text: &str, other: &str, amount: Nanos) -> Option<Nanos>
+    requires { Reads other.now (Ok amount) }
+    ensures { MatchOption result ((n : ℤ) → ¬ Reads text.now (Ok n)) (λ n. Reads text.now (Ok n)) }
+{
+    if text == other {
+        return Some(amount);
+    }
+    amount_of(text)
+}
+
 /// The quantity that a text reads as: null where the text is null, and where it is a number past the greatest amount.
 #[tactic(auto, unfolding(crate::specs::Rules::QuantityReads))]
 pub(crate) fn quantity_of(text: &str) -> Option<Option<Nanos>>

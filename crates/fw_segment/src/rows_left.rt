@@ -1,13 +1,13 @@
 //! The rows of segments, read and taken from the front.
-ghost use Rattle.std.specs.Prelude.{◌≡◌, ◌≤◌, ◌<◌, ◌∷◌, ◌==◌, ◌&&◌, [], false, length, nat_lt, IfOk, IfErr, OnOk};
+ghost use Rattle.std.specs.Prelude.{◌≡◌, ◌≤◌, ◌<◌, ◌==◌, ◌&&◌, Some, false, length, nat_lt, slice_get, IfOk, IfErr, OnOk};
 ghost use Rattle.fw_bytes.specs.Reading.{Fails};
-ghost use Rattle.fw_segment.specs.RowsLeft.{behind, held, most_left, rows_given, rows_left, segments_at, AreReadOut, AreTaken};
+ghost use Rattle.fw_segment.specs.RowsLeft.{held, most_left, rows_given, rows_left, segments_at, AreReadOut, AreTaken};
 ghost use Rattle.fw_row_table.specs.Table.{most_column_rows};
 
 use crate::segments::segment_of;
 use fw_bytes::ReadError;
-use fw_charge::Row;
 use fw_columns::{Columns, ColumnsBuilder};
+use fw_row_table::LentRow;
 use std::alloc::{AllocError, Global};
 
 /// The rows of segments that aren't taken yet, in order. Of the segments that are read, one at most is held: the last.
@@ -81,18 +81,17 @@ impl<'a> RowsLeft<'a> {
         }
     }
 
-    /// Takes the next row of the segment that was read last.
-    fn next_row(&mut self) -> Result<Row, AllocError>
-        requires { 0 < length (held self.old) }
-        ensures { IfOk result (λ row. rows_left self.old ≡ behind (row ∷ []) (rows_left self.new)) }
+    /// The next row of the segment that was read last.
+    fn next_row(&self) -> LentRow<'_>
+        requires { 0 < length (held self.now) }
+        ensures row { slice_get (rows_given self.now.segment) self.now.taken ≡ Some result }
+        ensures few { self.now.taken < most_column_rows }
     {
         match &self.segment {
             Some(columns) => {
                 // Proves that the segment hasn't too many rows.
                 let _len = columns.len();
-                let row = columns.row(self.taken)?;
-                self.taken += 1;
-                Ok(row)
+                columns.lent(self.taken)
             }
             None => unreachable!("a row is left"),
         }
@@ -105,7 +104,7 @@ impl<'a> RowsLeft<'a> {
         self.taken == 0 && self.held_len() == count
     }
 
-    /// Takes so many rows from the front, at most 65,536, or all where there are fewer. Each is copied.
+    /// Takes so many rows from the front, at most 65,536, or all where there are fewer. They are added to columns one by one.
     fn take_each(&mut self, alloc: Global, count: usize) -> Result<ColumnsBuilder, ReadError>
         requires { count ≤ most_column_rows }
         ensures taken { IfOk result (λ front. AreTaken count front self.old self.new) }
@@ -116,8 +115,9 @@ impl<'a> RowsLeft<'a> {
             if !self.has_next(alloc)? {
                 return Ok(front);
             }
-            let row = self.next_row()?;
-            front.push_row(&row)?;
+            let row = self.next_row();
+            front.push_lent(&row)?;
+            self.taken += 1;
         }
         Ok(front)
     }

@@ -28,9 +28,7 @@ pub fn segment_of(alloc: Global, bytes: &[u8]) -> Result<(Columns, &[u8]), ReadE
 pub fn rows_have_spelling(columns: &Columns)
     ensures { All IsRow columns.now }
 {
-    for place in 0..columns.len() {
-        let _len = columns.lent(place).encoded_len();
-    }
+    fw_row_bytes::rows_have_spelling(columns);
 }
 
 /// Writes a segment at the end of the buffer.

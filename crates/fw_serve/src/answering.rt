@@ -16,11 +16,11 @@ use crate::content::read_content;
 use crate::questions::{answer_lines, answer_report, answer_state};
 use crate::refusals::{entry_reply, store_reply, verdict_reply};
 use crate::reply::Reply;
+use fw_ahead::Posts;
 use fw_disk::Volume;
 use fw_entry::{Command as EntryCommand, Entry};
 use fw_query::Covers;
 use fw_recover::Store;
-use fw_rows::KnownTags;
 use fw_script::{Command, EntryKind, sequence_number};
 use std::alloc::Global;
 use std::thread::Threads;
@@ -32,13 +32,13 @@ use std::thread::Threads;
 /// command sends, and no other one.
 ///
 /// A report is made by so many workers, and by what reports before it kept of what commitments cover. Nothing of this is kept behind an entry, which may bring rows or
-/// commitments. The tags that are known of texts from the posts before have no effect on an answer.
+/// commitments. Posts are read by as many workers, ahead of their commands, which has no effect on an answer.
 pub(crate) fn answer<V: Volume>(
     rt: &(impl Threads + Sync),
     alloc: Global,
     store: &mut Store<V>,
     covers: &mut Covers,
-    known: &mut KnownTags,
+    posts: &mut Posts<'_>,
     command: Command<'_>,
     workers: u32,
 ) -> Reply
@@ -57,7 +57,7 @@ pub(crate) fn answer<V: Volume>(
             content,
         } => {
             covers.clear();
-            enter(alloc, store, known, kind, origin, sequence, content)
+            enter(rt, alloc, store, posts, kind, origin, sequence, content)
         }
         Command::Checkpoint => checkpoint(alloc, store),
         Command::Report { key, from, to } => {
@@ -72,9 +72,10 @@ pub(crate) fn answer<V: Volume>(
 
 // Reads the content of an entry, and then takes the entry.
 fn enter<V: Volume>(
+    rt: &(impl Threads + Sync),
     alloc: Global,
     store: &mut Store<V>,
-    known: &mut KnownTags,
+    posts: &mut Posts<'_>,
     kind: EntryKind,
     origin: &[u8],
     sequence: &[u8],
@@ -85,11 +86,12 @@ fn enter<V: Volume>(
 {
     let number = sequence_number(sequence).unwrap_or(0);
     match read_content(
+        rt,
         alloc,
+        posts,
         kind,
         content,
         store.state().state().currency(),
-        known,
     ) {
         Ok(command) => take(alloc, store, origin, number, command),
         Err(reply) => reply,

@@ -7,28 +7,29 @@ ghost use Rattle.fw_entry.specs.View.{command_view};
 
 use crate::refusals::{commitment_reply, policy_reply, row_reply};
 use crate::reply::Reply;
-use fw_column_rows::read_columns_after;
+use fw_ahead::Posts;
 use fw_commitment::read_commitment;
 use fw_entry::Command;
 use fw_policy::read_policy;
-use fw_rows::{Currency, KnownTags};
+use fw_rows::Currency;
 use fw_script::EntryKind;
 use std::alloc::Global;
+use std::thread::Threads;
 
-/// Reads the content of an entry of a kind, or answers why it can't be read. The tags that are known of texts from the posts before have no effect
-/// on the answer.
+/// Reads the content of an entry of a kind, or answers why it can't be read. Whether a post was read ahead has no effect on the answer.
 pub(crate) fn read_content(
+    rt: &(impl Threads + Sync),
     alloc: Global,
+    posts: &mut Posts<'_>,
     kind: EntryKind,
     content: &[u8],
     currency: Currency,
-    known: &mut KnownTags,
 ) -> Result<Command, Reply>
     ensures reads { MatchResult result (λ command. ContentReads kind currency content.now (Ok (command_view command))) (λ reply. ContentReads kind currency content.now (Err (reply_text reply))) }
     ensures sized { IfOk result (λ command. HasRowCount (command_view command)) }
 {
     match kind {
-        EntryKind::Post => match read_columns_after(alloc, content, currency, known) {
+        EntryKind::Post => match posts.rows_of(rt, alloc, content, currency) {
             Ok(rows) => Ok(Command::Post(rows)),
             Err(fault) => Err(row_reply(fault)),
         },

@@ -11,10 +11,10 @@ use crate::answering::answer;
 use crate::fault::ServeFault;
 use crate::input::read_script;
 use crate::writing::write_reply;
+use fw_ahead::Posts;
 use fw_disk::Volume;
 use fw_query::Covers;
 use fw_recover::Store;
-use fw_rows::KnownTags;
 use fw_script::Script;
 use std::alloc::Global;
 use std::io::{Read, Write};
@@ -34,7 +34,8 @@ use std::thread::Threads;
 /// moment of one leaves what the commands before it left, perhaps with the entry that it sends, and after it what it left. Once the device has failed, a crash
 /// leaves what the commands left, perhaps with the entry that the failed one sent. A store that had failed before stays as it was, and so does its volume.
 ///
-/// Each report is made by 1 to 64 workers, each of which counts a piece of the rows. Their number changes no answer.
+/// Posts are read and reports are made by 1 to 64 workers: each reads one of the next posts, ahead of their commands, and counts a piece of a report's rows.
+/// Their number changes no answer.
 pub fn serve<R: Read, W: Write, V: Volume>(
     rt: &(impl Threads + Sync),
     alloc: Global,
@@ -81,10 +82,10 @@ fn answer_all<W: Write, V: Volume>(
 {
     let mut script = Script::new(text);
     let mut covers = Covers::new(alloc);
-    let mut known = KnownTags::new(alloc);
+    let mut posts = Posts::new(alloc, text, workers);
     while let Some(command) = script.next_command() {
         store.keeps();
-        let reply = answer(rt, alloc, store, &mut covers, &mut known, command, workers);
+        let reply = answer(rt, alloc, store, &mut covers, &mut posts, command, workers);
         store.keeps();
         write_reply(writer, &reply)?;
     }

@@ -15,7 +15,7 @@ complete -c focusd -n __fish_use_subcommand -a explain -d 'Says what a code mean
 complete -c focusd -n '__fish_seen_subcommand_from run' -l currency -x -d 'The currency of all costs, where a warehouse is created: three capital letters'
 complete -c focusd -n '__fish_seen_subcommand_from run' -l dir -r -F -d 'The folder of the warehouse, which has to be there; without it the warehouse is in memory'
 complete -c focusd -n '__fish_seen_subcommand_from run' -l create -d 'Creates the warehouse in the folder; without --dir it changes nothing'
-complete -c focusd -n '__fish_seen_subcommand_from run' -l workers -x -d 'How many workers share the rows of a report: 1 to 64; each answer stays the same'
+complete -c focusd -n '__fish_seen_subcommand_from run' -l workers -x -d 'How many workers read posts ahead and share the rows of a report: 1 to 64; each answer stays the same'
 complete -c focusd -n '__fish_seen_subcommand_from run' -l help -d 'Print help'
 complete -c focusd -n '__fish_seen_subcommand_from import' -l dir -r -F -d 'The folder of the warehouse'
 complete -c focusd -n '__fish_seen_subcommand_from import' -l create -d 'Creates a warehouse where the folder, which has to be there, holds none'

@@ -7,7 +7,7 @@ use crate::fault::Fault;
 use crate::progress::FileProgress;
 use crate::wrong_use;
 use clap::{Arg, ArgMatches, Command, value_parser};
-use fw_disk::{Choice, FileVolume, MemVolume, Volume};
+use fw_disk::{FileVolume, NullVolume, Volume};
 use fw_load::{Job, load};
 use fw_recover::{Store, StoreFault};
 use fw_rows::Currency;
@@ -100,13 +100,8 @@ pub(crate) fn run<R: Threads + Wait + Sync>(
             Ok(advised(rt, folder, loaded))
         }
         None => {
-            let volume = MemVolume::new(rt.alloc(), FileVolume::LIMIT, Choice::Old);
-            load_into(
-                rt,
-                threads,
-                Store::create(rt.alloc(), volume, currency),
-                job,
-            )
+            let created = Store::create(rt.alloc(), NullVolume::new(), currency);
+            load_into(rt, threads, created, job)
         }
     }
 }

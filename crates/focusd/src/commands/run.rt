@@ -7,7 +7,7 @@ use crate::command_line::{CREATE, DIR, create_option, currency_option, dir_optio
 use crate::fault::Fault;
 use crate::wrong_use;
 use clap::{Arg, ArgMatches, Command, value_parser};
-use fw_disk::{Choice, FileVolume, MemVolume, Volume};
+use fw_disk::{FileVolume, NullVolume, Volume};
 use fw_recover::{Store, StoreFault};
 use fw_rows::Currency;
 use fw_serve::serve;
@@ -19,7 +19,7 @@ use std::thread::Threads;
 /// How many bytes of answers are written at once.
 const OUTPUT_BUFFER: usize = 64 * 1024;
 
-/// The id of the option that says how many workers make a report.
+/// The id of the option that says how many workers read posts and make a report.
 const WORKERS: &str = "workers";
 
 const SCRIPT: &str = "Commands of a script, one a line, which a line feed alone ends:
@@ -77,7 +77,7 @@ pub(crate) fn command<'a>(alloc: Global) -> Result<Command<'a>, AllocError> {
                 .default_value("1")
                 .value_parser(value_parser!(u8).range(1..=64))
                 .help(
-                    "How many workers share the rows of a report: 1 to 64; each answer stays the same",
+                    "How many workers read posts ahead and share the rows of a report: 1 to 64; each answer stays the same",
                 ),
         )
 }
@@ -108,7 +108,7 @@ pub(crate) fn run(
     }
 }
 
-// How many workers share the rows of a report. The command line lets no other number pass.
+// How many workers read posts and share the rows of a report. The command line lets no other number pass.
 fn read_workers(options: &ArgMatches<'_>) -> u32
     ensures some { 1 ≤ result }
     ensures few { result ≤ most_workers }
@@ -142,7 +142,7 @@ fn serve_folder(
     serve_streams(rt, threads, &mut output, opened, workers)
 }
 
-// Serves the script from an empty warehouse in memory.
+// Serves the script from an empty warehouse in memory. It can't be opened again, so no byte of its log is kept.
 fn serve_memory(
     rt: &HostRuntime,
     threads: &(impl Threads + Sync),
@@ -156,8 +156,7 @@ fn serve_memory(
     let Ok(mut output) = BufWriter::with_capacity(alloc, OUTPUT_BUFFER, rt.stdout()) else {
         return Err(Fault::NoMemory);
     };
-    let volume = MemVolume::new(alloc, FileVolume::LIMIT, Choice::Old);
-    let created = Store::create(alloc, volume, currency);
+    let created = Store::create(alloc, NullVolume::new(), currency);
     serve_streams(rt, threads, &mut output, created, workers)
 }
 

@@ -2,13 +2,8 @@ use Rattle.std.proofs.Common.{◌<◌, length, refl, rules}
 use Rattle.std.proofs.lemmas.List.{get_or_read}
 use Rattle.fw_row_table.specs.Table.{rows_of}
 use Rattle.fw_columns.proofs.AddFacts.{pushed_like}
-use Rattle.fw_columns.proofs.JoinFacts.{codes_below}
 use Rattle.fw_row_table.proofs.RowFacts.{has_row}
 use Rattle.fw_columns.proofs.adding.add_row_like.Goals as goal
-
-pub see_texts-requires-clause-before : goal.see_texts-requires-clause-before
-see_texts-requires-clause-before c =
-    let t = c.args.table.now in c.last_codes-before.ensures (length t.names) (codes_below t (rows_of t) c.requires.columns (length t.names) refl)
 
 pub index-list-requires : goal.index-list-requires
 index-list-requires c =

@@ -1,4 +1,5 @@
 use Rattle.std.proofs.Common.{◌≡◌, ◌∙◌, ◌+◌, ◌∷◌, [], ◌++◌, length, length-append, ap, arith}
+use Rattle.std.proofs.lemmas.Result.{err_from_is_err_and}
 use Rattle.fw_bytes.specs.Reading.{times}
 use Rattle.fw_bytes.proofs.Loop.{goes_on, ends, is_done}
 use Rattle.fw_row_bytes.specs.Reading.{row_at}
@@ -7,6 +8,11 @@ use Rattle.fw_row_bytes.proofs.rows.rows_after.Goals as goal
 pub returns-in-Err-clause-read : goal.returns-in-Err-clause-read
 returns-in-Err-clause-read c =
     ends row_at c.in-Err.e c.loop.rows c.args.count c.loop.counter c.loop.rest.now (times row_at c.args.count c.args.bytes.now) c.loop-test.true c.in-Err.ensures c.loop.invariant.0
+
+pub returns-in_err-push_row-in-Ok-clause-read : goal.returns-in_err-push_row-in-Ok-clause-read
+returns-in_err-push_row-in-Ok-clause-read c =
+    let p = err_from_is_err_and c.from_residual.result c.from_residual.ensures.1 in
+    rw (p.1, p.2) tt
 
 pub loop-preserved : goal.loop-preserved
 loop-preserved c =

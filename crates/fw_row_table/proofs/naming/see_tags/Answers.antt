@@ -1,49 +1,70 @@
-use Rattle.std.proofs.Common.{◌≡◌, ◌∙◌, map, ap, arith, subst, get_or, take}
-use Rattle.std.proofs.lemmas.List.{take_all}
+use Rattle.std.proofs.Common.{◌≡◌, ◌∙◌, ◌++◌, ◌∷◌, [], map, length, append_assoc, refl, sym, ap, arith, subst}
+use Rattle.std.proofs.lemmas.List.{append-nil}
 use Rattle.fw_charge.specs.Tags.{TagText}
-use Rattle.fw_row_table.specs.Names.{with_text, place_of}
+use Rattle.fw_row_table.specs.Lending.{tag_lent, tags_lent, tags_split}
+use Rattle.fw_row_table.specs.Names.{place_of}
 use Rattle.fw_row_table.specs.Texts.{texts_of_tags, with_texts}
 use Rattle.fw_row_table.specs.Lists.{tag_places}
-use Rattle.fw_row_table.proofs.TextFacts.{tags_in_turn}
+use Rattle.fw_row_table.proofs.TextFacts.{tags_then}
 use Rattle.fw_row_table.proofs.ListFacts.{AreListed, listed_none, listed_more}
 use Rattle.fw_row_table.proofs.naming.see_tags.Goals as goal
 
 pub loop-tag-init : goal.loop-tag-init
 unfolding texts_of_tags
-loop-tag-init c = record { listed = rw c.clear.ensures.items (listed_none c.args.names.now); few = omega arith }
+loop-tag-init c = record { done = []; parted = refl; listed = rw c.clear.ensures.items (listed_none c.args.names.now); room = omega arith }
+
+pub loop-tag-smaller : goal.loop-tag-smaller
+unfolding tags_split
+loop-tag-smaller c =
+    let parted : tags_lent c.loop-tag.rest ≡ tag_lent c.in-Some.tag ∷ tags_lent c.in-Some.after = c.split_first.ensures ∙ ap tags_split c.in-Some.is in
+    let size : length (tags_lent c.loop-tag.rest) ≡ length (tag_lent c.in-Some.tag ∷ tags_lent c.in-Some.after) = ap length parted in
+    omega (arith, size)
 
 pub loop-tag-preserved : goal.loop-tag-preserved
+unfolding tags_split
 loop-tag-preserved c =
-    let tags = c.args.tags.now in
-    let i = c.loop-tag.tag-index in
-    let d = c.tag-item.result in
     let before = c.args.names.now in
-    let so_far = texts_of_tags (take i tags) in
-    let text = (get_or tags i d).key in
-    let is_key : c.key.result.now ≡ text = c.key.ensures ∙ ap (λ (t : TagText). t.key) c.tag-item.is in
-    let is_value : c.value.result.now ≡ (get_or tags i d).value = c.value.ensures ∙ ap (λ (t : TagText). t.value) c.tag-item.is in
+    let first = tag_lent c.in-Some.tag in
+    let rest = tags_lent c.in-Some.after in
+    let so_far = c.loop-tag.invariant in
+    let parted : tags_lent c.loop-tag.rest ≡ first ∷ rest = c.split_first.ensures ∙ ap tags_split c.in-Some.is in
+    let size : length (tags_lent c.loop-tag.rest) ≡ length (first ∷ rest) = ap length parted in
     let one =
-    listed_more before _ _ so_far c.loop-tag.invariant.listed _ text _ _
-    (c.in_ok-key.ensures.names ∙ ap (with_text c.loop-tag.names) is_key)
-    (c.in_ok-key.ensures.place ∙ ap (place_of c.code.new.self) is_key)
-    c.in_ok-push.ensures.items in
-    let two =
-    listed_more before _ _ _ one _ (get_or tags i d).value _ _
-    (c.in_ok-value.ensures.names ∙ ap (with_text c.code.new.self) is_value)
-    (c.in_ok-value.ensures.place ∙ ap (place_of c.code-in-loop-tag.new.self) is_value)
-    c.in_ok-push-2.ensures.items in
+    listed_more before _ _ (texts_of_tags so_far.done) so_far.listed _ first.key _ _ c.in_ok-key.ensures.names c.in_ok-key.ensures.place c.in_ok-push.ensures.items in
+    let two = listed_more before _ _ _ one _ first.value _ _ c.in_ok-value.ensures.names c.in_ok-value.ensures.place c.in_ok-push-2.ensures.items in
     record {
-      listed = subst (AreListed before c.code-in-loop-tag.new.self c.push-in-loop-tag.new.self.items) (tags_in_turn tags i d c.loop-tag-test.true) two;
-      few = omega (arith, c.in_ok-key.ensures.few, c.in_ok-value.ensures.few, c.loop-tag.invariant.few);
+      done = so_far.done ++ first ∷ [];
+      parted = append_assoc so_far.done (first ∷ []) rest ∙ ((λ j. so_far.done ++ sym parted j) ∙ so_far.parted);
+      listed = subst (AreListed before c.code_near-in-Some.new.self c.push-in-Some.new.self.items) (tags_then so_far.done first) two;
+      room = omega (arith, size, so_far.room, c.in_ok-key.ensures.few, c.in_ok-value.ensures.few);
     }
 
+pub code_near-requires : goal.code_near-requires
+unfolding tags_split
+code_near-requires c =
+    let parted : tags_lent c.loop-tag.rest ≡ tag_lent c.in-Some.tag ∷ tags_lent c.in-Some.after = c.split_first.ensures ∙ ap tags_split c.in-Some.is in
+    let size : length (tags_lent c.loop-tag.rest) ≡ length (tag_lent c.in-Some.tag ∷ tags_lent c.in-Some.after) = ap length parted in
+    omega (arith, size, c.loop-tag.invariant.room, c.requires)
+
+pub code_near-requires-in-Some : goal.code_near-requires-in-Some
+unfolding tags_split
+code_near-requires-in-Some c =
+    let parted : tags_lent c.loop-tag.rest ≡ tag_lent c.in-Some.tag ∷ tags_lent c.in-Some.after = c.split_first.ensures ∙ ap tags_split c.in-Some.is in
+    let size : length (tags_lent c.loop-tag.rest) ≡ length (tag_lent c.in-Some.tag ∷ tags_lent c.in-Some.after) = ap length parted in
+    omega (arith, size, c.loop-tag.invariant.room, c.in_ok-key.ensures.few, c.requires)
+
 pub returns-clause-seen : goal.returns-clause-seen
+unfolding tags_split
 returns-clause-seen c =
-    let all : take c.loop-tag.tag-index c.args.tags.now ≡ c.args.tags.now = take_all c.loop-tag.tag-index c.args.tags.now c.loop-tag-test.false in
-    c.loop-tag.invariant.listed.seen ∙ (λ j. with_texts c.args.names.now (texts_of_tags (all j)))
+    let so_far = c.loop-tag.invariant in
+    let none : tags_lent c.loop-tag.rest ≡ [] = c.split_first.ensures ∙ ap tags_split c.in_default.is in
+    let all : so_far.done ≡ tags_lent c.args.tags = sym (append-nil so_far.done) ∙ ((λ j. so_far.done ++ sym none j) ∙ so_far.parted) in
+    so_far.listed.seen ∙ (λ j. with_texts c.args.names.now (texts_of_tags (all j)))
 
 pub returns-clause-list : goal.returns-clause-list
-unfolding tag_places
+unfolding tag_places tags_split
 returns-clause-list c =
-    let all : take c.loop-tag.tag-index c.args.tags.now ≡ c.args.tags.now = take_all c.loop-tag.tag-index c.args.tags.now c.loop-tag-test.false in
-    c.loop-tag.invariant.listed.places ∙ (λ j. map (place_of c.loop-tag.names) (texts_of_tags (all j)))
+    let so_far = c.loop-tag.invariant in
+    let none : tags_lent c.loop-tag.rest ≡ [] = c.split_first.ensures ∙ ap tags_split c.in_default.is in
+    let all : so_far.done ≡ tags_lent c.args.tags = sym (append-nil so_far.done) ∙ ((λ j. so_far.done ++ sym none j) ∙ so_far.parted) in
+    so_far.listed.places ∙ (λ j. map (place_of c.loop-tag.names) (texts_of_tags (all j)))

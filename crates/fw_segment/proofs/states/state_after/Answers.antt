@@ -34,5 +34,5 @@ returns c =
     let rows = rows_given c.args.rows in
     let same = same_entry h rows c.as_bytes.result.now (command_view c.command_of-command.result) c.in-Ok.entry c.in-Ok.ensures.entry c.as_bytes.ensures.value c.command_of-command.ensures in
     let accepted : is_accept c.judge.result ≡ true = sym c.if-not-is_accept.ensures in
-    let small = subst (λ (e : EntryValue). length (entry e) ≤ most_entry_bytes) (c.entry.view_is ∙ same) c.entry.invariant.size in
+    let small = subst (λ (e : EntryValue). length (entry e) ≤ most_entry_bytes) (c.entry.view_is ∙ same) c.entry.invariant.0.size in
     ap Some c.in_ok-apply.ensures ∙ (rw same (sym (follows c.args.state.now (entry_of h rows) small (rw (← same) (rw c.judge.ensures at accepted)))))

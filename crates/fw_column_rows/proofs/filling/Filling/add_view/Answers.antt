@@ -15,7 +15,7 @@ use Rattle.fw_column_rows.proofs.filling.Filling.add_view.Goals.{After-len}
 abbrev text : After-len → Text
 text c = texts_of c.args.cells.now column.Tags
 
-named : (c : After-len) → c.code.new.self ≡ with_text c.args.self.now.texts (text c)
+named : (c : After-len) → c.code_near.new.self ≡ with_text c.args.self.now.texts (text c)
 named c = c.in_ok-found.ensures.names ∙ ap (with_text c.args.self.now.texts) c.text-tags_text.ensures
 
 found_is : (c : After-len) → c.in_ok-found.found ≡ place_of (with_text c.args.self.now.texts (text c)) (text c)
@@ -27,8 +27,8 @@ known : (c : After-len) → c.in_ok-found.found < length c.args.self.now.places.
     → (with_text c.args.self.now.texts (text c) ≡ c.args.self.now.texts) × (get_or c.args.self.now.texts c.in_ok-found.found [] ≡ text c)
 known c lt = code_known c.args.self.now.texts (text c) c.in_ok-found.found (found_is c) (omega (arith, lt, c.requires.tags.one_each))
 
-pub code-requires : goal.code-requires
-code-requires c = let are = c.requires.tags in omega (arith, are.one_each, are.few, c.requires.room)
+pub code_near-requires : goal.code_near-requires
+code_near-requires c = let are = c.requires.tags in omega (arith, are.one_each, are.few, c.requires.room)
 
 pub add_known-requires-clause-known : goal.add_known-requires-clause-known
 add_known-requires-clause-known c =
@@ -46,11 +46,11 @@ returns-then-found-len-clause-tags c =
     let places = c.args.self.now.places.items in
     let rows = c.args.self.now.columns in
     let lt : c.in_ok-found.found < length places = omega (arith, c.len.ensures) in
-    let texts : c.code.new.self ≡ c.args.self.now.texts = named at ∙ (known at lt).0 in
+    let texts : c.code_near.new.self ≡ c.args.self.now.texts = named at ∙ (known at lt).0 in
     let added = c.in_ok-add_known.ensures.1 in
     let x = charge_with c.args.row.now added.1 in
     let OfTexts : List Text → Type 0 = λ ts. AreTagsOf ts places (rows ++ x ∷ []) in
-    let OfRows : List Charge → Type 0 = λ rs. AreTagsOf c.code.new.self places rs in
+    let OfRows : List Charge → Type 0 = λ rs. AreTagsOf c.code_near.new.self places rs in
     subst OfRows (sym added.3) (subst OfTexts (sym texts) (tags_kept c.args.self.now.texts places rows x c.requires.tags))
 
 pub returns-clause-tags : goal.returns-clause-tags
@@ -62,12 +62,12 @@ returns-clause-tags c =
     let code = c.in_ok-found.found in
     let are = c.requires.tags in
     let le : length places ≤ code = omega (arith, c.len.ensures) in
-    let texts : c.code.new.self ≡ names ++ text at ∷ [] = named at ∙ code_new names (text at) code (found_is at) (omega (arith, le, are.one_each)) in
+    let texts : c.code_near.new.self ≡ names ++ text at ∷ [] = named at ∙ code_new names (text at) code (found_is at) (omega (arith, le, are.one_each)) in
     let pushed : c.push.new.self.items ≡ places ++ length rows ∷ [] = c.in_ok-push.ensures.items ∙ ap (λ n. places ++ n ∷ []) c.len-next.ensures.count in
     let added = c.in_ok-add_new.ensures.row.1 in
     let x = charge_with c.args.row.now added.1 in
     let HasText : List Charge → Type 0 = λ rs. HasTagsOf (text at) (length rows) rs in
     let OfTexts : List Text → Type 0 = λ ts. AreTagsOf ts (places ++ length rows ∷ []) (rows ++ x ∷ []) in
-    let OfPlaces : List ℕ → Type 0 = λ ps. AreTagsOf c.code.new.self ps (rows ++ x ∷ []) in
-    let OfRows : List Charge → Type 0 = λ rs. AreTagsOf c.code.new.self c.push.new.self.items rs in
+    let OfPlaces : List ℕ → Type 0 = λ ps. AreTagsOf c.code_near.new.self ps (rows ++ x ∷ []) in
+    let OfRows : List Charge → Type 0 = λ rs. AreTagsOf c.code_near.new.self c.push.new.self.items rs in
     subst OfRows (sym added.3) (subst OfPlaces (sym pushed) (subst OfTexts (sym texts) (tags_more names places rows (text at) x are (subst HasText added.3 c.in_ok-add_new.ensures.tags))))
