@@ -1,20 +1,23 @@
 //! Checkpoints: a side is made of the state, and the log begins anew on it.
-ghost use Rattle.std.specs.Prelude.{◌≡◌, ◌⊎◌, ◌↔◌, ◌-◌, ◌^◌, ◌≤◌, ℕ, false, true, OnOk, OnErr, IsErrOf, IsTrue};
+ghost use Rattle.std.specs.Prelude.{◌≡◌, ◌⊎◌, ◌↔◌, ◌+◌, ◌-◌, ◌^◌, ◌≤◌, ℕ, length, false, true, IfOk, OnOk, OnErr, IsErrOf, IsTrue};
 ghost use Rattle.fw_disk.specs.declared.volume.Side.{Side};
 ghost use Rattle.fw_disk.specs.Volume.{Rose, LeavesOnly};
-ghost use Rattle.fw_recover.specs.declared.fault.StoreFault.TheVariants.{NoHouse, Corrupt, Device, Failed, Generations, TooLarge, Exists};
+ghost use Rattle.fw_recover.specs.declared.fault.StoreFault.TheVariants.{NoHouse, Corrupt, Device, Failed, Generations, NoMemory, TooLarge, Exists};
 ghost use Rattle.fw_recover.specs.Stands.{StandsFor, EachStandsFor};
 ghost use Rattle.fw_recover.specs.Checkpoints.{HasNoRoomFor, IsCheckpointed};
+ghost use Rattle.fw_recover.specs.Making.{SpellsSide};
 
 use crate::spelled::side_bytes;
 use crate::{Store, StoreFault, make_side};
 use fw_disk::Volume;
 use fw_journal::Log;
+use fw_snapshot::Snapshot;
 use std::alloc::Global;
 
 impl<V: Volume> Store<V> {
     /// Makes the side that isn't in use anew, of the state as it is and with the next generation; from then on that side
-    /// is in use, and its log is empty. At each moment since the call's start, and after it whatever it answers, a crash
+    /// is in use, and its log is empty. The rows are then in few segments, on the side and in the store: short ones that follow each other are
+    /// joined, as [`State::merged`](fw_snapshot::State::merged) says. At each moment since the call's start, and after it whatever it answers, a crash
     /// leaves files that stand for the warehouse as it is.
     ///
     /// `Failed` where the device has failed in an earlier call that writes, then `Generations` where there is no greater
@@ -45,8 +48,7 @@ impl<V: Volume> Store<V> {
         let Some(generation) = self.generation.checked_add(1) else {
             return Err(StoreFault::Generations);
         };
-        let state = self.snapshot.state();
-        let bytes = side_bytes(alloc, generation, state, self.volume.limit())?;
+        let (bytes, snapshot) = self.merged_side(alloc, generation)?;
         let side = self.log.side().other();
         let start = bytes.len() as u64;
         self.failed = true;
@@ -54,9 +56,28 @@ impl<V: Volume> Store<V> {
             return Err(StoreFault::Device);
         };
         self.generation = generation;
+        self.snapshot = snapshot;
         self.log = Log::at(side, start, start);
         self.failed = false;
         Ok(())
+    }
+
+    // The bytes of a side of the state, and a snapshot of it, once its short segments are joined.
+    fn merged_side(&self, alloc: Global, generation: u64) -> Result<(Vec<u8>, Snapshot), StoreFault>
+        ensures made { IfOk result (λ side. SpellsSide generation self.now.history side.0.items) }
+        ensures same { IfOk result (λ side. side.1 ≡ self.now.history) }
+        ensures fits { IfOk result (λ side. 1 + length side.0.items ≤ (V.view self.now.volume).limit) }
+        ensures too_large { IsErrOf result TooLarge → HasNoRoomFor (V.view self.now.volume).limit self.now.history }
+        ensures which { OnErr result (IsErrOf result TooLarge ⊎ IsErrOf result NoMemory) }
+    {
+        let Ok(merged) = self.snapshot.state().merged() else {
+            return Err(StoreFault::NoMemory);
+        };
+        let bytes = side_bytes(alloc, generation, &merged, self.volume.limit())?;
+        match Snapshot::new(merged) {
+            Ok(snapshot) => Ok((bytes, snapshot)),
+            Err(_) => Err(StoreFault::NoMemory),
+        }
     }
 
     /// The length of the body of the side in use, in bytes.

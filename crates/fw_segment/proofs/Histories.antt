@@ -24,7 +24,7 @@ use Rattle.fw_segment.specs.declared.layout.SegmentLayout.{SegmentLayout}
 use Rattle.fw_segment.specs.declared.layout.SegmentLayout.TheVariants.{Columns}
 use Rattle.fw_segment.specs.Segments.{segment, IsSegment}
 use Rattle.fw_segment.specs.Heads.{heads, IsContent, IsHead}
-use Rattle.fw_segment.specs.States.{state, Spells, most_segments, Cut, cut_rows, Parts, parts_at, bytes_before_heads, replayed, replayed_state, state_from, state_at}
+use Rattle.fw_segment.specs.States.{state, Spells, most_segments, Cut, cut_rows, Parts, parts_at, bytes_before_heads, continued, replayed, replayed_state, state_from, state_at}
 use Rattle.fw_segment.proofs.HeadFormat.{AreHeads}
 use Rattle.fw_segment.proofs.StateFormat.{FitsCut, parts_taken, parts_again}
 use Rattle.fw_segment.proofs.Replay.{no_row_counts, replay_taken, replay_again}
@@ -66,7 +66,7 @@ rows_each (s ∷ cut) each = All-append IsRow s.1 (segment_rows (cut_rows cut)) 
 -- the state of parts, where there is one
 parts_state : (total : ℕ) (p : Parts) (h : History) → state_from total p ≡ Ok h
     → (length p.1.1 ≡ row_counts p.1.0) × (es : List EntryValue) × (replayed (total - bytes_before_heads) [] p.1.0 p.1.1 ≡ Ok es) × (h ≡ record { currency = p.0; entries = es })
-unfolding state_from replayed_state
+unfolding state_from replayed_state continued
 parts_state total p h e =
     let q = passed (eqb (length p.1.1) (row_counts p.1.0)) total (replayed_state (total - bytes_before_heads) p.0 p.1.0 p.1.1) h e in
     let r = bind_ok (replayed (total - bytes_before_heads) [] p.1.0 p.1.1) (λ es. Ok (record { currency = p.0; entries = es })) h q.1 in
@@ -110,7 +110,7 @@ as_many (e ∷ es) =
     omega arith
 
 from_parts : (total : ℕ) (currency : List ℕ) (hs : List HeadValue) (rows : List Charge) (es : List EntryValue) → length rows ≡ row_counts hs → replayed (total - bytes_before_heads) [] hs rows ≡ Ok es → state_from total (currency, (hs, rows)) ≡ Ok (record { currency = currency; entries = es })
-unfolding state_from replayed_state
+unfolding state_from replayed_state continued
 from_parts total currency hs rows es many read = rw (many, eq-eqb _ _ refl, read) refl
 
 pub state_again : (form : Form) (bytes : List ℕ) (h : History) → Spells bytes h → state_at form bytes ≡ Ok h

@@ -1,5 +1,4 @@
 pub mod Viewed
-pub mod Taking
 pub mod Chosen
 pub mod SegmentFormat
 pub mod HeadFormat

@@ -4,6 +4,4 @@ pub mod Segments
 pub mod Heads
 pub mod HeadView
 pub mod States
-pub mod RowsLeft
-pub mod Replaying
 pub mod FaultPlace

@@ -1,5 +1,5 @@
 -- States: a currency, the heads of the entries, and their rows, cut into segments in any way, each of them in any layout.
-use Rattle.std.specs.Prelude.{◌≡◌, ◌-◌, ℕ, Bool, ◌&&◌, List, [], ◌∷◌, ◌++◌, length, take, drop, map, All, Option, Some, None, Result, Ok, Err, nat_le, ◌==◌, if◌then◌else◌}
+use Rattle.std.specs.Prelude.{◌≡◌, ◌-◌, ℕ, Bool, ◌&&◌, List, [], ◌∷◌, ◌++◌, length, take, drop, map, All, Result, Ok, Err, ◌==◌, if◌then◌else◌}
 use Rattle.std.specs.List.{list_all}
 use Rattle.std.specs.Char.{is_ascii_uppercase}
 use Rattle.fw_bytes.specs.Spelling.{text, listed, Fits32, Fits64}
@@ -7,13 +7,13 @@ use Rattle.fw_bytes.specs.Reading.{Reading, ◌>>=◌, text_at, checked, both, s
 use Rattle.fw_charge.specs.Charge.{Charge}
 use Rattle.fw_charge.specs.Currencies.{IsCode}
 use Rattle.fw_entry.specs.Entry.{EntryValue}
-use Rattle.fw_entry.specs.Spelling.{entry, IsEntry, most_entry_bytes}
+use Rattle.fw_entry.specs.Spelling.{IsEntry}
 use Rattle.fw_entry_bytes.specs.declared.form.Form.{Form}
 use Rattle.fw_entry_bytes.specs.Whole.{whole}
 use Rattle.fw_snapshot.specs.Heads.{HeadValue, head_of, entry_of, row_count, row_counts, segment_rows}
 use Rattle.fw_snapshot.specs.History.{History, rows_posted}
-use Rattle.fw_snapshot.specs.Judging.{judged, IsLegal}
-use Rattle.fw_snapshot.specs.Verdicts.{is_accept}
+use Rattle.fw_snapshot.specs.Judging.{IsLegal}
+use Rattle.fw_snapshot.specs.Verdicts.{goes_behind}
 use Rattle.fw_segment.specs.declared.layout.SegmentLayout.{SegmentLayout}
 use Rattle.fw_segment.specs.Segments.{segment, segment_at, IsSegment}
 use Rattle.fw_segment.specs.Heads.{head, heads, heads_at}
@@ -71,14 +71,6 @@ Parts = List ℕ × (List HeadValue × List Charge)
 unfoldable pub parts_at : Form → Reading Parts
 parts_at form = both currency_at (both (heads_at form) rows_at)
 
--- an entry is written in at most 4,194,304 bytes, and is accepted after the others
-unfoldable pub goes_behind : List EntryValue → EntryValue → Bool
-goes_behind entries e = nat_le (length (entry e)) most_entry_bytes && is_accept (judged entries e)
-
--- the warehouse after an entry that goes behind the others
-abbrev pub followed : History → EntryValue → Option History
-followed h e = if goes_behind h.entries e then Some (record { currency = h.currency; entries = h.entries ++ e ∷ [] }) else None
-
 -- the entries of heads behind others: each post takes its rows from the front of what the posts before it left. The first that doesn't go behind
 -- those before it is a fault at its head; so many bytes are left from the first head on
 unfoldable pub replayed : ℕ → List EntryValue → List HeadValue → List Charge → Result (List EntryValue) ℕ
@@ -92,11 +84,15 @@ replayed left entries (h ∷ hs) rows =
 abbrev pub bytes_before_heads : ℕ
 bytes_before_heads = 15
 
--- the warehouse of this currency after the entries of heads, each judged after those before it
+-- a warehouse that goes on with the entries of heads, each judged after those before it
+unfoldable pub continued : ℕ → History → List HeadValue → List Charge → Result History ℕ
+continued left h hs rows = do
+  entries ← replayed left h.entries hs rows
+  Ok (record { currency = h.currency; entries = entries })
+
+-- the warehouse of this currency after the entries of heads
 unfoldable pub replayed_state : ℕ → List ℕ → List HeadValue → List Charge → Result History ℕ
-replayed_state left currency hs rows = do
-  entries ← replayed left [] hs rows
-  Ok (record { currency = currency; entries = entries })
+replayed_state left currency hs rows = continued left (record { currency = currency; entries = [] }) hs rows
 
 -- what parts stand for: there must be as many rows as the heads say, else the fault is at the first byte of all
 unfoldable pub state_from : ℕ → Parts → Result History ℕ

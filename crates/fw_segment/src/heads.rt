@@ -1,5 +1,5 @@
 //! The readers and the writer of heads.
-ghost use Rattle.std.specs.Prelude.{◌≡◌, ◌++◌, ◌<◌, ◌≤◌, ◌^◌, length, map, OnOk};
+ghost use Rattle.std.specs.Prelude.{◌≡◌, ◌++◌, ◌<◌, ◌≤◌, ◌^◌, length, map, IfOk, OnOk};
 ghost use Rattle.fw_bytes.specs.Reading.{Gives, times};
 ghost use Rattle.fw_snapshot.specs.HeadView as stored;
 ghost use Rattle.fw_snapshot.specs.Heads.{row_count};
@@ -15,6 +15,7 @@ use fw_snapshot::{Content, Head};
 use fw_terms::{Commitment, Policy, commitment_len, policy_len};
 use fw_terms_bytes::{commitment_of, policy_of, put_commitment, put_policy};
 use std::alloc::{AllocError, Global};
+use std::sync::Arc;
 
 /// What an entry brought, as its head says.
 #[derive(Drop)]
@@ -25,6 +26,19 @@ pub enum ReadContent {
     Commit(Commitment),
     /// A policy.
     SetPolicy(Policy),
+}
+
+impl ReadContent {
+    /// What a state keeps of it.
+    pub fn kept(self, alloc: Global) -> Result<Content, AllocError>
+        ensures { IfOk result (λ content. stored.content_view content ≡ content_view self) }
+    {
+        match self {
+            ReadContent::Post(rows) => Ok(Content::Post { rows }),
+            ReadContent::Commit(commitment) => Ok(Content::Commit(commitment)),
+            ReadContent::SetPolicy(policy) => Ok(Content::SetPolicy(Arc::new(alloc, policy)?)),
+        }
+    }
 }
 
 /// The head of an entry, as it was read.

@@ -13,7 +13,6 @@ mod groups;
 mod heads;
 mod laws;
 mod layout;
-mod rows_left;
 mod segments;
 mod states;
 

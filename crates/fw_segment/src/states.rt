@@ -1,32 +1,29 @@
 //! The reader and the writer of a state.
-ghost use Rattle.std.specs.Prelude.{◌≡◌, ◌++◌, ◌<◌, ◌≤◌, ℕ, List, length, map, All, OnOk, IfOk, IfErr};
-ghost use Rattle.fw_bytes.specs.Reading.{Fails, Gives};
+ghost use Rattle.std.specs.Prelude.{◌≡◌, ◌++◌, ◌<◌, ◌≤◌, ℕ, List, length, map, true, All, OnOk, IfOk};
+ghost use Rattle.fw_bytes.specs.Reading.{Gives, times};
 ghost use Rattle.fw_bytes.specs.Spelling.{listed, text, Fits64};
 ghost use Rattle.fw_charge.specs.Currencies.{IsCode};
 ghost use Rattle.fw_entry.specs.Spelling.{IsEntry};
-ghost use Rattle.fw_entry.specs.View.{command_view};
+ghost use Rattle.fw_snapshot.specs.Building.{left_rows, next_entry, with_next};
 ghost use Rattle.fw_snapshot.specs.Judging.{most_rows, IsLegal};
-ghost use Rattle.fw_snapshot.specs.Heads.{command_of, entry_of, head_of, row_count};
+ghost use Rattle.fw_snapshot.specs.Heads.{head_of, row_count, row_counts, segment_rows};
+ghost use Rattle.fw_snapshot.specs.Verdicts.{goes_behind};
 ghost use Rattle.fw_segment.specs.HeadView.{content_view, head_view};
-ghost use Rattle.fw_segment.specs.Heads.{IsContent, IsHead, heads};
-ghost use Rattle.fw_segment.specs.Replaying.{stepped, state_behind, with_rows, AreBehind, AreReplayed};
-ghost use Rattle.fw_segment.specs.RowsLeft.{rows_given, rows_left};
-ghost use Rattle.fw_segment.specs.Segments.{segment};
-ghost use Rattle.fw_segment.specs.States.{Spells, currency_at, followed, parts_at, rows_at, state_at};
+ghost use Rattle.fw_segment.specs.Heads.{IsHead, heads};
+ghost use Rattle.fw_segment.specs.Segments.{segment, segment_at};
+ghost use Rattle.fw_segment.specs.States.{Spells, continued, currency_at, parts_at, rows_at, state_at, state_from};
 ghost use Rattle.fw_segment.specs.declared.layout.SegmentLayout.TheVariants as layout;
 ghost use Rattle.fw_row_table.specs.Table.{most_column_rows};
 
-use crate::heads::{ReadContent, ReadHead, heads_of, put_head};
+use crate::heads::{ReadHead, heads_of, put_head};
 use crate::layout::SegmentLayout;
-use crate::rows_left::RowsLeft;
-use crate::segments::put_segment;
+use crate::segments::{put_segment, segment_of};
 use fw_bytes::{ReadError, put_u32, put_u64, str_at, u32_at};
 use fw_charge::Currency;
 use fw_columns::Columns;
-use fw_entry::{Command, Entry, EntryFault};
 use fw_entry_bytes::Form;
 use fw_persistent::Sequence;
-use fw_snapshot::{State, judge};
+use fw_snapshot::{State, StateBuilder};
 use std::alloc::{AllocError, Global};
 
 /// The bytes before the first head: the length of the currency, its three letters, and the number of heads.
@@ -44,40 +41,71 @@ fn currency_of(bytes: &[u8]) -> Result<(Currency, &[u8]), ReadError>
     }
 }
 
-/// The parts of a state: its currency, its heads, and the rows of its segments.
+/// The parts of a state: its currency, its heads, and its segments.
 #[derive(Drop)]
-struct Parts<'a> {
+struct Parts {
     currency: Currency,
     heads: Vec<ReadHead>,
-    rows: RowsLeft<'a>,
+    segments: Sequence<Columns>,
 }
 
-/// The rows of segments behind their number. None is read yet.
-#[tactic(auto, unfolding(crate::specs::States::rows_at, crate::specs::RowsLeft::segments_at, fw_bytes::specs::Reading::list_at, fw_bytes::specs::Reading::seen))]
-fn rows_of(bytes: &[u8]) -> Result<RowsLeft<'_>, ReadError>
-    ensures rows { IfOk result (λ rows. rows_at bytes.now ≡ rows_left rows) }
-    ensures fault { IfErr result (λ e. Fails e (rows_at bytes.now)) }
+/// So many segments. Memory is taken as each is read, not for the count.
+fn segments_after(
+    alloc: Global,
+    count: u32,
+    bytes: &[u8],
+) -> Result<(Sequence<Columns>, &[u8]), ReadError>
+    ensures read { Gives (λ x. (x.0, x.1.now)) result (times segment_at count bytes.now) }
+    ensures filled { IfOk result (λ x. length x.0 ≤ length (segment_rows x.0)) }
 {
-    let (segments, rest) = u32_at(bytes)?;
-    Ok(RowsLeft::of(segments, rest))
+    let mut segments = Sequence::new();
+    let mut rest = bytes;
+    for _ in 0..count {
+        match segment_of(alloc, rest) {
+            Ok((columns, after)) => {
+                // Proves that the segment has a row.
+                let _len = columns.len();
+                segments = segments.push(alloc, columns)?;
+                rest = after;
+            }
+            Err(e) => return Err(e),
+        }
+    }
+    Ok((segments, rest))
 }
 
-/// The parts of a state, in order. No row is read yet.
+/// The segments behind their number.
+#[tactic(auto, unfolding(crate::specs::States::rows_at, fw_bytes::specs::Reading::list_at, fw_bytes::specs::Reading::seen))]
+fn segments_of(alloc: Global, bytes: &[u8]) -> Result<(Sequence<Columns>, &[u8]), ReadError>
+    ensures read { Gives (λ x. (segment_rows x.0, x.1.now)) result (rows_at bytes.now) }
+    ensures filled { IfOk result (λ x. length x.0 ≤ length (segment_rows x.0)) }
+{
+    let (count, rest) = u32_at(bytes)?;
+    match segments_after(alloc, count, rest) {
+        Ok((segments, rest)) => Ok((segments, rest)),
+        Err(e) => Err(e),
+    }
+}
+
+/// The parts of a state, in order, and the bytes after them.
 #[tactic(auto, unfolding(crate::specs::States::parts_at, fw_bytes::specs::Reading::both))]
-fn parts_of(alloc: Global, form: Form, bytes: &[u8]) -> Result<Parts<'_>, ReadError>
-    ensures parts { IfOk result (λ p. parts_at form bytes.now ≡ with_rows p.currency (map head_view p.heads.items) (rows_left p.rows)) }
-    ensures heads { IfOk result (λ p. All IsHead (map head_view p.heads.items)) }
-    ensures fault { IfErr result (λ e. Fails e (parts_at form bytes.now)) }
+fn parts_of(alloc: Global, form: Form, bytes: &[u8]) -> Result<(Parts, &[u8]), ReadError>
+    ensures parts { Gives (λ x. ((x.0.currency, (map head_view x.0.heads.items, segment_rows x.0.segments)), x.1.now)) result (parts_at form bytes.now) }
+    ensures heads { IfOk result (λ x. All IsHead (map head_view x.0.heads.items)) }
+    ensures filled { IfOk result (λ x. length x.0.segments ≤ length (segment_rows x.0.segments)) }
 {
     match currency_of(bytes) {
         Ok((currency, rest)) => {
             let (heads, rest) = heads_of(alloc, form, rest)?;
-            match rows_of(rest) {
-                Ok(rows) => Ok(Parts {
-                    currency,
-                    heads,
-                    rows,
-                }),
+            match segments_of(alloc, rest) {
+                Ok((segments, rest)) => Ok((
+                    Parts {
+                        currency,
+                        heads,
+                        segments,
+                    },
+                    rest,
+                )),
                 Err(e) => Err(e),
             }
         }
@@ -85,164 +113,101 @@ fn parts_of(alloc: Global, form: Form, bytes: &[u8]) -> Result<Parts<'_>, ReadEr
     }
 }
 
-/// The command of a head, with these rows if it is a post.
-fn command_of(content: ReadContent, rows: Option<Columns>) -> Command
-    requires content { IsContent (content_view content) }
-    requires rows { length (rows_given rows) ≡ row_count (content_view content) }
-    ensures { command_view result ≡ command_of (content_view content) (rows_given rows) }
+/// How many rows there are in segments.
+fn rows_in(segments: &Sequence<Columns>) -> u128
+    ensures { result ≡ length (segment_rows segments.now) }
 {
-    match content {
-        ReadContent::Post(_) => match rows {
-            Some(columns) => Command::Post(columns),
-            None => unreachable!("a post has rows"),
-        },
-        ReadContent::Commit(commitment) => Command::Commit(commitment),
-        ReadContent::SetPolicy(policy) => Command::SetPolicy(policy),
+    let mut rows = 0;
+    for place in 0..segments.len() {
+        rows += segments.get(place).len() as u128;
     }
+    rows
 }
 
-/// The state after the entry of a head with these rows, or `None` where the entry is too large or isn't accepted.
-fn state_after(
-    alloc: Global,
-    state: &State,
-    head: ReadHead,
-    rows: Option<Columns>,
-) -> Result<Option<State>, AllocError>
+/// How many rows heads say that there are.
+fn rows_said(heads: &[ReadHead]) -> u128
+    requires { All IsHead (map head_view heads.now) }
+    ensures { result ≡ row_counts (map head_view heads.now) }
+{
+    let mut rows = 0;
+    for head in heads {
+        rows += head.rows() as u128;
+    }
+    rows
+}
+
+/// Puts the entry of a head behind the others, and answers whether it was, as [`StateBuilder::add`] says.
+fn add(alloc: Global, builder: &mut StateBuilder, head: ReadHead) -> Result<bool, AllocError>
     requires head { IsHead (head_view head) }
-    requires rows { length (rows_given rows) ≡ row_count (content_view head.content) }
-    ensures { IfOk result (λ next. next ≡ followed state.now (entry_of (head_view head) (rows_given rows))) }
+    requires enough { row_count (content_view head.content) ≤ length (left_rows builder.old) }
+    ensures answer { IfOk result (λ added. added ≡ goes_behind builder.old.history.entries (next_entry builder.old (head_view head))) }
+    ensures added { IfOk result (λ added. added ≡ true → builder.new ≡ with_next builder.old (head_view head)) }
 {
     let ReadHead {
         origin,
         seq,
         content,
     } = head;
-    let command = command_of(content, rows);
-    let entry = match Entry::new(alloc, origin.as_bytes(), seq, command) {
-        Ok(entry) => entry,
-        Err(fault) => match fault {
-            EntryFault::NoMemory => return Err(AllocError),
-            EntryFault::TooLarge => return Ok(None),
-            EntryFault::Origin => unreachable!("the head has the name of an origin"),
-            EntryFault::Seq => unreachable!("the head has a number"),
-        },
-    };
-    if !judge(state, &entry).is_accept() {
-        return Ok(None);
-    }
-    Ok(Some(state.apply(&entry)?))
+    let content = content.kept(alloc)?;
+    builder.add(&origin, seq, content)
 }
 
-/// Puts the entry of a head behind the state, where no entry before it was refused. Where it is refused itself, so many bytes are left from its
+/// The state after the entries of heads, or a fault at the first that isn't accepted after those before it: so many bytes are left from the first
 /// head on.
-fn put_behind(
+fn state_after(
     alloc: Global,
-    answer: &mut Result<State, usize>,
-    head: ReadHead,
-    rows: Option<Columns>,
-    left: usize,
-) -> Result<(), AllocError>
-    requires head { IsHead (head_view head) }
-    requires rows { length (rows_given rows) ≡ row_count (content_view head.content) }
-    ensures { OnOk result (answer.new ≡ stepped left answer.old (entry_of (head_view head) (rows_given rows))) }
-{
-    if let Ok(state) = answer {
-        match state_after(alloc, state, head, rows)? {
-            Some(next) => *answer = Ok(next),
-            None => *answer = Err(left),
-        }
-    }
-    Ok(())
-}
-
-/// How many rows are given.
-fn given_len(rows: &Option<Columns>) -> usize
-    ensures { result ≡ length (rows_given rows.now) }
-{
-    match rows {
-        Some(columns) => columns.len(),
-        None => 0,
-    }
-}
-
-/// Puts the entries of heads behind the state, each judged after those before it, and answers whether there were rows for all of them. After
-/// the first that is refused, rows are only read. So many bytes are left from the first head on.
-fn put_all_behind(
-    alloc: Global,
-    answer: &mut Result<State, usize>,
+    builder: StateBuilder,
     heads: Vec<ReadHead>,
-    rows: &mut RowsLeft,
     left: usize,
-) -> Result<bool, ReadError>
-    requires { All IsHead (map head_view heads.items) }
-    ensures behind { IfOk result (λ whole. AreBehind whole left (map head_view heads.items) answer.old answer.new rows.old rows.new) }
-    ensures fault { IfErr result (λ e. Fails e (rows_left rows.old)) }
+) -> Result<State, ReadError>
+    requires heads { All IsHead (map head_view heads.items) }
+    requires count { length (left_rows builder) ≡ row_counts (map head_view heads.items) }
+    ensures { Gives (λ s. s) result (continued left builder.history (map head_view heads.items) (left_rows builder)) }
 {
+    let mut builder = builder;
     let mut left = left;
     for head in heads {
         let len = head.encoded_len();
-        let count = head.rows();
-        let front = rows.take_front(alloc, count)?;
-        if given_len(&front) < count {
-            return Ok(false);
+        if !add(alloc, &mut builder, head)? {
+            return Err(ReadError::Corrupt(left));
         }
-        put_behind(alloc, answer, head, front, left)?;
         left = left.saturating_sub(len);
     }
-    Ok(true)
-}
-
-/// Puts the entries of heads behind the state, each judged after those before it, and answers whether there are as many rows as the heads
-/// say. All rows are read.
-fn replay(
-    alloc: Global,
-    answer: &mut Result<State, usize>,
-    heads: Vec<ReadHead>,
-    rows: &mut RowsLeft,
-    left: usize,
-) -> Result<bool, ReadError>
-    requires { All IsHead (map head_view heads.items) }
-    ensures replayed { IfOk result (λ even. AreReplayed even left (map head_view heads.items) answer.old answer.new rows.old rows.new) }
-    ensures fault { IfErr result (λ e. Fails e (rows_left rows.old)) }
-{
-    let whole = put_all_behind(alloc, answer, heads, rows, left)?;
-    let more = rows.read_out(alloc)?;
-    Ok(whole && !more)
+    Ok(builder.finish())
 }
 
 /// The state of parts that are all of so many bytes.
+#[tactic(auto, unfolding(crate::specs::States::state_from, crate::specs::States::replayed_state))]
 fn state_of_parts(alloc: Global, parts: Parts, total: usize) -> Result<State, ReadError>
-    requires { All IsHead (map head_view parts.heads.items) }
-    ensures { Gives (λ s. s) result (state_behind total parts.entry.currency (map head_view parts.entry.heads.items) (rows_left parts.entry.rows)) }
+    requires heads { All IsHead (map head_view parts.heads.items) }
+    requires filled { length parts.segments ≤ length (segment_rows parts.segments) }
+    ensures { Gives (λ s. s) result (state_from total (parts.currency, (map head_view parts.heads.items, segment_rows parts.segments))) }
 {
     let Parts {
         currency,
         heads,
-        rows,
+        segments,
     } = parts;
-    let mut rows = rows;
-    let mut answer = Ok(State::empty(alloc, currency));
-    let left = total.saturating_sub(BYTES_BEFORE_HEADS);
-    let even = replay(alloc, &mut answer, heads, &mut rows, left)?;
-    let rest = rows.bytes();
-    if !rest.is_empty() {
-        return Err(ReadError::Corrupt(rest.len()));
-    }
-    if !even {
+    if rows_in(&segments) != rows_said(&heads) {
         return Err(ReadError::Corrupt(total));
     }
-    match answer {
-        Ok(state) => Ok(state),
-        Err(left) => Err(ReadError::Corrupt(left)),
-    }
+    let builder = StateBuilder::new(alloc, currency, segments);
+    state_after(
+        alloc,
+        builder,
+        heads,
+        total.saturating_sub(BYTES_BEFORE_HEADS),
+    )
 }
 
 /// The state that is all of the bytes.
+#[tactic(auto, unfolding(crate::specs::States::state_at, fw_entry_bytes::specs::Whole::whole))]
 pub fn state_of(alloc: Global, form: Form, bytes: &[u8]) -> Result<State, ReadError>
     ensures { Gives (λ s. s) result (state_at form bytes.now) }
 {
     match parts_of(alloc, form, bytes) {
-        Ok(parts) => state_of_parts(alloc, parts, bytes.len()),
+        Ok((parts, [])) => state_of_parts(alloc, parts, bytes.len()),
+        Ok((_, rest)) => Err(ReadError::Corrupt(rest.len())),
         Err(e) => Err(e),
     }
 }

@@ -32,7 +32,7 @@ row_count_back (post rows) = refl
 row_count_back (commit c) = refl
 row_count_back (set_policy p) = refl
 
-posted_back : (c : ContentValue) (rows : List Charge) → posted (command_of c (take (row_count c) rows)) ≡ take (row_count c) rows
+pub posted_back : (c : ContentValue) (rows : List Charge) → posted (command_of c (take (row_count c) rows)) ≡ take (row_count c) rows
 posted_back (posted_rows n) rows = refl
 posted_back (committed_to c) rows = refl
 posted_back (policy_set p) rows = refl
@@ -60,7 +60,7 @@ rows_posted_entries (h ∷ heads) rows e =
     ∙ ap (λ ys. take n rows ++ ys) (rows_posted_entries heads (drop n rows) fits.1)
     ∙ take-append-drop n rows
 
-head_back : (h : HeadValue) (rows : List Charge) → row_count h.content ≤ length rows → head_of (entry_of h (take (row_count h.content) rows)) ≡ h
+pub head_back : (h : HeadValue) (rows : List Charge) → row_count h.content ≤ length rows → head_of (entry_of h (take (row_count h.content) rows)) ≡ h
 head_back h rows fits = ap (λ (c : ContentValue). let made : HeadValue = record { origin = h.origin; seq = h.seq; content = c } in made) (content_back h.content rows fits)
 
 -- the heads of the entries are the heads

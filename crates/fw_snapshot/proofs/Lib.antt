@@ -7,3 +7,6 @@ pub mod IdFacts
 pub mod RepeatFacts
 pub mod SenderFacts
 pub mod RuleFacts
+pub mod MergeFacts
+pub mod MergedState
+pub mod BuildingFacts

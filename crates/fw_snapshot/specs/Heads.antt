@@ -1,7 +1,7 @@
 -- Entries without their rows, which stand together in one list.
-use Rattle.std.specs.Prelude.{ℕ, List, [], ◌∷◌, length, take, drop, sum_by}
+use Rattle.std.specs.Prelude.{◌<◌, ◌≤◌, ⊤, ℕ, List, [], ◌∷◌, length, take, drop, sum_by}
 use Rattle.std.specs.List.{flat_map}
-use Rattle.fw_charge.specs.Charge.{Charge}
+use Rattle.fw_charge.specs.Charge.{Charge, most_post_rows}
 use Rattle.fw_terms.specs.Commitment.{CommitmentValue}
 use Rattle.fw_terms.specs.Policy.{PolicyValue}
 use Rattle.fw_entry.specs.Entry.{CommandValue, EntryValue}
@@ -54,3 +54,9 @@ entries_of (h ∷ heads) rows = entry_of h (take (row_count h.content) rows) ∷
 -- the rows of all segments, in order
 abbrev pub segment_rows : List (List Charge) → List Charge
 segment_rows segments = flat_map (λ rows. rows) segments
+
+-- as many rows as a post may have, where it is one: 1 to 4,096
+abbrev pub HasRows : ContentValue → Type 0
+HasRows (posted_rows n) = (0 < n) × (n ≤ most_post_rows)
+HasRows (committed_to c) = ⊤
+HasRows (policy_set p) = ⊤

@@ -8,3 +8,6 @@ pub mod Held
 pub mod StateView
 pub mod SnapshotView
 pub mod Verdicts
+pub mod Merging
+pub mod Building
+pub mod BuilderView

@@ -1,7 +1,8 @@
 -- Entries that are judged one after the other: each after those that a warehouse has, and those before it that were accepted.
-use Rattle.std.specs.Prelude.{◌≡◌, ◌⊎◌, ◌+◌, ℕ, All, Bool, Contains, true, false, filter, List, [], ◌∷◌, ◌++◌, slice_get, Some, if◌then◌else◌}
+use Rattle.std.specs.Prelude.{◌≡◌, ◌⊎◌, ◌+◌, ℕ, ◌&&◌, nat_le, length, All, Bool, Contains, true, false, filter, List, [], ◌∷◌, ◌++◌, slice_get, Some, if◌then◌else◌}
 use Rattle.std.specs.Str.{bytes_eq}
 use Rattle.fw_entry.specs.Entry.{EntryValue}
+use Rattle.fw_entry.specs.Spelling.{entry, most_entry_bytes}
 use Rattle.fw_snapshot.specs.History.{History}
 use Rattle.fw_snapshot.specs.Judging.{judged}
 use Rattle.fw_snapshot.specs.declared.verdict.Verdict.{Verdict}
@@ -20,6 +21,10 @@ is_kept verdict.Accept = true
 is_kept (verdict.Already n) = true
 is_kept (verdict.Gap n) = false
 is_kept (verdict.Refused why) = false
+
+-- an entry is written in at most 4,194,304 bytes, and is accepted after the others
+unfoldable pub goes_behind : List EntryValue → EntryValue → Bool
+goes_behind entries e = nat_le (length (entry e)) most_entry_bytes && is_accept (judged entries e)
 
 -- an entry alone, where its verdict accepts it, and else nothing
 abbrev pub kept_by : Verdict → EntryValue → List EntryValue

@@ -1,5 +1,8 @@
 //! The head of an accepted entry.
-ghost use Rattle.std.specs.Prelude.{◌≡◌, string_bytes};
+ghost use Rattle.std.specs.Prelude.{◌≡◌, [], string_bytes};
+ghost use Rattle.std.specs.Option.{option_copied, option_to_list};
+ghost use Rattle.fw_snapshot.specs.Heads.{command_of, row_count};
+ghost use Rattle.fw_snapshot.specs.History.{committed};
 ghost use Rattle.fw_snapshot.specs.HeadView.{content_view};
 
 use fw_terms::{Commitment, Policy};
@@ -15,6 +18,28 @@ pub enum Content {
     Commit(Commitment),
     /// A policy, which the state shares where it is the one that holds.
     SetPolicy(Arc<Policy>),
+}
+
+impl Content {
+    /// How many rows there are: none where it is no post.
+    pub(crate) fn rows(&self) -> usize
+        ensures { result ≡ row_count (content_view self.now) }
+    {
+        match self {
+            Content::Post { rows } => *rows as usize,
+            Content::Commit(_) | Content::SetPolicy(_) => 0,
+        }
+    }
+
+    /// The commitment, if it is one.
+    pub(crate) fn commitment(&self) -> Option<&Commitment>
+        ensures { option_to_list (option_copied result) ≡ committed (command_of (content_view self.now) []) }
+    {
+        match self {
+            Content::Commit(commitment) => Some(commitment),
+            Content::Post { .. } | Content::SetPolicy(_) => None,
+        }
+    }
 }
 
 /// An accepted entry without its rows.

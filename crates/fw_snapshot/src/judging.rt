@@ -1,14 +1,15 @@
 //! The verdict on an entry.
-ghost use Rattle.std.specs.Prelude.{◌≡◌};
+ghost use Rattle.std.specs.Prelude.{◌≡◌, ◌+◌, ◌≤◌, if◌then◌else◌, nat_le, nat_lt, None, Some};
 ghost use Rattle.fw_entry.specs.View.{command_view};
-ghost use Rattle.fw_snapshot.specs.History.{rows_posted, rows_of, commitments_of};
-ghost use Rattle.fw_snapshot.specs.Judging.{judged, command_conflict, rows_conflict, commitment_conflict, carries_any, has_registered_id};
+ghost use Rattle.fw_snapshot.specs.History.{commitments_of};
+ghost use Rattle.fw_snapshot.specs.Judging.{judged, command_conflict, carries_any, has_registered_id, most_commitments, most_rows};
+ghost use Rattle.fw_snapshot.specs.declared.verdict.Conflict.TheVariants as conflict;
+ghost use Rattle.fw_snapshot.specs.declared.verdict.Verdict.TheVariants as verdict;
 
 use crate::state::State;
 use crate::verdict::{Conflict, Verdict};
 use fw_columns::{Columns, LentRow};
 use fw_entry::{Command, Entry};
-use fw_terms::Commitment;
 
 /// The most rows that a warehouse may ever have had posted.
 const MOST_ROWS: usize = 4_194_304;
@@ -21,13 +22,8 @@ const MOST_COMMITMENTS: usize = 256;
 pub fn judge(state: &State, entry: &Entry) -> Verdict
     ensures { result ≡ judged state.now.entries entry.now }
 {
-    let last = state.accepted_from(entry.origin());
-    let seq = entry.seq();
-    if seq <= last {
-        return Verdict::Already { last };
-    }
-    if seq - last > 1 {
-        return Verdict::Gap { expected: last + 1 };
+    if let Some(verdict) = out_of_turn(state.accepted_from(entry.origin()), entry.seq()) {
+        return verdict;
     }
     match command_conflict(state, entry.command()) {
         None => Verdict::Accept,
@@ -35,44 +31,73 @@ pub fn judge(state: &State, entry: &Entry) -> Verdict
     }
 }
 
+/// The verdict on an entry by its number alone, where so many of its origin were accepted: `None` where it is the next one.
+#[tactic(auto, using(std::proofs::lemmas::Bool::Decides::nat_tests))]
+pub(crate) fn out_of_turn(last: u64, seq: u64) -> Option<Verdict>
+    ensures { result ≡ (if nat_le seq last then Some (verdict.Already last) else (if nat_lt (last + 1) seq then Some (verdict.Gap (last + 1)) else None)) }
+{
+    if seq <= last {
+        return Some(Verdict::Already { last });
+    }
+    if seq - last > 1 {
+        return Some(Verdict::Gap { expected: last + 1 });
+    }
+    None
+}
+
 /// Why what a command brings can't follow what was accepted, if it can't.
-#[tactic(auto, unfolding(crate::specs::Judging::command_conflict))]
+#[tactic(auto, unfolding(crate::specs::Judging::command_conflict, crate::specs::Judging::rows_conflict, crate::specs::Judging::commitment_conflict))]
 fn command_conflict(state: &State, command: &Command) -> Option<Conflict>
     ensures { result ≡ command_conflict state.now.entries (command_view command.now) }
 {
     match command {
-        Command::Post(rows) => rows_conflict(state, rows),
-        Command::Commit(commitment) => commitment_conflict(state, commitment),
+        Command::Post(rows) => {
+            rows_conflict(
+                state.rows_posted(),
+                rows.len(),
+                carry_registered(state, rows),
+            )
+        }
+        Command::Commit(commitment) => commitment_conflict(
+            state.is_registered(commitment.id()),
+            state.is_carried(commitment.id()),
+            state.commitments(),
+        ),
         Command::SetPolicy(_) => None,
     }
 }
 
-/// Why these rows can't follow, if they can't.
-#[tactic(auto, using(std::proofs::lemmas::Bool::Decides::nat_tests), unfolding(crate::specs::Judging::rows_conflict))]
-fn rows_conflict(state: &State, rows: &Columns) -> Option<Conflict>
-    ensures { result ≡ rows_conflict (rows_posted state.now.entries) (commitments_of state.now.entries) rows.now }
+/// Why rows can't follow so many others, if they can't: so many of them, of which one carries the id of a commitment or none does.
+#[tactic(auto, using(std::proofs::lemmas::Bool::Decides::nat_tests))]
+pub(crate) fn rows_conflict(posted: usize, more: usize, own: bool) -> Option<Conflict>
+    requires { posted ≤ most_rows }
+    ensures { result ≡ (if nat_lt most_rows (posted + more) then Some conflict.Full else (if own then Some conflict.OwnCommitment else None)) }
 {
-    if rows.len() > MOST_ROWS - state.rows_posted() {
+    if more > MOST_ROWS - posted {
         return Some(Conflict::Full);
     }
-    if carry_registered(state, rows) {
+    if own {
         return Some(Conflict::OwnCommitment);
     }
     None
 }
 
-/// Why this commitment can't follow, if it can't.
-#[tactic(auto, using(std::proofs::lemmas::Bool::Decides::nat_tests), unfolding(crate::specs::Judging::commitment_conflict))]
-fn commitment_conflict(state: &State, commitment: &Commitment) -> Option<Conflict>
-    ensures { result ≡ commitment_conflict (rows_of state.now.entries) (commitments_of state.now.entries) commitment.now }
+/// Why a commitment can't follow so many others, if it can't: one of them has its id or none has, and a row carries it or none does.
+#[tactic(auto, using(std::proofs::lemmas::Bool::Decides::nat_tests))]
+pub(crate) fn commitment_conflict(
+    registered: bool,
+    carried: bool,
+    commitments: usize,
+) -> Option<Conflict>
+    ensures { result ≡ (if registered then Some conflict.DoubleId else (if carried then Some conflict.IdInUse else (if nat_le most_commitments commitments then Some conflict.TooManyCommitments else None))) }
 {
-    if state.is_registered(commitment.id()) {
+    if registered {
         return Some(Conflict::DoubleId);
     }
-    if state.is_carried(commitment.id()) {
+    if carried {
         return Some(Conflict::IdInUse);
     }
-    if state.commitments() >= MOST_COMMITMENTS {
+    if commitments >= MOST_COMMITMENTS {
         return Some(Conflict::TooManyCommitments);
     }
     None

@@ -13,6 +13,7 @@
 mod head;
 mod judging;
 mod laws;
+mod merging;
 mod parts;
 mod snapshot;
 mod state;
@@ -31,5 +32,5 @@ pub use laws::{
     what_is_sent_often_stands_once,
 };
 pub use snapshot::Snapshot;
-pub use state::State;
+pub use state::{State, StateBuilder};
 pub use verdict::{Conflict, Verdict};

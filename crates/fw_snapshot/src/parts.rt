@@ -227,7 +227,7 @@ fn carried_with_rows(
 
 /// The counts `after`, in which a post is counted for the ids of some of its rows, with the post counted for the id of
 /// this row too. Where the count is above the one `before` the post, an earlier row has counted the post for this id.
-fn carried_with(
+pub(crate) fn carried_with(
     alloc: Global,
     before: &Counters,
     after: &Counters,

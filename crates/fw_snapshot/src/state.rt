@@ -8,6 +8,7 @@ ghost use Rattle.fw_snapshot.specs.Judging.{judged, IsLegal, carries, is_registe
 ghost use Rattle.fw_snapshot.specs.declared.verdict.Verdict.TheVariants as verdict;
 
 use crate::head::Head;
+use crate::merging::merged_segments;
 use crate::parts::{
     carried_after, commitments_after, commitments_in, committed, content_of, policy_after, posted,
     registered_after, row_count, segments_after, share_list, share_policy, shared_text,
@@ -20,6 +21,10 @@ use fw_terms::{Commitment, Policy};
 use std::alloc::{AllocError, Global};
 use std::marker::Model;
 use std::sync::Arc;
+
+mod building;
+
+pub use building::StateBuilder;
 
 /// The state of a warehouse: its currency, and the entries that it accepted, in order.
 ///
@@ -133,6 +138,16 @@ impl State {
             registered,
             carried,
         })
+    }
+
+    /// The same state, whose rows are in few segments: from the front, each segment is joined with the next one as long as they have at most
+    /// 65,536 rows together. It costs what the rows of the segments cost that are joined; the others are shared.
+    pub fn merged(&self) -> Result<State, AllocError>
+        ensures { IfOk result (λ merged. merged ≡ self.now) }
+    {
+        let mut merged = self.copy()?;
+        merged.segments = merged_segments(merged.alloc, &merged.segments)?;
+        Ok(merged)
     }
 
     /// What the state takes its memory from.

@@ -14,6 +14,8 @@ mod groups;
 #[cfg(test)]
 mod limits;
 #[cfg(test)]
+mod merging;
+#[cfg(test)]
 mod open;
 #[cfg(test)]
 mod serving;

@@ -6,8 +6,8 @@ use Rattle.fw_segment.proofs.HeadFormat.{heads_format}
 use Rattle.fw_segment.proofs.StateFormat.{currency_format}
 use Rattle.fw_segment.proofs.states.parts_of.Goals as goal
 
-pub returns-in-Ok-rows_of-clause-heads : goal.returns-in-Ok-rows_of-clause-heads
-returns-in-Ok-rows_of-clause-heads c =
+pub returns-in-Ok-segments_of-clause-heads : goal.returns-in-Ok-segments_of-clause-heads
+returns-in-Ok-segments_of-clause-heads c =
     let heads = c.in_ok-heads-in-Ok.heads in
     let read : heads_at c.args.form c.in-Ok.rest.now ≡ Ok (map head_view heads.items, c.in_ok-heads-in-Ok.rest.now) = search rules in
     let behind = (currency_format.takes c.args.bytes.now (c.in-Ok.currency, c.in-Ok.rest.now) (λ i. omega (arith, c.type_inv.bytes i)) c.in-Ok.ensures).0 in

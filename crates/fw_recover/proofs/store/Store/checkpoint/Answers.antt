@@ -28,10 +28,16 @@ fit g c = omega (arith, ap (λ (l : List ℕ). length l) c.deref.ensures.value, 
 side_is : (g : given.Over) (c : goal.After-make_side g) → c.other-side.result ≡ other c.self.inside.log.side
 side_is g c = c.other-side.ensures ∙ ap (λ (s : Side). other s) c.side.ensures
 
+kept : (g : given.Over) (c : goal.After-make_side g) → c.in_ok-bytes.snapshot ≡ c.self.inside.snapshot
+kept g c = c.in_ok-bytes.ensures.same ∙ sym (ap (λ (s : StoreState g.row.V.Denot). s.history) c.self.view_is)
+
+spells_merged : (g : given.Over) (c : goal.After-make_side g) → SpellsSide c.in-Some.generation c.in_ok-bytes.snapshot c.deref.result.now
+spells_merged g c =
+    subst (λ (l : List ℕ). SpellsSide c.in-Some.generation c.in_ok-bytes.snapshot l) (sym c.deref.ensures.value)
+    (subst (λ (h : History). SpellsSide c.in-Some.generation h c.in_ok-bytes.bytes.items) (sym c.in_ok-bytes.ensures.same) c.in_ok-bytes.ensures.made)
+
 spells : (g : given.Over) (c : goal.After-make_side g) → SpellsSide c.in-Some.generation c.self.inside.snapshot c.deref.result.now
-spells g c =
-    subst (λ (l : List ℕ). SpellsSide c.in-Some.generation c.self.inside.snapshot l) (sym c.deref.ensures.value)
-    (subst (λ (h : History). SpellsSide c.in-Some.generation h c.in_ok-bytes.bytes.items) c.state-state.ensures c.in_ok-bytes.ensures.made)
+spells g c = subst (λ (h : History). SpellsSide c.in-Some.generation h c.deref.result.now) (kept g c) (spells_merged g c)
 
 -- what a crash leaves, of the store as it is held within the call, and of the store at its start
 
@@ -71,11 +77,11 @@ returns-clause-done g c =
     let long : c.len-start.result ≡ length c.deref.result.now = omega (arith, ap (λ (l : List ℕ). length l) c.deref.ensures.value, c.len-start.ensures, c.in_ok-bytes.bytes.ok) in
     let fresh = λ (told : IsTrue g.V.Volume.tells). c.self.invariant.fresh told c.if-self.false in
     let P : StoreState g.row.V.Denot → Type 0 = λ s. IsCheckpointed g.V.Volume.tells g.V.Volume.view s
-    (record { volume = c.make_side.new.volume; generation = c.in-Some.generation; log = c.at-self-inside.result; history = inside.snapshot; failed = false }) in
+    (record { volume = c.make_side.new.volume; generation = c.in-Some.generation; log = c.at-self-inside.result; history = c.in_ok-bytes.snapshot; failed = false }) in
     subst P c.self.view_is
     (checkpointed g.V.Volume.tells g.V.Volume.view _ _ c.deref.result.now c.other-side.result (next_is g at) refl (side_is g at)
-    (c.at-self-inside.ensures ∙ ap (λ (n : ℕ). empty_log c.other-side.result n) long) (spells g at)
-    (omega (arith, c.in_ok-bytes.ensures.fits, c.make_side.ensures.limit, ap (λ (l : List ℕ). length l) c.deref.ensures.value, c.limit.ensures))
+    (c.at-self-inside.ensures ∙ ap (λ (n : ℕ). empty_log c.other-side.result n) long) (spells_merged g at)
+    (omega (arith, c.in_ok-bytes.ensures.fits, c.make_side.ensures.limit, ap (λ (l : List ℕ). length l) c.deref.ensures.value, ap (λ (s : StoreState g.row.V.Denot). (g.V.Volume.view s.volume).limit) c.self.view_is))
     (λ told. let made = c.in-Ok.ensures.made told (fresh told).settled in (made.tail, made.is)))
 
 pub invariant_of-self : goal.invariant_of-self
@@ -102,7 +108,7 @@ invariant_of-self-2 g c =
     let old = g.V.Volume.view inside.volume in
     let new = g.V.Volume.view c.make_side.new.volume in
     let long : length c.deref.result.now ≡ c.len-start.result = omega (arith, ap (λ (l : List ℕ). length l) c.deref.ensures.value, c.len-start.ensures, c.in_ok-bytes.bytes.ok) in
-    let P : LogState → Type 0 = λ log. IsKept g.V.Volume.tells g.V.Volume.view (record { volume = c.make_side.new.volume; generation = c.in-Some.generation; log = log; history = inside.snapshot; failed = false }) in
+    let P : LogState → Type 0 = λ log. IsKept g.V.Volume.tells g.V.Volume.view (record { volume = c.make_side.new.volume; generation = c.in-Some.generation; log = log; history = c.in_ok-bytes.snapshot; failed = false }) in
     subst P (sym c.at-self-inside.ensures) (record {
       room = omega (arith, c.in-Ok.ensures.sizes, long);
       some_generation = omega (arith, next_is g at);
@@ -110,8 +116,9 @@ invariant_of-self-2 g c =
       log = λ goes_on. refl;
       fresh = λ told goes_on.
           let fresh = c.self.invariant.fresh told c.if-self.false in
-          subst (λ (n : ℕ). IsFresh c.in-Some.generation (empty_log c.other-side.result n) inside.snapshot new) long
+          subst (λ (h : History). IsFresh c.in-Some.generation (empty_log c.other-side.result c.len-start.result) h new) (sym (kept g at))
+          (subst (λ (n : ℕ). IsFresh c.in-Some.generation (empty_log c.other-side.result n) inside.snapshot new) long
           (checkpoint_fresh inside.snapshot inside.generation inside.log old new fresh c.in-Some.generation (next_is g at) (next_fits g at) c.deref.result.now (fit g at) (spells g at)
-          c.other-side.result (side_is g at) (c.in-Ok.ensures.made told fresh.settled));
+          c.other-side.result (side_is g at) (c.in-Ok.ensures.made told fresh.settled)));
       lost = λ told lost. absurd (cc);
     })

@@ -1,0 +1,151 @@
+-- Rows of segments, one after the other.
+use Rattle.std.proofs.Common.{◌≡◌, ◌∙◌, ◌+◌, ◌<◌, ◌≤◌, ◌++◌, ◌∷◌, ◌||◌, [], ℕ, zero, suc, List, Bool, true, false, Some, None, if◌then◌else◌, length, take, drop, map, slice_get, nat_lt, nat_le, refl, sym, ap, subst, arith}
+use Rattle.std.specs.List.{list_all, list_any}
+use Rattle.std.proofs.lemmas.Bool.{and_parts, leb-true, ltb-true, ltb-false}
+use Rattle.std.proofs.lemmas.List.{length-append, length-map, length-take-le, take_all}
+use Rattle.std.specs.Prelude.{◌&&◌, Option}
+use Rattle.std.specs.Option.{option_map_or}
+use Rattle.fw_charge.specs.Charge.{Charge, DiscountText}
+use Rattle.fw_persistent.specs.Counts.{Counts, count_of}
+use Rattle.fw_entry.specs.Entry.{EntryValue, is_origin, is_origin_byte, most_origin_bytes}
+use Rattle.fw_entry.specs.Entry.CommandValue.{commit, post}
+use Rattle.fw_entry.specs.Spelling.{entry, most_entry_bytes}
+use Rattle.fw_terms.specs.Commitment.{CommitmentValue}
+use Rattle.fw_terms.specs.Policy.{PolicyValue}
+use Rattle.fw_snapshot.specs.Building.{has_counted_id, rows_before}
+use Rattle.fw_snapshot.specs.BuilderView.{singles}
+use Rattle.fw_snapshot.specs.Heads.{ContentValue, command_of, segment_rows}
+use Rattle.fw_snapshot.specs.Heads.ContentValue.{posted_rows, committed_to, policy_set}
+use Rattle.fw_snapshot.specs.History.{committed, commitments_of, policy_after, rows_of, rows_posted}
+use Rattle.fw_snapshot.specs.Judging.{carries, carries_any, command_conflict, commitment_conflict, has_registered_id, is_registered, judged, most_commitments, most_rows, rows_conflict}
+use Rattle.fw_snapshot.specs.declared.state.building.Place.{Place}
+use Rattle.fw_snapshot.specs.Verdicts.{goes_behind, is_accept}
+use Rattle.fw_snapshot.specs.declared.verdict.Conflict.TheVariants as conflict
+use Rattle.fw_snapshot.specs.declared.verdict.Verdict.{Verdict}
+use Rattle.fw_snapshot.specs.declared.verdict.Verdict.TheVariants as verdict
+use Rattle.fw_snapshot.specs.Uses.{commitments_with}
+use Rattle.fw_snapshot.proofs.EntryFacts.{commitments_in_use}
+use Rattle.fw_snapshot.proofs.MergeFacts.{two_ways}
+
+-- rows that are a segment each
+pub rows_of_singles : (rows : List Charge) → segment_rows (singles rows) ≡ rows
+rows_of_singles [] = refl
+rows_of_singles (r ∷ rows) = ap (λ rest. r ∷ rest) (rows_of_singles rows)
+
+pub length_singles : (rows : List Charge) → length (singles rows) ≡ length rows
+length_singles rows = length-map rows (λ r. r ∷ [])
+
+-- ---- the row at a place
+
+in_first : {X : Type 0} (xs ys : List X) (p : ℕ) (x : X) → slice_get xs p ≡ Some x → slice_get (xs ++ ys) p ≡ Some x
+in_first [] ys p x there = absurd cc
+in_first (y ∷ xs) ys zero x there = there
+in_first (y ∷ xs) ys (suc p) x there = in_first xs ys p x there
+
+in_second : {X : Type 0} (xs ys : List X) (p : ℕ) → slice_get (xs ++ ys) (length xs + p) ≡ slice_get ys p
+in_second [] ys p = ap (slice_get ys) (omega arith)
+in_second (x ∷ xs) ys p =
+    let next : length (x ∷ xs) + p ≡ suc (length xs + p) = omega arith in
+    ap (slice_get (x ∷ (xs ++ ys))) next ∙ in_second xs ys p
+
+-- what is behind the first elements of a list
+pub get_behind : {X : Type 0} (n : ℕ) (xs : List X) (i : ℕ) → slice_get (drop n xs) i ≡ slice_get xs (n + i)
+get_behind zero xs i = ap (slice_get xs) (omega arith)
+get_behind (suc n) [] i = refl
+get_behind (suc n) (x ∷ xs) i =
+    let next : suc n + i ≡ suc (n + i) = omega arith in
+    get_behind n xs i ∙ sym (ap (slice_get (x ∷ xs)) next)
+
+pub row_there : (segments : List (List Charge)) (i p : ℕ) (s : List Charge) (r : Charge) → slice_get segments i ≡ Some s → slice_get s p ≡ Some r → slice_get (segment_rows segments) (length (segment_rows (take i segments)) + p) ≡ Some r
+row_there [] i p s r at there = absurd cc
+row_there (t ∷ ts) zero p s r at there =
+    let same : t ≡ s = cc in
+    let none : length (segment_rows (take zero (t ∷ ts))) + p ≡ p = omega arith in
+    ap (slice_get (t ++ segment_rows ts)) none ∙ in_first t (segment_rows ts) p r (rw same there)
+row_there (t ∷ ts) (suc i) p s r at there =
+    let before = length (segment_rows (take i ts)) in
+    let both = length-append t (segment_rows (take i ts)) in
+    let past : length (segment_rows (take (suc i) (t ∷ ts))) + p ≡ length t + (before + p) = omega (arith, both) in
+    ap (slice_get (t ++ segment_rows ts)) past ∙ in_second t (segment_rows ts) (before + p) ∙ row_there ts i p s r at there
+
+-- the rows before a segment, and with it
+pub after_segment : (segments : List (List Charge)) (i : ℕ) (s : List Charge) → slice_get segments i ≡ Some s → length (segment_rows (take (i + 1) segments)) ≡ length (segment_rows (take i segments)) + length s
+after_segment [] i s at = absurd cc
+after_segment (t ∷ ts) zero s at =
+    let same : length t ≡ length s = ap length (let is : t ≡ s = cc in is) in
+    let both = length-append t (segment_rows (take zero ts)) in
+    omega (arith, same, both)
+after_segment (t ∷ ts) (suc i) s at =
+    let rest = after_segment ts i s at in
+    let more = length-append t (segment_rows (take (i + 1) ts)) in
+    let less = length-append t (segment_rows (take i ts)) in
+    let first : length (segment_rows (take (suc i + 1) (t ∷ ts))) ≡ length (t ++ segment_rows (take (i + 1) ts)) = ap (λ n. length (segment_rows (take n (t ∷ ts)))) (let next : suc i + 1 ≡ suc (i + 1) = omega arith in next) in
+    omega (arith, rest, more, less, first)
+
+-- where a row is left, the place is in a segment
+pub there_is : (segments : List (List Charge)) (at : Place) → rows_before segments at < length (segment_rows segments) → at.segment < length segments
+there_is segments at left = two_ways (nat_lt at.segment (length segments))
+    (λ t. ltb-true _ _ t)
+    (λ f.
+    let past : length segments ≤ at.segment = ltb-false _ _ f in
+    let all = ap (λ list. length (segment_rows list)) (take_all at.segment segments past) in
+    absurd (omega (arith, left, all)))
+
+-- ---- why an entry can't follow
+
+pub post_conflict : (es : List EntryValue) (more : List Charge) (rows n : ℕ) (own : Bool) → rows ≡ length (rows_posted es) → length more ≡ n → own ≡ carries_any more (commitments_of es)
+    → (if nat_lt most_rows (rows + n) then Some conflict.Full else (if own then Some conflict.OwnCommitment else None)) ≡ command_conflict es (post more)
+unfolding command_conflict rows_conflict
+post_conflict es more rows n own count len carry = rw (count, sym len, carry) refl
+
+pub commit_conflict : (es : List EntryValue) (c : CommitmentValue) (registered carried : Bool) (n : ℕ) → registered ≡ is_registered c.id (commitments_of es) → carried ≡ carries c.id (rows_of es) → n ≡ length (commitments_of es)
+    → (if registered then Some conflict.DoubleId else (if carried then Some conflict.IdInUse else (if nat_le most_commitments n then Some conflict.TooManyCommitments else None))) ≡ command_conflict es (commit c)
+unfolding command_conflict commitment_conflict
+commit_conflict es c registered carried n is in_use count = rw (is, in_use, count) refl
+
+-- ---- ids that are counted
+
+counted_discount : (counts : Counts) (cs : List CommitmentValue) → ((id : List ℕ) → count_of id counts ≡ commitments_with id cs) → (discount : Option DiscountText) → option_map_or (λ d. nat_lt 0 (count_of d.id counts)) discount false ≡ option_map_or (λ d. is_registered d.id cs) discount false
+counted_discount counts cs same None = refl
+counted_discount counts cs same (Some d) = ap (nat_lt 0) (same d.id) ∙ commitments_in_use d.id cs
+
+-- a row carries a registered id where the id is counted
+pub counted_any : (counts : Counts) (cs : List CommitmentValue) → ((id : List ℕ) → count_of id counts ≡ commitments_with id cs) → (rows : List Charge) → list_any (has_counted_id counts) rows ≡ carries_any rows cs
+unfolding carries_any
+counted_any counts cs same [] = refl
+counted_any counts cs same (r ∷ rows) =
+    ap (λ b. b || list_any (has_counted_id counts) rows) (counted_discount counts cs same r.discount)
+    ∙ ap (λ b. has_registered_id cs r || b) (counted_any counts cs same rows)
+
+-- ---- an entry that goes behind the others
+
+accepted : (v : Verdict) → is_accept v ≡ true → v ≡ verdict.Accept
+accepted verdict.Accept e = refl
+accepted (verdict.Already n) e = absurd cc
+accepted (verdict.Gap n) e = absurd cc
+accepted (verdict.Refused why) e = absurd cc
+
+pub behind_parts : (entries : List EntryValue) (e : EntryValue) → goes_behind entries e ≡ true → (length (entry e) ≤ most_entry_bytes) × (judged entries e ≡ verdict.Accept)
+unfolding goes_behind
+behind_parts entries e h =
+    let p = and_parts (nat_le (length (entry e)) most_entry_bytes) (is_accept (judged entries e)) h in
+    (leb-true _ _ p.0, accepted (judged entries e) p.1)
+
+pub short_origin : (bytes : List ℕ) → is_origin bytes ≡ true → length bytes ≤ most_origin_bytes
+unfolding is_origin
+short_origin bytes e =
+    let p = and_parts (nat_lt 0 (length bytes)) (nat_lt (length bytes) 65 && list_all is_origin_byte bytes) e in
+    let q = and_parts (nat_lt (length bytes) 65) (list_all is_origin_byte bytes) p.1 in
+    let short = ltb-true _ _ q.0 in
+    omega (arith, short)
+
+-- what a command commits to, and the policy after it, don't hang on its rows
+pub committed_back : (c : ContentValue) (rows : List Charge) → committed (command_of c []) ≡ committed (command_of c rows)
+committed_back (posted_rows n) rows = refl
+committed_back (committed_to c) rows = refl
+committed_back (policy_set p) rows = refl
+
+pub policy_back : (before : Option PolicyValue) (c : ContentValue) (rows : List Charge) → policy_after before (command_of c []) ≡ policy_after before (command_of c rows)
+policy_back before (posted_rows n) rows = refl
+policy_back before (committed_to c) rows = refl
+policy_back before (policy_set p) rows = refl

@@ -1,0 +1,33 @@
+use Rattle.std.proofs.Common.{◌≡◌, ◌∙◌, length, take, refl, sym, ap}
+use Rattle.std.proofs.lemmas.List.{length-take-le}
+use Rattle.fw_snapshot.specs.Building.{Built, left_rows}
+use Rattle.fw_snapshot.specs.BuilderView.{state_so_far}
+use Rattle.fw_snapshot.specs.History.{commitments_of, rows_of, rows_posted}
+use Rattle.fw_snapshot.specs.Judging.{carries, command_conflict, is_registered}
+use Rattle.fw_snapshot.proofs.BuildingFacts.{commit_conflict, post_conflict}
+use Rattle.fw_snapshot.proofs.Following.{kept_few, kept_row_count}
+use Rattle.fw_snapshot.proofs.state.building.StateBuilder.conflict.Goals as goal
+
+pub rows_conflict-requires : goal.rows_conflict-requires
+rows_conflict-requires c = kept_few (state_so_far c.self.inside) c.self.invariant.state
+
+pub returns-in-Post : goal.returns-in-Post
+returns-in-Post c =
+    let b = c.args.self.now in
+    let n = c.in-Post.rows in
+    let own = rw c.in-Post.is at c.requires.own in
+    let enough = rw c.in-Post.is at c.requires.enough in
+    let count = kept_row_count (state_so_far c.self.inside) c.self.invariant.state ∙ ap (λ (v : Built). length (rows_posted v.history.entries)) c.self.view_is in
+    rw c.in-Post.is (c.rows_conflict.ensures ∙ post_conflict b.history.entries (take n (left_rows b)) c.self.inside.rows n c.args.own count (length-take-le n (left_rows b) enough) own)
+
+pub returns-in-Commit : goal.returns-in-Commit
+returns-in-Commit c =
+    let es = c.args.self.now.history.entries in
+    let is = c.is_registered.ensures ∙ ap (λ id. is_registered id (commitments_of es)) c.id.ensures.value in
+    let in_use = c.is_carried.ensures ∙ ap (λ id. carries id (rows_of es)) c.id-in-Commit.ensures.value in
+    let count = ap length c.commitments_in.ensures ∙ ap length c.self.invariant.state.commitments ∙ ap (λ (v : Built). length (commitments_of v.history.entries)) c.self.view_is in
+    rw c.in-Commit.is (c.commitment_conflict.ensures ∙ commit_conflict es c.in-Commit.commitment c.is_registered.result c.is_carried.result (length c.commitments_in.result.now) is in_use count)
+
+pub returns-in-SetPolicy : goal.returns-in-SetPolicy
+unfolding command_conflict
+returns-in-SetPolicy c = rw c.in-SetPolicy.is refl

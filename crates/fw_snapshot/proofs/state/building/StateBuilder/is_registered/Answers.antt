@@ -1,0 +1,14 @@
+use Rattle.std.proofs.Common.{◌∙◌, ap, nat_lt}
+use Rattle.fw_snapshot.specs.BuilderView.{state_so_far}
+use Rattle.fw_snapshot.specs.History.{commitments_of}
+use Rattle.fw_snapshot.specs.Judging.{is_registered}
+use Rattle.fw_snapshot.specs.StateView.{state_entries}
+use Rattle.fw_snapshot.proofs.EntryFacts.{commitments_in_use}
+use Rattle.fw_snapshot.proofs.state.building.StateBuilder.is_registered.Goals as goal
+
+pub returns : goal.returns
+returns c =
+    let id = c.args.id.now in
+    ap (nat_lt 0) (c.count.ensures ∙ c.self.invariant.state.registered id)
+    ∙ commitments_in_use id (commitments_of (state_entries (state_so_far c.self.inside)))
+    ∙ ap (λ b. is_registered id (commitments_of b.history.entries)) c.self.view_is
