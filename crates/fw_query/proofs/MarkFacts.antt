@@ -1,11 +1,11 @@
 -- Lemmas on marked hours.
-use Rattle.std.proofs.Common.{◌≡◌, ◌≢◌, ◌∙◌, ℕ, zero, suc, ◌+◌, ◌-◌, ◌<◌, ◌≤◌, ◌^◌, ◌==◌, ◌&&◌, nat_le, cond, Bool, true, false, List, [], ◌∷◌, ◌++◌, length, map, drop, take, get_or, replicate, sym, ap, refl, subst, arith, ⊎_elim, true≢false, append-nil}
-use Rattle.std.proofs.lemmas.Bool.{cases_order}
+use Rattle.std.proofs.Common.{◌≡◌, ◌≢◌, ◌∙◌, ℕ, zero, suc, ◌+◌, ◌-◌, ◌*◌, ◌/◌, ◌<◌, ◌≤◌, ◌^◌, ◌==◌, ◌&&◌, nat_le, nat_lt, cond, Bool, true, false, List, [], ◌∷◌, ◌++◌, length, map, drop, take, get_or, replicate, sym, ap, refl, subst, arith, ⊎_elim, true≢false, append-nil}
+use Rattle.std.proofs.lemmas.Bool.{and_parts, cases_order, leb-true, leb-false, le-leb, lt-leb, lt-ltb, le-ltb, ltb-true, ltb-false}
 use Rattle.std.proofs.lemmas.Bool.Decides.{nat_tests}
 use Rattle.std.proofs.lemmas.List.{drop_more, get_or-replicate, get_or_past, length-replicate}
 use Rattle.std.proofs.lemmas.List.Elements.{filter_more}
 use Rattle.std.proofs.lemmas.List.FromFn.{get_or-map-range_with_len, length-map-range_with_len, map-range_with_len_more}
-use Rattle.std.specs.List.{list_any, range_with_len}
+use Rattle.std.specs.List.{list_all, list_any, range_with_len}
 use Rattle.std.specs.List.Sorted.{IsPermutation}
 use Rattle.fw_charge.specs.Charge.{Charge, hour_of}
 use Rattle.fw_cover.proofs.Sorting.{two_ways}
@@ -53,6 +53,33 @@ marked_before marks from hour early = let out : nat_le from hour ≡ false = gri
 -- past the last
 pub marked_past : (marks : List Bool) (from hour k : ℕ) → hour ≡ from + k → length marks ≤ k → is_marked marks from hour ≡ false
 marked_past marks from hour k at past = marked_at marks from hour k at ∙ get_or_past marks k false past
+
+-- where each hour is marked, the seconds of marked hours are those from the first on and before the last one's end
+every_marked : (marks : List Bool) (k : ℕ) → list_all (λ (mark : Bool). mark) marks ≡ true → k < length marks → get_or marks k false ≡ true
+every_marked [] k all below = absurd (omega (arith, below))
+every_marked (mark ∷ marks) zero all below = (and_parts mark (list_all (λ (mark : Bool). mark) marks) all).0
+every_marked (mark ∷ marks) (suc k) all below = every_marked marks k (and_parts mark (list_all (λ (mark : Bool). mark) marks) all).1 (omega (arith, below))
+
+pub every_between : (marks : List Bool) (from first end s : ℕ) → list_all (λ (mark : Bool). mark) marks ≡ true → first ≡ from * 3600 → end ≡ first + length marks * 3600 → (nat_le first s && nat_lt s end) ≡ is_marked marks from (hour_of s)
+unfolding hour_of
+every_between marks from first end s all starts ends = two_ways (nat_le from (s / 3600))
+    (λ late.
+    let begun : from ≤ s / 3600 = leb-true _ _ late in
+    let on : nat_le first s ≡ true = le-leb _ _ (omega (arith, starts, begun)) in
+    let at : s / 3600 ≡ from + (s / 3600 - from) = omega (arith, begun) in
+    two_ways (nat_lt (s / 3600 - from) (length marks))
+    (λ within.
+    let below : s / 3600 - from < length marks = ltb-true _ _ within in
+    let before : nat_lt s end ≡ true = lt-ltb _ _ (omega (arith, starts, ends, below, begun)) in
+    rw (on, before) (sym (marked_at marks from (s / 3600) (s / 3600 - from) at ∙ every_marked marks (s / 3600 - from) all below)))
+    (λ without.
+    let past : length marks ≤ s / 3600 - from = ltb-false _ _ without in
+    let behind : nat_lt s end ≡ false = le-ltb _ _ (omega (arith, starts, ends, past, begun)) in
+    rw (on, behind) (sym (marked_past marks from (s / 3600) (s / 3600 - from) at past))))
+    (λ early.
+    let before : s / 3600 < from = leb-false _ _ early in
+    let off : nat_le first s ≡ false = lt-leb _ _ (omega (arith, starts, before)) in
+    rw off (sym (marked_before marks from (s / 3600) before)))
 
 -- the marks behind the first are of the later hours
 pub marked_later : (mark : Bool) (marks : List Bool) (from hour : ℕ) → hour ≢ from → is_marked (mark ∷ marks) from hour ≡ is_marked marks (from + 1) hour

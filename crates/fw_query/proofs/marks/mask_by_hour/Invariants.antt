@@ -1,7 +1,7 @@
 use Rattle.std.proofs.Common.{◌≡◌, map, nat_abs, take}
 use Rattle.fw_charge.specs.Charge.{hour_of}
 use Rattle.fw_query.specs.Hours.{is_marked}
-use Rattle.fw_query.proofs.marks.mask_of.Given as goal
+use Rattle.fw_query.proofs.marks.mask_by_hour.Given as goal
 
 -- the seconds so far
 abbrev pub invariant-loop-place : goal.invariant-loop-place

@@ -2,7 +2,7 @@ use Rattle.std.proofs.Common.{◌≡◌, ◌∙◌, ◌++◌, ◌∷◌, [], ap,
 use Rattle.std.proofs.lemmas.List.{map_more}
 use Rattle.fw_charge.specs.Charge.{hour_of}
 use Rattle.fw_query.specs.Hours.{is_marked}
-use Rattle.fw_query.proofs.marks.mask_of.Goals as goal
+use Rattle.fw_query.proofs.marks.mask_by_hour.Goals as goal
 
 pub loop-place-preserved : goal.loop-place-preserved
 loop-place-preserved c =
