@@ -3,14 +3,17 @@
 
     python3 bench/growth.py --date 2026-01-31 > result.md
 
-Two questions, each answered by differences of whole runs of focusd, so that reading is left out:
+Each figure is a difference of whole runs of focusd, so that reading is left out: the first report of a run, and one of twenty more, which find what
+the first one has kept. The cases:
 
-1. What a report costs over 1,000,000 rows in memory and no commitment, beside one pass
-   of a plain C loop over the four columns that it needs.
-2. What a report costs where commitments cover the rows of each hour: twice the
-   rows, twice the commitments, twice the hours, each beside the first size.
+1. A report over 1,000,000 rows and no commitment, beside one pass of a plain C loop over the four columns that it needs.
+2. More rows an hour, more commitments, more hours, from one line to the next.
+3. More groups: 10 to 100,000 values of the tag that is asked for.
+4. More SKUs for each commitment: 4 to 256.
+5. Rows that nothing has in common: each with a tags text of its own, each with a SKU of its own, all of them in one hour.
 
-Needs a C compiler (cc) for the first. Progress goes to standard error.
+A pair is a row and a commitment that may cover it: one of its SKUs, in its hour. Times are given beside rows and pairs together, as a report may take
+time as these times a logarithm. Needs a C compiler (cc) for the first case. Progress goes to standard error.
 Exit status: 0 measured, 1 a program failed, 2 a wrong command line.
 """
 import argparse
@@ -60,42 +63,60 @@ def stamp(hour):
     return (START + datetime.timedelta(hours=hour)).strftime("%Y-%m-%dT%H:%M")
 
 
-def usage(random_numbers, hour):
-    cost = f"{random_numbers.randrange(1, 10**9) / 10**9:.9f}"
-    need = f"{random_numbers.randrange(1, 4000) / 1000:.3f}"
-    team = f"team-{random_numbers.randrange(12)}"
-    sku = f"vm-{random_numbers.randrange(8)}"
-    return (f"{cost},{cost},USD,Usage,{stamp(hour)}:00Z,{stamp(hour + 1)}:00Z,{need},Hours,{sku},"
-            f"\"{{\"\"team\"\":\"\"{team}\"\"}}\"")
+class Case:
+    """Rows of some hours under some commitments, and what is asked of them."""
 
+    def __init__(self, name, rows, hours, commitments=0, groups=12, skus=8, skus_each=2, own_texts=False):
+        self.name, self.rows, self.hours = name, rows, hours
+        self.commitments, self.groups, self.skus, self.skus_each = commitments, groups, skus, skus_each
+        self.own_texts = own_texts
+        # how many commitments name each SKU
+        self.names = [0] * skus
+        for number in range(commitments):
+            for sku in self.skus_of(number):
+                self.names[sku] += 1
+        self.pairs = 0
 
-def posts(rows, hours, seed=7):
-    """Posts of `rows` rows in each of `hours` hours."""
-    random_numbers = random.Random(seed)
-    records = [usage(random_numbers, hour) for hour in range(hours) for _ in range(rows)]
-    for number, at in enumerate(range(0, len(records), MOST_ROWS), 1):
-        piece = records[at:at + MOST_ROWS]
-        yield f"post billing {number} {len(piece) + 1}\n{HEADER}\n" + "\n".join(piece) + "\n"
+    def skus_of(self, number):
+        """The SKUs of a commitment."""
+        return sorted({(number * 5 + 3 * at) % self.skus for at in range(self.skus_each)})
 
+    def record(self, numbers, place):
+        hour = place * self.hours // self.rows
+        cost = f"{numbers.randrange(1, 10**9) / 10**9:.9f}"
+        need = f"{numbers.randrange(1, 4000) / 1000:.3f}"
+        sku = place % self.skus if self.skus == self.rows else numbers.randrange(self.skus)
+        self.pairs += self.names[sku]
+        own = f',""row"":""{place}""' if self.own_texts else ""
+        tags = f'"{{""team"":""team-{numbers.randrange(self.groups)}""{own}}}"'
+        return f"{cost},{cost},USD,Usage,{stamp(hour)}:00Z,{stamp(hour + 1)}:00Z,{need},Hours,vm-{sku},{tags}"
 
-def commitments(count, hours):
-    """Commitments over all the hours, whose capacity runs out within the rows of an hour."""
-    for number in range(count):
-        usage_kind = number % 2 == 0
-        text = [f'id = "cd-{number:03}"', f'category = "{"Usage" if usage_kind else "Spend"}"',
-                f'start = "{stamp(0)}Z"', f"hours = {hours}"]
-        skus = f"vm-{number % 8}", f"vm-{(number + 3) % 8}"
-        if usage_kind:
-            text += ['capacity = "40"', 'unit = "Hours"', f'skus = ["{skus[0]}", "{skus[1]}"]']
-        else:
-            text += ['capacity = "8"', f'rates = {{ "{skus[0]}" = 700000, "{skus[1]}" = 812345 }}']
-        text += ["[tags]", 'team = "platform"', "[[purchase]]",
-                 f'at = "{stamp(0)}Z"', f'billed = "{hours * 7}.123456789"']
-        yield f"commit contracts {number + 1} {len(text)}\n" + "\n".join(text) + "\n"
+    def posts(self, seed=7):
+        numbers = random.Random(seed)
+        self.pairs = 0
+        for number, at in enumerate(range(0, self.rows, MOST_ROWS), 1):
+            records = [self.record(numbers, place) for place in range(at, min(at + MOST_ROWS, self.rows))]
+            yield f"post billing {number} {len(records) + 1}\n{HEADER}\n" + "\n".join(records) + "\n"
+
+    def contracts(self):
+        """Commitments over all the hours, whose capacity ends within the rows of an hour."""
+        for number in range(self.commitments):
+            usage = number % 2 == 0
+            skus = [f'"vm-{sku}"' for sku in self.skus_of(number)]
+            text = [f'id = "cd-{number:03}"', f'category = "{"Usage" if usage else "Spend"}"', f'start = "{stamp(0)}Z"', f"hours = {self.hours}"]
+            if usage:
+                text += ['capacity = "40"', 'unit = "Hours"', f'skus = [{", ".join(skus)}]']
+            else:
+                text += ['capacity = "8"', f'rates = {{ {", ".join(f"{sku} = {700000 + number}" for sku in skus)} }}']
+            text += ["[tags]", 'team = "platform"', "[[purchase]]", f'at = "{stamp(0)}Z"', f'billed = "{self.hours * 7}.123456789"']
+            yield f"commit contracts {number + 1} {len(text)}\n" + "\n".join(text) + "\n"
+
+    def report(self):
+        return f"report team {stamp(0)}Z {stamp(self.hours)}Z\n"
 
 
 def seconds(program, pieces, scratch, turns):
-    """The least processor and wall seconds of a run over a script."""
+    """The least processor seconds of a run over a script."""
     path = os.path.join(scratch, "script")
     with open(path, "w") as file:
         file.writelines(pieces)
@@ -113,9 +134,11 @@ def seconds(program, pieces, scratch, turns):
 
 
 def of_reports(program, entries, report, scratch, turns):
+    """The seconds of a first report, and of one of REPORTS more."""
     without = seconds(program, entries, scratch, turns)
-    with_reports = seconds(program, entries + [report] * REPORTS, scratch, turns)
-    return (with_reports - without) / REPORTS
+    first = seconds(program, entries + [report], scratch, turns)
+    more = seconds(program, entries + [report] * (REPORTS + 1), scratch, turns)
+    return first - without, (more - first) / REPORTS
 
 
 def plain_pass(rows, scratch):
@@ -124,6 +147,29 @@ def plain_pass(rows, scratch):
         file.write(PASS)
     subprocess.run(["cc", "-O2", "-o", binary, source], check=True)
     return float(subprocess.run([binary, str(rows)], stdout=subprocess.PIPE, check=True).stdout)
+
+
+TABLES = [
+    (
+        "rows an hour, commitments, hours",
+        [
+            Case(f"{rows}, {count}, {hours}", rows * hours, hours, count)
+            for rows, count, hours in ((250, 5, 186), (500, 5, 186), (1000, 5, 186), (1000, 10, 186), (1000, 20, 186), (1000, 20, 372), (1000, 20, 744))
+        ],
+    ),
+    ("groups", [Case(f"{groups:,}", 400_000, 400, groups=groups) for groups in (10, 100, 1_000, 10_000, 100_000)]),
+    ("SKUs for each of 16 commitments", [Case(f"{each}", 200_000, 200, 16, skus=1_024, skus_each=each) for each in (4, 16, 64, 256)]),
+    (
+        "200,000 rows that",
+        [
+            Case("have 8 SKUs and 12 tags texts, in 200 hours", 200_000, 200, 16),
+            Case("have each a tags text of its own", 200_000, 200, 16, own_texts=True),
+            Case("have each a SKU of its own", 200_000, 200, 16, skus=200_000),
+            Case("are all in one hour", 200_000, 1, 16),
+            Case("are all in one hour, each with a SKU, a tags text and a group of its own", 200_000, 1, 16, groups=200_000, skus=200_000, own_texts=True),
+        ],
+    ),
+]
 
 
 def main():
@@ -140,25 +186,23 @@ def main():
         print(f"Date: {options.date}; load of the machine before: {os.getloadavg()[0]:.1f}\n")
         say = lambda text: print(text, file=sys.stderr, flush=True)
         say("a report over 1,000,000 rows")
-        entries = list(posts(1000, 1000))
+        case = Case("", 1_000_000, 1000)
         report = f"report team {stamp(24)}Z {stamp(720)}Z\n"
-        ours = of_reports(options.program, entries, report, scratch, options.turns)
+        first, more = of_reports(options.program, list(case.posts()), report, scratch, options.turns)
         print("| a report over 1,000,000 rows in memory | seconds |\n|---|---|")
-        print(f"| focusd | {ours:.4f} |")
+        print(f"| focusd, the first | {first:.4f} |\n| focusd, one of {REPORTS} more | {more:.4f} |")
         if shutil.which("cc"):
-            plain = plain_pass(1000000, scratch)
+            plain = plain_pass(1_000_000, scratch)
             print(f"| one pass of a C loop over four columns | {plain:.4f} |")
-            print(f"| times | {ours / plain:.0f} |")
-        print("\n| rows an hour | commitments | hours | seconds a report | microseconds a row | times the first |\n|---|---|---|---|---|---|")
-        first = None
-        for rows, count, hours in ((250, 5, 186), (500, 5, 186), (1000, 5, 186), (1000, 10, 186), (1000, 20, 186),
-                                   (1000, 20, 372), (1000, 20, 744)):
-            say(f"{rows} rows an hour, {count} commitments, {hours} hours")
-            entries = list(commitments(count, hours)) + list(posts(rows, hours))
-            report = f"report team {stamp(0)}Z {stamp(hours)}Z\n"
-            took = of_reports(options.program, entries, report, scratch, 2)
-            first = first or took
-            print(f"| {rows:,} | {count} | {hours} | {took:.3f} | {took / rows / hours * 1e6:.2f} | {took / first:.1f} |", flush=True)
+            print(f"| times, one of {REPORTS} more | {more / plain:.1f} |")
+        for title, cases in TABLES:
+            print(f"\n| {title} | rows | pairs | the first report, s | one more, s | ns a row and pair, first | one more |\n|---|---:|---:|---:|---:|---:|---:|")
+            for case in cases:
+                say(f"{title}: {case.name}")
+                entries = list(case.contracts()) + list(case.posts())
+                first, more = of_reports(options.program, entries, case.report(), scratch, options.turns)
+                size = case.rows + case.pairs
+                print(f"| {case.name} | {case.rows:,} | {case.pairs:,} | {first:.3f} | {more:.4f} | {first / size * 1e9:.0f} | {more / size * 1e9:.0f} |", flush=True)
     finally:
         shutil.rmtree(scratch)
     return 0
