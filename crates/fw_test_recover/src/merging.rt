@@ -59,42 +59,62 @@ fn filled(alloc: Global) -> Result<Store<MemVolume>, StoreFault> {
     Ok(store)
 }
 
-/// Whether a state has segments of so many rows, and its rows are those of the posts in their order.
-fn has_segments(state: &State, rows: &[usize]) -> bool {
+/// The segment at a place: how many rows it has, and what the first and the last of them cost, in nanos. Zeros where there is none.
+fn seen(state: &State, place: usize) -> (usize, i64, i64) {
     let segments = state.segments();
-    let mut place = 0;
-    for count in 0..segments.len().min(rows.len()) {
-        let billed = segments.get(count).billed();
-        if billed.len() != rows[count] {
-            return false;
-        }
-        for amount in billed {
-            if *amount != (place / ROWS + 1) as i64 {
-                return false;
-            }
-            place += 1;
-        }
+    if place >= segments.len() {
+        return (0, 0, 0);
     }
-    segments.len() == rows.len()
+    let columns = segments.get(place);
+    let billed = columns.billed();
+    (columns.len(), amount(billed.first()), amount(billed.last()))
+}
+
+/// An amount, 0 where there is none.
+fn amount(of: Option<&i64>) -> i64 {
+    match of {
+        Some(amount) => *amount,
+        None => 0,
+    }
+}
+
+/// Whether the segment at a place has so many rows, which cost from this many nanos on up to so many.
+fn is_segment(state: &State, place: usize, rows: usize, first: i64, last: i64) -> bool {
+    let (count, from, to) = seen(state, place);
+    count == rows && from == first && to == last
+}
+
+/// Whether each post is a segment, by the first and the last of them.
+fn are_apart(state: &State) -> bool {
+    state.segments().len() == 17
+        && is_segment(state, 0, ROWS, 1, 1)
+        && is_segment(state, 16, ROWS, 17, 17)
+}
+
+/// Whether the first sixteen posts are a segment, and the last is another.
+fn are_joined(state: &State) -> bool {
+    state.segments().len() == 2
+        && is_segment(state, 0, 65_536, 1, 16)
+        && is_segment(state, 1, ROWS, 17, 17)
 }
 
 /// Whether the posts are a segment each, then one of 65,536 rows and one of 4,096 by a checkpoint, by another one, and once they are opened again.
-fn are_joined(alloc: Global) -> Result<bool, StoreFault> {
+fn joins_posts(alloc: Global) -> Result<bool, StoreFault> {
     let mut store = filled(alloc)?;
-    let apart = has_segments(store.state().state(), &[ROWS; 17]);
+    let apart = are_apart(store.state().state());
     store.checkpoint(alloc)?;
-    let joined = has_segments(store.state().state(), &[65_536, ROWS]);
+    let joined = are_joined(store.state().state());
     store.checkpoint(alloc)?;
-    let again = has_segments(store.state().state(), &[65_536, ROWS]);
+    let again = are_joined(store.state().state());
     let Ok(opened) = Store::open(alloc, store.close()) else {
         return Err(StoreFault::Device);
     };
-    Ok(apart && joined && again && has_segments(opened.state().state(), &[65_536, ROWS]))
+    Ok(apart && joined && again && are_joined(opened.state().state()))
 }
 
 #[test]
 fn a_checkpoint_joins_seventeen_posts(rt: HostRuntime) -> Result<(), Fail> {
-    let joined = are_joined(rt.alloc())?;
+    let joined = joins_posts(rt.alloc())?;
     assert!(rt; joined);
     Ok(())
 }
