@@ -359,14 +359,21 @@ fn broken_bytes_have_their_faults(rt: HostRuntime) -> Result<(), Fail> {
     Ok(())
 }
 
-/// The segments of two posts of one row each, part by part: in one segment or in two, row by row or by column.
-const CUTS: &[&[&[u8]]] = &[
-    &[&[1, 0, 0, 0, 1, 2, 0, 0, 0], &TAX, &TAX],
-    &[&[2, 0, 0, 0], &SEGMENT, &SEGMENT],
-    &[&[2, 0, 0, 0], &COLUMNS, &COLUMNS],
-    &[&[2, 0, 0, 0], &SEGMENT, &COLUMNS],
-    &[&[1, 0, 0, 0], &BOTH],
+/// The segments of two posts of one row each, part by part, in one segment or in two, row by row or by column; and the parts as they are written again: the
+/// same segments, by column.
+const CUTS: &[(&[&[u8]], &[&[u8]])] = &[
+    (&[&[1, 0, 0, 0, 1, 2, 0, 0, 0], &TAX, &TAX], ONE_SEGMENT),
+    (&[&[2, 0, 0, 0], &SEGMENT, &SEGMENT], TWO_SEGMENTS),
+    (&[&[2, 0, 0, 0], &COLUMNS, &COLUMNS], TWO_SEGMENTS),
+    (&[&[2, 0, 0, 0], &SEGMENT, &COLUMNS], TWO_SEGMENTS),
+    (&[&[1, 0, 0, 0], &BOTH], ONE_SEGMENT),
 ];
+
+/// Both rows by column, in one segment.
+const ONE_SEGMENT: &[&[u8]] = &[&[1, 0, 0, 0], &BOTH];
+
+/// Each row by column, in a segment of its own.
+const TWO_SEGMENTS: &[&[u8]] = &[&[2, 0, 0, 0], &COLUMNS, &COLUMNS];
 
 /// Two rows by column: a tax of 1 nano in the first hour of 1970, twice.
 const BOTH: [u8; 139] = [
@@ -377,14 +384,24 @@ const BOTH: [u8; 139] = [
     0, 0, 0, 0, 0, 0, 0, 0, 0, 0, 0, 0, 0,
 ];
 
-/// How many of the cuts of two posts of one row each are read, and written with a segment for each post, by column.
+/// The bytes of a state of two posts whose segments are in these parts.
+fn two_posts(alloc: Global, segments: &[&[u8]]) -> Result<Vec<u8>, AllocError> {
+    let segments = joined(alloc, segments)?;
+    joined(alloc, &[&TWO_POSTS, &segments])
+}
+
+/// Whether two posts that are cut so are read, and written as the other parts say.
+fn is_cut_kept(alloc: Global, cut: &[&[u8]], again: &[&[u8]]) -> Result<bool, AllocError> {
+    let bytes = two_posts(alloc, cut)?;
+    let written = two_posts(alloc, again)?;
+    is_written_as(alloc, What::State, &bytes, &written)
+}
+
+/// How many of the cuts of two posts of one row each are read, and written in the same segments.
 fn cuts_of_one_state(alloc: Global) -> Result<usize, AllocError> {
-    let written = joined(alloc, &[&TWO_POSTS, &[2, 0, 0, 0], &COLUMNS, &COLUMNS])?;
     let mut count = 0_usize;
-    for cut in CUTS {
-        let segments = joined(alloc, cut)?;
-        let bytes = joined(alloc, &[&TWO_POSTS, &segments])?;
-        if is_written_as(alloc, What::State, &bytes, &written)? {
+    for (cut, again) in CUTS {
+        if is_cut_kept(alloc, cut, again)? {
             count = count.saturating_add(1);
         }
     }
