@@ -15,7 +15,7 @@ contracts speak of, and with the toolchain. After a change of toolchain every ed
 isn't in this clone. A landing is a commit whose gate passed. What an edit shows may also change with the contract of a function in another
 file that its function calls: such an edit is tried again when its crate is picked, or by --all.
 
-It leaves the built programs in out/focusd and out/fw_simulate, the built tests in out/tests/, and all that `rt ci` printed in out/gate.log.
+It leaves the built programs in out/focusd, out/fw_first_look and out/fw_simulate, the built tests in out/tests/, and all that `rt ci` printed in out/gate.log.
 
 Exit status: that of `rt ci`; 2 where nothing could be run.
 """
@@ -40,7 +40,7 @@ RECORD = "tools/last-full-run"
 # The commit of the last landing: one line, `commit`. Where there is no such file, the last full run stands for it.
 LANDING = "tools/last-landing"
 # The crates that are programs: what is built of them is kept.
-PROGRAMS = ("focusd", "fw_simulate")
+PROGRAMS = ("focusd", "fw_first_look", "fw_simulate")
 # The crates that did not change are tried in so many parts, one a run.
 PARTS = 12
 # What the edits of each crate cost: lines `crate first further`, in seconds of the processor. It says more in its head.
