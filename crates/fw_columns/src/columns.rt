@@ -102,7 +102,9 @@ impl Columns {
         Ok(Row::of_fields(fields_at(alloc, kept, place)?))
     }
 
-    /// The row at a place, counted from 0, with its texts and tags lent. It takes no memory.
+    /// The row at a place, counted from 0, with its texts and tags lent. It takes no memory. It is compiled into its callers, so that one that looks at a
+    /// single field pays for this field alone.
+    #[inline(always)]
     pub fn lent(&self, place: usize) -> LentRow<'_>
         requires { place < length self.now }
         ensures { slice_get self.now place ≡ Some result }

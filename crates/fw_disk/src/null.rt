@@ -1,5 +1,5 @@
 //! A volume that keeps no byte, for a warehouse that stays in memory.
-ghost use Rattle.std.specs.Prelude.{◌≡◌, ℕ, ◌+◌, ◌^◌, ◌<◌, ◌≤◌, ◌↔◌, length, false, All, IsErrOf, IsOk, IsTrue};
+ghost use Rattle.std.specs.Prelude.{◌≡◌, ℕ, ◌+◌, ◌^◌, ◌<◌, ◌≤◌, ◌↔◌, length, false, All, IsSome, IfSome, IsErrOf, IsOk, IsTrue};
 ghost use Rattle.fw_disk.specs.Volume.{SameSizes, Grows, HasCause};
 ghost use Rattle.fw_disk.specs.declared.volume.Side.{Side};
 ghost use Rattle.fw_disk.specs.declared.volume.VolumeFault.TheVariants.{Io, TooLarge};
@@ -27,6 +27,24 @@ impl NullVolume {
     {
         NullVolume { left: 0, right: 0 }
     }
+
+    // What a write of so many bytes does to the lengths.
+    fn lengthen(&mut self, side: Side, at: u64, len: u64) -> Result<(), VolumeFault>
+        requires { at ≤ (view_of self.old).size side }
+        ensures sizes { Grows side at len (view_of self.old) (view_of self.new) result }
+        ensures too_large { IsErrOf result TooLarge ↔ ((view_of self.old).limit < at + len) }
+        ensures unchanged { IsErrOf result TooLarge → self.new ≡ self.old }
+        ensures works { IsErrOf result Io → ⊥ }
+    {
+        if len > FileVolume::LIMIT - at {
+            return Err(VolumeFault::TooLarge);
+        }
+        match side {
+            Side::Left => self.left = self.left.max(at + len),
+            Side::Right => self.right = self.right.max(at + len),
+        }
+        Ok(())
+    }
 }
 
 impl Volume for NullVolume {
@@ -34,6 +52,8 @@ impl Volume for NullVolume {
     ghost use Rattle.fw_disk.specs.Files.{none_told};
 
     ghost tells = { false };
+
+    ghost keeps = { false };
 
     ghost view = { view_of };
 
@@ -81,15 +101,20 @@ impl Volume for NullVolume {
         ensures unchanged { IsErrOf result TooLarge → self.new ≡ self.old }
         ensures works { IsErrOf result Io → ⊥ }
     {
-        let len = bytes.len() as u64;
-        if len > FileVolume::LIMIT - at {
-            return Err(VolumeFault::TooLarge);
-        }
-        match side {
-            Side::Left => self.left = self.left.max(at + len),
-            Side::Right => self.right = self.right.max(at + len),
-        }
-        Ok(())
+        self.lengthen(side, at, bytes.len() as u64)
+    }
+
+    /// `None` and `Io` come never.
+    fn write_length(&mut self, side: Side, at: u64, len: u64) -> Option<Result<(), VolumeFault>>
+        requires { at ≤ (view_of self.old).size side }
+        ensures sizes { IfSome result (Grows side at len (view_of self.old) (view_of self.new)) }
+        ensures cause { IfSome result (HasCause (view_of self.old) (view_of self.new)) }
+        ensures too_large { IfSome result (λ written. IsErrOf written TooLarge ↔ ((view_of self.old).limit < at + len)) }
+        ensures unchanged { IfSome result (λ written. IsErrOf written TooLarge → self.new ≡ self.old) }
+        ensures works { IfSome result (λ written. IsErrOf written Io → ⊥) }
+        ensures taken { IsSome result }
+    {
+        Some(self.lengthen(side, at, len))
     }
 
     /// `Io` comes never.

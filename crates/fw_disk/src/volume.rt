@@ -11,7 +11,7 @@
 //!
 //! A fault of the device, [`VolumeFault::Io`], comes only where the volume's count of failures rises. The count ends
 //! at `u64::MAX`; from there on it stays, and counts as risen.
-ghost use Rattle.std.specs.Prelude.{◌≡◌, ℕ, ◌+◌, ◌-◌, ◌^◌, ◌<◌, ◌≤◌, ◌↔◌, min, Bool, IsTrue, List, length, IsErrOf, OnOk};
+ghost use Rattle.std.specs.Prelude.{◌≡◌, ℕ, ◌+◌, ◌-◌, ◌^◌, ◌<◌, ◌≤◌, ◌↔◌, min, Bool, true, false, IsTrue, List, length, IsSome, IfSome, IfNone, IsErrOf, OnOk};
 ghost use Rattle.fw_disk.specs.declared.volume.VolumeFault.TheVariants.{Io, TooLarge};
 ghost use Rattle.fw_disk.specs.declared.volume.Side.{Side};
 ghost use Rattle.fw_disk.specs.Volume.{View, Image, other, Returns, Writes, Holds, Settled, Quiet, StaysPending, SettlesOnly, Allows, TornSide, SameSizes, Grows, HasCause, Rose};
@@ -41,6 +41,9 @@ pub trait Volume {
     /// Whether the contracts state what the files hold. Where they don't, only lengths, the limit and the causes of
     /// faults are stated. It is one value for the type, so no call changes it.
     ghost tells: { Bool };
+
+    /// Whether what is written can be read again. Where it can't, a write needs no bytes. It is one value for the type, too.
+    ghost keeps: { Bool } = { true };
 
     /// The bytes that a read gives, what a crash may leave, the clock, the lengths and the count of failures.
     ghost view: { Self → View };
@@ -78,6 +81,20 @@ pub trait Volume {
         ensures cause { HasCause (view self.old) (view self.new) result }
         ensures too_large { IsErrOf result TooLarge ↔ ((view self.old).limit < at + length bytes.now) }
         ensures unchanged { IsErrOf result TooLarge → self.new ≡ self.old };
+
+    /// Writes so many bytes that nobody gives, where what is written can't be read again: lengths change as by [`Volume::write_at`], and `TooLarge`
+    /// and `Io` come as there. `None` where it can be read again: then nothing changes, and the write needs its bytes.
+    fn write_length(&mut self, side: Side, at: u64, len: u64) -> Option<Result<(), VolumeFault>>
+        requires { at ≤ (view self.old).size side }
+        ensures unkept { IsSome result → (keeps ≡ false) × (tells ≡ false) }
+        ensures declined { IfNone result (self.new ≡ self.old) }
+        ensures sizes { IfSome result (Grows side at len (view self.old) (view self.new)) }
+        ensures cause { IfSome result (HasCause (view self.old) (view self.new)) }
+        ensures too_large { IfSome result (λ written. IsErrOf written TooLarge ↔ ((view self.old).limit < at + len)) }
+        ensures unchanged { IfSome result (λ written. IsErrOf written TooLarge → self.new ≡ self.old) }
+    {
+        None
+    }
 
     /// After `Ok` a crash leaves of this file what a read gives. It fails with `Io` alone, and then what was pending
     /// may still be. Whatever it answers, no byte changes, a crash leaves nothing new, and the other file is as pending

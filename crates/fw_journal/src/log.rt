@@ -1,5 +1,5 @@
 //! A log that stands on its volume, and grows by one payload at a time.
-ghost use Rattle.std.specs.Prelude.{◌≡◌, ◌⊎◌, ◌↔◌, ◌+◌, ◌^◌, ◌<◌, ◌≤◌, ◌++◌, ◌∷◌, [], List, ℕ, length, drop, false, true, IfOk, OnOk, OnErr, IsErrOf, IsTrue, max};
+ghost use Rattle.std.specs.Prelude.{◌≡◌, ◌⊎◌, ◌↔◌, ◌+◌, ◌^◌, ◌<◌, ◌≤◌, ◌++◌, ◌∷◌, [], List, ℕ, length, drop, false, true, IsSome, IfSome, IfNone, IfOk, IfErr, OnOk, OnErr, IsErrOf, IsTrue, max};
 ghost use Rattle.fw_disk.specs.Volume.{Rose, LeavesOnly, Settled, SameSizes, Calm, other};
 ghost use Rattle.fw_journal.specs.declared.fault.LogFault.TheVariants.{Device, Corrupt, Failed, TooLarge, NoMemory};
 ghost use Rattle.fw_journal.specs.Frames.{BreaksAt, IsFit};
@@ -127,6 +127,44 @@ impl Log {
         self.end = gate + 5 + len;
         self.failed = false;
         Ok(())
+    }
+
+    /// Adds a payload of `len` bytes, 1 to 8,388,608, that nobody made: a volume that keeps nothing of what is written takes it by its length
+    /// alone, and the log goes on as after [`Log::append`]. The fault is `Device` alone, after which every later append is `Failed`.
+    ///
+    /// `None` where the volume keeps what is written, where the frame would end past its limit, and after an earlier `Device`. Nothing changes
+    /// then: `append` needs the payload, or says what is wrong.
+    pub fn append_length<V: Volume>(
+        &mut self,
+        volume: &mut V,
+        len: u64,
+    ) -> Option<Result<(), LogFault>>
+        requires size { (1 ≤ len) × (len ≤ 8388608) }
+        requires ready { IsReady V.tells self.old (V.view volume.old) }
+
+        ensures unkept { IsSome result → (V.keeps ≡ false) × (V.tells ≡ false) }
+        ensures goes_on { IsSome result → self.old.failed ≡ false }
+        ensures room { IsSome result → self.old.end + 6 + len ≤ (V.view volume.old).limit }
+        ensures declined { IfNone result ((volume.new ≡ volume.old) × (self.new ≡ self.old)) }
+
+        ensures ready { IsReady V.tells self.new (V.view volume.new) }
+        ensures place { (self.new.side ≡ self.old.side) × (self.new.start ≡ self.old.start) }
+        ensures moved { IfSome result (λ added. OnOk added (self.new ≡ record self.old { end = self.old.end + 5 + len; failed = false })) }
+        ensures sizes { Lengthens self.old.side (self.old.end + 6 + len) (V.view volume.old) (V.view volume.new) }
+        ensures whole { IfSome result (λ added. OnOk added ((V.view volume.new).size self.old.side ≡ max ((V.view volume.old).size self.old.side) (self.old.end + 6 + len))) }
+        ensures device { IfSome result (λ added. IfErr added (λ why. (why ≡ Device) × (self.new ≡ record self.old { failed = true }) × Rose (V.view volume.old).failures (V.view volume.new).failures)) }
+        ensures later { (V.view volume.old).failures ≤ (V.view volume.new).failures }
+    {
+        if self.failed || len + 6 > volume.limit() - self.end {
+            return None;
+        }
+        let written = volume.write_length(self.side, self.end + 1, len + 5)?;
+        self.failed = written.is_err();
+        if written.is_err() {
+            return Some(Err(LogFault::Device));
+        }
+        self.end += len + 5;
+        Some(Ok(()))
     }
 
     /// The side of the volume that the log is on.

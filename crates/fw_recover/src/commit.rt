@@ -1,5 +1,5 @@
 //! Adding entries to a warehouse: they are judged, the state with the accepted ones is made, and then these are written.
-ghost use Rattle.std.specs.Prelude.{◌≡◌, ◌⊎◌, ◌↔◌, ◌+◌, ◌<◌, ◌≤◌, true, false, [], ◌∷◌, length, IsOk, IsErr, IfOk, IfErr, OnOk, OnErr, IsErrOf, IsTrue};
+ghost use Rattle.std.specs.Prelude.{◌≡◌, ◌⊎◌, ◌↔◌, ◌+◌, ◌<◌, ◌≤◌, true, false, [], ◌∷◌, length, IsSome, IfSome, IfNone, IsOk, IsErr, IfOk, IfErr, OnOk, OnErr, IsErrOf, IsTrue};
 ghost use Rattle.fw_disk.specs.Volume.{LeavesOnly, Rose};
 ghost use Rattle.fw_journal.specs.Frames.{IsFit};
 ghost use Rattle.fw_segment.specs.Groups.{group, IsGroup};
@@ -11,7 +11,7 @@ ghost use Rattle.fw_recover.specs.Stands.{StandsFor, StandsForEither};
 ghost use Rattle.fw_recover.specs.Opening.{GoesBehind};
 ghost use Rattle.fw_recover.specs.Committing.{prepared_on, HasNoRoom, Committed, Appended, Lost, IsCommitFault};
 
-use crate::prepared::group_of_one;
+use crate::prepared::{group_of_one, len_of_one};
 use crate::{Prepared, Store, StoreFault};
 use fw_disk::Volume;
 use fw_journal::LogFault;
@@ -188,10 +188,34 @@ impl<V: Volume> Store<V> {
         let Ok(next) = Snapshot::new(state) else {
             return Err(StoreFault::NoMemory);
         };
+        if let Some(added) = self.append_length(len_of_one(entry)) {
+            added?;
+            self.snapshot = next;
+            return Ok(());
+        }
         let Ok(payload) = group_of_one(alloc, entry) else {
             return Err(StoreFault::NoMemory);
         };
         self.append(alloc, &payload, next)
+    }
+
+    // Adds a group of so many bytes to the log by its length alone, where the volume keeps nothing of what is written. `None` where the group has to be made; nothing
+    // changes then. The state is shown as it was.
+    fn append_length(&mut self, len: u64) -> Option<Result<(), StoreFault>>
+        requires goes_on { self.old.failed ≡ false }
+        requires fit { (1 ≤ len) × (len ≤ 8388608) }
+
+        ensures untold { IsSome result → V.tells ≡ false }
+        ensures declined { IfNone result (self.new ≡ self.old) }
+        ensures done { IfSome result (λ added. OnOk added (self.new ≡ record self.old { volume = self.new.volume; log = record self.old.log { end = self.old.log.end + 5 + len } })) }
+        ensures fits { IsSome result → self.old.log.end + 6 + len ≤ (V.view self.old.volume).limit }
+        ensures lost { IfSome result (λ added. IfErr added (λ why. (why ≡ Device) × Lost self.old self.new × Rose (V.view self.old.volume).failures (V.view self.new.volume).failures)) }
+        ensures later { (V.view self.old.volume).failures ≤ (V.view self.new.volume).failures }
+        ensures limit { (V.view self.new.volume).limit ≡ (V.view self.old.volume).limit }
+    {
+        let added = self.log.append_length(&mut self.volume, len)?;
+        self.failed = added.is_err();
+        Some(added.map_err(|_| StoreFault::Device))
     }
 
     // Writes a group to the log, and shows the state with it from then on.

@@ -132,3 +132,13 @@ pub(crate) fn group_of_one(alloc: Global, entry: &Entry) -> Result<Vec<u8>, Allo
     append_accepted(&mut payload, slice::from_ref(entry), &[Verdict::Accept])?;
     Ok(payload)
 }
+
+/// How many bytes the group of one entry has.
+pub(crate) fn len_of_one(entry: &Entry) -> u64
+    ensures len { result ≡ length (group (entry.now ∷ [])) }
+    ensures fit { (1 ≤ result) × (result ≤ 8388608) }
+{
+    // An entry keeps its limits.
+    let _seq = entry.seq();
+    4 + entry.encoded_len() as u64
+}

@@ -97,6 +97,7 @@ impl<'a> LentRow<'a> {
     ghost use Rattle.fw_charge.specs.Charge.{IsCharge, hour_of};
 
     /// The row with these fields, which keep the rules of a row.
+    #[inline(always)]
     pub(crate) fn of_fields(fields: LentFields<'a>) -> LentRow<'a>
         requires { IsCharge (row_lent fields) }
         ensures { result ≡ row_lent fields.entry }
@@ -370,6 +371,7 @@ fn text_lent(names: &Names, code: u32) -> Option<&str>
 }
 
 /// The tags of the row at a place, lent.
+#[inline(always)]
 pub fn lent_tags(table: &Table, place: usize) -> LentTags<'_>
     requires { HasRow table.now place }
     ensures { tags_lent result ≡ tags_of table.now.names (list_at table.now place) }
@@ -380,7 +382,8 @@ pub fn lent_tags(table: &Table, place: usize) -> LentTags<'_>
     }
 }
 
-/// The row at a place, whose tags are these, lent.
+/// The row at a place, whose tags are these, lent. It is compiled into its callers, as few of them look at each field.
+#[inline(always)]
 pub fn lent_row<'a>(table: &'a Table, tags: LentTags<'a>, place: usize) -> LentRow<'a>
     requires row { HasRow table.now place }
     requires charge { IsCharge (charge_at table.now place) }

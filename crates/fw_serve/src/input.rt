@@ -37,8 +37,9 @@ pub fn read_within<R: Read>(
     ensures reads { result ≢ Err ServeFault.Write }
 {
     let mut text = Vec::new(alloc);
+    let mut buffer = [0; PIECE];
     loop {
-        if read_piece(reader, &mut text)? == 0 {
+        if read_piece(reader, &mut buffer, &mut text)? == 0 {
             return Ok(text);
         }
         if text.len() > limit {
@@ -47,16 +48,20 @@ pub fn read_within<R: Read>(
     }
 }
 
-// One read, whose bytes go to the end of the script. It gives none only at the end of the input.
-fn read_piece<R: Read>(reader: &mut R, script: &mut Vec<u8>) -> Result<usize, ServeFault>
+// One read into the buffer, which isn't empty; its bytes go to the end of the script. It gives none only at the end of the input.
+fn read_piece<R: Read>(
+    reader: &mut R,
+    buffer: &mut [u8],
+    script: &mut Vec<u8>,
+) -> Result<usize, ServeFault>
+    requires { 0 < length buffer.old }
     ensures read { IfOk result (λ count. (piece : List ℕ) × (script.new.items ≡ script.old.items ++ piece) × (length piece ≡ count)
         × Consumes (R.remaining reader.old) (R.remaining reader.new) piece × (count ≡ 0 → IsAtEnd (R.remaining reader.new))) }
     ensures faults { IfErr result (λ why. (why ≡ ServeFault.Read) ⊎ (why ≡ ServeFault.NoMemory)) }
 {
-    let mut piece = [0; PIECE];
-    match reader.read(&mut piece) {
+    match reader.read(buffer) {
         Ok(count) => {
-            script.extend_from_slice(&piece[..count])?;
+            script.extend_from_slice(&buffer[..count])?;
             Ok(count)
         }
         Err(_) => Err(ServeFault::Read),

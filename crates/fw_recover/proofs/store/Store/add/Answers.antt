@@ -1,7 +1,9 @@
-use Rattle.std.proofs.Common.{◌≡◌, ◌⊎◌, inl, [], ◌∷◌, ◌∙◌, ap, subst, arith}
+use Rattle.std.proofs.Common.{◌≡◌, ◌⊎◌, inl, [], ◌∷◌, sym, ◌∙◌, ap, subst, arith, OnOk}
 use Rattle.std.proofs.lemmas.Result.{on_ok_weaker}
 use Rattle.fw_disk.specs.Volume.{LeavesOnly}
 use Rattle.fw_snapshot.specs.History.{History}
+use Rattle.fw_recover.specs.Committing.{Appended}
+use Rattle.fw_recover.specs.Opening.{GoesBehind}
 use Rattle.fw_recover.specs.Stands.{StandsFor, StandsForEither}
 use Rattle.fw_recover.specs.Store.{StoreState}
 use Rattle.fw_recover.proofs.Found.{one_entry}
@@ -22,13 +24,14 @@ append-requires-clause-goes g c =
     let s = c.args.self.now in
     let e = c.args.entry.now in
     let same : c.state.result.now ≡ s.history = c.state.ensures ∙ ap (λ (x : StoreState _). x.history) c.self.view_is in
-    record {
+    let goes : GoesBehind s.history c.deref.result.now c.in-Ok-new.next = record {
       more = e ∷ [];
       is_group = c.group_of_one.ensures.frameable.is_group;
       spelled = c.deref.ensures.value ∙ c.in-Ok-group_of_one.ensures.spelled;
       legal = one_entry s.history.entries e c.requires.accepted;
       is = with_one s.history c.state.result.now c.in-Ok.state c.in-Ok-new.next e same c.in-Ok.ensures c.in-Ok-new.ensures.shared;
-    }
+    } in
+    subst (λ (x : StoreState _). GoesBehind x.history c.deref.result.now c.in-Ok-new.next) (sym c.in_default-append_length.ensures.declined) goes
 
 pub returns-clause-any_moment : goal.returns-clause-any_moment
 returns-clause-any_moment g c told =
@@ -36,7 +39,8 @@ returns-clause-any_moment g c told =
     let e = c.args.entry.now in
     let same : c.state.result.now ≡ s.history = c.state.ensures ∙ ap (λ (x : StoreState _). x.history) c.self.view_is in
     let is = with_one s.history c.state.result.now c.in-Ok.state c.in-Ok-new.next e same c.in-Ok.ensures c.in-Ok-new.ensures.shared in
-    subst (λ (k : History). LeavesOnly (g.V.Volume.view s.volume) (g.V.Volume.view c.append.new.self.volume) (λ i. StandsFor s.history i ⊎ StandsFor k i)) is (c.append.ensures.any_moment told)
+    let leaves : (x : StoreState _) → History → Type 0 = λ x k. LeavesOnly (g.V.Volume.view x.volume) (g.V.Volume.view c.append.new.self.volume) (λ i. StandsFor x.history i ⊎ StandsFor k i) in
+    subst (λ (k : History). leaves s k) is (subst (λ (x : StoreState _). leaves x c.in-Ok-new.next) c.in_default-append_length.ensures.declined (c.append.ensures.any_moment told))
 
 pub returns-clause-done : goal.returns-clause-done
 returns-clause-done g c =
@@ -44,6 +48,7 @@ returns-clause-done g c =
     let e = c.args.entry.now in
     let same : c.state.result.now ≡ s.history = c.state.ensures ∙ ap (λ (x : StoreState _). x.history) c.self.view_is in
     let is = with_one s.history c.state.result.now c.in-Ok.state c.in-Ok-new.next e same c.in-Ok.ensures c.in-Ok-new.ensures.shared in
+    let appends : StoreState _ → Type 0 = λ x. OnOk c.append.result (Appended g.V.Volume.tells g.V.Volume.view x c.append.new.self c.deref.result.now c.in-Ok-new.next) in
     on_ok_weaker c.append.result
     (λ appended. added_some g.V.Volume.tells g.V.Volume.view s c.append.new.self c.deref.result.now c.in-Ok-new.next (e ∷ []) c.requires.goes_on appended is (c.deref.ensures.value ∙ c.in-Ok-group_of_one.ensures.spelled) (omega arith))
-    c.append.ensures.done
+    (subst (λ (x : StoreState _). appends x) c.in_default-append_length.ensures.declined c.append.ensures.done)
