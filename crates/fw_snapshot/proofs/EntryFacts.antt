@@ -1,17 +1,18 @@
 -- What lists of entries come to with one more at their end.
 use Rattle.std.proofs.Common.{◌≡◌, ◌+◌, ◌≤◌, ◌||◌, ◌&&◌, ◌<◌, ℕ, zero, suc, List, [], ◌∷◌, ◌++◌, Option, Some, None, Bool, true, false, cond, if◌then◌else◌, length, filter, take, get_or, nat_lt, nat_le, refl, sym, ap, ◌∙◌, arith, Bor, IfOk}
 use Rattle.std.specs.List.{list_any}
-use Rattle.std.specs.Option.{option_copied, option_to_list}
+use Rattle.std.specs.Option.{option_copied, option_map, option_map_or, option_to_list, is_some}
 use Rattle.std.specs.Str.{bytes_eq}
 use Rattle.std.specs.declared.result.Result.{Result}
 use Rattle.std.proofs.Math.Bool.{or-false}
+use Rattle.std.proofs.lemmas.Bool.{false≢true}
 use Rattle.std.proofs.lemmas.Bool.Decides.{nat_tests}
 use Rattle.std.proofs.lemmas.Result.{IfOk-weaker}
 use Rattle.std.proofs.lemmas.List.{flat_map_more, length-append, take_more}
 use Rattle.std.proofs.lemmas.List.Elements.{filter-append}
 use Rattle.std.proofs.lemmas.List.Folds.{list_any-append}
 use Rattle.std.proofs.lemmas.List.Sums.{fold-append}
-use Rattle.fw_charge.specs.Charge.{Charge}
+use Rattle.fw_charge.specs.Charge.{Charge, DiscountText}
 use Rattle.fw_persistent.specs.Counts.{Counts, count_of}
 use Rattle.fw_terms.specs.Commitment.{CommitmentValue}
 use Rattle.fw_entry.specs.Entry.{EntryValue}
@@ -119,6 +120,17 @@ pub counts_next : (start before after : Counts) (rows : List Charge) (i : ℕ) (
 counts_next start before after rows i row within read so_far step id =
     counted_once (count_of id start) (count_of id before) (count_of id after) (carries id (take i rows)) (has_id id row) (so_far id) (step id)
     ∙ ap (λ b. count_of id start + (if b then 1 else 0)) (sym (carries_more id rows i row within (sym read)))
+
+-- a row without a discount has no id
+pub no_id : {L : Type 0} (id : List ℕ) (row : Charge) (shown : L → DiscountText) (found : Option L) → option_map shown found ≡ row.discount → is_some found ≡ false → has_id id row ≡ false
+no_id id row shown None is none = ap (λ (d : Option DiscountText). option_map_or (λ x. bytes_eq id x.id) d false) (sym is)
+no_id id row shown (Some d) is none = absurd (false≢true (sym none))
+
+-- a row that has no id is counted for none
+pub counts_stay : (start before after : Counts) (rows : List Charge) (i : ℕ) (row : Charge) → i < length rows → row ≡ get_or rows i row → ((id : List ℕ) → count_of id before ≡ count_of id start + (if carries id (take i rows) then 1 else 0)) → after ≡ before → ((id : List ℕ) → has_id id row ≡ false) → (id : List ℕ) → count_of id after ≡ count_of id start + (if carries id (take (i + 1) rows) then 1 else 0)
+counts_stay start before after rows i row within read so_far same none =
+    counts_next start before after rows i row within read so_far
+    (λ id. let kept = ap (count_of id) same in let without = ap {B = ℕ} (λ b. if b && nat_le (count_of id before) (count_of id start) then 1 else 0) (none id) in omega (arith, kept, without))
 
 -- how many of one commitment, or of none, have an id
 pub commitments_with_option : (id : List ℕ) (more : Option (Bor CommitmentValue)) (c : Bor CommitmentValue) → more ≡ Some c → commitments_with id (option_to_list (option_copied more)) ≡ (if bytes_eq id c.now.id then 1 else 0)

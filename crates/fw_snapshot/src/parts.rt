@@ -220,7 +220,9 @@ fn carried_with_rows(
     let mut after = carried.copy()?;
     for place in 0..rows.len() {
         let row = rows.lent(place);
-        after = carried_with(alloc, carried, &after, &row)?;
+        if row.discount().is_some() {
+            after = carried_with(alloc, carried, &after, &row)?;
+        }
     }
     Ok(after)
 }
