@@ -17,7 +17,7 @@ use Rattle.fw_query.specs.RangeLines.{joined}
 use Rattle.fw_query.specs.Reports.{costs_of}
 use Rattle.fw_query.specs.Sums.{Counts, CountsHour, CountsHours}
 use Rattle.fw_query.specs.declared.groups.Groups.{Groups}
-use Rattle.fw_query.proofs.MarkFacts.{every_at, marked_at, no_marks, rows_first, rows_in_marked, touched_at}
+use Rattle.fw_query.proofs.MarkFacts.{every_at, no_marks, rows_first, touched_at}
 use Rattle.fw_query.proofs.MovedFacts.{Counts-moved}
 use Rattle.fw_query.proofs.RangeFacts.{CountsHours-more}
 use Rattle.fw_query.proofs.UntouchedFacts.{are_plain, plain_costs, plain_lines}
@@ -71,7 +71,7 @@ plain_hour old key cs rows hour before untouched counts = record {
 pub next_hour : (old new : Groups) (key : List ℕ) (cs : List CommitmentValue) (rows : List Charge) (touched : List Bool) (from n i : ℕ) → i < n → AreTouched cs from n touched
     → CountsHours old (marked_costs key (drop i (replicate n true)) (from + i) rows) key cs (hours_of rows from i) from
     → MatchBool (get_or touched i false)
-    ((costs : List Cost) → Counts old (costs ++ map (row_cost key) (rows_in (from + i) (rows_marked touched from rows))) → CountsHour new costs key cs (rows_in (from + i) (rows_marked touched from rows)) (from + i))
+    ((costs : List Cost) → Counts old (costs ++ map (row_cost key) (rows_in (from + i) rows)) → CountsHour new costs key cs (rows_in (from + i) rows) (from + i))
     (new ≡ old)
     → CountsHours new (marked_costs key (drop (i + 1) (replicate n true)) (from + (i + 1)) rows) key cs (hours_of rows from (i + 1)) from
 next_hour old new key cs rows touched from n i below are counted step =
@@ -83,17 +83,15 @@ next_hour old new key cs rows touched from n i below are counted step =
     let last : Counts old (before ++ map (row_cost key) (rows_in (from + i) rows)) = hour_last old key rows later (from + i) lines first in
     let more : CountsHour new before key cs (rows_in (from + i) rows) (from + i) = two_ways (get_or touched i false)
     (λ yes.
-    let own : rows_in (from + i) (rows_marked touched from rows) ≡ rows_in (from + i) rows = rows_in_marked (from + i) touched from rows (marked_at touched from (from + i) i refl ∙ yes) in
     let adds : (costs : List Cost) → Counts old (costs ++ map (row_cost key) (rows_in (from + i) rows)) → CountsHour new costs key cs (rows_in (from + i) rows) (from + i) =
-    subst (λ rs. (costs : List Cost) → Counts old (costs ++ map (row_cost key) rs) → CountsHour new costs key cs rs (from + i)) own
-    (MatchBool-at_true
-    ((costs : List Cost) → Counts old (costs ++ map (row_cost key) (rows_in (from + i) (rows_marked touched from rows))) → CountsHour new costs key cs (rows_in (from + i) (rows_marked touched from rows)) (from + i))
-    (new ≡ old) yes step) in
+    MatchBool-at_true
+    ((costs : List Cost) → Counts old (costs ++ map (row_cost key) (rows_in (from + i) rows)) → CountsHour new costs key cs (rows_in (from + i) rows) (from + i))
+    (new ≡ old) yes step in
     adds before last)
     (λ no.
     let stays : new ≡ old =
     MatchBool-at_false
-    ((costs : List Cost) → Counts old (costs ++ map (row_cost key) (rows_in (from + i) (rows_marked touched from rows))) → CountsHour new costs key cs (rows_in (from + i) (rows_marked touched from rows)) (from + i))
+    ((costs : List Cost) → Counts old (costs ++ map (row_cost key) (rows_in (from + i) rows)) → CountsHour new costs key cs (rows_in (from + i) rows) (from + i))
     (new ≡ old) no step in
     let untouched : is_touched cs (from + i) ≡ false = sym (touched_at cs from n touched i are below) ∙ no in
     subst (λ g. CountsHour g before key cs (rows_in (from + i) rows) (from + i)) (sym stays) (plain_hour old key cs (rows_in (from + i) rows) (from + i) before untouched last)) in

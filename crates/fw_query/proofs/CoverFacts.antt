@@ -1,16 +1,21 @@
--- What commitments cover in hours, as it is kept.
-use Rattle.std.proofs.Common.{◌≡◌, ◌⊎◌, inl, inr, ⊎_elim, Bool, true, IfSome, MatchBool, [], ℕ, List, Some, arith, sym, subst}
-use Rattle.std.specs.Bool.{OnTrue}
-use Rattle.std.proofs.lemmas.Bool.{OnTrue_from, MatchBool-at_true, MatchBool-at_false}
-use Rattle.fw_cover.proofs.Sorting.{two_ways}
-use Rattle.std.specs.Prelude.{slice_index}
+-- What commitments bring to the groups of a key in hours, as it is kept.
+use Rattle.std.proofs.Common.{◌≡◌, ◌++◌, ◌∷◌, [], Bool, All, ℕ, List, append_assoc, arith, map, sym, subst}
+use Rattle.std.proofs.lemmas.List.Elements.{All-push}
+use Rattle.std.specs.Prelude.{if◌then◌else◌, slice_index}
 use Rattle.fw_charge.specs.Charge.{Charge}
 use Rattle.fw_terms.specs.Commitment.{CommitmentValue}
+use Rattle.fw_cover.proofs.Sorting.{two_ways}
 use Rattle.fw_cover.specs.Hour.{hour_cover, left_of}
 use Rattle.fw_cover.specs.declared.hour.HourCover.{HourCover}
 use Rattle.fw_cover.specs.HourCovers.{IsHourCover}
-use Rattle.fw_amortise.specs.Lines.{rows_in}
-use Rattle.fw_query.specs.Covers.{AreKept, KeepsHour, kept_at}
+use Rattle.fw_query.specs.Corrections.{corrections}
+use Rattle.fw_query.specs.Costs.{Cost}
+use Rattle.fw_query.specs.Covers.{AreOwnSums}
+use Rattle.fw_query.specs.Hours.{row_cost}
+use Rattle.fw_query.specs.Reports.{costs_of}
+use Rattle.fw_query.specs.Sums.{Counts, CountsHour}
+use Rattle.fw_query.specs.declared.groups.Groups.{Groups}
+use Rattle.fw_query.proofs.CorrectionFacts.{hour_corrected}
 
 -- what is left of a row
 pub left_in_cover : (cs : List CommitmentValue) (rows : List Charge) (hour : ℕ) (h : HourCover) → IsHourCover cs rows hour h → (r : ℕ) → slice_index h.row_left.items r ≡ left_of rows (hour_cover cs rows hour) r
@@ -19,33 +24,18 @@ left_in_cover cs rows hour h cover r =
     let whole = cover.row_left r in
     rw (← cover.taken) (omega (arith, whole))
 
--- what is kept of the hour is this cover, or as it was
-pub keeps_hour : (cs : List CommitmentValue) (rows : List Charge) (hour : ℕ) (old new : List (ℕ × HourCover)) (h : HourCover) → IsHourCover cs rows hour h
-    → ((at : ℕ) → (kept_at new at ≡ kept_at old at) ⊎ ((at ≡ hour) × (kept_at new at ≡ Some h))) → KeepsHour cs rows hour old new
-keeps_hour cs rows hour old new h cover kept = λ at. ⊎_elim (λ same. inl same) (λ own. inr (own.0, rw own.1 cover)) (kept at)
+-- where what commitments bring to an hour was added to its rows, its lines were counted
+pub own_added : (old new sums : Groups) (key : List ℕ) (cs : List CommitmentValue) (rows : List Charge) (hour : ℕ) → AreOwnSums cs rows key hour sums
+    → ((costs more : List Cost) → Counts old costs → Counts sums more → Counts new (costs ++ more)) → (costs : List Cost) → Counts old (costs ++ map (row_cost key) rows) → CountsHour new costs key cs rows hour
+own_added old new sums key cs rows hour own added costs counts =
+    let lost = corrections key rows (left_of rows (hour_cover cs rows hour)) in
+    let before = costs ++ map (row_cost key) rows in
+    hour_corrected new costs key cs rows hour own.own own.are_own
+    (subst (Counts new) (sym (append_assoc before (costs_of key own.own) lost)) (added before (costs_of key own.own ++ lost) counts own.counts))
 
--- what is kept of the hour whose rows these are is of the rows of all hours
-kept_with : (cs : List CommitmentValue) (rows own : List Charge) (hour : ℕ) (old new : List (ℕ × HourCover)) → own ≡ rows_in hour rows → AreKept cs rows old → KeepsHour cs own hour old new → AreKept cs rows new
-kept_with cs rows own hour old new same kept keeps = λ at. ⊎_elim
-    (λ stays. rw stays (kept at))
-    (λ here.
-    let of_rows : IfSome (kept_at new at) (IsHourCover cs (rows_in hour rows) hour) = subst (λ l. IfSome (kept_at new at) (IsHourCover cs l hour)) same here.1 in
-    subst (λ n. IfSome (kept_at new at) (IsHourCover cs (rows_in n rows) n)) (sym here.0) of_rows)
-    (keeps at)
-
--- after one more hour all that is kept is still of these rows
-pub kept_after : (cs : List CommitmentValue) (rows own : List Charge) (hour : ℕ) (touched : Bool) (old new : List (ℕ × HourCover)) → (touched ≡ true → own ≡ rows_in hour rows) → AreKept cs rows old
-    → MatchBool touched (KeepsHour cs own hour old new) (new ≡ old) → AreKept cs rows new
-kept_after cs rows own hour touched old new same kept step = two_ways touched
-    (λ is. kept_with cs rows own hour old new (same is) kept (MatchBool-at_true (KeepsHour cs own hour old new) (new ≡ old) is step))
-    (λ isnt. subst (AreKept cs rows) (sym (MatchBool-at_false (KeepsHour cs own hour old new) (new ≡ old) isnt step)) kept)
-
--- what is kept of an hour that is touched is of its rows
-pub kept_here : (cs : List CommitmentValue) (rows own : List Charge) (hour : ℕ) (touched : Bool) (kept : List (ℕ × HourCover)) → (touched ≡ true → own ≡ rows_in hour rows) → AreKept cs rows kept
-    → OnTrue touched (IfSome (kept_at kept hour) (IsHourCover cs own hour))
-kept_here cs rows own hour touched kept same all =
-    OnTrue_from touched (IfSome (kept_at kept hour) (IsHourCover cs own hour)) (λ is. rw (same is) (all hour))
-
--- nothing is kept
-pub none_kept : (cs : List CommitmentValue) (rows : List Charge) (kept : List (ℕ × HourCover)) → kept ≡ [] → AreKept cs rows kept
-none_kept cs rows kept none = rw none (λ hour. tt)
+-- an element more, or the list as it was
+pub all_pushed : {X : Type 0} (P : X → Type 0) (pushed : Bool) (xs ys : List X) (x : X) → ys ≡ (if pushed then xs ++ x ∷ [] else xs) → All P xs → P x → All P ys
+all_pushed P pushed xs ys x is all one = subst (All P) (sym is)
+    (two_ways pushed
+    (λ yes. rw yes (All-push P xs x all one))
+    (λ no. rw no all))

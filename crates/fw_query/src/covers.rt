@@ -1,60 +1,140 @@
-//! What commitments cover in hours, kept from one report to the next.
-ghost use Rattle.std.specs.Prelude.{◌≡◌, ◌⊎◌, ℕ, [], Some, option_copied};
-ghost use Rattle.fw_query.specs.Covers.{kept_at};
+//! What commitments bring to the groups of a key in hours, kept from one report to the next.
+ghost use Rattle.std.specs.Prelude.{◌≡◌, ◌⊎◌, ◌<◌, ◌+◌, ◌^◌, ℕ, List, [], Some, false, true, length, map, option_copied, slice_index_or, IfOk};
+ghost use Rattle.std.specs.Bool.{OnTrue};
+ghost use Rattle.std.specs.List.{range_with_len};
+ghost use Rattle.fw_charge.specs.Charge.{Charge};
+ghost use Rattle.fw_query.specs.Covers.{AreKept, AreKeptUnder, is_open, kept_at};
+ghost use Rattle.fw_terms.specs.Commitment.{CommitmentValue};
 
-use fw_cover::HourCover;
+use crate::groups::Groups;
 use indexmap::IndexMap;
-use std::alloc::Global;
-use std::marker::Model;
+use std::alloc::{AllocError, Global};
 
-/// What commitments cover in the hours that reports asked for, kept for the next reports on the same entries.
+// Of so many keys sums are kept. The key that was asked for longest ago gives way to a new one.
+const MOST_KEYS: usize = 8;
+
+/// What commitments bring to the groups of a key in the hours that reports asked for, kept for the next reports on the same entries.
 ///
-/// Under commitments most of a report's time goes into covering its hours, and what they cover in an hour is the same for each report until rows or
-/// commitments come. So whoever asks for many reports makes a `Covers` once, lends it to each [`report_keeping`](crate::report_keeping), and clears it
-/// when an entry was accepted. For each row of an hour that a commitment has a line in it takes 8 bytes, and 32 for each time that a
-/// commitment took of one.
+/// Under commitments most of a report's time goes into covering its hours and sharing what they cost, and what that brings to the groups of a key is
+/// the same for each report until rows or commitments come. So whoever asks for many reports makes a `Covers` once, lends it to each
+/// [`report_keeping`](crate::report_keeping), and clears it when an entry was accepted. It keeps the sums of the last 8 keys: for each key, and each hour
+/// that a commitment has a line in, some 120 bytes for each group that a commitment, or a row that one took of, is in there.
 #[derive(Drop)]
 pub struct Covers {
-    by_hour: IndexMap<u32, HourCover>,
+    alloc: Global,
+    keys: Vec<KeySums>,
 }
 
-impl Model for Covers {
-    ghost use Rattle.std.specs.Prelude.{ℕ, List};
-    ghost use Rattle.fw_cover.specs.declared.hour.HourCover.{HourCover};
+// What is kept of a key.
+#[derive(Drop)]
+struct KeySums {
+    key: String,
+    hours: HourSums,
+}
 
-    ghost Value = { List (ℕ × HourCover) };
-
-    ghost view = { λ c. c.by_hour.entries };
+// What commitments bring to the groups of one key, by hour.
+#[derive(Drop)]
+pub(crate) struct HourSums {
+    by_hour: IndexMap<u32, Groups>,
 }
 
 impl Covers {
     /// Nothing is kept.
     pub fn new(alloc: Global) -> Covers
-        ensures { result ≡ [] }
+        ensures none { result.keys.items ≡ [] }
+        ensures kept { (cs : List CommitmentValue) (rows : List Charge) → AreKept cs rows result }
     {
         Covers {
-            by_hour: IndexMap::new(alloc),
+            alloc,
+            keys: Vec::new(alloc),
         }
     }
 
     /// Keeps nothing any more.
     pub fn clear(&mut self)
-        ensures { self.new ≡ [] }
+        ensures none { self.new.keys.items ≡ [] }
+        ensures kept { (cs : List CommitmentValue) (rows : List Charge) → AreKept cs rows self.new }
     {
-        self.by_hour.clear();
+        self.keys.clear();
+    }
+
+    // Takes out what is kept of a key: nothing where it is new.
+    pub(crate) fn take(&mut self, key: &str) -> HourSums
+        ensures { (cs : List CommitmentValue) (rows : List Charge) → AreKept cs rows self.old → AreKept cs rows self.new × AreKeptUnder cs rows key.now result }
+    {
+        match self.keys.iter().position(|sums| sums.key.as_str() == key) {
+            Some(place) => self.keys.remove(place).hours,
+            None => HourSums::new(self.alloc),
+        }
+    }
+
+    // Lets go of the key that was asked for longest ago, where there are as many as are kept.
+    fn make_room(&mut self)
+        ensures { (cs : List CommitmentValue) (rows : List Charge) → AreKept cs rows self.old → AreKept cs rows self.new }
+    {
+        if self.keys.len() >= MOST_KEYS {
+            let _oldest = self.keys.remove(0);
+        }
+    }
+
+    // Keeps what was found of a key. Where memory is short nothing of it is kept, and the next report finds it anew.
+    pub(crate) fn put(&mut self, key: &str, hours: HourSums)
+        ensures { (cs : List CommitmentValue) (rows : List Charge) → AreKept cs rows self.old → AreKeptUnder cs rows key.now hours → AreKept cs rows self.new }
+    {
+        self.make_room();
+        if let Ok(key) = String::from_str(self.alloc, key) {
+            let _kept = self.keys.push(KeySums { key, hours });
+        }
+    }
+}
+
+impl HourSums {
+    // Nothing is kept.
+    pub(crate) fn new(alloc: Global) -> HourSums
+        ensures { result.by_hour.entries ≡ [] }
+    {
+        HourSums {
+            by_hour: IndexMap::new(alloc),
+        }
     }
 
     // What is kept of an hour.
-    pub(crate) fn of_hour(&self, hour: u32) -> Option<&HourCover>
+    pub(crate) fn of_hour(&self, hour: u32) -> Option<&Groups>
         ensures { option_copied result ≡ kept_at self.now hour }
     {
         self.by_hour.get(&hour)
     }
 
-    // Keeps what commitments cover in an hour. Where memory is short nothing is kept, and the next report covers the hour anew.
-    pub(crate) fn keep(&mut self, hour: u32, cover: HourCover)
-        ensures { (h : ℕ) → (kept_at self.new h ≡ kept_at self.old h) ⊎ ((h ≡ hour) × (kept_at self.new h ≡ Some cover)) }
+    // Keeps what commitments bring to an hour. Where memory is short nothing is kept, and the next report finds it anew.
+    pub(crate) fn keep(&mut self, hour: u32, sums: Groups)
+        ensures { (h : ℕ) → (kept_at self.new h ≡ kept_at self.old h) ⊎ ((h ≡ hour) × (kept_at self.new h ≡ Some sums)) }
     {
-        let _kept = self.by_hour.insert(hour, cover);
+        let _kept = self.by_hour.insert(hour, sums);
+    }
+
+    // Whether an hour is open: touched, and nothing is kept of it.
+    fn is_open(&self, is_touched: bool, hour: u64) -> bool
+        requires early { OnTrue is_touched (hour < 2 ^ 32) }
+        ensures { result ≡ is_open self.now is_touched hour }
+    {
+        is_touched && self.of_hour(hour as u32).is_none()
+    }
+
+    // The marks of the open hours, where the touched ones are marked and the first mark is of this hour.
+    pub(crate) fn open_hours(
+        &self,
+        alloc: Global,
+        touched: &[bool],
+        from: u64,
+    ) -> Result<Vec<bool>, AllocError>
+        requires fits { from + length touched.now < 2 ^ 64 }
+        requires early { (k : ℕ) → slice_index_or touched.now k false ≡ true → from + k < 2 ^ 32 }
+        ensures { IfOk result (λ marks. marks.items ≡ map (λ k. is_open self.now (slice_index_or touched.now k false) (from + k)) (range_with_len 0 (length touched.now))) }
+    {
+        let mut marks = Vec::with_capacity(alloc, touched.len())?;
+        for (place, is_touched) in touched.iter().enumerate() {
+            marks.push(self.is_open(*is_touched, from + place as u64))?;
+        }
+        Ok(marks)
     }
 }

@@ -1,25 +1,22 @@
 //! Sums by group, as they grow line by line.
-ghost use Rattle.std.specs.Prelude.{◌≡◌, ◌+ℤ◌, ◌+◌, ◌<◌, ◌^◌, length, ◌++◌, ◌∷◌, List, [], map, replicate, true, All, IfOk, IfSome, MatchBool, OnOk};
-ghost use Rattle.std.specs.Bool.{OnTrue};
+ghost use Rattle.std.specs.Prelude.{◌≡◌, ◌+ℤ◌, ◌+◌, ◌<◌, ◌^◌, ℕ, length, ◌++◌, ◌∷◌, List, [], map, replicate, true, All, IfNone, IfOk, IfSome, OnOk};
 ghost use Rattle.std.specs.List.{range_with_len};
-ghost use Rattle.fw_cover.specs.HourCovers.{IsHourCover};
 ghost use Rattle.fw_amortise.specs.Lines.{rows_in};
-ghost use Rattle.fw_charge.specs.Charge.{hour_of};
 ghost use Rattle.fw_cover.specs.RosterView.{HasHour};
 ghost use Rattle.fw_query.specs.Costs.{Cost};
-ghost use Rattle.fw_query.specs.Covers.{AreKept, KeepsHour, kept_at};
-ghost use Rattle.fw_query.specs.Hours.{AreByHour, AreTouched, HasHours, IsThere, all_rows, lent, row_cost, rows_at, rows_marked};
+ghost use Rattle.fw_query.specs.Covers.{AreKeptUnder, AreOpenByHour, AreOwnSums, kept_at};
+ghost use Rattle.fw_query.specs.Hours.{AreTouched, HasHours, IsThere, all_rows, lent, row_cost, rows_at, rows_marked};
 ghost use Rattle.fw_query.specs.Reports.{costs_of};
 ghost use Rattle.fw_query.specs.Sums.{AddsLine, AreAmounts, AreEntries, AreSums, Counts, CountsHour, CountsHours, HasRoom, IsInOrder, kept_entry, sums_at};
 
-use crate::covers::Covers;
+use crate::covers::HourSums;
 use crate::entries::Entry;
 use crate::hours::{RowPlace, rows_by_hour};
 use crate::marks::touched_hours;
 use crate::segments::rows_at;
 use fw_amortise::{Line, own_lines};
-use fw_columns::{Columns, LentRow};
-use fw_cover::{HourCover, Roster, references};
+use fw_columns::Columns;
+use fw_cover::{Roster, references};
 use fw_money::Nanos;
 use indexmap::IndexMap;
 use std::alloc::{AllocError, Global};
@@ -85,30 +82,31 @@ impl Groups {
     }
 
     // The sums of the lines of so many hours from this one on, given those of their rows. Where no commitment has a line in an hour, its lines bring
-    // what its rows do; so only the rows of other hours are sorted by hour.
+    // what its rows do; so only the rows of other hours, of which nothing is kept, are sorted by hour.
     pub(crate) fn of_hours<'a>(
         mut rows: Groups,
         key: &str,
         segments: &[&'a Columns],
         roster: &Roster<'a>,
-        covers: &mut Covers,
+        kept: &mut HourSums,
         from: u64,
         hours: usize,
     ) -> Result<Groups, AllocError>
         requires fits { from + hours < 2 ^ 64 }
         requires roster { HasHours roster.now from hours }
         requires rows { Counts rows (map (row_cost key.now) (rows_marked (replicate hours true) from (all_rows (lent segments.now)))) }
-        requires kept { AreKept roster.now.commitments (all_rows (lent segments.now)) covers.old }
-        ensures kept { AreKept roster.now.commitments (all_rows (lent segments.now)) covers.new }
+        requires kept { AreKeptUnder roster.now.commitments (all_rows (lent segments.now)) key.now kept.old }
+        ensures kept { AreKeptUnder roster.now.commitments (all_rows (lent segments.now)) key.now kept.new }
         ensures groups { IfOk result (λ groups. CountsHours groups [] key.now roster.now.commitments (map (λ h. rows_in h (all_rows (lent segments.now))) (range_with_len from hours)) from) }
     {
         let touched = touched_hours(rows.alloc, roster.commitments(), from, hours)?;
-        let by_hour = rows_by_hour(rows.alloc, segments, from, touched.as_slice())?;
+        let marks = kept.open_hours(rows.alloc, touched.as_slice(), from)?;
+        let by_hour = rows_by_hour(rows.alloc, segments, from, marks.as_slice())?;
         rows.add_hours(
             key,
             segments,
             roster,
-            covers,
+            kept,
             by_hour.as_slice(),
             touched.as_slice(),
             from,
@@ -116,14 +114,14 @@ impl Groups {
         Ok(rows)
     }
 
-    // Counts the lines of the hours, where their rows are counted; those of the touched hours are at these places. The first place of either list
+    // Counts the lines of the hours, where their rows are counted; those of the open hours are at these places. The first place of either list
     // is of this hour.
     fn add_hours<'a>(
         &mut self,
         key: &str,
         segments: &[&'a Columns],
         roster: &Roster<'a>,
-        covers: &mut Covers,
+        kept: &mut HourSums,
         by_hour: &[Vec<RowPlace>],
         touched: &[bool],
         from: u64,
@@ -132,103 +130,72 @@ impl Groups {
         requires roster { HasHours roster.now from (length by_hour.now) }
         requires many { length touched.now ≡ length by_hour.now }
         requires touched { AreTouched roster.now.commitments from (length by_hour.now) touched.now }
-        requires by_hour { AreByHour (lent segments.now) (rows_marked touched.now from (all_rows (lent segments.now))) from (length by_hour.now) by_hour.now }
+        requires by_hour { AreOpenByHour (lent segments.now) (all_rows (lent segments.now)) roster.now.commitments kept.old from (length by_hour.now) by_hour.now }
         requires counts { Counts self.old (map (row_cost key.now) (rows_marked (replicate (length by_hour.now) true) from (all_rows (lent segments.now)))) }
-        requires kept { AreKept roster.now.commitments (all_rows (lent segments.now)) covers.old }
-        ensures kept { AreKept roster.now.commitments (all_rows (lent segments.now)) covers.new }
+        requires kept { AreKeptUnder roster.now.commitments (all_rows (lent segments.now)) key.now kept.old }
+        ensures kept { AreKeptUnder roster.now.commitments (all_rows (lent segments.now)) key.now kept.new }
         ensures counts { OnOk result (CountsHours self.new [] key.now roster.now.commitments (map (λ h. rows_in h (all_rows (lent segments.now))) (range_with_len from (length by_hour.now))) from) }
     {
         let mut hour = from;
         for places in by_hour {
-            let is_touched = touched[(hour - from) as usize];
-            self.add_hour(
-                key,
-                segments,
-                roster,
-                covers,
-                places.as_slice(),
-                is_touched,
-                hour,
-            )?;
+            if touched[(hour - from) as usize] {
+                self.add_hour(key, segments, roster, kept, places.as_slice(), hour as u32)?;
+            }
             hour += 1;
         }
         Ok(())
     }
 
-    // Counts the lines of an hour whose rows are at these places and are counted, where the hour is touched.
+    // Counts the lines of an hour whose rows are counted, and are at these places where nothing is kept of the hour. What the commitments bring to it
+    // is taken from what is kept, or found and kept.
     fn add_hour<'a>(
         &mut self,
         key: &str,
         segments: &[&'a Columns],
         roster: &Roster<'a>,
-        covers: &mut Covers,
+        kept: &mut HourSums,
         places: &[RowPlace],
-        is_touched: bool,
-        hour: u64,
+        hour: u32,
     ) -> Result<(), AllocError>
         requires counts { (costs : List Cost) × Counts self.old costs }
         requires hour { HasHour roster.now hour }
         requires there { All (IsThere (lent segments.now)) places.now }
-        requires of_hour { All (λ r. hour_of r.start ≡ hour) (rows_at (lent segments.now) places.now) }
-        requires early { OnTrue is_touched (hour < 2 ^ 32) }
-        requires kept { OnTrue is_touched (IfSome (kept_at covers.old hour) (IsHourCover roster.now.commitments (rows_at (lent segments.now) places.now) hour)) }
-        ensures kept { MatchBool is_touched (KeepsHour roster.now.commitments (rows_at (lent segments.now) places.now) hour covers.old covers.new) (covers.new ≡ covers.old) }
-        ensures counts { OnOk result (MatchBool is_touched ((costs : List Cost) → Counts self.old (costs ++ map (row_cost key.now) (rows_at (lent segments.now) places.now)) → CountsHour self.new costs key.now roster.now.commitments (rows_at (lent segments.now) places.now) hour) (self.new ≡ self.old)) }
+        requires rows { IfNone (kept_at kept.old hour) (rows_at (lent segments.now) places.now ≡ rows_in hour (all_rows (lent segments.now))) }
+        requires kept { AreKeptUnder roster.now.commitments (all_rows (lent segments.now)) key.now kept.old }
+        ensures kept { AreKeptUnder roster.now.commitments (all_rows (lent segments.now)) key.now kept.new }
+        ensures others { (h : ℕ) → hour < h → kept_at kept.new h ≡ kept_at kept.old h }
+        ensures counts { OnOk result ((costs : List Cost) → Counts self.old (costs ++ map (row_cost key.now) (rows_in hour (all_rows (lent segments.now)))) → CountsHour self.new costs key.now roster.now.commitments (rows_in hour (all_rows (lent segments.now))) hour) }
     {
-        if !is_touched {
-            return Ok(());
+        if let Some(sums) = kept.of_hour(hour) {
+            return self.add_groups(sums);
         }
-        let rows = rows_at(self.alloc, segments, places)?;
-        self.add_touched(key, roster, covers, rows.as_slice(), hour as u32)
-    }
-
-    // Counts the lines of an hour whose rows are these and are counted. What the commitments cover of them is taken from what is kept, or found and
-    // kept.
-    fn add_touched<'a>(
-        &mut self,
-        key: &str,
-        roster: &Roster<'a>,
-        covers: &mut Covers,
-        rows: &[LentRow<'a>],
-        hour: u32,
-    ) -> Result<(), AllocError>
-        requires counts { (costs : List Cost) × Counts self.old costs }
-        requires hour { HasHour roster.now hour }
-        requires of_hour { All (λ r. hour_of r.start ≡ hour) rows.now }
-        requires kept { IfSome (kept_at covers.old hour) (IsHourCover roster.now.commitments rows.now hour) }
-        ensures kept { KeepsHour roster.now.commitments rows.now hour covers.old covers.new }
-        ensures counts { OnOk result ((costs : List Cost) → Counts self.old (costs ++ map (row_cost key.now) rows.now) → CountsHour self.new costs key.now roster.now.commitments rows.now hour) }
-    {
-        let each = references(self.alloc, rows)?;
-        if let Some(cover) = covers.of_hour(hour) {
-            return self.add_covered(key, roster, rows, each.as_slice(), cover, hour);
-        }
-        let cover = roster.cover(self.alloc, each.as_slice(), hour)?;
-        self.add_covered(key, roster, rows, each.as_slice(), &cover, hour)?;
-        covers.keep(hour, cover);
+        let sums = Groups::of_commitments(self.alloc, key, segments, roster, places, hour)?;
+        self.add_groups(&sums)?;
+        kept.keep(hour, sums);
         Ok(())
     }
 
-    // Counts the lines of an hour whose rows are these and are counted, where the commitments cover this of them: the commitments' own lines, and what
-    // corrects the rows that they took of.
-    fn add_covered<'a>(
-        &mut self,
+    // What commitments bring to an hour whose rows are at these places: their own lines, and what corrects the rows that they took of.
+    fn of_commitments<'a>(
+        alloc: Global,
         key: &str,
+        segments: &[&'a Columns],
         roster: &Roster<'a>,
-        rows: &[LentRow<'a>],
-        each: &[&LentRow<'a>],
-        cover: &HourCover,
+        places: &[RowPlace],
         hour: u32,
-    ) -> Result<(), AllocError>
-        requires counts { (costs : List Cost) × Counts self.old costs }
+    ) -> Result<Groups, AllocError>
         requires hour { HasHour roster.now hour }
-        requires each { map (λ r. r.now) each.now ≡ rows.now }
-        requires cover { IsHourCover roster.now.commitments rows.now hour cover.now }
-        ensures { OnOk result ((costs : List Cost) → Counts self.old (costs ++ map (row_cost key.now) rows.now) → CountsHour self.new costs key.now roster.now.commitments rows.now hour) }
+        requires there { All (IsThere (lent segments.now)) places.now }
+        ensures { IfOk result (AreOwnSums roster.now.commitments (rows_at (lent segments.now) places.now) key.now hour) }
     {
-        let own = own_lines(self.alloc, roster, each, cover, hour)?;
-        self.add_lines(key, own.as_slice())?;
-        self.correct_rows(key, rows, cover.row_left.as_slice())
+        let rows = rows_at(alloc, segments, places)?;
+        let each = references(alloc, rows.as_slice())?;
+        let cover = roster.cover(alloc, each.as_slice(), hour)?;
+        let own = own_lines(alloc, roster, each.as_slice(), &cover, hour)?;
+        let mut sums = Groups::new(alloc);
+        sums.add_lines(key, own.as_slice())?;
+        sums.correct_rows(key, rows.as_slice(), cover.row_left.as_slice())?;
+        Ok(sums)
     }
 
     // Counts lines.

@@ -48,7 +48,7 @@ pub fn report(
     report_keeping(rt, alloc, snapshot, &mut covers, query, workers)
 }
 
-/// The same report, by what reports before it kept of what the commitments cover in an hour; what this one finds is kept too. All that is kept must
+/// The same report, by what reports before it kept of what the commitments bring to an hour; what this one finds is kept too. All that is kept must
 /// be of the snapshot's entries. After an error it still is.
 pub fn report_keeping(
     rt: &(impl Threads + Sync),
@@ -214,5 +214,8 @@ fn direct_entries<'a>(
     let from = query.from_hour;
     let hours = (query.to_hour - from) as usize;
     let roster = Roster::new(alloc, commitments, from, query.to_hour)?;
-    Groups::of_hours(rows, query.key, segments, &roster, covers, from, hours)?.into_entries()
+    let mut kept = covers.take(query.key);
+    let groups = Groups::of_hours(rows, query.key, segments, &roster, &mut kept, from, hours)?;
+    covers.put(query.key, kept);
+    groups.into_entries()
 }

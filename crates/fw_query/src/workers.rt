@@ -26,7 +26,7 @@ fn piece<T>(items: &[T], size: usize, place: usize) -> &[T]
 
 impl Groups {
     // Adds the sums of other lines. More lines than 2^64, which no memory holds, are answered as out of memory.
-    fn add_groups(&mut self, other: &Groups) -> Result<(), AllocError>
+    pub(crate) fn add_groups(&mut self, other: &Groups) -> Result<(), AllocError>
         requires counts { (costs : List Cost) × Counts self.old costs }
         requires others { (costs : List Cost) × Counts other.now costs }
         ensures { OnOk result ((costs more : List Cost) → Counts self.old costs → Counts other.now more → Counts self.new (costs ++ more)) }

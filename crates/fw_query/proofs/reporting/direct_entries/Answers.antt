@@ -17,7 +17,9 @@ of_hours-requires-clause-roster c =
     rw c.in_ok-roster.ensures (record { since = omega arith; until = omega (arith, some) })
 
 pub returns-clause-kept : goal.returns-clause-kept
-returns-clause-kept c = rw c.in_ok-roster.ensures at c.in_ok-of_hours.ensures.kept
+returns-clause-kept c =
+    let taken = c.take-kept.ensures c.args.commitments.now (all_rows (lent c.args.segments.now)) c.requires.kept in
+    c.put.ensures c.args.commitments.now (all_rows (lent c.args.segments.now)) taken.0 (rw c.in_ok-roster.ensures at c.in_ok-groups.ensures.kept)
 
 pub returns-clause-entries : goal.returns-clause-entries
 returns-clause-entries c =
@@ -25,8 +27,8 @@ returns-clause-entries c =
     let to = c.args.query.now.to_hour in
     let key = c.args.query.now.key.now in
     let rows = all_rows (lent c.args.segments.now) in
-    let counted : CountsHours c.in_ok-of_hours.field-0 [] key c.args.commitments.now (hours_of rows from (to - from)) from = rw c.in_ok-roster.ensures at c.in_ok-of_hours.ensures.groups in
-    IfOk-weaker c.into_entries.result (λ entries. (costs : List Cost) → AreSums c.in_ok-of_hours.field-0 costs → AreEntries costs entries.items)
+    let counted : CountsHours c.in_ok-groups.groups [] key c.args.commitments.now (hours_of rows from (to - from)) from = rw c.in_ok-roster.ensures at c.in_ok-groups.ensures.groups in
+    IfOk-weaker c.into_entries.result (λ entries. (costs : List Cost) → AreSums c.in_ok-groups.groups costs → AreEntries costs entries.items)
     (λ entries. HasDirect c.args.commitments.now rows key from to entries.items)
     (λ entries made. record {
       lines = joined counted.hourly;
