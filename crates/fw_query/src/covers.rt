@@ -13,12 +13,16 @@ use std::alloc::{AllocError, Global};
 // Of so many keys sums are kept. The key that was asked for longest ago gives way to a new one.
 const MOST_KEYS: usize = 8;
 
+// Of a key sums are kept for so many groups, those of each hour counted: some 31 MB. What is past that is found anew for each report.
+const MOST_GROUPS: usize = 262_144;
+
 /// What commitments bring to the groups of a key in the hours that reports asked for, kept for the next reports on the same entries.
 ///
 /// Under commitments most of a report's time goes into covering its hours and sharing what they cost, and what that brings to the groups of a key is
 /// the same for each report until rows or commitments come. So whoever asks for many reports makes a `Covers` once, lends it to each
 /// [`report_keeping`](crate::report_keeping), and clears it when an entry was accepted. It keeps the sums of the last 8 keys: for each key, and each hour
-/// that a commitment has a line in, some 120 bytes for each group that a commitment, or a row that one took of, is in there.
+/// that a commitment has a line in, some 120 bytes for each group that a commitment, or a row that one took of, is in there. Of a key it keeps 262,144
+/// such groups at most, which is some 31 MB; the hours behind them are covered anew for each report.
 #[derive(Drop)]
 pub struct Covers {
     alloc: Global,
@@ -36,6 +40,8 @@ struct KeySums {
 #[derive(Drop)]
 pub(crate) struct HourSums {
     by_hour: IndexMap<u32, Groups>,
+    // How many groups there are in all, those of each hour counted.
+    groups: usize,
 }
 
 impl Covers {
@@ -95,6 +101,7 @@ impl HourSums {
     {
         HourSums {
             by_hour: IndexMap::new(alloc),
+            groups: 0,
         }
     }
 
@@ -105,11 +112,17 @@ impl HourSums {
         self.by_hour.get(&hour)
     }
 
-    // Keeps what commitments bring to an hour. Where memory is short nothing is kept, and the next report finds it anew.
+    // Keeps what commitments bring to an hour. Where memory is short, or as many groups are kept as may be, nothing is kept, and the next report finds it anew.
     pub(crate) fn keep(&mut self, hour: u32, sums: Groups)
         ensures { (h : ℕ) → (kept_at self.new h ≡ kept_at self.old h) ⊎ ((h ≡ hour) × (kept_at self.new h ≡ Some sums)) }
     {
-        let _kept = self.by_hour.insert(hour, sums);
+        let groups = self.groups.saturating_add(sums.by_group.len());
+        if groups > MOST_GROUPS {
+            return;
+        }
+        if self.by_hour.insert(hour, sums).is_ok() {
+            self.groups = groups;
+        }
     }
 
     // Whether an hour is open: touched, and nothing is kept of it.
