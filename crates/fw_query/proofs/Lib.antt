@@ -19,6 +19,7 @@ pub mod RangeFacts
 mod ListingFacts
 pub mod TurnFacts
 pub mod TotalFacts
+pub mod WholeFacts
 pub mod OneAnswer
 pub mod DirectFacts
 pub mod CarriedFacts

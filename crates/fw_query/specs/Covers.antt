@@ -11,6 +11,7 @@ use Rattle.fw_query.specs.Corrections.{corrections}
 use Rattle.fw_query.specs.Hours.{AreByHour, is_touched, rows_marked}
 use Rattle.fw_query.specs.Reports.{costs_of}
 use Rattle.fw_query.specs.Sums.{Counts}
+use Rattle.fw_query.specs.Wholes.{AreWholes}
 use Rattle.fw_query.specs.declared.covers.Covers.{Covers}
 use Rattle.fw_query.specs.declared.covers.HourSums.{HourSums}
 use Rattle.fw_query.specs.declared.groups.Groups.{Groups}
@@ -30,9 +31,9 @@ kept_at kept hour = lookup (nat_eq hour) kept.by_hour.entries
 abbrev pub AreKeptUnder : List CommitmentValue → List Charge → List ℕ → HourSums → Type 0
 AreKeptUnder cs rows key kept = (hour : ℕ) → IfSome (kept_at kept hour) (AreOwnSums cs (rows_in hour rows) key hour)
 
--- so of each key
-abbrev pub AreKept : List CommitmentValue → List Charge → Covers → Type 0
-AreKept cs rows covers = All (λ k. AreKeptUnder cs rows (string_bytes k.key) k.hours) covers.keys.items
+-- so of each key, and its sums of whole segments are those of these rows
+unfoldable pub AreKept : List CommitmentValue → List Charge → Covers → Type 0
+AreKept cs rows covers = All (λ k. AreKeptUnder cs rows (string_bytes k.key) k.hours) covers.keys.items × All (λ k. AreWholes (string_bytes k.key) rows k.wholes) covers.wholes.items
 
 -- whether an hour is open: a commitment has a line in it, and nothing is kept of it
 abbrev pub is_open : HourSums → Bool → ℕ → Bool

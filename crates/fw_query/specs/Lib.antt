@@ -11,6 +11,7 @@ pub mod Parts
 pub mod Corrections
 pub mod Covers
 pub mod CodeSums
+pub mod Wholes
 pub mod Listing
 pub mod LineTexts
 pub mod OfHistory

@@ -1,12 +1,16 @@
-//! What commitments bring to the groups of a key in hours, kept from one report to the next.
+//! What reports find of a key, kept from one report to the next.
 ghost use Rattle.std.specs.Prelude.{◌≡◌, ◌⊎◌, ◌<◌, ◌+◌, ◌^◌, ℕ, List, [], Some, false, true, length, map, option_copied, slice_index_or, IfOk};
 ghost use Rattle.std.specs.Bool.{OnTrue};
 ghost use Rattle.std.specs.List.{range_with_len};
 ghost use Rattle.fw_charge.specs.Charge.{Charge};
 ghost use Rattle.fw_query.specs.Covers.{AreKept, AreKeptUnder, is_open, kept_at};
+ghost use Rattle.fw_query.specs.Hours.{all_rows, lent};
+ghost use Rattle.fw_query.specs.Wholes.{AreWholes};
 ghost use Rattle.fw_terms.specs.Commitment.{CommitmentValue};
 
 use crate::groups::Groups;
+use crate::wholes::Wholes;
+use fw_columns::Columns;
 use indexmap::IndexMap;
 use std::alloc::{AllocError, Global};
 
@@ -16,17 +20,21 @@ const MOST_KEYS: usize = 8;
 // Of a key sums are kept for so many groups, those of each hour counted: some 31 MB. What is past that is found anew for each report.
 const MOST_GROUPS: usize = 262_144;
 
-/// What commitments bring to the groups of a key in the hours that reports asked for, kept for the next reports on the same entries.
+/// What reports found of a key, kept for the next reports on the same entries: what commitments bring to its groups in the hours that were asked for,
+/// and the sums of the rows of whole segments.
 ///
-/// Under commitments most of a report's time goes into covering its hours and sharing what they cost, and what that brings to the groups of a key is
-/// the same for each report until rows or commitments come. So whoever asks for many reports makes a `Covers` once, lends it to each
-/// [`report_keeping`](crate::report_keeping), and clears it when an entry was accepted. It keeps the sums of the last 8 keys: for each key, and each hour
-/// that a commitment has a line in, some 120 bytes for each group that a commitment, or a row that one took of, is in there. Of a key it keeps 262,144
-/// such groups at most, which is some 31 MB; the hours behind them are covered anew for each report.
+/// Under commitments most of a report's time goes into covering its hours and sharing what they cost, and without them into summing the rows of its
+/// hours by group. What an hour's commitments and a segment's rows bring to the groups of a key is the same for each report until rows or commitments
+/// come. So whoever asks for many reports makes a `Covers` once, lends it to each [`report_keeping`](crate::report_keeping), and clears it when an entry
+/// was accepted. It keeps the sums of the last 8 keys. For each key, and each hour that a commitment has a line in, these are some 120 bytes for each
+/// group that a commitment, or a row that one took of, is in there. From the second report on a key they are so many for each group in each segment of
+/// the rows too: a later report sums the rows of those segments alone that have rows both in and out of its range. Of a key it keeps 262,144 groups of
+/// hours at most, and about as many of segments, each some 31 MB; the hours and segments behind them are counted anew for each report.
 #[derive(Drop)]
 pub struct Covers {
     alloc: Global,
     keys: Vec<KeySums>,
+    wholes: Vec<KeyWholes>,
 }
 
 // What is kept of a key.
@@ -34,6 +42,13 @@ pub struct Covers {
 struct KeySums {
     key: String,
     hours: HourSums,
+}
+
+// The sums of whole segments, as they are kept of a key.
+#[derive(Drop)]
+struct KeyWholes {
+    key: String,
+    wholes: Wholes,
 }
 
 // What commitments bring to the groups of one key, by hour.
@@ -46,6 +61,7 @@ pub(crate) struct HourSums {
 
 impl Covers {
     /// Nothing is kept.
+    #[tactic(auto, unfolding(crate::specs::Covers::AreKept))]
     pub fn new(alloc: Global) -> Covers
         ensures none { result.keys.items ≡ [] }
         ensures kept { (cs : List CommitmentValue) (rows : List Charge) → AreKept cs rows result }
@@ -53,18 +69,22 @@ impl Covers {
         Covers {
             alloc,
             keys: Vec::new(alloc),
+            wholes: Vec::new(alloc),
         }
     }
 
     /// Keeps nothing any more.
+    #[tactic(auto, unfolding(crate::specs::Covers::AreKept))]
     pub fn clear(&mut self)
         ensures none { self.new.keys.items ≡ [] }
         ensures kept { (cs : List CommitmentValue) (rows : List Charge) → AreKept cs rows self.new }
     {
         self.keys.clear();
+        self.wholes.clear();
     }
 
     // Takes out what is kept of a key: nothing where it is new.
+    #[tactic(auto, unfolding(crate::specs::Covers::AreKept))]
     pub(crate) fn take(&mut self, key: &str) -> HourSums
         ensures { (cs : List CommitmentValue) (rows : List Charge) → AreKept cs rows self.old → AreKept cs rows self.new × AreKeptUnder cs rows key.now result }
     {
@@ -75,6 +95,7 @@ impl Covers {
     }
 
     // Lets go of the key that was asked for longest ago, where there are as many as are kept.
+    #[tactic(auto, unfolding(crate::specs::Covers::AreKept))]
     fn make_room(&mut self)
         ensures { (cs : List CommitmentValue) (rows : List Charge) → AreKept cs rows self.old → AreKept cs rows self.new }
     {
@@ -90,6 +111,47 @@ impl Covers {
         self.make_room();
         if let Ok(key) = String::from_str(self.alloc, key) {
             let _kept = self.keys.push(KeySums { key, hours });
+        }
+    }
+
+    // Takes out the sums of whole segments of a key. Those of a key that was asked before are found first, where they aren't kept yet; of a new key
+    // there are none.
+    #[tactic(auto, unfolding(crate::specs::Covers::AreKept))]
+    pub(crate) fn take_wholes(
+        &mut self,
+        key: &str,
+        segments: &[&Columns],
+    ) -> Result<Wholes, AllocError>
+        ensures kept { (cs : List CommitmentValue) (rows : List Charge) → AreKept cs rows self.old → AreKept cs rows self.new }
+        ensures wholes { (cs : List CommitmentValue) → AreKept cs (all_rows (lent segments.now)) self.old → IfOk result (AreWholes key.now (all_rows (lent segments.now))) }
+    {
+        match self.wholes.iter().position(|kept| kept.key.as_str() == key) {
+            Some(place) => {
+                let mut wholes = self.wholes.remove(place).wholes;
+                wholes.fill(self.alloc, key, segments)?;
+                Ok(wholes)
+            }
+            None => Ok(Wholes::new(self.alloc)),
+        }
+    }
+
+    // Lets go of the sums of whole segments of the key that was asked for longest ago, where those of as many keys are kept as may be.
+    #[tactic(auto, unfolding(crate::specs::Covers::AreKept))]
+    fn make_room_for_wholes(&mut self)
+        ensures { (cs : List CommitmentValue) (rows : List Charge) → AreKept cs rows self.old → AreKept cs rows self.new }
+    {
+        if self.wholes.len() >= MOST_KEYS {
+            let _oldest = self.wholes.remove(0);
+        }
+    }
+
+    // Keeps the sums of whole segments of a key. Where memory is short they aren't kept.
+    pub(crate) fn put_wholes(&mut self, key: &str, wholes: Wholes)
+        ensures { (cs : List CommitmentValue) (rows : List Charge) → AreKept cs rows self.old → AreWholes key.now rows wholes → AreKept cs rows self.new }
+    {
+        self.make_room_for_wholes();
+        if let Ok(key) = String::from_str(self.alloc, key) {
+            let _kept = self.wholes.push(KeyWholes { key, wholes });
         }
     }
 }

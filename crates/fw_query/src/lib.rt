@@ -25,6 +25,7 @@ mod segments;
 mod summing;
 mod text;
 mod total;
+mod wholes;
 mod workers;
 
 pub use covers::Covers;

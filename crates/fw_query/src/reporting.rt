@@ -48,8 +48,8 @@ pub fn report(
     report_keeping(rt, alloc, snapshot, &mut covers, query, workers)
 }
 
-/// The same report, by what reports before it kept of what the commitments bring to an hour; what this one finds is kept too. All that is kept must
-/// be of the snapshot's entries. After an error it still is.
+/// The same report, by what reports before it kept of what the commitments bring to an hour and the rows of a segment to the sums; what this one
+/// finds is kept too. All that is kept must be of the snapshot's entries. After an error it still is.
 pub fn report_keeping(
     rt: &(impl Threads + Sync),
     alloc: Global,
@@ -106,16 +106,18 @@ fn report_on(
 {
     let segments = state.segments().references(alloc)?;
     let segments = segments.as_slice();
-    let marks = marks_of(alloc, query)?;
-    let rows = Groups::of_segments(
+    let wholes = covers.take_wholes(query.key, segments)?;
+    let rows = Groups::of_wholes(
         rt,
         alloc,
         query.key,
         segments,
+        &wholes,
         query.from_hour,
-        marks.as_slice(),
+        query.to_hour,
         workers,
     )?;
+    covers.put_wholes(query.key, wholes);
     report_of(
         alloc,
         segments,

@@ -78,7 +78,7 @@ impl Groups {
 
     // Counts the rows of a segment that are of marked hours; the first mark is of this hour. More lines than 2^64, which no memory holds, are
     // answered as out of memory.
-    fn add_segment(
+    pub(crate) fn add_segment(
         &mut self,
         key: &str,
         segment: &Columns,

@@ -16,6 +16,14 @@ of_hours-requires-clause-roster c =
     let some = c.requires.range.some in
     rw c.in_ok-roster.ensures (record { since = omega arith; until = omega (arith, some) })
 
+pub of_hours-requires-clause-kept : goal.of_hours-requires-clause-kept
+of_hours-requires-clause-kept c =
+    let taken = c.take-kept.ensures c.args.commitments.now (all_rows (lent c.args.segments.now)) c.requires.kept in
+    rw c.in_ok-roster.ensures taken.1
+
+pub returns-in_err-groups-clause-kept : goal.returns-in_err-groups-clause-kept
+returns-in_err-groups-clause-kept c = let taken = c.take-kept.ensures c.args.commitments.now (all_rows (lent c.args.segments.now)) c.requires.kept in taken.0
+
 pub returns-clause-kept : goal.returns-clause-kept
 returns-clause-kept c =
     let taken = c.take-kept.ensures c.args.commitments.now (all_rows (lent c.args.segments.now)) c.requires.kept in
