@@ -1,5 +1,4 @@
 use Rattle.std.proofs.Common.{◌≡◌, refl, inl}
-use Rattle.fw_query.proofs.CoverFacts.{none_kept}
 use Rattle.fw_serve.specs.Answers.{Answer}
 use Rattle.fw_serve.proofs.MoveFacts.{Moves-as}
 use Rattle.fw_serve.proofs.RunFacts.{checkpoint_leaves}
@@ -56,7 +55,7 @@ pub returns-in-BadEnd-clause-moves : goal.returns-in-BadEnd-clause-moves
 returns-in-BadEnd-clause-moves g c = inl refl
 
 pub returns-in-Entry-clause-kept : goal.returns-in-Entry-clause-kept
-returns-in-Entry-clause-kept g c = none_kept _ _ _ c.clear.ensures
+returns-in-Entry-clause-kept g c = c.clear.ensures.kept _ _
 
 pub returns-in-Checkpoint-clause-kept : goal.returns-in-Checkpoint-clause-kept
 returns-in-Checkpoint-clause-kept g c =

@@ -1,6 +1,5 @@
 use Rattle.std.proofs.Common.{refl, inl, inr}
 use Rattle.std.proofs.lemmas.Result.{err_from_is_err_and}
-use Rattle.fw_query.proofs.CoverFacts.{none_kept}
 use Rattle.fw_serve.proofs.FlightFacts.{Runs-part, Runs-whole, RunsSoFar-more, RunsSoFar-none, within_one}
 use Rattle.fw_serve.proofs.ServedFacts.{ServesSoFar-none, ServesSoFar-more, Serves-whole}
 use Rattle.fw_script.specs.Plain.{plain_command}
@@ -12,7 +11,7 @@ pub loop-command-init : goal.loop-command-init
 loop-command-init g c = record {
   so_far = ServesSoFar-none _ _ _ _ c.new-script.ensures;
   runs = RunsSoFar-none _ _ _ _ _ _ c.new-script.ensures;
-  kept = none_kept _ _ _ c.new-covers.ensures;
+  kept = c.new-covers.ensures.kept _ _;
 }
 
 pub returns-in_err-write_reply-clause-write : goal.returns-in_err-write_reply-clause-write
