@@ -1,9 +1,10 @@
 -- Lemmas on what is kept of each commitment, hour by hour.
-use Rattle.std.proofs.Common.{◌≡◌, ◌∙◌, ℕ, ◌+◌, ◌-◌, ◌<◌, Bool, false, ◌&&◌, MatchBool, List, [], ◌∷◌, ◌++◌, All, filter, map, length, get_or, sum_by, not, Some, refl, sym, ap, subst, arith, append-nil}
+use Rattle.std.proofs.Common.{◌≡◌, ◌∙◌, ℕ, ◌+◌, ◌-◌, ◌^◌, ◌<◌, Bool, false, ◌&&◌, MatchBool, List, [], ◌∷◌, ◌++◌, All, filter, map, length, get_or, sum_by, not, Some, refl, sym, ap, subst, arith, append-nil}
 use Rattle.std.specs.Prelude.{nat_lt, slice_get, slice_index}
+use Rattle.std.specs.Bool.{OnTrue}
 use Rattle.std.specs.List.{AllZip, enumerate_from, list_any, range_with_len}
 use Rattle.std.specs.Str.{bytes_eq}
-use Rattle.std.proofs.lemmas.Bool.{MatchBool-at_false, MatchBool-at_true}
+use Rattle.std.proofs.lemmas.Bool.{MatchBool-at_false, MatchBool-at_true, OnTrue_from}
 use Rattle.std.proofs.lemmas.Grind.{flat_map-append}
 use Rattle.std.proofs.lemmas.List.{get_or-map, get_or_default}
 use Rattle.std.proofs.lemmas.Option.{slice_get_read}
@@ -36,6 +37,12 @@ use Rattle.fw_query.proofs.CarriedFacts.{commitment_keeps, range_append, rows_fr
 use Rattle.fw_coverage.proofs.LineSumFacts.{line_sums-append, no_lines_carry, other_line, with_none}
 use Rattle.fw_query.proofs.MarkFacts.{marked_at, rows_in_marked, touched_at}
 use Rattle.fw_query.proofs.UntouchedFacts.{are_plain, neither, plain_lines}
+
+-- the hour in turn is early where it is marked
+pub early_in_turn : (cs : List CommitmentValue) (from hours hour i : ℕ) (marks : List Bool) → AreTouched cs from hours marks → hour ≡ from + i → OnTrue (get_or marks (hour - from) false) (hour < 2 ^ 32)
+early_in_turn cs from hours hour i marks touched at =
+    let place : hour - from ≡ i = omega (arith, at) in
+    OnTrue_from (get_or marks (hour - from) false) (hour < 2 ^ 32) (λ yes. rw at (touched.early i (rw place at yes)))
 
 -- ---- what nothing used in an hour
 pub unused_is : (cs : List CommitmentValue) (rows : List Charge) (hour : ℕ) (taken : List Taken) (unused : List ℕ) → taken ≡ hour_cover cs rows hour
