@@ -11,8 +11,8 @@
 Every run proves every crate and its tests, runs them, and prints what each crate cost. It proves from nothing, but for what `rt ci` has passed on this
 machine, of the same files over the same libraries: that it takes as it is, and says so. The edits alone are
 sampled: they show that contracts have teeth, and what they show changes with the file that they turn, with the definitions that its
-contracts speak of, and with the toolchain. After a change of toolchain every edit is due, and so it is where the commit of the last full run
-isn't in this clone. A landing is a commit whose gate passed. What an edit shows may also change with the contract of a function in another
+contracts speak of, and with the logic of the toolchain, which `rt version` names. Under another logic every edit is due, and so it is where the
+commit of the last full run isn't in this clone. Releases of the toolchain that share a logic differ in what they print and keep. A landing is a commit whose gate passed. What an edit shows may also change with the contract of a function in another
 file that its function calls: such an edit is tried again when its crate is picked, or by --all.
 
 It leaves the built programs in out/focusd, out/fw_first_look and out/fw_simulate, the built tests in out/tests/, and all that `rt ci` printed in out/gate.log.
@@ -73,6 +73,12 @@ class Record:
     def write(self, top):
         with open(os.path.join(top, RECORD), "w", encoding="utf-8") as file:
             file.write(f"commit {self.commit}\ndate {self.date}\nkit {self.kit}\n")
+
+
+def logic_of(kit):
+    """The logic in which a toolchain proves, by its line of `rt version`; a line that names none stands for itself."""
+    named = re.search(r"\blogic (\w+)$", kit)
+    return named[1] if named else kit
 
 
 def output_of(words, top):
@@ -230,7 +236,7 @@ def choose(top, files, kit, tries_all):
     if tries_all:
         return every("every edit is due")
     record = Record.read(top)
-    if record.kit != kit:
+    if logic_of(record.kit) != logic_of(kit):
         return every(f"every edit is due: the last full run was by {record.kit}, and this is {kit}")
     base = landed(top) or record.commit
     changes = changes_since(top, base)

@@ -138,7 +138,11 @@ class Changes(unittest.TestCase):
             repository.leave_all()
             chosen = gate.choose(top, gate.files_of(top), kit, False)
             self.assertEqual((chosen.reasons, chosen.edits), ({"same": "new edits"}, {new}))
-            self.assertEqual(gate.choose(top, gate.files_of(top), "another kit", False).edits, {path for path in gate.files_of(top) if gate.is_edit(path)})
+            every = {path for path in gate.files_of(top) if gate.is_edit(path)}
+            for another in ("another kit", "rattle-kit-1 logic another"):
+                self.assertEqual(gate.choose(top, gate.files_of(top), another, False).edits, every, another)
+            later = f"a later release logic {gate.logic_of(kit)}"
+            self.assertEqual(gate.choose(top, gate.files_of(top), later, False).edits, {new}, "it proves in the same logic")
             self.assertEqual(len(gate.choose(top, gate.files_of(top), kit, True).edits), 4)
 
 
