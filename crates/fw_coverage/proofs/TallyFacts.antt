@@ -29,14 +29,14 @@ use Rattle.fw_entry.specs.Entry as entry
 use Rattle.fw_entry.specs.Spelling.{IsEntry}
 use Rattle.fw_snapshot.specs.History.{commitments_of, rows_of}
 use Rattle.fw_snapshot.specs.Judging.{IsLegal}
-use Rattle.fw_query.specs.Hours.{AreTouched, has_line, is_touched, rows_marked}
-use Rattle.fw_query.specs.RangeLines.{AreRangeLines, joined}
+use Rattle.fw_sums.specs.Hours.{AreTouched, has_line, is_touched, rows_marked}
+use Rattle.fw_sums.specs.RangeLines.{AreRangeLines, joined}
 use Rattle.fw_query.specs.Texts.{id_text}
 use Rattle.fw_query.proofs.BoughtFacts.{not_shown}
 use Rattle.fw_query.proofs.CarriedFacts.{commitment_keeps, range_append, rows_free}
 use Rattle.fw_coverage.proofs.LineSumFacts.{line_sums-append, no_lines_carry, other_line, with_none}
-use Rattle.fw_query.proofs.MarkFacts.{marked_at, rows_in_marked, touched_at}
-use Rattle.fw_query.proofs.UntouchedFacts.{are_plain, neither, plain_lines}
+use Rattle.fw_sums.proofs.MarkFacts.{marked_at, rows_in_marked, touched_at}
+use Rattle.fw_sums.proofs.UntouchedFacts.{are_plain, neither, plain_lines}
 
 -- the hour in turn is early where it is marked
 pub early_in_turn : (cs : List CommitmentValue) (from hours hour i : ℕ) (marks : List Bool) → AreTouched cs from hours marks → hour ≡ from + i → OnTrue (get_or marks (hour - from) false) (hour < 2 ^ 32)

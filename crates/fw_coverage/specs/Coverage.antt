@@ -14,7 +14,7 @@ use Rattle.fw_amortise.specs.Carrying.{cost_of_all}
 use Rattle.fw_amortise.specs.LineValue.{LineValue}
 use Rattle.fw_amortise.specs.Lines.{rows_in}
 use Rattle.fw_query.specs.Carried.{billed_by_all, shows_purchase_of}
-use Rattle.fw_query.specs.RangeLines.{AreRangeLines}
+use Rattle.fw_sums.specs.RangeLines.{AreRangeLines}
 use Rattle.fw_query.specs.Texts.{id_text, status_text}
 
 -- ---- what lines carry of a commitment, by what their text has

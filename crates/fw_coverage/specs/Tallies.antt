@@ -9,7 +9,7 @@ use Rattle.fw_amortise.specs.LineValue.{LineValue}
 use Rattle.fw_amortise.specs.Lines.{AreHourLines}
 use Rattle.fw_coverage.specs.Coverage.{CoverageValue, capacity_of, in_term, paid_cost, shows_id, unused_cost, unused_in, used_cost}
 use Rattle.fw_coverage.specs.declared.line_sums.LineSums.{LineSums}
-use Rattle.fw_query.specs.RangeLines.{AreRangeLines}
+use Rattle.fw_sums.specs.RangeLines.{AreRangeLines}
 use Rattle.fw_query.specs.Texts.{id_text}
 
 -- what lines carry of the commitment with an id

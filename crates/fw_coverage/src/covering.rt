@@ -5,8 +5,8 @@ ghost use Rattle.fw_charge.specs.Charge.{hour_of};
 ghost use Rattle.fw_cover.specs.RosterView.{HasHour};
 ghost use Rattle.fw_coverage.specs.Coverage.{IsCoverage};
 ghost use Rattle.fw_coverage.specs.Tallies.{AreAfter, AreApart, ArePlaced, AreTallies, coverage_from};
-ghost use Rattle.fw_query.specs.Hours.{AreByHour, AreTouched, HasHours, IsThere, all_rows, lent, rows_at, rows_marked};
-ghost use Rattle.fw_query.specs.Limits.{IsRange};
+ghost use Rattle.fw_sums.specs.Hours.{AreByHour, AreTouched, HasHours, IsThere, all_rows, lent, rows_at, rows_marked};
+ghost use Rattle.fw_sums.specs.Limits.{IsRange};
 ghost use Rattle.fw_query.specs.Refusals.{AreRefused};
 ghost use Rattle.fw_snapshot.specs.History.{commitments_of, rows_of};
 
@@ -14,8 +14,9 @@ use crate::covered::Coverage;
 use crate::tally::{Tally, no_tallies, with_hour};
 use fw_columns::Columns;
 use fw_cover::Roster;
-use fw_query::{MOST_HOURS, QueryFault, RowPlace, rows_at, rows_by_hour, touched_hours};
+use fw_query::QueryFault;
 use fw_snapshot::{Snapshot, State};
+use fw_sums::{MOST_HOURS, RowPlace, rows_at, rows_by_hour, touched_hours};
 use fw_terms::Commitment;
 use std::alloc::{AllocError, Global};
 

@@ -3,34 +3,20 @@ use Rattle.std.proofs.Common.{◌≡◌, ◌∙◌, ℕ, zero, suc, ◌+◌, ◌
 use Rattle.std.specs.List.{AllZip, flat_map, range_with_len}
 use Rattle.std.specs.List.Sorted.{IsPermutation}
 use Rattle.std.proofs.lemmas.Bool.Decides.{nat_tests}
-use Rattle.std.proofs.lemmas.List.Sorted.{IsPermutation-append_right, IsPermutation-cons, IsPermutation-middle, IsPermutation-refl, IsPermutation-trans}
+use Rattle.std.proofs.lemmas.List.Sorted.{IsPermutation-append_right, IsPermutation-refl, IsPermutation-trans}
 use Rattle.fw_charge.specs.Charge.{Charge, hour_of}
 use Rattle.fw_terms.specs.Commitment.{CommitmentValue}
 use Rattle.fw_cover.specs.Eligible.{is_of_hour}
-use Rattle.fw_cover.proofs.Sorting.{two_ways}
 use Rattle.fw_amortise.specs.LineValue.{LineValue}
 use Rattle.fw_amortise.specs.Lines.{AreLines, rows_in}
 use Rattle.fw_amortise.proofs.Accounting.{hour_accounted}
 use Rattle.fw_entry.specs.Entry.{EntryValue}
 use Rattle.fw_snapshot.specs.History.{commitments_of, rows_of}
+use Rattle.fw_sums.proofs.FilterFacts.{either_passes}
 use Rattle.fw_query.specs.Accounted.{AccountFor, AreAccountedBetween, rows_between}
 use Rattle.fw_query.specs.OfHistory.{AreLinesOf}
 
 -- ---- the rows of all the hours are those of the range
--- those that pass either of two tests, which none passes both of
-pub either_passes : {X : Type 0} (p q r : X → Bool) → ((x : X) → p x ≡ true → (q x ≡ false) × (r x ≡ true)) → ((x : X) → p x ≡ false → r x ≡ q x) → (xs : List X) → IsPermutation (filter p xs ++ filter q xs) (filter r xs)
-either_passes p q r one other [] = IsPermutation-refl []
-either_passes {X} p q r one other (x ∷ xs) =
-    let rest : IsPermutation (filter p xs ++ filter q xs) (filter r xs) = either_passes p q r one other xs in
-    two_ways (p x)
-    (λ first. let known = one x first in rw (first, known.0, known.1) (IsPermutation-cons x (filter p xs ++ filter q xs) (filter r xs) rest))
-    (λ no. two_ways (q x)
-    (λ second. let third : r x ≡ true = other x no ∙ second in
-    rw (no, second, third)
-    (IsPermutation-trans (filter p xs ++ x ∷ filter q xs) (x ∷ (filter p xs ++ filter q xs)) (x ∷ filter r xs)
-    (IsPermutation-middle (filter p xs) x (filter q xs)) (IsPermutation-cons x (filter p xs ++ filter q xs) (filter r xs) rest)))
-    (λ nor. let third : r x ≡ false = other x no ∙ nor in rw (no, nor, third) rest))
-
 hours_rows : (rows : List Charge) (n from to : ℕ) → to ≡ from + n → IsPermutation (flat_map (λ hour. rows_in hour rows) (range_with_len from n)) (rows_between from to rows)
 unfolding rows_in is_of_hour
 hours_rows rows zero from to end = rw (none rows) (IsPermutation-refl [])

@@ -31,9 +31,9 @@ use Rattle.fw_snapshot.specs.Judging.{IsLegal}
 use Rattle.fw_snapshot.proofs.IdFacts.{own_id}
 use Rattle.fw_query.specs.Carried.{billed_by_all, cost_between, shows_purchase_of}
 use Rattle.fw_query.specs.OfHistory.{AreLinesOf}
-use Rattle.fw_query.specs.RangeLines.{joined}
+use Rattle.fw_sums.specs.RangeLines.{joined}
 use Rattle.fw_query.specs.Texts.{id_text}
-use Rattle.fw_query.proofs.AccountedFacts.{either_passes}
+use Rattle.fw_sums.proofs.FilterFacts.{either_passes}
 use Rattle.fw_query.proofs.CarriedFacts.{and_false, commitment_keeps, rows_free}
 
 -- ---- which lines have the text

@@ -37,7 +37,7 @@ use Rattle.fw_snapshot.specs.Judging.{IsLegal}
 use Rattle.fw_snapshot.proofs.IdFacts.{alone, other_ids}
 use Rattle.fw_query.specs.Carried.{amount_between, shows_share_of}
 use Rattle.fw_query.specs.OfHistory.{AreLinesOf}
-use Rattle.fw_query.specs.RangeLines.{joined}
+use Rattle.fw_sums.specs.RangeLines.{joined}
 use Rattle.fw_query.specs.Texts.{id_text, status_text}
 
 -- ---- the texts of a line

@@ -14,9 +14,9 @@ use Rattle.fw_allocate.specs.Costs.{CostValue, groups_in, total}
 use Rattle.fw_amortise.specs.LineValue.{LineValue}
 use Rattle.fw_terms.specs.Policy.{IsPolicy, PolicyValue}
 use Rattle.fw_terms.specs.Texts.{IsRising}
-use Rattle.fw_query.specs.Costs.{AreGroups, Cost, direct_costs, groups_of, sum_in}
+use Rattle.fw_sums.specs.Costs.{AreGroups, Cost, costs_of, groups_of, sum_in}
+use Rattle.fw_query.specs.Reports.{AreChargedBy, EntryValue, IsReportOf, direct_costs, entries_of}
 use Rattle.fw_query.specs.OfHistory.{AreLinesOf, IsReportOn}
-use Rattle.fw_query.specs.Reports.{AreChargedBy, EntryValue, IsReportOf, costs_of, entries_of}
 use Rattle.fw_query.proofs.OneAnswer.{range_lines_same}
 use Rattle.fw_query.proofs.ReportFacts.{groups_in_direct}
 use Rattle.fw_query.proofs.TotalFacts.{effective_in_lines, report_total, sum_of_groups}

@@ -18,7 +18,7 @@ use Rattle.fw_terms.specs.Commitment.{CommitmentValue, IsCommitment}
 use Rattle.fw_query.proofs.CarriedFacts.{commitments_keep}
 use Rattle.fw_query.proofs.ShareFacts.{shares_exist}
 use Rattle.fw_query.specs.OfHistory.{AreLinesOf}
-use Rattle.fw_query.specs.RangeLines.{joined}
+use Rattle.fw_sums.specs.RangeLines.{joined}
 
 -- one item for each
 each_has : {A B : Type 0} (R : A → B → Type 0) (Q : A → Type 0) → ((x : A) → Q x → (y : B) × R x y) → (xs : List A) → All Q xs → (ys : List B) × AllZip R xs ys

@@ -6,7 +6,7 @@ use Rattle.fw_allocate.specs.Costs.{CostValue, groups_in}
 use Rattle.fw_allocate.proofs.Rising.{all_at, apart_from_less, order, other_text, rising_head, rising_tail, same_text}
 use Rattle.fw_terms.specs.Texts.{IsRising}
 use Rattle.fw_query.specs.Reports.{EntryValue}
-use Rattle.fw_query.specs.Sums.{directs_of, entry_at}
+use Rattle.fw_query.specs.Entries.{directs_of, entry_at}
 
 -- the groups of entries
 abbrev pub group_of_entry : EntryValue → List ℕ

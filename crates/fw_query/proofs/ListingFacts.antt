@@ -13,16 +13,16 @@ use Rattle.fw_amortise.specs.Lines.{AreHourLines, given_lines, rest_lines, rows_
 use Rattle.fw_terms.specs.Commitment.{CommitmentValue}
 use Rattle.fw_amortise.specs.LineValue.{LineValue}
 use Rattle.fw_amortise.proofs.EachLine.{rows_are_of_hour}
-use Rattle.fw_query.specs.Hours.{AreByHour, is_touched, rows_of_list}
-use Rattle.fw_query.specs.declared.hours.RowPlace.{RowPlace}
+use Rattle.fw_sums.specs.Hours.{AreByHour, is_touched, rows_of_list}
+use Rattle.fw_sums.specs.declared.hours.RowPlace.{RowPlace}
 use Rattle.fw_query.specs.Listing.{IsListing, WritesHour, WritesHours, records}
-use Rattle.fw_query.specs.RangeLines.{joined}
+use Rattle.fw_sums.specs.RangeLines.{joined}
 use Rattle.fw_query.specs.Texts.{line_fields, line_header, lines_text, record_line}
 use Rattle.fw_query.specs.Writers.{HasWritten}
-use Rattle.fw_query.proofs.HourFacts.{rows_of_hour}
-use Rattle.fw_query.proofs.RangeFacts.{hourly-more, hourly_zip}
+use Rattle.fw_sums.proofs.HourFacts.{rows_of_hour}
+use Rattle.fw_sums.proofs.RangeFacts.{hourly-more, hourly_zip}
 use Rattle.fw_query.proofs.WriterFacts.{given_back}
-use Rattle.fw_query.proofs.UntouchedFacts.{are_plain, plain_lines}
+use Rattle.fw_sums.proofs.UntouchedFacts.{are_plain, plain_lines}
 
 -- no rows bring no lines where no commitment has one
 no_plain : (hour : ℕ) → plain_lines [] hour ≡ []
@@ -35,11 +35,6 @@ pub no_lines : (writer : Writer (Vec ℕ Global)) (text : List ℕ) (cs : List C
 no_lines writer text cs rows hour none untouched has =
     let plain : plain_lines rows hour ≡ [] = ap (λ r. plain_lines r hour) none ∙ no_plain hour in
     record { lines = []; are_lines = subst (AreHourLines cs rows hour) plain (are_plain cs rows hour untouched); wrote = subst (HasWritten writer) (sym (append-nil text)) has }
-
--- the rows at the places of a list are of its hour
-pub of_hour : (segments : List (List Charge)) (rows : List Charge) (by_hour : List (Vec RowPlace Global)) (from i : ℕ) (v : Vec RowPlace Global) → AreByHour segments rows from (length by_hour) by_hour → i < length by_hour
-    → v ≡ get_or by_hour i v → All (λ (r : Charge). hour_of r.start ≡ from + i) (rows_of_list segments v)
-of_hour segments rows by_hour from i v by below is = rw (rows_of_hour segments rows by_hour from i v by below is) (rows_are_of_hour (from + i) rows)
 
 -- the records of lines after those of others
 pub records-append : (xs ys : List LineValue) → records (xs ++ ys) ≡ records xs ++ records ys

@@ -23,10 +23,10 @@ use Rattle.fw_query.specs.Texts.{lines_text}
 use Rattle.fw_query.specs.OneAnswer.{IsAnswer, IsSameAnswer}
 use Rattle.fw_query.specs.declared.fault.QueryFault.{QueryFault}
 use Rattle.fw_query.specs.declared.fault.QueryFault.TheVariants as fault
-use Rattle.fw_query.specs.Costs.{AreGroups, Cost, direct_costs}
+use Rattle.fw_sums.specs.Costs.{AreGroups, Cost, costs_of}
+use Rattle.fw_query.specs.Reports.{AreChargedBy, EntryValue, IsReport, IsReportOf, IsTooLarge, PassesIn, direct_costs, entries_of}
 use Rattle.fw_query.specs.Limits.{PassesAt, most_total}
-use Rattle.fw_query.specs.RangeLines.{AreRangeLines, joined}
-use Rattle.fw_query.specs.Reports.{AreChargedBy, EntryValue, IsReport, IsReportOf, IsTooLarge, PassesIn, costs_of, entries_of}
+use Rattle.fw_sums.specs.RangeLines.{AreRangeLines, joined}
 
 -- ---- lines
 pub range_lines_same : (cs : List CommitmentValue) (rows : List Charge) (from to : ℕ) (xs ys : List LineValue) → AreRangeLines cs rows from to xs → AreRangeLines cs rows from to ys → xs ≡ ys

@@ -12,11 +12,12 @@ use Rattle.std.proofs.lemmas.Slice.Eq.{bytes_eq-Decides}
 use Rattle.std.specs.List.{list_any}
 use Rattle.std.specs.Option.{option_map_or}
 use Rattle.fw_terms.specs.Texts.{IsRising}
-use Rattle.fw_query.proofs.SumFacts.{sum_in-none}
-use Rattle.fw_query.specs.Costs.{AreGroups, Cost, groups_of, sum_in, direct_costs}
+use Rattle.fw_sums.proofs.SumFacts.{sum_in-none}
+use Rattle.fw_sums.specs.Costs.{AreGroups, Cost, costs_of, groups_of, sum_in}
+use Rattle.fw_query.specs.Reports.{AreChargedBy, EntryValue, IsReportOf, PassesIn, direct_costs, entries_of}
 use Rattle.fw_query.specs.Limits.{most_total}
-use Rattle.fw_query.specs.Reports.{AreChargedBy, EntryValue, IsReportOf, PassesIn, costs_of, entries_of}
-use Rattle.fw_query.specs.Sums.{AreEntries, AreUnder, PassesAtPlace, charged_entry, direct_size, directs_of, entry_at}
+use Rattle.fw_sums.specs.Totals.{AreTotals, total_of}
+use Rattle.fw_query.specs.Entries.{plain_entry, AreEntries, AreUnder, PassesAtPlace, charged_entry, direct_size, directs_of, entry_at}
 
 directs_of-entries_of : (costs : List Cost) (groups : List (List ℕ)) → directs_of (entries_of costs (direct_costs costs groups)) ≡ direct_costs costs groups
 unfolding entries_of direct_costs
@@ -29,6 +30,15 @@ size_from start (e ∷ entries) = size_from (start + nat_abs e.direct) entries
 
 size_of-directs_of : (entries : List EntryValue) → size_of (directs_of entries) ≡ direct_size entries
 size_of-directs_of entries = size_from 0 entries
+
+-- totals as entries
+entries_of-totals : (costs : List Cost) (groups : List (List ℕ)) → map plain_entry (map (total_of costs) groups) ≡ entries_of costs (direct_costs costs groups)
+unfolding entries_of direct_costs
+entries_of-totals costs [] = refl
+entries_of-totals costs (g ∷ groups) = let rest = entries_of-totals costs groups in ap (λ l. plain_entry (total_of costs g) ∷ l) rest
+
+pub plain_entries : (costs totals : List Cost) → AreTotals costs totals → AreEntries costs (map plain_entry totals)
+plain_entries costs totals are = record { groups = are.groups; are_groups = are.are_groups; entries_are = ap (map plain_entry) are.totals_are ∙ entries_of-totals costs are.groups }
 
 -- the entries' direct costs are those of the groups
 directs_are : (costs : List Cost) (entries : List EntryValue) (are : AreEntries costs entries) → direct_costs costs are.groups ≡ directs_of entries

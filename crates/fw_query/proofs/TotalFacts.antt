@@ -12,8 +12,8 @@ use Rattle.fw_allocate.proofs.Totals.{only, only_once, sum_add, sum_of, sum_same
 use Rattle.fw_amortise.specs.LineValue.{LineValue}
 use Rattle.fw_terms.specs.Policy.{IsPolicy, PolicyValue}
 use Rattle.fw_terms.specs.Texts.{IsRising}
-use Rattle.fw_query.specs.Costs.{Cost, direct_costs, groups_of, lines_in, sum_in}
-use Rattle.fw_query.specs.Reports.{AreChargedBy, EntryValue, IsReportOf, costs_of, entries_of}
+use Rattle.fw_sums.specs.Costs.{Cost, costs_of, groups_of, lines_in, sum_in}
+use Rattle.fw_query.specs.Reports.{AreChargedBy, EntryValue, IsReportOf, direct_costs, entries_of}
 use Rattle.fw_query.proofs.ReportFacts.{groups_in_direct}
 
 -- ---- the sums of all groups are the sum over all lines

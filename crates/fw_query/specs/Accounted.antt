@@ -7,7 +7,7 @@ use Rattle.fw_terms.specs.Commitment.{CommitmentValue}
 use Rattle.fw_amortise.specs.LineValue.{LineValue}
 use Rattle.fw_amortise.specs.Lines.{rows_in}
 use Rattle.fw_amortise.specs.Sources.{AreAccounted}
-use Rattle.fw_query.specs.RangeLines.{joined}
+use Rattle.fw_sums.specs.RangeLines.{joined}
 
 -- the rows whose hour is in a range
 abbrev pub rows_between : ℕ → ℕ → List Charge → List Charge

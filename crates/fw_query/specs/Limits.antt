@@ -1,15 +1,6 @@
--- The limits of a report.
+-- The limit of a report.
 use Rattle.std.specs.Prelude.{◌≡◌, ◌+◌, ◌<◌, ◌≤◌, ℕ, ℤ, List, ◌∷◌, ◌++◌, unsigned_abs}
 use Rattle.fw_allocate.specs.Costs.{CostValue, size_of}
-
--- the most hours of one report
-abbrev pub most_hours : ℕ
-most_hours = 26304
-
--- there is at least one hour, and there are not too many
-pub record IsRange (from to : ℕ) : Type 0 where
-  pub some : from < to
-  pub few : to ≤ from + most_hours
 
 -- the most that the absolute direct costs of a report may sum to, in nanos
 abbrev pub most_total : ℕ

@@ -7,8 +7,8 @@ use Rattle.fw_charge.specs.Charge.{Charge}
 use Rattle.fw_terms.specs.Commitment.{CommitmentValue}
 use Rattle.fw_amortise.specs.LineValue.{LineValue}
 use Rattle.fw_amortise.specs.Lines.{AreHourLines}
-use Rattle.fw_query.specs.RangeLines.{AreRangeLines, joined}
-use Rattle.fw_query.specs.Sums.{AreHourlyOf}
+use Rattle.fw_sums.specs.RangeLines.{AreRangeLines, joined}
+use Rattle.fw_sums.specs.Sums.{AreHourlyOf}
 use Rattle.fw_query.specs.Texts.{line_fields, lines_text, record_line}
 use Rattle.fw_query.specs.Writers.{HasWritten}
 

@@ -3,7 +3,7 @@ use Rattle.std.specs.Prelude.{ℕ, List}
 use Rattle.fw_amortise.specs.LineValue.{LineValue}
 use Rattle.fw_entry.specs.Entry as entry
 use Rattle.fw_snapshot.specs.History.{commitments_of, policy_of, rows_of}
-use Rattle.fw_query.specs.RangeLines.{AreRangeLines}
+use Rattle.fw_sums.specs.RangeLines.{AreRangeLines}
 use Rattle.fw_query.specs.Reports.{EntryValue, IsReport}
 
 -- the lines of the hours from `from` up to, and not including, `to`, after these entries were accepted: those that `report` sums, and whose text

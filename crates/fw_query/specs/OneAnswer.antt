@@ -2,7 +2,7 @@
 use Rattle.std.specs.Prelude.{◌≡◌, ℕ, List, Result, Ok, Err, IfErr, IfOk, string_bytes, ⊤}
 use Rattle.fw_entry.specs.Entry as entry
 use Rattle.fw_snapshot.specs.History.{commitments_of, rows_of}
-use Rattle.fw_query.specs.Limits.{IsRange}
+use Rattle.fw_sums.specs.Limits.{IsRange}
 use Rattle.fw_query.specs.OfHistory.{IsReportOn}
 use Rattle.fw_query.specs.Refusals.{IsRefused}
 use Rattle.fw_query.specs.Reports.{EntryValue}

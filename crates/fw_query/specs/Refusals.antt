@@ -2,7 +2,7 @@
 use Rattle.std.specs.Prelude.{ℕ, List, string_bytes, ⊤}
 use Rattle.fw_charge.specs.Charge.{Charge}
 use Rattle.fw_terms.specs.Commitment.{CommitmentValue}
-use Rattle.fw_query.specs.Limits.{IsRange}
+use Rattle.fw_sums.specs.Limits.{IsRange}
 use Rattle.fw_query.specs.Reports.{IsTooLarge}
 use Rattle.fw_query.specs.declared.fault.QueryFault.{QueryFault}
 use Rattle.fw_query.specs.declared.fault.QueryFault.TheVariants as fault

@@ -2,15 +2,14 @@
 use Rattle.std.specs.Prelude.{◌≡◌, ◌≤◌, ℕ, ℤ, List, map, Option, Some, None, MatchBool}
 use Rattle.std.specs.Str.{bytes_eq}
 use Rattle.fw_charge.specs.Charge.{Charge}
-use Rattle.fw_charge.specs.Tags.{group_of}
 use Rattle.fw_terms.specs.Commitment.{CommitmentValue}
 use Rattle.fw_terms.specs.Policy.{PolicyValue}
 use Rattle.fw_allocate.specs.Costs.{CostValue, size_of}
 use Rattle.fw_allocate.specs.Charges.{AreCharges}
 use Rattle.fw_amortise.specs.LineValue.{LineValue}
-use Rattle.fw_query.specs.Costs.{Cost, sum_in, AreGroups, direct_costs}
+use Rattle.fw_sums.specs.Costs.{Cost, AreGroups, costs_of, sum_in}
 use Rattle.fw_query.specs.Limits.{PassesAt, most_total}
-use Rattle.fw_query.specs.RangeLines.{AreRangeLines}
+use Rattle.fw_sums.specs.RangeLines.{AreRangeLines}
 
 -- a group of a report: the sums of BilledCost and EffectiveCost over its lines, and what it is charged, in nanos
 pub record EntryValue : Type 0 where
@@ -19,12 +18,9 @@ pub record EntryValue : Type 0 where
   pub direct : ℤ
   pub charged : ℤ
 
--- what a line brings under a tag key
-abbrev pub line_cost : List ℕ → LineValue → Cost
-line_cost key line = record { group = group_of key line.tags; billed = line.billed; effective = line.effective }
-
-abbrev pub costs_of : List ℕ → List LineValue → List Cost
-costs_of key lines = map (line_cost key) lines
+-- the direct cost of each group: the sum of EffectiveCost over its lines
+unfoldable pub direct_costs : List Cost → List (List ℕ) → List CostValue
+direct_costs costs groups = map (λ g. record { group = g; cost = sum_in (λ c. c.effective) costs g }) groups
 
 -- the charges are those of the policy where its key is the one of the report; else each group is charged its direct cost
 abbrev pub AreChargedBy : Option PolicyValue → List ℕ → List CostValue → List CostValue → Type 0

@@ -6,7 +6,7 @@ ghost use Rattle.std.specs.Ordering.{nat_cmp};
 ghost use Rattle.fw_allocate.specs.Costs.{groups_in};
 ghost use Rattle.fw_terms.specs.Texts.{IsRising};
 ghost use Rattle.fw_query.specs.Limits.{most_total};
-ghost use Rattle.fw_query.specs.Sums.{AreUnder, charged_entry, direct_size, directs_of, entry_at};
+ghost use Rattle.fw_query.specs.Entries.{AreUnder, charged_entry, direct_size, directs_of, entry_at};
 
 use crate::entries::Entry;
 use fw_allocate::{Cost, charge};

@@ -1,6 +1,8 @@
 //! A report as a value.
 ghost use Rattle.std.specs.Prelude.{◌≡◌, string_bytes};
+ghost use Rattle.fw_query.specs.Entries.{plain_entry};
 
+use fw_sums::Total;
 use std::marker::Model;
 
 /// A group of a report.
@@ -23,11 +25,13 @@ impl Model for Entry {
 
 impl Entry {
     // The entry of a group that is charged its direct cost.
-    pub(crate) fn of_sums(group: String, billed: i128, direct: i128) -> Entry
-        ensures { result ≡ record { group = string_bytes group; billed = billed; direct = direct; charged = direct } }
+    pub(crate) fn of_total(total: Total) -> Entry
+        ensures { result ≡ plain_entry total }
     {
+        let billed = total.billed();
+        let direct = total.effective();
         Entry {
-            group,
+            group: total.into_group(),
             billed,
             direct,
             charged: direct,

@@ -1,45 +1,30 @@
 //! Reports: what charge rows and commitments cost in some hours, by the groups of a tag key.
 //!
 //! [`report`] sums the lines of a range of hours by group, and [`report_csv`] writes what it found; [`lines_csv`] writes the lines. Costs are
-//! counted in nanos, which are 10^-9 of the currency unit, and hours from 1970. Whoever computes something else of such a range finds the hours
-//! in which a commitment has a line by [`touched_hours`], and the rows of these by [`rows_by_hour`] and [`rows_at`].
+//! counted in nanos, which are 10^-9 of the currency unit, and hours from 1970. What the lines of a group come to is found by `fw_sums`.
 //!
 //! What holds of every report and of its lines is said by laws: [`charged_is_direct`], [`commitments_are_carried`], [`rows_are_counted_once`],
 //! [`answers_are_one`].
 #![tactic(auto)]
 
 mod charges;
-mod corrections;
-mod covers;
 mod entries;
 mod fault;
-mod groups;
-mod hours;
 mod laws;
 mod line_text;
 mod listing;
-mod marks;
-mod query;
 mod reporting;
-mod segments;
-mod summing;
 mod text;
-mod total;
-mod wholes;
-mod workers;
+mod too_large;
 
-pub use covers::Covers;
 pub use entries::{Entry, Report};
 pub use fault::QueryFault;
-pub use hours::{RowPlace, rows_by_hour};
+pub use fw_sums::{Covers, MOST_HOURS, Query};
 pub use laws::{
     answers_are_one, charged_is_direct, commitments_are_carried, reports_keep_the_total,
     rows_are_counted_once, there_are_lines,
 };
 pub use line_text::{id_of, status_of};
 pub use listing::lines_csv;
-pub use marks::touched_hours;
-pub use query::{MOST_HOURS, Query};
 pub use reporting::{report, report_alone, report_keeping};
-pub use segments::rows_at;
 pub use text::report_csv;

@@ -3,26 +3,23 @@ ghost use Rattle.std.specs.Prelude.{◌≡◌, ◌+◌, ◌<◌, ◌^◌, false,
 ghost use Rattle.fw_amortise.specs.LineValue.{LineValue};
 ghost use Rattle.fw_charge.specs.Charge.{Charge, hour_of};
 ghost use Rattle.fw_cover.specs.RosterView.{HasHour};
-ghost use Rattle.fw_query.specs.Hours.{AreByHour, HasHours, IsThere, all_rows, is_touched, lent, rows_at, rows_of_list};
-ghost use Rattle.fw_query.specs.Limits.{IsRange};
+ghost use Rattle.fw_sums.specs.Hours.{AreByHour, HasHours, IsThere, all_rows, is_touched, lent, rows_at, rows_of_list};
+ghost use Rattle.fw_sums.specs.Limits.{IsRange};
 ghost use Rattle.fw_query.specs.Listing.{IsListing, WritesHour, WritesHours};
-ghost use Rattle.fw_query.specs.RangeLines.{AreRangeLines};
+ghost use Rattle.fw_sums.specs.RangeLines.{AreRangeLines};
 ghost use Rattle.fw_query.specs.Refusals.{AreRefused};
 ghost use Rattle.fw_query.specs.Texts.{lines_text};
 ghost use Rattle.fw_query.specs.Writers.{HasWritten};
 ghost use Rattle.fw_snapshot.specs.History.{commitments_of, rows_of};
 
 use crate::fault::QueryFault;
-use crate::hours::{RowPlace, is_touched, rows_by_hour};
 use crate::line_text::{write_lines, write_names};
-use crate::marks::every_hour;
-use crate::query::MOST_HOURS;
-use crate::segments::rows_at;
 use csv::{Writer, WriterBuilder};
 use fw_amortise::lines_by_roster;
 use fw_columns::{Columns, LentRow};
 use fw_cover::{Roster, references};
 use fw_snapshot::{Snapshot, State};
+use fw_sums::{MOST_HOURS, RowPlace, every_hour, is_touched, rows_at, rows_by_hour};
 use fw_terms::Commitment;
 use std::alloc::{AllocError, Global};
 

@@ -1,27 +1,19 @@
 //! A report over a snapshot.
-ghost use Rattle.std.specs.Prelude.{◌≡◌, ◌≤◌, ◌-◌, replicate, true, IfErr, IfOk};
-ghost use Rattle.std.specs.Option.{option_copied};
-ghost use Rattle.fw_query.specs.Covers.{AreKept};
-ghost use Rattle.fw_query.specs.Hours.{all_rows, lent};
-ghost use Rattle.fw_query.specs.Limits.{IsRange};
-ghost use Rattle.fw_query.specs.Parts.{range_costs};
+ghost use Rattle.std.specs.Prelude.{◌≡◌, ◌≤◌, map, IfErr, IfOk};
+ghost use Rattle.fw_sums.specs.Covers.{AreKept};
+ghost use Rattle.fw_sums.specs.Limits.{IsRange};
+ghost use Rattle.fw_sums.specs.Totals.{HasTotals};
+ghost use Rattle.fw_query.specs.Entries.{plain_entry};
 ghost use Rattle.fw_query.specs.Refusals.{IsRefused};
 ghost use Rattle.fw_query.specs.Reports.{IsReport};
-ghost use Rattle.fw_query.specs.Sums.{Counts, HasDirect};
 ghost use Rattle.fw_snapshot.specs.History.{commitments_of, policy_of, rows_of};
 
 use crate::charges::under_policy;
-use crate::covers::Covers;
 use crate::entries::{Entry, Report};
 use crate::fault::QueryFault;
-use crate::groups::Groups;
-use crate::marks::every_hour;
-use crate::query::Query;
-use crate::total::first_past;
-use fw_columns::Columns;
-use fw_cover::Roster;
+use crate::too_large::first_past;
 use fw_snapshot::{Snapshot, State};
-use fw_terms::{Commitment, Policy};
+use fw_sums::{Covers, Query, Total, totals_alone, totals_keeping};
 use std::alloc::{AllocError, Global};
 use std::thread::Threads;
 
@@ -105,28 +97,16 @@ fn report_on(
     ensures fault { IfErr result (IsRefused (commitments_of state.now.entries) (rows_of state.now.entries) query.now.key.now query.now.from_hour query.now.to_hour) }
 {
     let segments = state.segments().references(alloc)?;
-    let segments = segments.as_slice();
-    let wholes = covers.take_wholes(query.key, segments)?;
-    let rows = Groups::of_wholes(
+    let totals = totals_keeping(
         rt,
         alloc,
-        query.key,
-        segments,
-        &wholes,
-        query.from_hour,
-        query.to_hour,
-        workers,
-    )?;
-    covers.put_wholes(query.key, wholes);
-    report_of(
-        alloc,
-        segments,
+        segments.as_slice(),
         state.commitment_list(),
-        state.policy(),
-        rows,
         covers,
         query,
-    )
+        workers,
+    )?;
+    report_of(alloc, state, query, totals)
 }
 
 // The same by one worker.
@@ -136,59 +116,34 @@ fn report_alone_on(alloc: Global, state: &State, query: &Query<'_>) -> Result<Re
     ensures fault { IfErr result (IsRefused (commitments_of state.now.entries) (rows_of state.now.entries) query.now.key.now query.now.from_hour query.now.to_hour) }
 {
     let segments = state.segments().references(alloc)?;
-    let segments = segments.as_slice();
-    let marks = marks_of(alloc, query)?;
-    let rows = Groups::of_piece(
+    let totals = totals_alone(
         alloc,
-        query.key,
-        segments,
-        query.from_hour,
-        marks.as_slice(),
-    )?;
-    let mut covers = Covers::new(alloc);
-    report_of(
-        alloc,
-        segments,
+        segments.as_slice(),
         state.commitment_list(),
-        state.policy(),
-        rows,
-        &mut covers,
         query,
-    )
+    )?;
+    report_of(alloc, state, query, totals)
 }
 
-// A mark for each hour of the query's range, all of them marked.
-fn marks_of(alloc: Global, query: &Query<'_>) -> Result<Vec<bool>, AllocError>
-    requires { IsRange query.now.from_hour query.now.to_hour }
-    ensures { IfOk result (λ marks. marks.items ≡ replicate (query.now.to_hour - query.now.from_hour) true) }
-{
-    every_hour(alloc, (query.to_hour - query.from_hour) as usize)
-}
-
-// The report over segments of rows, commitments and a policy, in a range of hours, given the sums of the range's rows.
-fn report_of<'a>(
+// The report over a state, in a range of hours, given what its lines there come to.
+fn report_of(
     alloc: Global,
-    segments: &[&'a Columns],
-    commitments: &'a [Commitment],
-    policy: Option<&Policy>,
-    rows: Groups,
-    covers: &mut Covers,
+    state: &State,
     query: &Query<'_>,
+    totals: Vec<Total>,
 ) -> Result<Report, QueryFault>
     requires range { IsRange query.now.from_hour query.now.to_hour }
-    requires rows { Counts rows (range_costs query.now.key.now query.now.from_hour query.now.to_hour (all_rows (lent segments.now))) }
-    requires kept { AreKept commitments.now (all_rows (lent segments.now)) covers.old }
-    ensures kept { AreKept commitments.now (all_rows (lent segments.now)) covers.new }
-    ensures report { IfOk result (IsReport commitments.now (all_rows (lent segments.now)) (option_copied policy.entry) query.now.key.now query.now.from_hour query.now.to_hour) }
-    ensures fault { IfErr result (IsRefused commitments.now (all_rows (lent segments.now)) query.now.key.now query.now.from_hour query.now.to_hour) }
+    requires totals { HasTotals (commitments_of state.now.entries) (rows_of state.now.entries) query.now.key.now query.now.from_hour query.now.to_hour totals.items }
+    ensures report { IfOk result (IsReport (commitments_of state.now.entries) (rows_of state.now.entries) (policy_of state.now.entries) query.now.key.now query.now.from_hour query.now.to_hour) }
+    ensures fault { IfErr result (IsRefused (commitments_of state.now.entries) (rows_of state.now.entries) query.now.key.now query.now.from_hour query.now.to_hour) }
 {
-    let mut entries = direct_entries(alloc, segments, commitments, rows, covers, query)?;
+    let mut entries = direct_entries(alloc, totals)?;
     if let Some(place) = first_past(entries.as_slice()) {
         return Err(QueryFault::TotalTooLarge {
             group: entries.swap_remove(place).into_group(),
         });
     }
-    match policy {
+    match state.policy() {
         Some(policy) if policy.key() == query.key => Ok(Report::of_entries(under_policy(
             alloc,
             entries.as_slice(),
@@ -198,26 +153,9 @@ fn report_of<'a>(
     }
 }
 
-// The entries of the groups of the query's lines, each charged its direct cost, given the sums of the range's rows.
-fn direct_entries<'a>(
-    alloc: Global,
-    segments: &[&'a Columns],
-    commitments: &'a [Commitment],
-    rows: Groups,
-    covers: &mut Covers,
-    query: &Query<'_>,
-) -> Result<Vec<Entry>, AllocError>
-    requires range { IsRange query.now.from_hour query.now.to_hour }
-    requires rows { Counts rows (range_costs query.now.key.now query.now.from_hour query.now.to_hour (all_rows (lent segments.now))) }
-    requires kept { AreKept commitments.now (all_rows (lent segments.now)) covers.old }
-    ensures kept { AreKept commitments.now (all_rows (lent segments.now)) covers.new }
-    ensures entries { IfOk result (λ entries. HasDirect commitments.now (all_rows (lent segments.now)) query.now.key.now query.now.from_hour query.now.to_hour entries.items) }
+// The entries of totals, each charged its direct cost.
+fn direct_entries(alloc: Global, totals: Vec<Total>) -> Result<Vec<Entry>, AllocError>
+    ensures { IfOk result (λ entries. entries.items ≡ map plain_entry totals.items) }
 {
-    let from = query.from_hour;
-    let hours = (query.to_hour - from) as usize;
-    let roster = Roster::new(alloc, commitments, from, query.to_hour)?;
-    let mut kept = covers.take(query.key);
-    let groups = Groups::of_hours(rows, query.key, segments, &roster, &mut kept, from, hours)?;
-    covers.put(query.key, kept);
-    groups.into_entries()
+    totals.into_iter().map(Entry::of_total).collect(alloc)
 }

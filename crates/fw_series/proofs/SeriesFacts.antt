@@ -17,7 +17,7 @@ use Rattle.fw_entry.specs.Spelling.{IsEntry}
 use Rattle.fw_query.specs.OfHistory.{AreLinesOf, IsReportOn}
 use Rattle.fw_query.specs.Refusals.{IsRefused}
 use Rattle.fw_query.specs.declared.fault.QueryFault.{QueryFault}
-use Rattle.fw_query.specs.RangeLines.{AreRangeLines, joined}
+use Rattle.fw_sums.specs.RangeLines.{AreRangeLines, joined}
 use Rattle.fw_query.specs.Reports.{EntryValue}
 use Rattle.fw_query.proofs.DirectFacts.{billed_lines, charged_direct, direct_lines}
 use Rattle.fw_snapshot.specs.History.{commitments_of, rows_of}

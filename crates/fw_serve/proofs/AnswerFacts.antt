@@ -5,8 +5,8 @@ use Rattle.std.proofs.lemmas.Bool.{le-ltb, lt-ltb}
 use Rattle.std.specs.Borrow.{Bor}
 use Rattle.std.specs.Option.{is_some, option_copied}
 use Rattle.fw_terms.specs.Policy.{PolicyValue}
-use Rattle.fw_query.specs.Limits.{IsRange}
-use Rattle.fw_query.specs.RangeLines.{AreRangeLines}
+use Rattle.fw_sums.specs.Limits.{IsRange}
+use Rattle.fw_sums.specs.RangeLines.{AreRangeLines}
 use Rattle.fw_query.specs.Refusals.{AreRefused}
 use Rattle.fw_rows.specs.Rows.{RowsRead}
 use Rattle.fw_script.specs.declared.commands.EntryKind.{EntryKind}

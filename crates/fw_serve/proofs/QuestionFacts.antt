@@ -2,7 +2,7 @@
 use Rattle.std.proofs.Common.{◌≡◌, ◌⊎◌, ℕ, List, Ok, Err, inl, inr}
 use Rattle.std.specs.Prelude.{Result}
 use Rattle.fw_amortise.specs.LineValue.{LineValue}
-use Rattle.fw_query.specs.Limits.{IsRange}
+use Rattle.fw_sums.specs.Limits.{IsRange}
 use Rattle.fw_query.specs.OfHistory.{AreLinesOf, IsReportOn}
 use Rattle.fw_query.specs.Refusals.{AreRefused, IsRefused}
 use Rattle.fw_query.specs.Reports.{EntryValue}

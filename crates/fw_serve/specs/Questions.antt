@@ -2,8 +2,8 @@
 use Rattle.std.specs.Prelude.{◌≡◌, ℕ, List, Result, Ok, Err, Vec}
 use Rattle.std.specs.declared.alloc.Global.{Global}
 use Rattle.fw_amortise.specs.LineValue.{LineValue}
-use Rattle.fw_query.specs.Limits.{IsRange}
-use Rattle.fw_query.specs.RangeLines.{AreRangeLines}
+use Rattle.fw_sums.specs.Limits.{IsRange}
+use Rattle.fw_sums.specs.RangeLines.{AreRangeLines}
 use Rattle.fw_query.specs.Refusals.{IsRefused, AreRefused}
 use Rattle.fw_query.specs.Reports.{EntryValue, IsReport}
 use Rattle.fw_query.specs.Texts.{report_text, lines_text}

@@ -2,7 +2,7 @@
 ghost use Rattle.std.specs.Prelude.{◌≡◌, ◌≤◌, ◌⊎◌, Ok};
 ghost use Rattle.fw_entry.specs.Spelling.{HasRowCount, IsEntry};
 ghost use Rattle.fw_entry.specs.View.{command_view};
-ghost use Rattle.fw_query.specs.Covers.{AreKept};
+ghost use Rattle.fw_sums.specs.Covers.{AreKept};
 ghost use Rattle.fw_script.specs.Plain as plain;
 ghost use Rattle.fw_script.specs.Plain.{plain_command};
 ghost use Rattle.fw_serve.specs.Answers.{Answer, Entered, Takes, Submits, Checkpoints, RanOut};

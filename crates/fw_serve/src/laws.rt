@@ -6,7 +6,7 @@ ghost use Rattle.fw_amortise.specs.LineValue.{LineValue};
 ghost use Rattle.fw_disk.specs.declared.volume.Side.{Side};
 ghost use Rattle.fw_disk.specs.Volume.{Image};
 ghost use Rattle.fw_entry.specs.Entry.{EntryValue};
-ghost use Rattle.fw_query.specs.Limits.{IsRange};
+ghost use Rattle.fw_sums.specs.Limits.{IsRange};
 ghost use Rattle.fw_query.specs.OfHistory.{AreLinesOf, IsReportOn};
 ghost use Rattle.fw_query.specs.Refusals.{AreRefused, IsRefused};
 ghost use Rattle.fw_query.specs.Reports as reports;

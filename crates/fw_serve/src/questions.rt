@@ -1,6 +1,6 @@
 //! Questions, which are answered from the state of a warehouse and change nothing.
 ghost use Rattle.std.specs.Prelude.{◌≡◌, ◌≤◌};
-ghost use Rattle.fw_query.specs.Covers.{AreKept};
+ghost use Rattle.fw_sums.specs.Covers.{AreKept};
 ghost use Rattle.fw_snapshot.specs.History.{commitments_of, rows_of};
 ghost use Rattle.fw_serve.specs.Questions.{IsReportText, ReportAnswer, LinesAnswer};
 ghost use Rattle.fw_serve.specs.Replies.{state_line};

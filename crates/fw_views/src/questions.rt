@@ -1,10 +1,10 @@
 //! Questions, and their answers as text.
 ghost use Rattle.std.specs.Prelude.{◌≡◌, ℕ, List, IfOk};
 ghost use Rattle.fw_amortise.specs.LineValue.{LineValue};
-ghost use Rattle.fw_query.specs.RangeLines.{AreRangeLines};
+ghost use Rattle.fw_sums.specs.RangeLines.{AreRangeLines};
 ghost use Rattle.fw_query.specs.Reports.{EntryValue, IsReport};
 ghost use Rattle.fw_query.specs.Texts.{lines_text, report_text};
-ghost use Rattle.fw_query.specs.declared.query.Query.{Query};
+ghost use Rattle.fw_sums.specs.declared.query.Query.{Query};
 ghost use Rattle.fw_snapshot.specs.History.{commitments_of, policy_of, rows_of};
 ghost use Rattle.fw_views.specs.declared.questions.Question.TheVariants.{Report, Lines};
 ghost use Rattle.fw_views.specs.declared.report.Format.TheVariants.{Csv};

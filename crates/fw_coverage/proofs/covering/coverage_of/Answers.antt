@@ -3,9 +3,9 @@ use Rattle.std.proofs.lemmas.Result.{IfOk-weaker}
 use Rattle.std.specs.Prelude.{filter, map}
 use Rattle.fw_coverage.specs.Coverage.{IsCoverage}
 use Rattle.fw_coverage.specs.Tallies.{coverage_from}
-use Rattle.fw_query.specs.Hours.{all_rows, lent}
-use Rattle.fw_query.proofs.HourFacts.{by_hour_long}
-use Rattle.fw_query.proofs.MarkFacts.{touched_long}
+use Rattle.fw_sums.specs.Hours.{all_rows, lent}
+use Rattle.fw_sums.proofs.HourFacts.{by_hour_long}
+use Rattle.fw_sums.proofs.MarkFacts.{touched_long}
 use Rattle.fw_coverage.proofs.TallyFacts.{coverage_is}
 use Rattle.fw_coverage.proofs.covering.coverage_of.Goals as goal
 

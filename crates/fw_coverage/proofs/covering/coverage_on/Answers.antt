@@ -1,6 +1,6 @@
 use Rattle.std.proofs.Common.{◌≡◌, ◌∙◌, ap}
 use Rattle.fw_snapshot.specs.History.{rows_of}
-use Rattle.fw_query.specs.Hours.{all_rows, lent}
+use Rattle.fw_sums.specs.Hours.{all_rows, lent}
 use Rattle.fw_coverage.proofs.TallyFacts.{rows_apart}
 use Rattle.fw_coverage.proofs.covering.coverage_on.Goals as goal
 

@@ -1,9 +1,9 @@
 use Rattle.std.proofs.Common.{◌≡◌, ◌+◌, ◌-◌, MatchBool, arith, false, get_or, length}
 use Rattle.fw_amortise.specs.Lines.{rows_in}
-use Rattle.fw_query.specs.Hours.{all_rows, lent, rows_at, rows_marked}
+use Rattle.fw_sums.specs.Hours.{all_rows, lent, rows_at, rows_marked}
 use Rattle.fw_coverage.specs.Tallies.{AreAfter}
-use Rattle.fw_query.proofs.HourFacts.{has_hour}
-use Rattle.fw_query.proofs.TurnFacts.{of_turn, rows_in_turn, there_in_turn}
+use Rattle.fw_sums.proofs.HourFacts.{has_hour}
+use Rattle.fw_sums.proofs.TurnFacts.{of_turn, rows_in_turn, there_in_turn}
 use Rattle.fw_coverage.proofs.TallyFacts.{early_in_turn, next_tallies, no_tallies_yet, placed}
 use Rattle.fw_coverage.proofs.covering.tallies_of.Goals as goal
 

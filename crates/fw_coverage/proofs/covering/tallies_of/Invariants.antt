@@ -1,5 +1,5 @@
 use Rattle.std.proofs.Common.{◌≡◌, ◌+◌}
-use Rattle.fw_query.specs.Hours.{all_rows, lent}
+use Rattle.fw_sums.specs.Hours.{all_rows, lent}
 use Rattle.fw_coverage.specs.Tallies.{AreTallies}
 use Rattle.fw_coverage.proofs.covering.tallies_of.Given as goal
 

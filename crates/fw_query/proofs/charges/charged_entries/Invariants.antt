@@ -1,5 +1,5 @@
 use Rattle.std.proofs.Common.{◌≡◌, map, take}
-use Rattle.fw_query.specs.Sums.{charged_entry}
+use Rattle.fw_query.specs.Entries.{charged_entry}
 use Rattle.fw_query.proofs.charges.charged_entries.Given as goal
 
 -- the entries so far

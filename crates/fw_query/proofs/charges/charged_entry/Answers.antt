@@ -3,7 +3,7 @@ use Rattle.std.proofs.lemmas.Int.{to_z-of_z}
 use mir.Val.{SFits}
 use mir.Syntax.{w128}
 use Rattle.std.specs.Option.{option_map_or}
-use Rattle.fw_query.specs.Sums.{entry_at}
+use Rattle.fw_query.specs.Entries.{entry_at}
 use Rattle.fw_query.specs.Reports.{EntryValue}
 use Rattle.fw_query.proofs.charges.charged_entry.Goals as goal
 

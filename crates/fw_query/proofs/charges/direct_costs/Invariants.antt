@@ -1,5 +1,5 @@
 use Rattle.std.proofs.Common.{◌≡◌, take}
-use Rattle.fw_query.specs.Sums.{directs_of}
+use Rattle.fw_query.specs.Entries.{directs_of}
 use Rattle.fw_query.proofs.charges.direct_costs.Given as goal
 
 -- the costs so far

@@ -2,13 +2,13 @@ use Rattle.std.proofs.Common.{◌≡◌, ◌∙◌, [], ◌++◌, Some, ap, arit
 use Rattle.std.specs.List.{range_with_len}
 use Rattle.std.proofs.lemmas.List.{get_or-replicate, length-replicate}
 use Rattle.fw_amortise.specs.Lines.{rows_in}
-use Rattle.fw_query.specs.Hours.{all_rows, lent, rows_marked, rows_of_list}
+use Rattle.fw_sums.specs.Hours.{all_rows, lent, rows_marked, rows_of_list}
 use Rattle.fw_query.specs.Listing.{WritesHours}
 use Rattle.fw_query.specs.Texts.{line_header, record_line}
 use Rattle.fw_query.specs.Writers.{HasWritten}
-use Rattle.fw_query.proofs.HourFacts.{by_hour_long}
+use Rattle.fw_sums.proofs.HourFacts.{by_hour_long}
 use Rattle.fw_query.proofs.ListingFacts.{listing_of}
-use Rattle.fw_query.proofs.MarkFacts.{every_hour}
+use Rattle.fw_sums.proofs.MarkFacts.{every_hour}
 use Rattle.fw_query.proofs.listing.lines_csv_of.Goals as goal
 
 pub write_hours-requires-clause-fits : goal.write_hours-requires-clause-fits

@@ -1,7 +1,7 @@
 use Rattle.std.proofs.Common.{◌≡◌, ◌∙◌, ◌++◌, Bor, List, ℕ, ap, map, sym}
 use Rattle.std.proofs.lemmas.Result.{IfOk-weaker}
 use Rattle.fw_charge.specs.Charge.{Charge}
-use Rattle.fw_query.specs.Hours.{is_touched}
+use Rattle.fw_sums.specs.Hours.{is_touched}
 use Rattle.fw_query.specs.Listing.{WritesHour, records}
 use Rattle.fw_query.specs.Writers.{HasWritten}
 use Rattle.fw_query.proofs.ListingFacts.{no_lines}

@@ -1,12 +1,12 @@
 use Rattle.std.proofs.Common.{◌≡◌, ◌∙◌, ◌+◌, ◌++◌, ◌∷◌, [], All, ap, length, map, sym, take, arith}
 use Rattle.std.proofs.lemmas.List.{length-map, length-take-le, map_more, take_all}
 use Rattle.fw_charge.specs.Charge.{Charge, hour_of}
-use Rattle.fw_query.specs.Hours.{lent, rows_at, rows_of_list}
+use Rattle.fw_sums.specs.Hours.{lent, rows_at, rows_of_list}
 use Rattle.fw_query.specs.Listing.{WritesHour, records}
-use Rattle.fw_query.specs.RangeLines.{joined}
-use Rattle.fw_query.proofs.HourFacts.{has_hour}
+use Rattle.fw_sums.specs.RangeLines.{joined}
+use Rattle.fw_sums.proofs.HourFacts.{has_hour}
 use Rattle.fw_query.proofs.ListingFacts.{WritesHours-more}
-use Rattle.fw_query.proofs.TurnFacts.{of_turn, there_in_turn}
+use Rattle.fw_sums.proofs.TurnFacts.{of_turn, there_in_turn}
 use Rattle.fw_query.proofs.listing.write_hours.Goals as goal
 
 pub rows_at-requires : goal.rows_at-requires

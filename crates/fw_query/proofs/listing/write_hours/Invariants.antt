@@ -1,5 +1,5 @@
 use Rattle.std.proofs.Common.{◌≡◌, ◌+◌, List, ℕ, map, take}
-use Rattle.fw_query.specs.Hours.{lent, rows_of_list}
+use Rattle.fw_sums.specs.Hours.{lent, rows_of_list}
 use Rattle.fw_query.specs.Listing.{WritesHours}
 use Rattle.fw_query.specs.Writers.{HasWritten}
 use Rattle.fw_query.proofs.listing.write_hours.Given as goal

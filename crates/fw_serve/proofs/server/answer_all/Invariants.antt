@@ -1,5 +1,5 @@
 use Rattle.std.proofs.Common.{length}
-use Rattle.fw_query.specs.Covers.{AreKept}
+use Rattle.fw_sums.specs.Covers.{AreKept}
 use Rattle.fw_serve.specs.Flight.{RunsSoFar}
 use Rattle.fw_serve.specs.Served.{ServesSoFar}
 use Rattle.fw_serve.specs.Standings.{standing_of}

@@ -1,0 +1,40 @@
+-- What commitments bring to the groups of a key in hours, as it is kept.
+use Rattle.std.proofs.Common.{◌≡◌, ◌++◌, ◌∷◌, [], Bool, All, ℕ, List, append_assoc, arith, map, sym, subst}
+use Rattle.std.proofs.lemmas.List.Elements.{All-push}
+use Rattle.std.specs.Prelude.{if◌then◌else◌, slice_index}
+use Rattle.fw_charge.specs.Charge.{Charge}
+use Rattle.fw_terms.specs.Commitment.{CommitmentValue}
+use Rattle.fw_cover.proofs.Sorting.{two_ways}
+use Rattle.fw_cover.specs.Hour.{hour_cover, left_of}
+use Rattle.fw_cover.specs.declared.hour.HourCover.{HourCover}
+use Rattle.fw_cover.specs.HourCovers.{IsHourCover}
+use Rattle.fw_sums.specs.Corrections.{corrections}
+use Rattle.fw_sums.specs.Costs.{Cost, costs_of}
+use Rattle.fw_sums.specs.Covers.{AreOwnSums}
+use Rattle.fw_sums.specs.Hours.{row_cost}
+use Rattle.fw_sums.specs.Sums.{Counts, CountsHour}
+use Rattle.fw_sums.specs.declared.groups.Groups.{Groups}
+use Rattle.fw_sums.proofs.CorrectionFacts.{hour_corrected}
+
+-- what is left of a row
+pub left_in_cover : (cs : List CommitmentValue) (rows : List Charge) (hour : ℕ) (h : HourCover) → IsHourCover cs rows hour h → (r : ℕ) → slice_index h.row_left.items r ≡ left_of rows (hour_cover cs rows hour) r
+unfolding left_of
+left_in_cover cs rows hour h cover r =
+    let whole = cover.row_left r in
+    rw (← cover.taken) (omega (arith, whole))
+
+-- where what commitments bring to an hour was added to its rows, its lines were counted
+pub own_added : (old new sums : Groups) (key : List ℕ) (cs : List CommitmentValue) (rows : List Charge) (hour : ℕ) → AreOwnSums cs rows key hour sums
+    → ((costs more : List Cost) → Counts old costs → Counts sums more → Counts new (costs ++ more)) → (costs : List Cost) → Counts old (costs ++ map (row_cost key) rows) → CountsHour new costs key cs rows hour
+own_added old new sums key cs rows hour own added costs counts =
+    let lost = corrections key rows (left_of rows (hour_cover cs rows hour)) in
+    let before = costs ++ map (row_cost key) rows in
+    hour_corrected new costs key cs rows hour own.own own.are_own
+    (subst (Counts new) (sym (append_assoc before (costs_of key own.own) lost)) (added before (costs_of key own.own ++ lost) counts own.counts))
+
+-- an element more, or the list as it was
+pub all_pushed : {X : Type 0} (P : X → Type 0) (pushed : Bool) (xs ys : List X) (x : X) → ys ≡ (if pushed then xs ++ x ∷ [] else xs) → All P xs → P x → All P ys
+all_pushed P pushed xs ys x is all one = subst (All P) (sym is)
+    (two_ways pushed
+    (λ yes. rw yes (All-push P xs x all one))
+    (λ no. rw no all))

@@ -1,0 +1,76 @@
+-- Lemmas on hours in turn: the rows at the places of each, and whether it is marked.
+use Rattle.std.proofs.Common.{◌≡◌, ◌∙◌, ℕ, ◌+◌, ◌-◌, ◌<◌, Bool, false, true, refl, All, IfNone, List, None, Option, Some, length, map, get_or, Vec, sym, ap, subst, arith}
+use Rattle.std.specs.declared.alloc.Global.{Global}
+use Rattle.std.proofs.lemmas.List.FromFn.{get_or-map-range_with_len, length-map-range_with_len}
+use Rattle.std.specs.List.{range_with_len}
+use Rattle.fw_charge.specs.Charge.{Charge, hour_of}
+use Rattle.fw_terms.specs.Commitment.{CommitmentValue}
+use Rattle.fw_amortise.specs.Lines.{rows_in}
+use Rattle.fw_sums.specs.Covers.{AreOpenByHour, is_open, kept_at}
+use Rattle.fw_sums.specs.Hours.{AreByHour, AreThere, AreTouched, IsThere, is_touched, rows_at, rows_marked}
+use Rattle.fw_sums.specs.declared.covers.HourSums.{HourSums}
+use Rattle.fw_sums.specs.declared.groups.Groups.{Groups}
+use Rattle.fw_sums.specs.declared.hours.RowPlace.{RowPlace}
+use Rattle.fw_sums.proofs.HourFacts.{of_hour, rows_of_hour}
+use Rattle.fw_sums.proofs.MarkFacts.{marked_at, rows_in_marked, touched_at, touched_long}
+
+-- the places of the hour in turn
+module _ (segments : List (List Charge)) (rows : List Charge) (by_hour : List (Vec RowPlace Global)) (from i : ℕ) (v : Vec RowPlace Global) (places : List RowPlace)
+    (by : AreByHour segments rows from (length by_hour) by_hour) (below : i < length by_hour) (is : v ≡ get_or by_hour i v) (items : places ≡ v.items) where
+  -- there is a row at each
+  pub there_in_turn : All (IsThere segments) places
+  there_in_turn = subst (All (IsThere segments)) (sym items) (subst (AreThere segments) (sym is) (by.there i v below))
+
+  -- the rows are those of the hour
+  pub rows_in_turn : rows_at segments places ≡ rows_in (from + i) rows
+  rows_in_turn = ap (rows_at segments) items ∙ rows_of_hour segments rows by_hour from i v by below is
+
+  -- so they are of it
+  pub of_turn : (hour : ℕ) → hour ≡ from + i → All (λ (r : Charge). hour_of r.start ≡ hour) (rows_at segments places)
+  of_turn hour at = rw (items, at) (of_hour segments rows by_hour from i v by below is)
+
+-- the rows at the places of a marked hour are all of the hour's
+pub all_in_turn : (segments : List (List Charge)) (rows : List Charge) (marks : List Bool) (by_hour : List (Vec RowPlace Global)) (from i : ℕ) (v : Vec RowPlace Global) (places : List RowPlace)
+    → AreByHour segments (rows_marked marks from rows) from (length by_hour) by_hour → i < length by_hour → v ≡ get_or by_hour i v → places ≡ v.items
+    → (hour : ℕ) → hour ≡ from + i → get_or marks (hour - from) false ≡ true → rows_at segments places ≡ rows_in hour rows
+all_in_turn segments rows marks by_hour from i v places by below is items hour at marked =
+    let place : hour - from ≡ i = omega (arith, at) in
+    let here : rows_at segments places ≡ rows_in (from + i) (rows_marked marks from rows) = rows_in_turn segments (rows_marked marks from rows) by_hour from i v places by below is items in
+    let own : rows_in (from + i) (rows_marked marks from rows) ≡ rows_in (from + i) rows = rows_in_marked (from + i) marks from rows (marked_at marks from (from + i) i refl ∙ (rw place at marked)) in
+    rw at (here ∙ own)
+
+-- the rows at the places of a touched hour of which nothing is kept are all of the hour's
+pub open_in_turn : (segments : List (List Charge)) (rows : List Charge) (cs : List CommitmentValue) (kept now : HourSums) (by_hour : List (Vec RowPlace Global)) (from i : ℕ) (v : Vec RowPlace Global) (places : List RowPlace)
+    → AreOpenByHour segments rows cs kept from (length by_hour) by_hour → i < length by_hour → v ≡ get_or by_hour i v → places ≡ v.items
+    → (hour : ℕ) → hour ≡ from + i → is_touched cs (from + i) ≡ true → kept_at now hour ≡ kept_at kept hour → IfNone (kept_at now hour) (rows_at segments places ≡ rows_in hour rows)
+open_in_turn segments rows cs kept now by_hour from i v places opened below is items hour at touched same = by (kept_at now hour) refl
+  where
+    by : (o : Option Groups) → kept_at now hour ≡ o → IfNone o (rows_at segments places ≡ rows_in hour rows)
+    by (Some sums) found = tt
+    by None found =
+        let place : hour - from ≡ i = omega (arith, at) in
+        let none : kept_at kept (from + i) ≡ None = ap (kept_at kept) (sym at) ∙ sym same ∙ found in
+        let is_it : is_open kept (is_touched cs (from + i)) (from + i) ≡ true = rw (touched, none) refl in
+        all_in_turn segments rows opened.marks by_hour from i v places opened.lists_are below is items hour at (rw place (opened.each i below is_it))
+
+-- ---- the open hours
+
+-- the mark of each hour: whether it is open
+abbrev pub open_marks : HourSums → List Bool → ℕ → List Bool
+open_marks kept touched from = map (λ k. is_open kept (get_or touched k false) (from + k)) (range_with_len 0 (length touched))
+
+-- there are as many as hours
+pub open_long : (cs : List CommitmentValue) (kept : HourSums) (touched : List Bool) (from hours : ℕ) → AreTouched cs from hours touched → length (open_marks kept touched from) ≡ hours
+open_long cs kept touched from hours are = length-map-range_with_len (λ k. is_open kept (get_or touched k false) (from + k)) 0 (length touched) ∙ touched_long cs from hours touched are
+
+-- where the rows of the hours so marked are sorted, those of open hours are
+pub open_rows : (segments : List (List Charge)) (rows : List Charge) (cs : List CommitmentValue) (kept : HourSums) (touched : List Bool) (from hours : ℕ) (by_hour : List (Vec RowPlace Global)) → AreTouched cs from hours touched
+    → AreByHour segments (rows_marked (open_marks kept touched from) from rows) from hours by_hour → AreOpenByHour segments rows cs kept from hours by_hour
+open_rows segments rows cs kept touched from hours by_hour are sorted = record {
+  marks = open_marks kept touched from;
+  each = λ k below opened.
+      let long : length touched ≡ hours = touched_long cs from hours touched are in
+      get_or-map-range_with_len (λ k. is_open kept (get_or touched k false) (from + k)) 0 (length touched) k k false (rw long below) (omega arith)
+      ∙ ap (λ t. is_open kept t (from + k)) (touched_at cs from hours touched k are below) ∙ opened;
+  lists_are = sorted;
+}

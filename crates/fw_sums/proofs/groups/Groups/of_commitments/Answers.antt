@@ -1,0 +1,33 @@
+use Rattle.std.proofs.Common.{◌≡◌, ◌∙◌, ◌++◌, [], Bor, ℕ, ap, map, subst, sym}
+use Rattle.std.specs.Prelude.{slice_index}
+use Rattle.fw_charge.specs.Charge.{Charge}
+use Rattle.fw_cover.specs.Hour.{hour_cover, left_of}
+use Rattle.fw_cover.specs.HourCovers.{IsHourCover}
+use Rattle.fw_sums.specs.Corrections.{corrections}
+use Rattle.fw_sums.specs.Costs.{costs_of}
+use Rattle.fw_sums.specs.Sums.{Counts}
+use Rattle.fw_sums.proofs.CoverFacts.{left_in_cover}
+use Rattle.fw_sums.proofs.groups.Groups.of_commitments.Goals as goal
+
+pub own_lines-requires-clause-cover : goal.own_lines-requires-clause-cover
+own_lines-requires-clause-cover c =
+    let same : c.as_slice-3.result.now ≡ c.as_slice-2.result.now = c.as_slice-3.ensures.value ∙ sym c.as_slice-2.ensures.value in
+    rw same c.in_ok-cover.ensures
+
+pub returns : goal.returns
+returns c =
+    let cs = c.args.roster.now.commitments in
+    let key = c.args.key.now in
+    let rows = c.in_ok-rows.rows.items in
+    let lent_rows : map (λ (r : Bor Charge). r.now) c.as_slice-2.result.now ≡ rows = ap (map (λ (r : Bor Charge). r.now)) c.as_slice-2.ensures.value ∙ c.in_ok-each.ensures ∙ c.as_slice.ensures.value in
+    let again : map (λ (r : Bor Charge). r.now) c.as_slice-3.result.now ≡ rows = ap (map (λ (r : Bor Charge). r.now)) c.as_slice-3.ensures.value ∙ c.in_ok-each.ensures ∙ c.as_slice.ensures.value in
+    let cover : IsHourCover cs rows c.args.hour c.in_ok-cover.cover = rw lent_rows at c.in_ok-cover.ensures in
+    let left : (r : ℕ) → slice_index c.as_slice-6.result.now r ≡ left_of rows (hour_cover cs rows c.args.hour) r =
+    (λ r. ap (λ l. slice_index l r) c.as_slice-6.ensures.value ∙ left_in_cover cs rows c.args.hour c.in_ok-cover.cover cover r) in
+    let lines : Counts c.add_lines.new.self (costs_of key c.in_ok-own.own.items) = rw c.as_slice-4.ensures.value at (c.in_ok-add_lines.ensures [] c.new-sums.ensures.counts) in
+    let corrected : Counts c.correct_rows.new.self (costs_of key c.in_ok-own.own.items ++ corrections key rows (slice_index c.as_slice-6.result.now)) = rw c.as_slice-5.ensures.value at (c.in_ok-correct_rows.ensures _ lines) in
+    rw (← c.in_ok-rows.ensures) (record {
+      own = c.in_ok-own.own.items;
+      are_own = rw again at c.in_ok-own.ensures;
+      counts = subst (λ f. Counts c.correct_rows.new.self (costs_of key c.in_ok-own.own.items ++ corrections key rows f)) (λ j r. left r j) corrected;
+    })

@@ -1,0 +1,52 @@
+-- What commitments bring to the groups of a key in hours, as it is kept from one report to the next.
+use Rattle.std.specs.Prelude.{◌≡◌, ◌++◌, ◌&&◌, ◌<◌, ◌+◌, ℕ, Bool, true, false, List, Option, IfSome, is_none, nat_eq, slice_index_or, All, Vec, string_bytes}
+use Rattle.std.specs.Map.{lookup}
+use Rattle.std.specs.declared.alloc.Global.{Global}
+use Rattle.fw_charge.specs.Charge.{Charge}
+use Rattle.fw_terms.specs.Commitment.{CommitmentValue}
+use Rattle.fw_cover.specs.Hour.{hour_cover, left_of}
+use Rattle.fw_amortise.specs.LineValue.{LineValue}
+use Rattle.fw_amortise.specs.Lines.{AreOwnLines, rows_in}
+use Rattle.fw_sums.specs.Corrections.{corrections}
+use Rattle.fw_sums.specs.Hours.{AreByHour, is_touched, rows_marked}
+use Rattle.fw_sums.specs.Costs.{costs_of}
+use Rattle.fw_sums.specs.Sums.{Counts}
+use Rattle.fw_sums.specs.Wholes.{AreWholes}
+use Rattle.fw_sums.specs.declared.covers.Covers.{Covers}
+use Rattle.fw_sums.specs.declared.covers.HourSums.{HourSums}
+use Rattle.fw_sums.specs.declared.covers.Kept.{Kept}
+use Rattle.fw_sums.specs.declared.groups.Groups.{Groups}
+use Rattle.fw_sums.specs.declared.hours.RowPlace.{RowPlace}
+
+-- the sums are those of what commitments bring to an hour whose rows these are: their own lines, and what corrects the rows that they took of
+pub record AreOwnSums (cs : List CommitmentValue) (rows : List Charge) (key : List ℕ) (hour : ℕ) (sums : Groups) : Type 0 where
+  pub own : List LineValue
+  pub are_own : AreOwnLines cs rows hour own
+  pub counts : Counts sums (costs_of key own ++ corrections key rows (left_of rows (hour_cover cs rows hour)))
+
+-- what is kept of an hour
+abbrev pub kept_at : HourSums → ℕ → Option Groups
+kept_at kept hour = lookup (nat_eq hour) kept.by_hour.entries
+
+-- what is kept of each hour is what these commitments bring to it under a key, whose rows are among these
+abbrev pub AreKeptUnder : List CommitmentValue → List Charge → List ℕ → HourSums → Type 0
+AreKeptUnder cs rows key kept = (hour : ℕ) → IfSome (kept_at kept hour) (AreOwnSums cs (rows_in hour rows) key hour)
+
+-- what is kept of a key is of these commitments and rows
+pub record IsKept (cs : List CommitmentValue) (rows : List Charge) (key : List ℕ) (kept : Kept) : Type 0 where
+  pub hours : AreKeptUnder cs rows key kept.hours
+  pub wholes : AreWholes key rows kept.wholes
+
+-- so of each key
+unfoldable pub AreKept : List CommitmentValue → List Charge → Covers → Type 0
+AreKept cs rows covers = All (λ k. IsKept cs rows (string_bytes k.key) k.kept) covers.keys.items
+
+-- whether an hour is open: a commitment has a line in it, and nothing is kept of it
+abbrev pub is_open : HourSums → Bool → ℕ → Bool
+is_open kept touched hour = touched && is_none (kept_at kept hour)
+
+-- the lists have the places of the rows of each open hour, hour by hour, of so many hours from this one on
+pub record AreOpenByHour (segments : List (List Charge)) (rows : List Charge) (cs : List CommitmentValue) (kept : HourSums) (from hours : ℕ) (by_hour : List (Vec RowPlace Global)) : Type 0 where
+  pub marks : List Bool
+  pub each : (k : ℕ) → k < hours → is_open kept (is_touched cs (from + k)) (from + k) ≡ true → slice_index_or marks k false ≡ true
+  pub lists_are : AreByHour segments (rows_marked marks from rows) from hours by_hour

@@ -1,0 +1,82 @@
+-- Rows by hour, and the hours in which commitments have lines. What is computed over a range of hours cites it.
+use Rattle.std.specs.Prelude.{◌≡◌, ◌<◌, ◌≤◌, ◌+◌, ◌-◌, ◌^◌, ℕ, nat_le, ◌==◌, ◌||◌, ◌&&◌, Bool, true, false, List, [], length, map, filter, slice_get, slice_index_or, Option, Some, None, All, Vec}
+use Rattle.std.specs.Borrow.{Bor}
+use Rattle.std.specs.declared.alloc.Global.{Global}
+use Rattle.std.specs.List.{filter_map, flat_map, list_any, range_with_len}
+use Rattle.fw_charge.specs.Charge.{Charge, hour_of}
+use Rattle.fw_charge.specs.Tags.{group_of}
+use Rattle.fw_terms.specs.Commitment.{CommitmentValue}
+use Rattle.fw_cover.specs.Applies.{is_in_term}
+use Rattle.fw_cover.specs.RosterView.{RosterValue}
+use Rattle.fw_amortise.specs.Lines.{rows_in}
+use Rattle.fw_sums.specs.Costs.{Cost}
+use Rattle.fw_sums.specs.declared.hours.RowPlace.{RowPlace}
+
+-- the segments that references lend
+abbrev pub lent : List (Bor (List Charge)) → List (List Charge)
+lent segments = map (λ s. s.now) segments
+
+-- the rows of segments in turn
+abbrev pub all_rows : List (List Charge) → List Charge
+all_rows segments = flat_map (λ rows. rows) segments
+
+-- the row at a place, where there is one
+abbrev pub row_at : List (List Charge) → RowPlace → Option Charge
+row_at segments p = slice_get (slice_index_or segments p.segment []) p.place
+
+-- there is a row at the place
+pub record IsThere (segments : List (List Charge)) (p : RowPlace) : Type 0 where
+  pub segment : p.segment < length segments
+  pub place : p.place < length (slice_index_or segments p.segment [])
+
+-- the rows at places, in their order
+abbrev pub rows_at : List (List Charge) → List RowPlace → List Charge
+rows_at segments places = filter_map (row_at segments) places
+
+-- the rows at the places of a list
+abbrev pub rows_of_list : List (List Charge) → Vec RowPlace Global → List Charge
+rows_of_list segments list = rows_at segments list.items
+
+-- there is a row at each place of a list
+abbrev pub AreThere : List (List Charge) → Vec RowPlace Global → Type 0
+AreThere segments list = All (IsThere segments) list.items
+
+-- the lists have the places of the rows of so many hours from this one on, hour by hour
+pub record AreByHour (segments : List (List Charge)) (rows : List Charge) (from hours : ℕ) (by_hour : List (Vec RowPlace Global)) : Type 0 where
+  pub there : All (AreThere segments) by_hour
+  pub each : map (rows_of_list segments) by_hour ≡ map (λ h. rows_in h rows) (range_with_len from hours)
+
+-- a roster has each of so many hours from this one on
+pub record HasHours (r : RosterValue) (from hours : ℕ) : Type 0 where
+  pub since : r.from ≤ from
+  pub until : from + hours ≤ r.to
+
+-- whether a commitment has a line in an hour: it runs then, or was paid for then
+abbrev pub has_line : ℕ → CommitmentValue → Bool
+has_line hour c = is_in_term c hour || list_any (λ p. hour_of p.at == hour) c.purchases
+
+-- whether some commitment has
+unfoldable pub is_touched : List CommitmentValue → ℕ → Bool
+is_touched cs hour = list_any (has_line hour) cs
+
+-- what a row brings under a tag key
+abbrev pub row_cost : List ℕ → Charge → Cost
+row_cost key row = record { group = group_of key row.tags; billed = row.billed; effective = row.effective }
+
+-- whether an hour is marked, where the first mark is of the hour `from` and the others are of those after it
+unfoldable pub is_marked : List Bool → ℕ → ℕ → Bool
+is_marked marks from hour = nat_le from hour && slice_index_or marks (hour - from) false
+
+-- the rows of marked hours
+abbrev pub rows_marked : List Bool → ℕ → List Charge → List Charge
+rows_marked marks from rows = filter (λ row. is_marked marks from (hour_of row.start)) rows
+
+-- the place of a second's hour among the marks, or none where it isn't marked
+abbrev pub IsMarkedPlace : ℕ → ℕ → List Bool → Option ℕ → Type 0
+IsMarkedPlace second from marks None = is_marked marks from (hour_of second) ≡ false
+IsMarkedPlace second from marks (Some k) = (k < length marks) × (hour_of second ≡ from + k) × (is_marked marks from (hour_of second) ≡ true)
+
+-- of so many hours from this one on those are marked in which some commitment has a line, and these can be the hours of lines
+pub record AreTouched (cs : List CommitmentValue) (from hours : ℕ) (marks : List Bool) : Type 0 where
+  pub each : marks ≡ map (is_touched cs) (range_with_len from hours)
+  pub early : (k : ℕ) → slice_index_or marks k false ≡ true → from + k < 2 ^ 32

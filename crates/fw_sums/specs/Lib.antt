@@ -1,0 +1,11 @@
+pub mod Costs
+pub mod Limits
+pub mod RangeLines
+pub mod Totals
+pub mod Hours
+pub mod Sums
+pub mod Parts
+pub mod CodeSums
+pub mod Corrections
+pub mod Wholes
+pub mod Covers
