@@ -1,9 +1,9 @@
 //! What reports find of a key, kept from one report to the next.
-ghost use Rattle.std.specs.Prelude.{◌≡◌, ◌⊎◌, ◌<◌, ◌+◌, ◌^◌, ℕ, List, [], Some, false, true, length, map, option_copied, slice_index_or, IfOk};
+ghost use Rattle.std.specs.Prelude.{◌≡◌, ◌⊎◌, ◌<◌, ◌+◌, ◌^◌, ℕ, List, [], Some, false, true, length, map, option_copied, slice_index_or, All, IfOk, IfSome};
 ghost use Rattle.std.specs.Bool.{OnTrue};
 ghost use Rattle.std.specs.List.{range_with_len};
 ghost use Rattle.fw_charge.specs.Charge.{Charge};
-ghost use Rattle.fw_sums.specs.Covers.{AreKept, IsKept, is_open, kept_at};
+ghost use Rattle.fw_sums.specs.Covers.{AreKept, AreKeptUnder, IsFound, IsKept, KeepsMore, is_open, kept_at};
 ghost use Rattle.fw_sums.specs.Hours.{all_rows, lent};
 ghost use Rattle.fw_terms.specs.Commitment.{CommitmentValue};
 
@@ -50,6 +50,13 @@ pub(crate) struct Kept {
     pub(crate) wholes: Wholes,
 }
 
+// What commitments bring to the groups of one key in an hour.
+#[derive(Drop)]
+pub(crate) struct HourSum {
+    pub(crate) hour: u32,
+    pub(crate) sums: Groups,
+}
+
 // What commitments bring to the groups of one key, by hour.
 #[derive(Drop)]
 pub(crate) struct HourSums {
@@ -82,19 +89,27 @@ impl Covers {
 
     // Takes out what is kept of a key. Of one that was asked for before, the sums of whole segments that aren't kept yet are found first; of a new key
     // there is nothing.
-    #[tactic(auto, unfolding(crate::specs::Covers::AreKept))]
     pub(crate) fn take(&mut self, key: &str, segments: &[&Columns]) -> Kept
         ensures covers { (cs : List CommitmentValue) (rows : List Charge) → AreKept cs rows self.old → AreKept cs rows self.new }
         ensures kept { (cs : List CommitmentValue) → AreKept cs (all_rows (lent segments.now)) self.old → IsKept cs (all_rows (lent segments.now)) key.now result }
     {
-        match self.keys.iter().position(|sums| sums.key.as_str() == key) {
-            Some(place) => {
-                let mut kept = self.keys.remove(place).kept;
-                kept.wholes.fill(self.alloc, key, segments);
-                kept
+        match self.remove(key) {
+            Some(Kept { hours, mut wholes }) => {
+                wholes.fill(self.alloc, key, segments);
+                Kept { hours, wholes }
             }
             None => Kept::new(self.alloc),
         }
+    }
+
+    // Takes out what is kept of a key, if it was asked for before.
+    #[tactic(auto, unfolding(crate::specs::Covers::AreKept))]
+    fn remove(&mut self, key: &str) -> Option<Kept>
+        ensures covers { (cs : List CommitmentValue) (rows : List Charge) → AreKept cs rows self.old → AreKept cs rows self.new }
+        ensures kept { (cs : List CommitmentValue) (rows : List Charge) → AreKept cs rows self.old → IfSome result (IsKept cs rows key.now) }
+    {
+        let place = self.keys.iter().position(|sums| sums.key.as_str() == key)?;
+        Some(self.keys.remove(place).kept)
     }
 
     // Lets go of the key that was asked for longest ago, where there are as many as are kept.
@@ -158,6 +173,23 @@ impl HourSums {
         }
         if self.by_hour.insert(hour, sums).is_ok() {
             self.groups = groups;
+        }
+    }
+
+    // Whether more may be kept.
+    pub(crate) fn has_room(&self) -> bool {
+        self.groups < MOST_GROUPS
+    }
+
+    // Keeps what was found of hours.
+    pub(crate) fn keep_found(&mut self, found: Vec<Option<HourSum>>)
+        ensures kept { (cs : List CommitmentValue) (rows : List Charge) (key : List ℕ) → All (λ one. IfSome one (IsFound cs rows key)) found.items → AreKeptUnder cs rows key self.old → AreKeptUnder cs rows key self.new }
+        ensures more { KeepsMore self.old self.new }
+    {
+        for one in found {
+            if let Some(HourSum { hour, sums }) = one {
+                self.keep(hour, sums);
+            }
         }
     }
 

@@ -4,14 +4,14 @@ ghost use Rattle.std.specs.List.{range_with_len};
 ghost use Rattle.fw_amortise.specs.Lines.{rows_in};
 ghost use Rattle.fw_cover.specs.RosterView.{HasHour};
 ghost use Rattle.fw_sums.specs.Costs.{Cost, costs_of};
-ghost use Rattle.fw_sums.specs.Covers.{AreKeptUnder, AreOpenByHour, AreOwnSums, kept_at};
+ghost use Rattle.fw_sums.specs.Covers.{AreKeptUnder, AreOpen, AreOpenByHour, AreOwnSums, kept_at};
 ghost use Rattle.fw_sums.specs.Hours.{AreTouched, HasHours, IsThere, all_rows, lent, row_cost, rows_at, rows_marked};
 ghost use Rattle.fw_sums.specs.Sums.{AddsLine, AreAmounts, AreSums, Counts, CountsHour, CountsHours, HasRoom, IsInOrder, kept_total, sums_at};
 ghost use Rattle.fw_sums.specs.Totals.{AreTotals};
 
 use crate::covers::HourSums;
-use crate::hours::{RowPlace, rows_by_hour};
-use crate::marks::touched_hours;
+use crate::hours::RowPlace;
+use crate::open_hours::OpenHours;
 use crate::segments::rows_at;
 use crate::total::Total;
 use fw_amortise::{Line, own_lines};
@@ -81,7 +81,7 @@ impl Groups {
         }
     }
 
-    // The sums of the lines of so many hours from this one on, given those of their rows. Where no commitment has a line in an hour, its lines bring
+    // The sums of the lines of hours in turn from this one on, given those of their rows. Where no commitment has a line in an hour, its lines bring
     // what its rows do; so only the rows of other hours, of which nothing is kept, are sorted by hour.
     pub(crate) fn of_hours<'a>(
         mut rows: Groups,
@@ -89,26 +89,24 @@ impl Groups {
         segments: &[&'a Columns],
         roster: &Roster<'a>,
         kept: &mut HourSums,
+        hours: &OpenHours,
         from: u64,
-        hours: usize,
     ) -> Result<Groups, AllocError>
-        requires fits { from + hours < 2 ^ 64 }
-        requires roster { HasHours roster.now from hours }
-        requires rows { Counts rows (map (row_cost key.now) (rows_marked (replicate hours true) from (all_rows (lent segments.now)))) }
+        requires fits { from + length hours.now.by_hour.items < 2 ^ 64 }
+        requires roster { HasHours roster.now from (length hours.now.by_hour.items) }
+        requires hours { AreOpen (lent segments.now) (all_rows (lent segments.now)) roster.now.commitments kept.old from (length hours.now.by_hour.items) hours.now }
+        requires rows { Counts rows (map (row_cost key.now) (rows_marked (replicate (length hours.now.by_hour.items) true) from (all_rows (lent segments.now)))) }
         requires kept { AreKeptUnder roster.now.commitments (all_rows (lent segments.now)) key.now kept.old }
         ensures kept { AreKeptUnder roster.now.commitments (all_rows (lent segments.now)) key.now kept.new }
-        ensures groups { IfOk result (λ groups. CountsHours groups [] key.now roster.now.commitments (map (λ h. rows_in h (all_rows (lent segments.now))) (range_with_len from hours)) from) }
+        ensures groups { IfOk result (λ groups. CountsHours groups [] key.now roster.now.commitments (map (λ h. rows_in h (all_rows (lent segments.now))) (range_with_len from (length hours.now.by_hour.items))) from) }
     {
-        let touched = touched_hours(rows.alloc, roster.commitments(), from, hours)?;
-        let marks = kept.open_hours(rows.alloc, touched.as_slice(), from)?;
-        let by_hour = rows_by_hour(rows.alloc, segments, from, marks.as_slice())?;
         rows.add_hours(
             key,
             segments,
             roster,
             kept,
-            by_hour.as_slice(),
-            touched.as_slice(),
+            hours.by_hour.as_slice(),
+            hours.touched.as_slice(),
             from,
         )?;
         Ok(rows)
@@ -176,7 +174,7 @@ impl Groups {
     }
 
     // What commitments bring to an hour whose rows are at these places: their own lines, and what corrects the rows that they took of.
-    fn of_commitments<'a>(
+    pub(crate) fn of_commitments<'a>(
         alloc: Global,
         key: &str,
         segments: &[&'a Columns],

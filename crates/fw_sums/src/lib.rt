@@ -11,6 +11,7 @@ mod covers;
 mod groups;
 mod hours;
 mod marks;
+mod open_hours;
 mod query;
 mod segments;
 mod summing;

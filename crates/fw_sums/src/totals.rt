@@ -1,7 +1,7 @@
 //! What the lines of a range of hours come to.
-ghost use Rattle.std.specs.Prelude.{◌≤◌, IfOk};
-ghost use Rattle.fw_sums.specs.Covers.{AreKept, AreKeptUnder};
-ghost use Rattle.fw_sums.specs.Hours.{all_rows, lent};
+ghost use Rattle.std.specs.Prelude.{◌≤◌, ◌-◌, IfOk};
+ghost use Rattle.fw_sums.specs.Covers.{AreKept, AreKeptUnder, AreOpen};
+ghost use Rattle.fw_sums.specs.Hours.{HasHours, all_rows, lent};
 ghost use Rattle.fw_sums.specs.Limits.{IsRange};
 ghost use Rattle.fw_sums.specs.Parts.{range_costs};
 ghost use Rattle.fw_sums.specs.Sums.{Counts};
@@ -10,6 +10,7 @@ ghost use Rattle.fw_sums.specs.Totals.{HasTotals};
 use crate::covers::{Covers, HourSums};
 use crate::groups::Groups;
 use crate::marks::every_hour;
+use crate::open_hours::OpenHours;
 use crate::query::Query;
 use crate::total::Total;
 use fw_columns::Columns;
@@ -50,7 +51,21 @@ pub fn totals_keeping<'a>(
         query.to_hour,
         workers,
     )?;
-    let totals = totals_of(alloc, segments, commitments, rows, &mut kept.hours, query)?;
+    let roster = Roster::new(alloc, commitments, query.from_hour, query.to_hour)?;
+    let hours = open_hours(alloc, segments, commitments, &kept.hours, query)?;
+    if workers > 1 {
+        hours.keep_all(
+            rt,
+            alloc,
+            query.key,
+            segments,
+            &roster,
+            &mut kept.hours,
+            query.from_hour,
+            workers,
+        );
+    }
+    let totals = totals_of(segments, rows, &roster, &mut kept.hours, &hours, query)?;
     covers.put(query.key, kept);
     Ok(totals)
 }
@@ -73,27 +88,52 @@ pub fn totals_alone<'a>(
         query.from_hour,
         marks.as_slice(),
     )?;
+    let roster = Roster::new(alloc, commitments, query.from_hour, query.to_hour)?;
     let mut kept = HourSums::new(alloc);
-    totals_of(alloc, segments, commitments, rows, &mut kept, query)
+    let hours = open_hours(alloc, segments, commitments, &kept, query)?;
+    totals_of(segments, rows, &roster, &mut kept, &hours, query)
+}
+
+// The open hours of the query's range.
+fn open_hours(
+    alloc: Global,
+    segments: &[&Columns],
+    commitments: &[Commitment],
+    kept: &HourSums,
+    query: &Query<'_>,
+) -> Result<OpenHours, AllocError>
+    requires { IsRange query.now.from_hour query.now.to_hour }
+    ensures { IfOk result (AreOpen (lent segments.now) (all_rows (lent segments.now)) commitments.now kept.now query.now.from_hour (query.now.to_hour - query.now.from_hour)) }
+{
+    let hours = (query.to_hour - query.from_hour) as usize;
+    OpenHours::of_range(alloc, segments, commitments, kept, query.from_hour, hours)
 }
 
 // The totals, given the sums of the range's rows.
 fn totals_of<'a>(
-    alloc: Global,
     segments: &[&'a Columns],
-    commitments: &'a [Commitment],
     rows: Groups,
+    roster: &Roster<'a>,
     kept: &mut HourSums,
+    hours: &OpenHours,
     query: &Query<'_>,
 ) -> Result<Vec<Total>, AllocError>
     requires range { IsRange query.now.from_hour query.now.to_hour }
     requires rows { Counts rows (range_costs query.now.key.now query.now.from_hour query.now.to_hour (all_rows (lent segments.now))) }
-    requires kept { AreKeptUnder commitments.now (all_rows (lent segments.now)) query.now.key.now kept.old }
-    ensures kept { AreKeptUnder commitments.now (all_rows (lent segments.now)) query.now.key.now kept.new }
-    ensures totals { IfOk result (λ totals. HasTotals commitments.now (all_rows (lent segments.now)) query.now.key.now query.now.from_hour query.now.to_hour totals.items) }
+    requires roster { HasHours roster.now query.now.from_hour (query.now.to_hour - query.now.from_hour) }
+    requires hours { AreOpen (lent segments.now) (all_rows (lent segments.now)) roster.now.commitments kept.old query.now.from_hour (query.now.to_hour - query.now.from_hour) hours.now }
+    requires kept { AreKeptUnder roster.now.commitments (all_rows (lent segments.now)) query.now.key.now kept.old }
+    ensures kept { AreKeptUnder roster.now.commitments (all_rows (lent segments.now)) query.now.key.now kept.new }
+    ensures totals { IfOk result (λ totals. HasTotals roster.now.commitments (all_rows (lent segments.now)) query.now.key.now query.now.from_hour query.now.to_hour totals.items) }
 {
-    let from = query.from_hour;
-    let hours = (query.to_hour - from) as usize;
-    let roster = Roster::new(alloc, commitments, from, query.to_hour)?;
-    Groups::of_hours(rows, query.key, segments, &roster, kept, from, hours)?.into_totals()
+    Groups::of_hours(
+        rows,
+        query.key,
+        segments,
+        roster,
+        kept,
+        hours,
+        query.from_hour,
+    )?
+    .into_totals()
 }

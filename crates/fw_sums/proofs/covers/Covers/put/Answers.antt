@@ -6,7 +6,7 @@ use Rattle.fw_sums.proofs.covers.Covers.put.Goals as goal
 pub returns-in-Ok : goal.returns-in-Ok
 unfolding AreKept
 returns-in-Ok c = λ cs rows covers own.
-    all_pushed (λ k. IsKept cs rows (string_bytes k.key) k.kept) (is_ok c.push-_pushed.result) _ _ _ c.push-_pushed.ensures.items (c.make_room.ensures cs rows covers) (rw c.in-Ok.ensures.ok own)
+    all_pushed (λ k. IsKept cs rows (string_bytes k.key) k.kept) (is_ok c.push-pushed.result) _ _ _ c.push-pushed.ensures.items (c.make_room.ensures cs rows covers) (rw c.in-Ok.ensures.ok own)
 
 pub returns-in_default : goal.returns-in_default
 returns-in_default c = λ cs rows covers own. c.make_room.ensures cs rows covers
