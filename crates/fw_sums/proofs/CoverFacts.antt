@@ -1,7 +1,6 @@
 -- What commitments bring to the groups of a key in hours, as it is kept.
-use Rattle.std.proofs.Common.{◌≡◌, ◌∙◌, ◌⊎◌, ⊎_elim, ◌++◌, ◌∷◌, [], Bool, All, ℕ, ◌+◌, List, None, Option, Some, append_assoc, arith, drop, take, map, sym, subst}
-use Rattle.std.proofs.lemmas.List.Elements.{All-append, All-cons, All-drop, All-nil, All-push, All-take}
-use Rattle.std.specs.List.{AllZip}
+use Rattle.std.proofs.Common.{◌≡◌, ◌++◌, ◌∷◌, [], Bool, All, ℕ, ◌+◌, ◌<◌, List, append_assoc, arith, drop, get_or, length, map, string_bytes, subst, sym, take}
+use Rattle.std.proofs.lemmas.List.Elements.{All-append, All-drop, All-push, All-take}
 use Rattle.std.specs.Prelude.{if◌then◌else◌, slice_index}
 use Rattle.fw_charge.specs.Charge.{Charge}
 use Rattle.fw_terms.specs.Commitment.{CommitmentValue}
@@ -11,11 +10,10 @@ use Rattle.fw_cover.specs.declared.hour.HourCover.{HourCover}
 use Rattle.fw_cover.specs.HourCovers.{IsHourCover}
 use Rattle.fw_sums.specs.Corrections.{corrections}
 use Rattle.fw_sums.specs.Costs.{Cost, costs_of}
-use Rattle.fw_sums.specs.Covers.{AreKeptUnder, AreOwnSums, IsFound, KeepsMore, kept_at}
+use Rattle.fw_sums.specs.Covers.{AreOwnSums, IsKept}
 use Rattle.fw_sums.specs.Hours.{row_cost}
 use Rattle.fw_sums.specs.Sums.{Counts, CountsHour}
-use Rattle.fw_sums.specs.declared.covers.HourSum.{HourSum}
-use Rattle.fw_sums.specs.declared.covers.HourSums.{HourSums}
+use Rattle.fw_sums.specs.declared.covers.KeySums.{KeySums}
 use Rattle.fw_sums.specs.declared.groups.Groups.{Groups}
 use Rattle.fw_sums.proofs.CorrectionFacts.{hour_corrected}
 
@@ -46,27 +44,8 @@ all_pushed P pushed xs ys x is all one = subst (All P) (sym is)
 pub all_removed : {X : Type 0} (P : X → Type 0) (xs ys : List X) (n : ℕ) → ys ≡ take n xs ++ drop (n + 1) xs → All P xs → All P ys
 all_removed P xs ys n is all = subst (All P) (sym is) (All-append P (take n xs) (drop (n + 1) xs) (All-take P n xs all) (All-drop P (n + 1) xs all))
 
--- what holds of each answer whatever was asked
-pub all_answers : {X Y : Type 0} (P : Y → Type 0) (xs : List X) (ys : List Y) → AllZip (λ x y. P y) xs ys → All P ys
-all_answers P [] [] all = All-nil P
-all_answers P [] (y ∷ ys) all = absurd all
-all_answers P (x ∷ xs) [] all = absurd all
-all_answers P (x ∷ xs) (y ∷ ys) all = All-cons P y ys all.0 (all_answers P xs ys all.1)
-
--- one hour more, or what was kept before
-module _ (old new : HourSums) (one : HourSum) (step : (h : ℕ) → (kept_at new h ≡ kept_at old h) ⊎ ((h ≡ one.hour) × (kept_at new h ≡ Some one.sums))) where
-  pub found_kept : (cs : List CommitmentValue) (rows : List Charge) (key : List ℕ) → IsFound cs rows key one → AreKeptUnder cs rows key old → AreKeptUnder cs rows key new
-  unfolding IsFound
-  found_kept cs rows key found kept h = ⊎_elim
-      (λ (same : kept_at new h ≡ kept_at old h). rw same (kept h))
-      (λ (put : (h ≡ one.hour) × (kept_at new h ≡ Some one.sums)). rw (put.1, put.0) found)
-      (step h)
-
-  pub found_more : KeepsMore old new
-  found_more h none = ⊎_elim
-      (λ (same : kept_at new h ≡ kept_at old h). sym same ∙ none)
-      (λ (put : (h ≡ one.hour) × (kept_at new h ≡ Some one.sums)). absurd (some_none put.1 none))
-      (step h)
-    where
-      some_none : {o : Option Groups} → o ≡ Some one.sums → o ≡ None → ⊥
-      some_none is none = cc
+-- what is kept of the key at a place
+pub kept_of : (cs : List CommitmentValue) (rows : List Charge) (keys : List KeySums) (place : ℕ) (at : KeySums) (key : List ℕ) → All (λ k. IsKept cs rows (string_bytes k.key) k.kept) keys → place < length keys
+    → at ≡ get_or keys place at → string_bytes at.key ≡ key → IsKept cs rows key at.kept
+kept_of cs rows keys place at key all below is same =
+    subst (λ k. IsKept cs rows k at.kept) same (subst (λ (k : KeySums). IsKept cs rows (string_bytes k.key) k.kept) (sym is) (all place at below))

@@ -1,5 +1,5 @@
 -- Sums by group as they are kept while the lines are read.
-use Rattle.std.specs.Prelude.{◌≡◌, ◌++◌, ⊤, [], ◌∷◌, ◌+◌, ◌<◌, ◌≤◌, ◌*◌, ◌^◌, ℕ, ℤ, ◌+ℤ◌, List, Option, Some, None, String, string_bytes, nat_abs, if◌then◌else◌, map}
+use Rattle.std.specs.Prelude.{◌≡◌, ◌++◌, ⊤, [], ◌∷◌, ◌+◌, ◌<◌, ◌≤◌, ◌*◌, ◌^◌, ℕ, ℤ, ◌+ℤ◌, List, Option, Some, None, String, string_bytes, nat_abs, if◌then◌else◌}
 use Rattle.std.specs.Str.{bytes_eq}
 use Rattle.std.specs.List.{list_any}
 use Rattle.std.specs.List.Sorted.{IsSorted}

@@ -1,9 +1,9 @@
 //! What reports find of a key, kept from one report to the next.
-ghost use Rattle.std.specs.Prelude.{◌≡◌, ◌⊎◌, ◌<◌, ◌+◌, ◌^◌, ℕ, List, [], Some, false, true, length, map, option_copied, slice_index_or, All, IfOk, IfSome};
+ghost use Rattle.std.specs.Prelude.{◌≡◌, ◌⊎◌, ◌<◌, ◌+◌, ◌^◌, ℕ, List, [], Some, false, true, length, map, option_copied, slice_index_or, IfOk, IfSome};
 ghost use Rattle.std.specs.Bool.{OnTrue};
 ghost use Rattle.std.specs.List.{range_with_len};
 ghost use Rattle.fw_charge.specs.Charge.{Charge};
-ghost use Rattle.fw_sums.specs.Covers.{AreKept, AreKeptUnder, IsFound, IsKept, KeepsMore, is_open, kept_at};
+ghost use Rattle.fw_sums.specs.Covers.{AreKept, IsKept, is_open, kept_at};
 ghost use Rattle.fw_sums.specs.Hours.{all_rows, lent};
 ghost use Rattle.fw_terms.specs.Commitment.{CommitmentValue};
 
@@ -48,13 +48,6 @@ struct KeySums {
 pub(crate) struct Kept {
     pub(crate) hours: HourSums,
     pub(crate) wholes: Wholes,
-}
-
-// What commitments bring to the groups of one key in an hour.
-#[derive(Drop)]
-pub(crate) struct HourSum {
-    pub(crate) hour: u32,
-    pub(crate) sums: Groups,
 }
 
 // What commitments bring to the groups of one key, by hour.
@@ -173,23 +166,6 @@ impl HourSums {
         }
         if self.by_hour.insert(hour, sums).is_ok() {
             self.groups = groups;
-        }
-    }
-
-    // Whether more may be kept.
-    pub(crate) fn has_room(&self) -> bool {
-        self.groups < MOST_GROUPS
-    }
-
-    // Keeps what was found of hours.
-    pub(crate) fn keep_found(&mut self, found: Vec<Option<HourSum>>)
-        ensures kept { (cs : List CommitmentValue) (rows : List Charge) (key : List ℕ) → All (λ one. IfSome one (IsFound cs rows key)) found.items → AreKeptUnder cs rows key self.old → AreKeptUnder cs rows key self.new }
-        ensures more { KeepsMore self.old self.new }
-    {
-        for one in found {
-            if let Some(HourSum { hour, sums }) = one {
-                self.keep(hour, sums);
-            }
         }
     }
 

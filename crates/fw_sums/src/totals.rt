@@ -53,18 +53,6 @@ pub fn totals_keeping<'a>(
     )?;
     let roster = Roster::new(alloc, commitments, query.from_hour, query.to_hour)?;
     let hours = open_hours(alloc, segments, commitments, &kept.hours, query)?;
-    if workers > 1 {
-        hours.keep_all(
-            rt,
-            alloc,
-            query.key,
-            segments,
-            &roster,
-            &mut kept.hours,
-            query.from_hour,
-            workers,
-        );
-    }
     let totals = totals_of(segments, rows, &roster, &mut kept.hours, &hours, query)?;
     covers.put(query.key, kept);
     Ok(totals)
@@ -126,14 +114,7 @@ fn totals_of<'a>(
     ensures kept { AreKeptUnder roster.now.commitments (all_rows (lent segments.now)) query.now.key.now kept.new }
     ensures totals { IfOk result (λ totals. HasTotals roster.now.commitments (all_rows (lent segments.now)) query.now.key.now query.now.from_hour query.now.to_hour totals.items) }
 {
-    Groups::of_hours(
-        rows,
-        query.key,
-        segments,
-        roster,
-        kept,
-        hours,
-        query.from_hour,
-    )?
-    .into_totals()
+    let key = query.key;
+    let from = query.from_hour;
+    Groups::of_hours(rows, key, segments, roster, kept, hours, from)?.into_totals()
 }

@@ -1,4 +1,3 @@
-use Rattle.std.proofs.Common.{◌≡◌, length}
 use Rattle.fw_sums.proofs.MarkFacts.{touched_long}
 use Rattle.fw_sums.proofs.TurnFacts.{open_lists}
 use Rattle.fw_sums.proofs.groups.Groups.of_hours.Goals as goal
