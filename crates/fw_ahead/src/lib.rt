@@ -6,9 +6,9 @@
 ghost use Rattle.std.specs.Prelude.{IfOk, IfSome};
 ghost use Rattle.fw_rows.specs.Rows.{RowsRead};
 
-use fw_column_rows::read_columns_after;
+use fw_column_rows::{KnownTexts, read_columns_after};
 use fw_columns::Columns;
-use fw_rows::{Currency, KnownTags, RowFault};
+use fw_rows::{Currency, RowFault};
 use fw_script::{Command, EntryKind, Script};
 use rayon::prelude::*;
 use std::alloc::Global;
@@ -42,7 +42,7 @@ impl<'a> ReadPost<'a> {
         alloc: Global,
         content: &'a [u8],
         currency: Currency,
-        known: &mut KnownTags,
+        known: &mut KnownTexts,
     ) -> ReadPost<'a> {
         let rows = read_columns_after(alloc, content, currency, known);
         ReadPost {
@@ -71,7 +71,7 @@ impl<'a> ReadPost<'a> {
 #[derive(Drop)]
 struct Reader<'a> {
     /// The tags that are known of texts from the posts that this worker has read.
-    known: KnownTags,
+    known: KnownTexts,
     /// The content to read next.
     content: Option<&'a [u8]>,
     /// What was read and not taken yet.
@@ -81,7 +81,7 @@ struct Reader<'a> {
 impl<'a> Reader<'a> {
     fn new(alloc: Global) -> Reader<'a> {
         Reader {
-            known: KnownTags::new(alloc),
+            known: KnownTexts::new(alloc),
             content: None,
             post: None,
         }
@@ -122,7 +122,7 @@ pub struct Posts<'a> {
     /// The workers, of which there are two at least, or none.
     readers: Vec<Reader<'a>>,
     /// The tags that are known of texts from the posts that were read in turn.
-    known: KnownTags,
+    known: KnownTexts,
 }
 
 impl<'a> Posts<'a> {
@@ -131,7 +131,7 @@ impl<'a> Posts<'a> {
         let mut posts = Posts {
             script: Script::new(text),
             readers: Vec::new(alloc),
-            known: KnownTags::new(alloc),
+            known: KnownTexts::new(alloc),
         };
         if workers > 1 {
             for _ in 0..workers {

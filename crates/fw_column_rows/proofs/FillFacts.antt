@@ -1,16 +1,19 @@
 -- Texts of tags, and rows that have the tags that they state.
-use Rattle.std.proofs.Common.{◌≡◌, ℕ, ◌+◌, ◌<◌, ◌≤◌, Bool, true, false, List, [], ◌∷◌, ◌++◌, length, get_or, refl, sym, ap, ◌∙◌, subst, arith, length-append, below_more}
-use Rattle.std.specs.Prelude.{slice_get, Some}
+use Rattle.std.proofs.Common.{◌≡◌, ◌≢◌, ℕ, ◌+◌, ◌<◌, ◌≤◌, Bool, true, false, List, [], ◌∷◌, ◌++◌, length, get_or, replicate, set, refl, sym, ap, ◌∙◌, subst, arith, length-append, below_more, ⊎_elim}
+use Rattle.std.proofs.lemmas.Bool.{cases_eq}
+use Rattle.std.specs.Prelude.{Some, Result, Ok, Err, OnOk}
 use Rattle.std.specs.List.{list_any}
 use Rattle.std.specs.Str.{bytes_eq}
-use Rattle.std.proofs.lemmas.List.{get_or_append_left, get_or-append-add}
+use Rattle.std.proofs.lemmas.List.{get_or_append_left, get_or-append-add, get_or-replicate, get_or-set_same, get_or-set_other, length-replicate, length-set}
 use Rattle.std.proofs.lemmas.Option.{slice_get-get_or}
 use Rattle.fw_charge.specs.Charge.{Charge}
 use Rattle.fw_charge.specs.Tags.{TagText, IsTags}
 use Rattle.fw_row_table.specs.Names.{Text, place_of, with_text}
 use Rattle.fw_columns.specs.RowViews.{tags_at}
 use Rattle.fw_row_table.proofs.NameFacts.{at_its_end, place-there, text_at_place}
-use Rattle.fw_rows.specs.Rules.{tags_stated}
+use Rattle.fw_rows.specs.Judged.{JudgedWithin}
+use Rattle.fw_rows.specs.Rules.{Rule, tags_stated}
+use Rattle.fw_rows.specs.declared.fault.Refusal.{Refusal}
 use Rattle.fw_column_rows.specs.Filling.{AreTagsOf, HasTagsOf}
 
 -- ---- a text that is looked up
@@ -32,17 +35,35 @@ code_known names t code is lt = by (list_any (bytes_eq t) names) refl
         absurd (omega (arith, here, lt))
 
 -- and new where it was not
-pub code_new : (names : List Text) (t : Text) (code : ℕ) → code ≡ place_of (with_text names t) t → length names ≤ code → with_text names t ≡ names ++ t ∷ []
+pub code_new : (names : List Text) (t : Text) (code : ℕ) → code ≡ place_of (with_text names t) t → length names ≤ code → (with_text names t ≡ names ++ t ∷ []) × (code ≡ length names)
 unfolding with_text place_of
 code_new names t code is le = by (list_any (bytes_eq t) names) refl
   where
-    by : (b : Bool) → list_any (bytes_eq t) names ≡ b → with_text names t ≡ names ++ t ∷ []
+    by : (b : Bool) → list_any (bytes_eq t) names ≡ b → (with_text names t ≡ names ++ t ∷ []) × (code ≡ length names)
     by true e =
         let same : with_text names t ≡ names = rw e refl in
         let here : code ≡ place_of names t = is ∙ ap (λ ns. place_of ns t) same in
         let below : place_of names t < length names = place-there (bytes_eq t) names e in
         absurd (omega (arith, here, le, below))
-    by false e = rw e refl
+    by false e =
+        let grown : with_text names t ≡ names ++ t ∷ [] = rw e refl in
+        (grown, is ∙ (ap (λ ns. place_of ns t) grown ∙ at_its_end names t e))
+
+-- a text is at its code
+pub text_at_code : (names : List Text) (t : Text) (code : ℕ) → code ≡ place_of names t → code < length names → get_or names code [] ≡ t
+text_at_code names t code is lt = ap (λ k. get_or names k []) is ∙ text_at_place names t [] (omega (arith, is, lt))
+
+-- ---- what was judged
+
+-- where no rule is broken, what follows from what was made
+pub judged_ok : {A Q : Type 0} (rules : List Rule) (Made : A → Type 0) (r : Result A Refusal) → JudgedWithin rules Made r → ((x : A) → Made x → Q) → OnOk r Q
+judged_ok rules Made (Ok x) judged so = so x judged.1
+judged_ok rules Made (Err e) judged so = tt
+
+-- and from what is said beside it
+pub judged_beside : {A P Q : Type 0} (rules : List Rule) (Made : A → Type 0) (r : Result A Refusal) → JudgedWithin rules Made r → OnOk r P → ((x : A) → Made x → P → Q) → OnOk r Q
+judged_beside rules Made (Ok x) judged beside so = so x judged.1 beside
+judged_beside rules Made (Err e) judged beside so = tt
 
 -- ---- one row more
 
@@ -77,42 +98,61 @@ last_text t tags rows now x added has is kept =
       kept = subst IsTags (sym last) kept;
     })
 
--- a text that is there
-pub known_text : (names : List Text) (places : List ℕ) (rows : List Charge) (t : Text) (code : ℕ) → AreTagsOf names places rows → code < length places → get_or names code [] ≡ t → HasTagsOf t (get_or places code 0) rows
-known_text names places rows t code are lt is = let At : Text → Type 0 = λ text. HasTagsOf text (get_or places code 0) rows in subst At is (are.each code lt)
+-- ---- the texts and their rows
 
--- a row whose text was there
-pub tags_kept : (names : List Text) (places : List ℕ) (rows : List Charge) (x : Charge) → AreTagsOf names places rows → AreTagsOf names places (rows ++ x ∷ [])
-tags_kept names places rows x are = record {
-  one_each = are.one_each;
-  few = omega (arith, are.few, length-append rows (x ∷ []));
-  each = λ k lt. has_before (get_or names k []) (get_or places k 0) rows x (are.each k lt);
+-- no row has a text yet
+pub none_yet : (names : List Text) → AreTagsOf names (replicate (length names) 0) []
+none_yet names = record {
+  one_each = length-replicate {A = ℕ} (length names) 0;
+  each = λ k place lt is.
+      let none : get_or (replicate (length names) 0) k 0 ≡ 0 = get_or-replicate {A = ℕ} (length names) k 0 0 (omega (arith, lt, length-replicate {A = ℕ} (length names) 0)) in
+      absurd (omega (arith, none, is));
 }
 
--- a row whose text is new
-pub tags_more : (names : List Text) (places : List ℕ) (rows : List Charge) (t : Text) (x : Charge) → AreTagsOf names places rows → HasTagsOf t (length rows) (rows ++ x ∷ [])
-    → AreTagsOf (names ++ t ∷ []) (places ++ length rows ∷ []) (rows ++ x ∷ [])
-tags_more names places rows t x are has =
-    let size : length (places ++ length rows ∷ []) ≡ length places + 1 = length-append places (length rows ∷ []) in
+-- a text that no row has
+pub one_text_more : (names : List Text) (places : List ℕ) (rows : List Charge) (t : Text) → AreTagsOf names places rows → AreTagsOf (names ++ t ∷ []) (places ++ 0 ∷ []) rows
+one_text_more names places rows t are =
+    let size : length (places ++ 0 ∷ []) ≡ length places + 1 = length-append places (0 ∷ []) in
     record {
       one_each = omega (arith, size, length-append names (t ∷ []), are.one_each);
-      few = omega (arith, size, are.few, length-append rows (x ∷ []));
-      each = λ k lt. below_more HasAt (length places) before last k (omega (arith, lt, size));
+      each = λ k place lt. below_more HasAt (length places) before last k (omega (arith, lt, size)) place;
     }
   where
     HasAt : ℕ → Type 0
-    HasAt k = HasTagsOf (get_or (names ++ t ∷ []) k []) (get_or (places ++ length rows ∷ []) k 0) (rows ++ x ∷ [])
+    HasAt k = (place : ℕ) → get_or (places ++ 0 ∷ []) k 0 ≡ place + 1 → HasTagsOf (get_or (names ++ t ∷ []) k []) place rows
 
     before : (k : ℕ) → k < length places → HasAt k
-    before k lt =
+    before k lt place is =
         let within : k < length names = omega (arith, lt, are.one_each) in
-        rw (get_or_append_left names (t ∷ []) [] k within, get_or_append_left places (length rows ∷ []) 0 k lt) (has_before (get_or names k []) (get_or places k 0) rows x (are.each k lt))
+        let same : get_or (places ++ 0 ∷ []) k 0 ≡ get_or places k 0 = get_or_append_left places (0 ∷ []) 0 k lt in
+        rw (get_or_append_left names (t ∷ []) [] k within) (are.each k place lt (sym same ∙ is))
 
     last : HasAt (length places)
-    last =
-        let end : length places ≡ length names + 0 = omega (arith, are.one_each) in
+    last place is =
         let same : length places ≡ length places + 0 = omega arith in
-        let text : get_or (names ++ t ∷ []) (length places) [] ≡ t = ap (λ k. get_or (names ++ t ∷ []) k []) end ∙ get_or-append-add names (t ∷ []) 0 [] in
-        let place : get_or (places ++ length rows ∷ []) (length places) 0 ≡ length rows =
-        ap (λ k. get_or (places ++ length rows ∷ []) k 0) same ∙ get_or-append-add places (length rows ∷ []) 0 0 in
-        rw (text, place) has
+        let none : get_or (places ++ 0 ∷ []) (length places) 0 ≡ 0 = ap (λ k. get_or (places ++ 0 ∷ []) k 0) same ∙ get_or-append-add places (0 ∷ []) 0 0 in
+        absurd (omega (arith, none, is))
+
+-- a row whose text another row has
+pub tags_kept : (names : List Text) (places : List ℕ) (rows : List Charge) (x : Charge) → AreTagsOf names places rows → AreTagsOf names places (rows ++ x ∷ [])
+tags_kept names places rows x are = record {
+  one_each = are.one_each;
+  each = λ k place lt is. has_before (get_or names k []) place rows x (are.each k place lt is);
+}
+
+-- the first row with a text
+pub tags_set : (names : List Text) (places : List ℕ) (rows : List Charge) (code : ℕ) (x : Charge) → code < length places → AreTagsOf names places rows
+    → HasTagsOf (get_or names code []) (length rows) (rows ++ x ∷ []) → AreTagsOf names (set places code (length rows + 1)) (rows ++ x ∷ [])
+tags_set names places rows code x within are has = record {
+  one_each = length-set places code (length rows + 1) ∙ are.one_each;
+  each = λ k place lt is. ⊎_elim
+      (λ (same : k ≡ code).
+      let here : get_or (set places code (length rows + 1)) k 0 ≡ length rows + 1 = rw same (get_or-set_same places code (length rows + 1) 0 within) in
+      let at : length rows ≡ place = omega (arith, here, is) in
+      rw same (subst (λ p. HasTagsOf (get_or names code []) p (rows ++ x ∷ [])) at has))
+      (λ (other : k ≢ code).
+      let there : get_or (set places code (length rows + 1)) k 0 ≡ get_or places k 0 = get_or-set_other places code k (length rows + 1) 0 other in
+      let below : k < length places = omega (arith, lt, length-set places code (length rows + 1)) in
+      has_before (get_or names k []) place rows x (are.each k place below (sym there ∙ is)))
+      (cases_eq k code);
+}

@@ -1,5 +1,5 @@
 -- What the values of a record and its tags say of its row.
-use Rattle.std.proofs.Common.{◌≡◌, ◌≢◌, ◌≤◌, ◌++◌, ℕ, List, [], ◌∷◌, length, Option, Some, None, Result, Ok, Err, refl, sym, ◌∙◌, ap, subst}
+use Rattle.std.proofs.Common.{◌≡◌, ◌≢◌, ◌≤◌, ◌++◌, ℕ, List, [], length, Option, Some, None, Result, Ok, Err, refl, sym, subst}
 use Rattle.std.specs.Prelude.{IfSome, MatchOption}
 use Rattle.fw_charge.specs.Charge.{Charge, DiscountText, IsCharge, IsDiscountOf, IsShortText, longest_short_text}
 use Rattle.fw_charge.specs.Codes.{category_word}
@@ -7,7 +7,7 @@ use Rattle.fw_charge.specs.Tags.{TagText, IsTags}
 use Rattle.fw_charge.specs.declared.category.Category.{Category}
 use Rattle.fw_columns.specs.RowViews.{charge_with, discount_with}
 use Rattle.fw_columns.specs.declared.row_view.RowView.{RowView}
-use Rattle.fw_rules.specs.Table.{FirstBroken, NoneBroken}
+use Rattle.fw_rules.specs.Table.{NoneBroken}
 use Rattle.fw_rows.specs.Judged.{JudgedWithin}
 use Rattle.fw_rows.specs.Parts.{charged_rules, discount_rules, NamedOrNull, TextsAreShort, discount_text}
 use Rattle.fw_rows.specs.Rules.{KindReads, DiscountStands, Stands, Texts, tags_stated, text_rules, word_rules, cost_rules, period_rules, kind_rules, status_rules, quantity_rules, length_rules}
@@ -16,7 +16,7 @@ use Rattle.fw_rows.specs.declared.column.Column.TheVariants as column
 use Rattle.fw_rows.specs.declared.details.NamedDiscount.{NamedDiscount}
 use Rattle.fw_rows.specs.declared.fault.Refusal.{Refusal}
 use Rattle.fw_rows.specs.declared.fault.Refusal.TheVariants as refusal
-use Rattle.fw_rows.proofs.JudgedFacts.{first-back, first-front, none-both}
+use Rattle.fw_rows.proofs.JudgedFacts.{first-back, none-both}
 use Rattle.fw_rows.proofs.MakingFacts.{short_text, has_status, short_or_null}
 use Rattle.fw_column_rows.specs.Filling.{AddsView}
 use Rattle.fw_column_rows.specs.Views.{view_rules, ViewStands}

@@ -1,5 +1,5 @@
 -- Texts of tags, and rows that have the tags that they state. The private functions of the crate cite it.
-use Rattle.std.specs.Prelude.{◌≡◌, ◌<◌, ◌≤◌, ◌++◌, ℕ, List, [], ◌∷◌, length, slice_index, slice_index_or, Some}
+use Rattle.std.specs.Prelude.{◌≡◌, ◌<◌, ◌+◌, ◌++◌, ℕ, List, [], ◌∷◌, length, slice_index, slice_index_or, Some}
 use Rattle.fw_charge.specs.Charge.{Charge}
 use Rattle.fw_charge.specs.Tags.{TagText, IsTags}
 use Rattle.fw_columns.specs.RowViews.{charge_with, tags_at}
@@ -13,11 +13,14 @@ pub record HasTagsOf (text : List ℕ) (place : ℕ) (rows : List Charge) : Type
   pub stated : tags_stated text ≡ Some (tags_at rows place)
   pub kept : IsTags (tags_at rows place)
 
--- for each text there is the place of a row with its tags
+-- at most so many texts are kept for the next text of charges
+abbrev pub most_texts : ℕ
+most_texts = 16384
+
+-- for each text there is 1 more than the place of a row with its tags, or 0
 pub record AreTagsOf (texts : List (List ℕ)) (places : List ℕ) (rows : List Charge) : Type 0 where
   pub one_each : length places ≡ length texts
-  pub few : length places ≤ length rows
-  pub each : (k : ℕ) → k < length places → HasTagsOf (slice_index_or texts k []) (slice_index places k) rows
+  pub each : (k place : ℕ) → k < length places → slice_index places k ≡ place + 1 → HasTagsOf (slice_index_or texts k []) place rows
 
 -- there is one row more: that with these values, and with the tags that the text of a record states
 abbrev pub AddsView : Texts → RowView → List Charge → List Charge → Type 0

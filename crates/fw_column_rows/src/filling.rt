@@ -1,26 +1,29 @@
 //! Columns that the records of a text fill.
-ghost use Rattle.std.specs.Prelude.{◌≡◌, ◌<◌, [], Ok, length, OnOk};
+ghost use Rattle.std.specs.Prelude.{◌≡◌, ◌<◌, ◌≤◌, ◌+◌, [], Ok, length, slice_index_or, IfOk, OnOk};
 ghost use Rattle.fw_rows.specs.Judged.{JudgedWithin};
 ghost use Rattle.fw_rows.specs.Parts.{texts_of, TagsAnswer};
 ghost use Rattle.fw_rows.specs.Rules.{length_rules};
 ghost use Rattle.fw_rows.specs.declared.column.Column.TheVariants as column;
-ghost use Rattle.fw_column_rows.specs.Filling.{AreTagsOf, HasTagsOf, AddsView};
+ghost use Rattle.fw_column_rows.specs.Filling.{most_texts, AreTagsOf, HasTagsOf, AddsView};
 ghost use Rattle.fw_column_rows.specs.Views.{ViewStands};
 ghost use Rattle.fw_charge.specs.Charge.{most_post_rows};
 
+use crate::known::KnownTexts;
 use crate::view::view_of;
 use fw_charge::{Currency, Tags};
 use fw_columns::{ColumnsBuilder, Names, RowView};
 use fw_rows::{Cells, Column, KnownTags, PeriodReaders, RecordFault, Refusal, RowSink};
-use std::alloc::Global;
+use std::alloc::{AllocError, Global};
 
 /// The columns of the rows so far, and what was read for them: the texts of tags, and the last period; and the tags that are known of texts.
 #[derive(Drop)]
 pub(crate) struct Filling {
     columns: ColumnsBuilder,
-    /// The texts of tags, each once.
+    /// The texts of tags, each once, also those of earlier texts of charges.
     texts: Names,
-    /// For each text of tags the first row that has it.
+    /// How many bytes the texts have.
+    bytes: usize,
+    /// For each text of tags 1 more than the place of the first row that has it, or 0 where none has it yet.
     places: Vec<u32>,
     /// The code that the next row's text of tags may have: rows of one hour mostly come in the order of those of the hour before.
     next_text: u32,
@@ -29,49 +32,75 @@ pub(crate) struct Filling {
 }
 
 impl Filling {
-    /// No rows yet. It takes no memory.
-    pub(crate) fn new(alloc: Global, known: KnownTags) -> Filling
-        ensures rows { result.columns ≡ [] }
-        ensures tags { AreTagsOf result.texts result.places.items result.columns }
+    /// No rows yet.
+    pub(crate) fn new(alloc: Global, known: KnownTexts) -> Result<Filling, AllocError>
+        ensures rows { IfOk result (λ f. f.columns ≡ []) }
+        ensures tags { IfOk result (λ f. AreTagsOf f.texts f.places.items f.columns) }
+        ensures few { IfOk result (λ f. length f.texts ≤ most_texts) }
     {
-        Filling {
+        let known = known.trimmed(alloc);
+        let places = vec![in alloc; 0; known.texts.len()]?;
+        Ok(Filling {
             columns: ColumnsBuilder::new(alloc),
-            texts: Names::new(alloc),
-            places: Vec::new(alloc),
+            texts: known.texts,
+            bytes: known.bytes,
+            places,
             next_text: 0,
             periods: PeriodReaders::new(),
-            known,
-        }
+            known: known.tags,
+        })
     }
 
-    /// The rows so far, and the tags that are known of texts.
-    pub(crate) fn into_parts(self) -> (ColumnsBuilder, KnownTags)
+    /// The rows so far, and what is known of texts of tags.
+    pub(crate) fn into_parts(self) -> (ColumnsBuilder, KnownTexts)
         ensures { result.0 ≡ self.columns }
     {
-        (self.columns, self.known)
+        let known = KnownTexts {
+            texts: self.texts,
+            bytes: self.bytes,
+            tags: self.known,
+        };
+        (self.columns, known)
+    }
+
+    /// The code of a text of tags, which is known from then on.
+    fn text_code(&mut self, text: &str) -> Result<u32, AllocError>
+        requires tags { AreTagsOf self.old.texts self.old.places.items self.old.columns }
+        requires room { length self.old.texts < most_texts + most_post_rows }
+        ensures tags { OnOk result (AreTagsOf self.new.texts self.new.places.items self.new.columns) }
+        ensures rows { self.new.columns ≡ self.old.columns }
+        ensures few { OnOk result (length self.new.texts ≤ length self.old.texts + 1) }
+        ensures within { IfOk result (λ code. code < length self.new.places.items) }
+        ensures text { IfOk result (λ code. slice_index_or self.new.texts code [] ≡ text.now) }
+    {
+        let code = self.texts.code_near(Some(self.next_text), text)?;
+        self.next_text = code.saturating_add(1);
+        if code as usize >= self.places.len() {
+            self.places.push(0)?;
+            self.bytes = self.bytes.saturating_add(text.len());
+        }
+        Ok(code)
     }
 
     /// Adds the row with these values of a record and with its tags, if tags and lengths break no rule. The tags are read where nothing is known of their text.
     fn add_view(&mut self, row: &RowView<'_>, cells: &Cells<'_>) -> Result<(), Refusal>
         requires tags { AreTagsOf self.old.texts self.old.places.items self.old.columns }
+        requires few { length self.old.texts ≤ most_texts + length self.old.columns }
         requires room { length self.old.columns < most_post_rows }
         requires stands { ViewStands (texts_of cells.now) row.now }
         ensures row { let at = texts_of cells.now in JudgedWithin (length_rules at) (λ _. AddsView at row.now self.old.columns self.new.columns) result }
         ensures tags { OnOk result (AreTagsOf self.new.texts self.new.places.items self.new.columns) }
+        ensures few { OnOk result (length self.new.texts ≤ most_texts + length self.new.columns) }
     {
-        let tags_text = cells.text(Column::Tags);
-        let found = self.texts.code_near(Some(self.next_text), tags_text)?;
-        self.next_text = found.saturating_add(1);
-        if (found as usize) < self.places.len() {
-            let place = self.places[found as usize];
-            add_known(&mut self.columns, row, cells, place as usize)?;
-            return Ok(());
+        let code = self.text_code(cells.text(Column::Tags))? as usize;
+        match self.places[code].checked_sub(1) {
+            Some(place) => add_known(&mut self.columns, row, cells, place as usize),
+            None => {
+                let alloc = *self.places.allocator();
+                self.places[code] = self.columns.len() as u32 + 1;
+                add_new(alloc, &mut self.columns, &mut self.known, row, cells)
+            }
         }
-        let next = self.columns.len() as u32;
-        self.places.push(next)?;
-        let alloc = *self.places.allocator();
-        add_new(alloc, &mut self.columns, &mut self.known, row, cells)?;
-        Ok(())
     }
 }
 
@@ -141,7 +170,7 @@ fn add_with(
 }
 
 impl RowSink for Filling {
-    ghost is_ready = { λ f. AreTagsOf f.texts f.places.items f.columns };
+    ghost is_ready = { λ f. AreTagsOf f.texts f.places.items f.columns × (length f.texts ≤ most_texts + length f.columns) };
 
     ghost rows = { λ f. f.columns };
 

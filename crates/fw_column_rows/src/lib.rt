@@ -4,7 +4,9 @@
 #![tactic(auto)]
 
 mod filling;
+mod known;
 mod reading;
 mod view;
 
+pub use known::KnownTexts;
 pub use reading::{read_columns, read_columns_after};

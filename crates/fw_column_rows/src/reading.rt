@@ -2,9 +2,10 @@
 ghost use Rattle.fw_rows.specs.Rows.{RowsRead};
 
 use crate::filling::Filling;
+use crate::known::KnownTexts;
 use fw_charge::Currency;
 use fw_columns::Columns;
-use fw_rows::{KnownTags, RowFault, read_into};
+use fw_rows::{RowFault, read_into};
 use std::alloc::Global;
 use std::mem::replace;
 
@@ -13,7 +14,7 @@ use std::mem::replace;
 pub fn read_columns(alloc: Global, text: &[u8], currency: Currency) -> Result<Columns, RowFault>
     ensures { RowsRead currency text.now result }
 {
-    read_columns_after(alloc, text, currency, &mut KnownTags::new(alloc))
+    read_columns_after(alloc, text, currency, &mut KnownTexts::new(alloc))
 }
 
 /// Reads the rows of a CSV text into columns, as [`read_columns`] does. A text of tags that was read for the rows of an earlier text isn't read
@@ -22,12 +23,12 @@ pub fn read_columns_after(
     alloc: Global,
     text: &[u8],
     currency: Currency,
-    known: &mut KnownTags,
+    known: &mut KnownTexts,
 ) -> Result<Columns, RowFault>
     ensures { RowsRead currency text.now result }
 {
-    let before = replace(known, KnownTags::new(alloc));
-    let mut filling = Filling::new(alloc, before);
+    let before = replace(known, KnownTexts::new(alloc));
+    let mut filling = Filling::new(alloc, before)?;
     let read = read_into(alloc, text, currency, &mut filling);
     let (builder, after) = filling.into_parts();
     *known = after;

@@ -8,7 +8,7 @@ ghost use Rattle.fw_rows.specs.Rules.{HasNonText};
 
 use crate::column::{COUNT, Column};
 use crate::header::Places;
-use csv::{ByteRecord, StringRecord};
+use csv::ByteRecord;
 
 /// The texts of a record in the columns that are read, in their order. A text that is null is empty.
 #[derive(Clone, Copy, Drop)]
@@ -16,27 +16,30 @@ pub struct Cells<'a> {
     texts: [&'a str; COUNT],
 }
 
-/// The field of a record at a place, if it is UTF-8; the empty text where there is no place, or the record has no such field.
-fn text_at<'r>(fields: &'r ByteRecord, place: Option<usize>) -> Option<&'r str>
-    ensures { let text = text_at (fields_of fields.now) place in MatchOption result (¬ IsUtf8 text) (λ r. (r.now ≡ text) × IsUtf8 text) }
-{
-    let Some(place) = place else {
-        return Some("");
-    };
-    let Some(field) = fields.get(place) else {
-        return Some("");
-    };
-    str::from_utf8(field).ok()
-}
-
-/// The field of a record of text at a place; the empty text where there is no place, or the record has no such field.
-fn field_at<'r>(fields: &'r StringRecord, place: Option<usize>) -> &'r str
+/// The field of a record at a place; the empty one where there is no place, or the record has no such field.
+fn field_at<'r>(fields: &'r ByteRecord, place: Option<usize>) -> &'r [u8]
     ensures { result.now ≡ text_at (fields_of fields.now) place }
 {
     match place {
-        Some(place) => fields.get(place).unwrap_or(""),
-        None => "",
+        Some(place) => fields.get(place).unwrap_or(b""),
+        None => b"",
     }
+}
+
+/// The field of a record at a place, if it is UTF-8.
+fn text_at<'r>(fields: &'r ByteRecord, place: Option<usize>) -> Option<&'r str>
+    ensures { let text = text_at (fields_of fields.now) place in MatchOption result (¬ IsUtf8 text) (λ r. (r.now ≡ text) × IsUtf8 text) }
+{
+    str::from_utf8(field_at(fields, place)).ok()
+}
+
+/// The field at a place of a record of which every field is UTF-8: no byte of it is looked at.
+fn known_text_at<'r>(fields: &'r ByteRecord, place: Option<usize>) -> &'r str
+    requires { AllText (fields_of fields.now) }
+    ensures { result.now ≡ text_at (fields_of fields.now) place }
+{
+    let field = field_at(fields, place);
+    unsafe { str::from_utf8_unchecked(field) }
 }
 
 impl<'a> Cells<'a> {
@@ -52,13 +55,13 @@ impl<'a> Cells<'a> {
     }
 
     /// The texts of a record of which every field is known to be UTF-8: no byte of them is looked at.
-    pub(crate) fn of_text(fields: &'a StringRecord, places: &Places) -> Cells<'a>
+    pub(crate) fn of_text(fields: &'a ByteRecord, places: &Places) -> Cells<'a>
         requires { AllText (fields_of fields.now) }
         ensures { (header : Record) → ArePlaces header places.now → AreCells header (fields_of fields.now) result }
     {
         let mut texts = [""; COUNT];
         for index in 0..COUNT {
-            texts[index] = field_at(fields, places.places[index]);
+            texts[index] = known_text_at(fields, places.places[index]);
         }
         Cells { texts }
     }

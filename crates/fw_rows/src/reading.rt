@@ -15,7 +15,7 @@ use crate::fault::{RecordFault, Refusal, RowFault};
 use crate::header::Places;
 use crate::records::{advance, open};
 use crate::sink::{RowSink, Rows};
-use csv::{ByteRecord, StringRecord};
+use csv::ByteRecord;
 use fw_charge::{Currency, MOST_POST_ROWS, Row};
 use std::alloc::Global;
 
@@ -62,9 +62,7 @@ pub fn read_into<S: RowSink>(
             return Err(RowFault::TooManyRows);
         }
         count += 1;
-        let (read, added) = add_record(sink, fields, &places, currency);
-        fields = read;
-        if let Err(refusal) = added {
+        if let Err(refusal) = add_record(sink, &fields, &places, currency) {
             return Err(refusal.at_record(count as u32));
         }
     }
@@ -74,30 +72,27 @@ pub fn read_into<S: RowSink>(
     Ok(())
 }
 
-/// Adds the row of a record under a header with these places, if it breaks no rule. The record is given back, so that the next one can be read into it.
+/// Adds the row of a record under a header with these places, if it breaks no rule.
 ///
 /// One look at the whole record says whether it is ASCII. Most are, and of these no field is checked for UTF-8.
 fn add_record<S: RowSink>(
     sink: &mut S,
-    fields: ByteRecord,
+    fields: &ByteRecord,
     places: &Places,
     currency: Currency,
-) -> (ByteRecord, Result<(), Refusal>)
+) -> Result<(), Refusal>
     requires ready { S.is_ready sink.old }
     requires room { length (S.rows sink.old) < most_rows }
-    ensures row { (header : Record) → ArePlaces header places.now → JudgedWithin (rules_of currency header (fields_of fields)) (λ _. AddsRow (text_in header (fields_of fields)) (S.rows sink.old) (S.rows sink.new)) result.1 }
-    ensures ready { OnOk result.1 (S.is_ready sink.new) }
+    ensures row { (header : Record) → ArePlaces header places.now → JudgedWithin (rules_of currency header (fields_of fields.now)) (λ _. AddsRow (text_in header (fields_of fields.now)) (S.rows sink.old) (S.rows sink.new)) result }
+    ensures ready { OnOk result (S.is_ready sink.new) }
 {
     if fields.len() != places.fields {
-        return (fields, Err(Refusal::Broken(RecordFault::Fields)));
+        return Err(Refusal::Broken(RecordFault::Fields));
     }
-    if !fields.as_slice().is_ascii() {
-        let added = add_bytes(sink, &fields, places, currency);
-        return (fields, added);
+    if fields.as_slice().is_ascii() {
+        return add_text(sink, fields, places, currency);
     }
-    let fields = StringRecord::from_byte_record(fields).unwrap();
-    let added = add_text(sink, &fields, places, currency);
-    (fields.into_byte_record(), added)
+    add_bytes(sink, fields, places, currency)
 }
 
 /// Adds the row of a record with as many fields as the header, if it breaks no rule. Each field that is read is checked for UTF-8.
@@ -119,10 +114,10 @@ fn add_bytes<S: RowSink>(
     }
 }
 
-/// Adds the row of a record of text with as many fields as the header, if it breaks no rule.
+/// Adds the row of a record of UTF-8 with as many fields as the header, if it breaks no rule.
 fn add_text<S: RowSink>(
     sink: &mut S,
-    fields: &StringRecord,
+    fields: &ByteRecord,
     places: &Places,
     currency: Currency,
 ) -> Result<(), Refusal>

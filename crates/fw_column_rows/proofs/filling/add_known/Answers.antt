@@ -1,4 +1,4 @@
-use Rattle.std.proofs.Common.{◌≡◌, ◌∙◌, sym, refl, inl, inr, rules}
+use Rattle.std.proofs.Common.{◌∙◌, sym, refl, inl, inr}
 use Rattle.fw_rules.specs.Table.{FirstBroken, NoneBroken}
 use Rattle.fw_columns.specs.RowViews.{tags_at}
 use Rattle.fw_rows.specs.Parts.{texts_of}

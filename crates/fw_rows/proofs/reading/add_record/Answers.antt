@@ -9,5 +9,5 @@ unfolding FirstBroken rules_of form_rules
 returns-then-len-places-clause-row g c = λ header are. inl ((λ same. c.if-len-places.true (c.len.ensures ∙ (same ∙ sym are.fields))), refl)
 
 -- a record of ASCII is one of text
-pub unwrap-fields-requires : goal.unwrap-fields-requires
-unwrap-fields-requires g c = c.from_byte_record.ensures.refused (ascii_is_text 0 _ _ (rw c.as_slice.ensures at c.if-not-is_ascii.ensures.cases))
+pub add_text-requires-clause-text : goal.add_text-requires-clause-text
+add_text-requires-clause-text g c = ascii_is_text 0 _ _ (rw c.as_slice.ensures at c.if-is_ascii.ensures.cases)

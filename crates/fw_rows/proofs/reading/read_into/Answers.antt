@@ -44,15 +44,15 @@ returns-then-count-eq-MOST_ROWS-clause-rows g c =
     (fields_of c.advance-in-records.new.fields) c.records.invariant.read
     (rw some at c.in_ok-advance-2.ensures) (omega (arith, c.records.invariant.counted, c.if-count-eq-MOST_ROWS.true))
 
-pub add_record-read-requires-clause-room : goal.add_record-read-requires-clause-room
-add_record-read-requires-clause-room g c = omega (arith, c.records.invariant.counted, c.records.invariant.few, c.if-count-eq-MOST_ROWS.false)
+pub add_record-requires-clause-room : goal.add_record-requires-clause-room
+add_record-requires-clause-room g c = omega (arith, c.records.invariant.counted, c.records.invariant.few, c.if-count-eq-MOST_ROWS.false)
 
 pub returns-in-Err-clause-rows : goal.returns-in-Err-clause-rows
 returns-in-Err-clause-rows g c =
     let some : c.in_ok-advance-2.field-0 ≡ true = search rules in
     rw c.at_record.ensures (read-refused c.args.currency c.args.text.now c.records.reader c.advance-in-records.new.reader c.in_ok-places.places
-    (g.S.RowSink.rows c.records.sink) (g.S.RowSink.rows c.add_record-read.new.sink) (fields_of c.advance-in-records.new.fields) (c.records.count + 1) c.in-Err.refusal c.records.invariant.read
-    (rw some at c.in_ok-advance-2.ensures) (rw c.in-Err.is at c.add_record-read.ensures.row) (omega (arith, c.records.invariant.counted, c.records.invariant.few, c.if-count-eq-MOST_ROWS.false))
+    (g.S.RowSink.rows c.records.sink) (g.S.RowSink.rows c.add_record.new.sink) (fields_of c.advance-in-records.new.fields) (c.records.count + 1) c.in-Err.refusal c.records.invariant.read
+    (rw some at c.in_ok-advance-2.ensures) (rw c.in-Err.is at c.add_record.ensures.row) (omega (arith, c.records.invariant.counted, c.records.invariant.few, c.if-count-eq-MOST_ROWS.false))
     (omega (arith, c.records.invariant.counted)))
 
 pub records-preserved : goal.records-preserved
@@ -61,13 +61,13 @@ records-preserved g c =
     let before = c.records.invariant in
     let more =
     read-more c.args.currency c.args.text.now c.records.reader c.advance-in-records.new.reader c.in_ok-places.places
-    (g.S.RowSink.rows c.records.sink) (g.S.RowSink.rows c.add_record-read.new.sink) (fields_of c.advance-in-records.new.fields) before.read
-    (rw some at c.in_ok-advance-2.ensures) (rw c.in_default.is at c.add_record-read.ensures.row) (omega (arith, before.counted, before.few, c.if-count-eq-MOST_ROWS.false)) in
+    (g.S.RowSink.rows c.records.sink) (g.S.RowSink.rows c.add_record.new.sink) (fields_of c.advance-in-records.new.fields) before.read
+    (rw some at c.in_ok-advance-2.ensures) (rw c.in_default.is at c.add_record.ensures.row) (omega (arith, before.counted, before.few, c.if-count-eq-MOST_ROWS.false)) in
     record {
       read = more.0;
       counted = omega (arith, more.1, before.counted);
       few = omega (arith, before.few, c.if-count-eq-MOST_ROWS.false);
-      ready = rw c.in_default.is at c.add_record-read.ensures.ready;
+      ready = rw c.in_default.is at c.add_record.ensures.ready;
     }
 
 pub returns-then-count-eq0-clause-rows : goal.returns-then-count-eq0-clause-rows

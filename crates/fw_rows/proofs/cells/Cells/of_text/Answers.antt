@@ -5,7 +5,7 @@ use Rattle.fw_rows.proofs.cells.Cells.of_text.Goals as goal
 
 pub loop-index-preserved : goal.loop-index-preserved
 loop-index-preserved c =
-    taken_more (fields_of c.args.fields.now) c.args.places.now.places c.loop-index.texts c.loop-index.index c.field_at.result (omega (arith, c.loop-index.invariant.size, c.loop-index-test.true)) c.loop-index.invariant c.field_at.ensures
+    taken_more (fields_of c.args.fields.now) c.args.places.now.places c.loop-index.texts c.loop-index.index c.known_text_at.result (omega (arith, c.loop-index.invariant.size, c.loop-index-test.true)) c.loop-index.invariant c.known_text_at.ensures
     (text_somewhere (fields_of c.args.fields.now) _ c.requires)
 
 pub returns : goal.returns
