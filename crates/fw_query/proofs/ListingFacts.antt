@@ -1,5 +1,5 @@
 -- Lemmas on the text of lines, hour by hour.
-use Rattle.std.proofs.Common.{◌≡◌, ◌∙◌, ℕ, ◌+◌, ◌<◌, ◌-◌, Some, false, All, List, [], ◌∷◌, ◌++◌, length, map, get_or, subst, sym, ap, refl, arith, append-nil, append_assoc, Vec}
+use Rattle.std.proofs.Common.{◌≡◌, ◌∙◌, ℕ, ◌+◌, ◌-◌, Some, false, List, [], ◌∷◌, ◌++◌, length, map, subst, sym, ap, refl, arith, append-nil, append_assoc, Vec}
 use Rattle.std.specs.declared.alloc.Global.{Global}
 use Rattle.std.specs.List.{concat, range_with_len}
 use Rattle.std.specs.Io.KnownBytes.{Keeps}
@@ -8,18 +8,15 @@ use Rattle.std.proofs.lemmas.Grind.{flat_map-append}
 use Rattle.std.proofs.lemmas.List.{map-append}
 use Rattle.std.proofs.lemmas.List.Folds.{concat-append}
 use Rattle.csv.specs.declared.writer.Writer.{Writer}
-use Rattle.fw_charge.specs.Charge.{Charge, hour_of}
+use Rattle.fw_charge.specs.Charge.{Charge}
 use Rattle.fw_amortise.specs.Lines.{AreHourLines, given_lines, rest_lines, rows_in}
 use Rattle.fw_terms.specs.Commitment.{CommitmentValue}
 use Rattle.fw_amortise.specs.LineValue.{LineValue}
-use Rattle.fw_amortise.proofs.EachLine.{rows_are_of_hour}
-use Rattle.fw_sums.specs.Hours.{AreByHour, is_touched, rows_of_list}
-use Rattle.fw_sums.specs.declared.hours.RowPlace.{RowPlace}
+use Rattle.fw_sums.specs.Hours.{is_touched}
 use Rattle.fw_query.specs.Listing.{IsListing, WritesHour, WritesHours, records}
 use Rattle.fw_sums.specs.RangeLines.{joined}
 use Rattle.fw_query.specs.Texts.{line_fields, line_header, lines_text, record_line}
 use Rattle.fw_query.specs.Writers.{HasWritten}
-use Rattle.fw_sums.proofs.HourFacts.{rows_of_hour}
 use Rattle.fw_sums.proofs.RangeFacts.{hourly-more, hourly_zip}
 use Rattle.fw_query.proofs.WriterFacts.{given_back}
 use Rattle.fw_sums.proofs.UntouchedFacts.{are_plain, plain_lines}

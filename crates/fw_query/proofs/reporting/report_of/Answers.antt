@@ -1,8 +1,8 @@
-use Rattle.std.proofs.Common.{◌≡◌, ◌∙◌, ◌≤◌, IfSome, List, map, true, false, ap, sym}
+use Rattle.std.proofs.Common.{◌≡◌, ◌∙◌, ◌≤◌, IfSome, true, false, ap, sym}
 use Rattle.std.specs.Option.{option_copied}
 use Rattle.std.specs.Str.{bytes_eq}
-use Rattle.fw_sums.specs.Costs.{Cost, costs_of}
-use Rattle.fw_query.specs.Entries.{AreEntries, AreUnder, PassesAtPlace, direct_size, plain_entry}
+use Rattle.fw_sums.specs.Costs.{costs_of}
+use Rattle.fw_query.specs.Entries.{AreEntries, AreUnder, PassesAtPlace, direct_size}
 use Rattle.fw_query.specs.Limits.{most_total}
 use Rattle.fw_query.proofs.ReportFacts.{IsReportOf-plain, IsReportOf-under, PassesIn-from_entries, plain_entries, rising_directs}
 use Rattle.fw_query.proofs.reporting.report_of.Goals as goal
