@@ -1,5 +1,5 @@
 -- What commitments bring to the groups of a key in hours, as it is kept.
-use Rattle.std.proofs.Common.{◌≡◌, ◌++◌, ◌∷◌, [], Bool, All, ℕ, ◌+◌, ◌<◌, List, append_assoc, arith, drop, get_or, length, map, string_bytes, subst, sym, take}
+use Rattle.std.proofs.Common.{◌≡◌, ◌∙◌, ◌⊎◌, ⊎_elim, None, Option, Some, ◌++◌, ◌∷◌, [], Bool, All, ℕ, ◌+◌, ◌<◌, List, append_assoc, arith, drop, get_or, length, map, string_bytes, subst, sym, take}
 use Rattle.std.proofs.lemmas.List.Elements.{All-append, All-drop, All-push, All-take}
 use Rattle.std.specs.Prelude.{if◌then◌else◌, slice_index}
 use Rattle.fw_charge.specs.Charge.{Charge}
@@ -10,9 +10,11 @@ use Rattle.fw_cover.specs.declared.hour.HourCover.{HourCover}
 use Rattle.fw_cover.specs.HourCovers.{IsHourCover}
 use Rattle.fw_sums.specs.Corrections.{corrections}
 use Rattle.fw_sums.specs.Costs.{Cost, costs_of}
-use Rattle.fw_sums.specs.Covers.{AreOwnSums, IsKept}
+use Rattle.fw_sums.specs.Covers.{AreKeptUnder, AreOwnSums, IsFound, IsKept, KeepsMore, kept_at}
 use Rattle.fw_sums.specs.Hours.{row_cost}
 use Rattle.fw_sums.specs.Sums.{Counts, CountsHour}
+use Rattle.fw_sums.specs.declared.covers.HourSum.{HourSum}
+use Rattle.fw_sums.specs.declared.covers.HourSums.{HourSums}
 use Rattle.fw_sums.specs.declared.covers.KeySums.{KeySums}
 use Rattle.fw_sums.specs.declared.groups.Groups.{Groups}
 use Rattle.fw_sums.proofs.CorrectionFacts.{hour_corrected}
@@ -49,3 +51,21 @@ pub kept_of : (cs : List CommitmentValue) (rows : List Charge) (keys : List KeyS
     → at ≡ get_or keys place at → string_bytes at.key ≡ key → IsKept cs rows key at.kept
 kept_of cs rows keys place at key all below is same =
     subst (λ k. IsKept cs rows k at.kept) same (subst (λ (k : KeySums). IsKept cs rows (string_bytes k.key) k.kept) (sym is) (all place at below))
+
+-- one hour more, or what was kept before
+module _ (old new : HourSums) (one : HourSum) (step : (h : ℕ) → (kept_at new h ≡ kept_at old h) ⊎ ((h ≡ one.hour) × (kept_at new h ≡ Some one.sums))) where
+  pub found_kept : (cs : List CommitmentValue) (rows : List Charge) (key : List ℕ) → IsFound cs rows key one → AreKeptUnder cs rows key old → AreKeptUnder cs rows key new
+  unfolding IsFound
+  found_kept cs rows key found kept h = ⊎_elim
+      (λ (same : kept_at new h ≡ kept_at old h). rw same (kept h))
+      (λ (put : (h ≡ one.hour) × (kept_at new h ≡ Some one.sums)). rw (put.1, put.0) found)
+      (step h)
+
+  pub found_more : KeepsMore old new
+  found_more h none = ⊎_elim
+      (λ (same : kept_at new h ≡ kept_at old h). sym same ∙ none)
+      (λ (put : (h ≡ one.hour) × (kept_at new h ≡ Some one.sums)). absurd (some_none put.1 none))
+      (step h)
+    where
+      some_none : {o : Option Groups} → o ≡ Some one.sums → o ≡ None → ⊥
+      some_none is none = cc

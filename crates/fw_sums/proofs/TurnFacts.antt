@@ -1,12 +1,12 @@
 -- Lemmas on hours in turn: the rows at the places of each, and whether it is marked.
-use Rattle.std.proofs.Common.{◌≡◌, ◌∙◌, ℕ, ◌+◌, ◌-◌, ◌<◌, Bool, false, true, refl, All, IfNone, List, None, Option, Some, length, map, get_or, Vec, sym, ap, subst, arith}
+use Rattle.std.proofs.Common.{◌≡◌, ◌∙◌, ℕ, ◌+◌, ◌-◌, ◌<◌, Bool, false, true, refl, All, IfNone, List, None, Option, Some, length, map, get_or, Vec, sym, ap, subst, arith, ◌&&◌, is_none}
 use Rattle.std.specs.declared.alloc.Global.{Global}
 use Rattle.std.proofs.lemmas.List.FromFn.{get_or-map-range_with_len, length-map-range_with_len}
 use Rattle.std.specs.List.{range_with_len}
 use Rattle.fw_charge.specs.Charge.{Charge, hour_of}
 use Rattle.fw_terms.specs.Commitment.{CommitmentValue}
 use Rattle.fw_amortise.specs.Lines.{rows_in}
-use Rattle.fw_sums.specs.Covers.{AreOpen, AreOpenByHour, is_open, kept_at}
+use Rattle.fw_sums.specs.Covers.{AreOpen, AreOpenByHour, KeepsMore, is_open, kept_at}
 use Rattle.fw_sums.specs.Hours.{AreByHour, AreThere, AreTouched, IsThere, is_touched, rows_at, rows_marked}
 use Rattle.fw_sums.specs.declared.covers.HourSums.{HourSums}
 use Rattle.fw_sums.specs.declared.groups.Groups.{Groups}
@@ -76,6 +76,22 @@ open_rows segments rows cs kept from hours range are marked sorted = record {
       ∙ ap (λ t. is_open kept t (from + k)) (touched_at cs from hours range.touched.items k are below) ∙ opened;
   lists_are = sorted;
 }
+
+-- where of each hour something is kept of which it was, no more hours are open
+pub open_still : (segments : List (List Charge)) (rows : List Charge) (cs : List CommitmentValue) (old new : HourSums) (from hours : ℕ) (range : OpenHours) → KeepsMore old new → AreOpen segments rows cs old from hours range → AreOpen segments rows cs new from hours range
+open_still segments rows cs old new from hours range more are = record {
+  touched = are.touched;
+  each = λ k below opened. are.each k below (still k opened);
+  lists_are = are.lists_are;
+}
+  where
+    still : (k : ℕ) → is_open new (is_touched cs (from + k)) (from + k) ≡ true → is_open old (is_touched cs (from + k)) (from + k) ≡ true
+    still k opened = by (is_touched cs (from + k)) (kept_at new (from + k)) refl opened
+      where
+        by : (touched : Bool) (o : Option Groups) → kept_at new (from + k) ≡ o → (touched && is_none o) ≡ true → (touched && is_none (kept_at old (from + k))) ≡ true
+        by true None none h = ap is_none (more (from + k) none)
+        by true (Some sums) some h = absurd (cc)
+        by false o is h = absurd (cc)
 
 -- so the lists have the rows of each open hour
 pub open_lists : (segments : List (List Charge)) (rows : List Charge) (cs : List CommitmentValue) (kept : HourSums) (from hours : ℕ) (range : OpenHours) → AreOpen segments rows cs kept from hours range

@@ -1,18 +1,21 @@
 -- What commitments bring to the groups of a key in hours, as it is kept from one report to the next.
-use Rattle.std.specs.Prelude.{◌≡◌, ◌++◌, ◌&&◌, ◌<◌, ◌+◌, ℕ, Bool, true, false, List, Option, IfSome, is_none, nat_eq, slice_index_or, All, Vec, string_bytes}
+use Rattle.std.specs.Prelude.{◌≡◌, ◌++◌, ◌&&◌, ◌<◌, ◌+◌, ℕ, Bool, true, false, List, Option, IfSome, is_none, nat_eq, slice_index_or, All, Vec, string_bytes, ◌^◌, None, IfOk, Result, length}
 use Rattle.std.specs.Map.{lookup}
+use Rattle.std.specs.declared.alloc.AllocError.{AllocError}
 use Rattle.std.specs.declared.alloc.Global.{Global}
 use Rattle.fw_charge.specs.Charge.{Charge}
 use Rattle.fw_terms.specs.Commitment.{CommitmentValue}
 use Rattle.fw_cover.specs.Hour.{hour_cover, left_of}
+use Rattle.fw_cover.specs.RosterView.{RosterValue}
 use Rattle.fw_amortise.specs.LineValue.{LineValue}
 use Rattle.fw_amortise.specs.Lines.{AreOwnLines, rows_in}
 use Rattle.fw_sums.specs.Corrections.{corrections}
-use Rattle.fw_sums.specs.Hours.{AreByHour, AreTouched, is_touched, rows_marked}
+use Rattle.fw_sums.specs.Hours.{AreByHour, AreTouched, HasHours, all_rows, is_touched, rows_marked}
 use Rattle.fw_sums.specs.Costs.{costs_of}
 use Rattle.fw_sums.specs.Sums.{Counts}
 use Rattle.fw_sums.specs.Wholes.{AreWholes}
 use Rattle.fw_sums.specs.declared.covers.Covers.{Covers}
+use Rattle.fw_sums.specs.declared.covers.HourSum.{HourSum}
 use Rattle.fw_sums.specs.declared.covers.HourSums.{HourSums}
 use Rattle.fw_sums.specs.declared.covers.Kept.{Kept}
 use Rattle.fw_sums.specs.declared.groups.Groups.{Groups}
@@ -56,3 +59,22 @@ pub record AreOpen (segments : List (List Charge)) (rows : List Charge) (cs : Li
   pub touched : AreTouched cs from hours range.touched.items
   pub each : (k : ℕ) → k < hours → is_open kept (is_touched cs (from + k)) (from + k) ≡ true → slice_index_or range.marks.items k false ≡ true
   pub lists_are : AreByHour segments (rows_marked range.marks.items from rows) from hours range.by_hour.items
+
+-- what is there to find of the hours from this one on, of the rows of these segments and the commitments of a roster
+pub record CanFind (segments : List (List Charge)) (roster : RosterValue) (from : ℕ) (range : OpenHours) : Type 0 where
+  pub fits : from + length range.by_hour.items < 2 ^ 64
+  pub roster_has : HasHours roster from (length range.by_hour.items)
+  pub kept : HourSums
+  pub are_open : AreOpen segments (all_rows segments) roster.commitments kept from (length range.by_hour.items) range
+
+-- what was found of an hour is what these commitments bring to it under a key, whose rows are among these
+unfoldable pub IsFound : List CommitmentValue → List Charge → List ℕ → HourSum → Type 0
+IsFound cs rows key found = AreOwnSums cs (rows_in found.hour rows) key found.hour found.sums
+
+-- so of each hour that a worker found
+abbrev pub AreFound : List CommitmentValue → List Charge → List ℕ → Result (Vec HourSum Global) AllocError → Type 0
+AreFound cs rows key piece = IfOk piece (λ found. All (IsFound cs rows key) found.items)
+
+-- of each hour something is kept of which it was before
+abbrev pub KeepsMore : HourSums → HourSums → Type 0
+KeepsMore old new = (hour : ℕ) → kept_at new hour ≡ None → kept_at old hour ≡ None

@@ -1,9 +1,9 @@
 //! What reports find of a key, kept from one report to the next.
-ghost use Rattle.std.specs.Prelude.{◌≡◌, ◌⊎◌, ◌<◌, ◌+◌, ◌^◌, ℕ, List, [], Some, false, true, length, map, option_copied, slice_index_or, IfOk, IfSome};
+ghost use Rattle.std.specs.Prelude.{◌≡◌, ◌⊎◌, ◌<◌, ◌+◌, ◌^◌, ℕ, List, [], Some, false, true, length, map, option_copied, slice_index_or, All, IfOk, IfSome};
 ghost use Rattle.std.specs.Bool.{OnTrue};
 ghost use Rattle.std.specs.List.{range_with_len};
 ghost use Rattle.fw_charge.specs.Charge.{Charge};
-ghost use Rattle.fw_sums.specs.Covers.{AreKept, IsKept, is_open, kept_at};
+ghost use Rattle.fw_sums.specs.Covers.{AreFound, AreKept, AreKeptUnder, IsFound, IsKept, KeepsMore, is_open, kept_at};
 ghost use Rattle.fw_sums.specs.Hours.{all_rows, lent};
 ghost use Rattle.fw_terms.specs.Commitment.{CommitmentValue};
 
@@ -48,6 +48,13 @@ struct KeySums {
 pub(crate) struct Kept {
     pub(crate) hours: HourSums,
     pub(crate) wholes: Wholes,
+}
+
+// What commitments bring to the groups of one key in an hour.
+#[derive(Drop)]
+pub(crate) struct HourSum {
+    pub(crate) hour: u32,
+    pub(crate) sums: Groups,
 }
 
 // What commitments bring to the groups of one key, by hour.
@@ -166,6 +173,42 @@ impl HourSums {
         }
         if self.by_hour.insert(hour, sums).is_ok() {
             self.groups = groups;
+        }
+    }
+
+    // Whether more may be kept.
+    pub(crate) fn has_room(&self) -> bool {
+        self.groups < MOST_GROUPS
+    }
+
+    // Keeps what was found of hours.
+    fn keep_found(&mut self, found: Vec<HourSum>)
+        ensures kept { (cs : List CommitmentValue) (rows : List Charge) (key : List ℕ) → All (IsFound cs rows key) found.items → AreKeptUnder cs rows key self.old → AreKeptUnder cs rows key self.new }
+        ensures more { KeepsMore self.old self.new }
+    {
+        for one in found {
+            let HourSum { hour, sums } = one;
+            self.keep(hour, sums);
+        }
+    }
+
+    // Keeps what a worker found of a piece of the hours: nothing where memory was short.
+    fn keep_piece(&mut self, piece: Result<Vec<HourSum>, AllocError>)
+        ensures kept { (cs : List CommitmentValue) (rows : List Charge) (key : List ℕ) → AreFound cs rows key piece → AreKeptUnder cs rows key self.old → AreKeptUnder cs rows key self.new }
+        ensures more { KeepsMore self.old self.new }
+    {
+        if let Ok(found) = piece {
+            self.keep_found(found);
+        }
+    }
+
+    // Keeps what workers found, each of a piece of the hours.
+    pub(crate) fn keep_pieces(&mut self, pieces: Vec<Result<Vec<HourSum>, AllocError>>)
+        ensures kept { (cs : List CommitmentValue) (rows : List Charge) (key : List ℕ) → All (AreFound cs rows key) pieces.items → AreKeptUnder cs rows key self.old → AreKeptUnder cs rows key self.new }
+        ensures more { KeepsMore self.old self.new }
+    {
+        for piece in pieces {
+            self.keep_piece(piece);
         }
     }
 

@@ -1,14 +1,30 @@
 //! The hours of a range that commitments have lines in, and of which nothing is kept.
-ghost use Rattle.std.specs.Prelude.{◌+◌, ◌<◌, ◌^◌, IfOk};
-ghost use Rattle.fw_sums.specs.Covers.{AreOpen};
-ghost use Rattle.fw_sums.specs.Hours.{all_rows, lent};
+ghost use Rattle.std.specs.Prelude.{◌≡◌, ◌+◌, ◌<◌, ◌^◌, All, IfOk, IfSome, false, length, slice_index_or};
+ghost use Rattle.fw_sums.specs.Covers.{AreFound, AreKeptUnder, AreOpen, CanFind, IsFound, KeepsMore};
+ghost use Rattle.fw_sums.specs.Hours.{HasHours, all_rows, lent};
 
-use crate::covers::HourSums;
+use crate::covers::{HourSum, HourSums};
+use crate::groups::Groups;
 use crate::hours::{RowPlace, rows_by_hour};
 use crate::marks::touched_hours;
 use fw_columns::Columns;
+use fw_cover::Roster;
 use fw_terms::Commitment;
 use std::alloc::{AllocError, Global};
+use std::thread::{Threads, map_indices};
+
+// So many hours are found at once, before what was found is kept: what they come to is in memory together.
+const HOURS_AT_ONCE: usize = 256;
+
+// Whether there is a mark at a place, and it is true.
+fn is_true_at(marks: &[bool], place: usize) -> bool
+    ensures { result ≡ slice_index_or marks.now place false }
+{
+    match marks.get(place) {
+        Some(mark) => *mark,
+        None => false,
+    }
+}
 
 // Some hours in turn: which of them a commitment has a line in, which of these are open, since nothing is kept of them, and where the rows of those are.
 #[derive(Drop)]
@@ -39,5 +55,122 @@ impl OpenHours {
             marks,
             by_hour,
         })
+    }
+
+    // What commitments bring to the hour at a place, where it is open. Where memory is short nothing is found.
+    fn find<'a>(
+        &self,
+        alloc: Global,
+        key: &str,
+        segments: &[&'a Columns],
+        roster: &Roster<'a>,
+        from: u64,
+        place: usize,
+    ) -> Option<HourSum>
+        requires can { CanFind (lent segments.now) roster.now from self.now }
+        ensures { IfSome result (IsFound roster.now.commitments (all_rows (lent segments.now)) key.now) }
+    {
+        if place >= self.by_hour.len() {
+            return None;
+        }
+        if is_true_at(&self.touched, place) && is_true_at(&self.marks, place) {
+            let hour = (from + place as u64) as u32;
+            let places = self.by_hour[place].as_slice();
+            if let Ok(sums) = Groups::of_commitments(alloc, key, segments, roster, places, hour) {
+                return Some(HourSum { hour, sums });
+            }
+        }
+        None
+    }
+
+    // The same of so many hours from a place on.
+    fn find_piece<'a>(
+        &self,
+        alloc: Global,
+        key: &str,
+        segments: &[&'a Columns],
+        roster: &Roster<'a>,
+        from: u64,
+        first: usize,
+        count: usize,
+    ) -> Result<Vec<HourSum>, AllocError>
+        requires can { CanFind (lent segments.now) roster.now from self.now }
+        ensures { AreFound roster.now.commitments (all_rows (lent segments.now)) key.now result }
+    {
+        let mut found = Vec::new(alloc);
+        for place in first..first.saturating_add(count) {
+            if let Some(one) = self.find(alloc, key, segments, roster, from, place) {
+                found.push(one)?;
+            }
+        }
+        Ok(found)
+    }
+
+    // The same of some hours from a place on, a piece of them for each of so many workers, in a thread of its own.
+    fn find_pieces<'a>(
+        &self,
+        rt: &(impl Threads + Sync),
+        alloc: Global,
+        key: &str,
+        segments: &[&'a Columns],
+        roster: &Roster<'a>,
+        from: u64,
+        first: usize,
+        workers: u32,
+    ) -> Result<Vec<Result<Vec<HourSum>, AllocError>>, AllocError>
+        requires workers { 0 < workers }
+        requires can { CanFind (lent segments.now) roster.now from self.now }
+        ensures { IfOk result (λ pieces. All (AreFound roster.now.commitments (all_rows (lent segments.now)) key.now) pieces.items) }
+    {
+        let size = HOURS_AT_ONCE.div_ceil(workers as usize);
+        map_indices(
+            rt,
+            alloc,
+            workers as usize,
+            &|worker: usize| -> Result<Vec<HourSum>, AllocError>
+                requires { CanFind (lent segments.now) roster.now from self.now }
+                ensures { AreFound roster.entry.now.commitments (all_rows (lent segments.entry.now)) key.entry.now result }
+            {
+                let start = first.saturating_add(size.saturating_mul(worker));
+                self.find_piece(alloc, key, segments, roster, from, start, size)
+            },
+        )
+    }
+
+    // Keeps what commitments bring to the open hours, found by so many workers, while there is room. A single worker leaves that to whoever adds
+    // the hours up.
+    pub(crate) fn keep_all<'a>(
+        &self,
+        rt: &(impl Threads + Sync),
+        alloc: Global,
+        key: &str,
+        segments: &[&'a Columns],
+        roster: &Roster<'a>,
+        kept: &mut HourSums,
+        from: u64,
+        workers: u32,
+    )
+        requires workers { 0 < workers }
+        requires fits { from + length self.now.by_hour.items < 2 ^ 64 }
+        requires roster { HasHours roster.now from (length self.now.by_hour.items) }
+        requires hours { AreOpen (lent segments.now) (all_rows (lent segments.now)) roster.now.commitments kept.old from (length self.now.by_hour.items) self.now }
+        requires kept { AreKeptUnder roster.now.commitments (all_rows (lent segments.now)) key.now kept.old }
+        ensures kept { AreKeptUnder roster.now.commitments (all_rows (lent segments.now)) key.now kept.new }
+        ensures more { KeepsMore kept.old kept.new }
+    {
+        if workers == 1 {
+            return;
+        }
+        let mut first = 0_usize;
+        for _batch in 0..self.by_hour.len().div_ceil(HOURS_AT_ONCE) {
+            if !kept.has_room() {
+                return;
+            }
+            match self.find_pieces(rt, alloc, key, segments, roster, from, first, workers) {
+                Ok(pieces) => kept.keep_pieces(pieces),
+                Err(AllocError) => return,
+            }
+            first = first.saturating_add(HOURS_AT_ONCE);
+        }
     }
 }

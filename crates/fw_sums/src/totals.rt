@@ -53,6 +53,16 @@ pub fn totals_keeping<'a>(
     )?;
     let roster = Roster::new(alloc, commitments, query.from_hour, query.to_hour)?;
     let hours = open_hours(alloc, segments, commitments, &kept.hours, query)?;
+    hours.keep_all(
+        rt,
+        alloc,
+        query.key,
+        segments,
+        &roster,
+        &mut kept.hours,
+        query.from_hour,
+        workers,
+    );
     let totals = totals_of(segments, rows, &roster, &mut kept.hours, &hours, query)?;
     covers.put(query.key, kept);
     Ok(totals)
