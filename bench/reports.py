@@ -12,6 +12,11 @@ reports. The programs take turns, and all answers must be equal. Progress goes t
 
 measures focusd with each of these numbers of workers, each time by the clock and not by the processor: several workers take no less of that.
 
+    python3 bench/reports.py --first
+
+sends the policy again before each report. focusd then keeps nothing from one report to the next, so each report is what the first one after an
+entry is, and what several workers share.
+
 The plain Rust program (peers/reports) keeps its rows clustered by hour. Needs cargo, and on Debian 12
 librust-csv-dev, librust-serde-json-dev and librust-toml-dev. Exit status: 0 measured, 1 a program failed or the answers differ, 2 a wrong
 command line or a machine on which nothing can be measured.
@@ -29,6 +34,8 @@ from bench import FOCUSD, HERE, ROOT, RUST, Stopped, build_rust, load, machine, 
 MOST_ROWS = 4_096
 # Pairs of reports in the two runs: without commitments a report takes a few milliseconds, of which it takes many to measure.
 FEW, MANY, MANY_COVERED = 1, 201, 41
+# Pairs where nothing is kept from one report to the next.
+FIRST = 21
 GOAL, BAR = 3, 10
 HEADER = (
     "BilledCost,EffectiveCost,BillingCurrency,ChargeCategory,ChargePeriodStart,ChargePeriodEnd,"
@@ -90,8 +97,11 @@ def write_script(path, options, count, pairs):
         for number, (kind, lines) in enumerate((it for part in entries for it in part), 1):
             file.write(f"{kind} bench {number} {len(lines)}\n" + "\n".join(lines) + "\n")
         for _ in range(pairs):
-            file.write(f"report team {instant(0)} {instant(options.hours)}\n")
-            file.write(f"report env {instant(options.hours // 4)} {instant(options.hours // 2)}\n")
+            for report in (f"report team {instant(0)} {instant(options.hours)}\n", f"report env {instant(options.hours // 4)} {instant(options.hours // 2)}\n"):
+                if options.first:
+                    number += 1
+                    file.write(f"policy bench {number} {len(POLICY[1])}\n" + "\n".join(POLICY[1]) + "\n")
+                file.write(report)
     os.replace(path + ".part", path)
 
 
@@ -133,9 +143,9 @@ def print_workers(measured, options):
 
 def compare(programs, count, options):
     """Measures and prints one table; tells whether all answers are equal."""
-    paths, many = [], MANY_COVERED if count else MANY
+    paths, many = [], FIRST if options.first else MANY_COVERED if count else MANY
     for pairs in (FEW, many):
-        name = f"reports-{options.rows}-{options.hours}-{options.seed}-{count}-{pairs}.script"
+        name = f"reports-{options.rows}-{options.hours}-{options.seed}-{count}-{pairs}{'-first' * options.first}.script"
         paths.append(os.path.join(options.scratch, name))
         write_script(paths[-1], options, count, pairs)
     measured = [Program(*it) for it in programs]
@@ -190,6 +200,7 @@ def main():
     parser.add_argument("--hours", type=whole_number, default=720, help="default: 720")
     parser.add_argument("--commitments", type=int, nargs="+", default=[0, 40], help="default: 0 40")
     parser.add_argument("--workers", type=whole_number, nargs="+", default=[], help="numbers of workers to compare by the clock (default: none, and plain Rust beside one)")
+    parser.add_argument("--first", action="store_true", help="let each report be the first one after an entry")
     parser.add_argument("--turns", type=whole_number, default=3, help="default: 3")
     parser.add_argument("--seed", type=int, default=7, help="default: 7")
     parser.add_argument("--limit", type=whole_number, default=600, help="seconds for one run (default: 600)")
