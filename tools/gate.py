@@ -2,8 +2,8 @@
 """Runs the toolchain's gate, `rt ci`, over a copy of the tree that has only the must-fail edits that are due.
 
     tools/gate.py             tries the edits of each file that changed since the last landing, those of each crate whose
-                              definitions changed, edits that are new, and those of a twelfth of all crates, which the
-                              commit's hash picks
+                              definitions changed, edits that are new, and those of a twenty-fourth of all crates, which
+                              the commit's hash picks; other imports are no change
     tools/gate.py --all       tries every edit
     tools/gate.py --program   tries none: proves and builds focusd and the crates that it stands on, and no more
     tools/gate.py --list      says which edits are due and what they will cost about, and runs nothing
@@ -42,9 +42,11 @@ LANDING = "tools/last-landing"
 # The crates that are programs: what is built of them is kept.
 PROGRAMS = ("focusd", "fw_first_look", "fw_simulate")
 # The crates that did not change are tried in so many parts, one a run.
-PARTS = 12
+PARTS = 24
 # What the edits of each crate cost: lines `crate first further`, in seconds of the processor. It says more in its head.
 COSTS = "tools/edit-costs"
+# A line of a source file that imports names.
+IMPORT = re.compile(r"\s*(pub |ghost |unfoldable )*use \S.*[;}]$|\s*use \S+( as \S+)?$")
 # A line of `rt ci` that says no more than that all is well with one item.
 ITEM = re.compile(r"(fn|struct|enum|union|impl|trait|type|const|static) \S.*: (proved|assumed)$|statements |crate .*: modules ")
 
@@ -152,15 +154,29 @@ def old_edits(top, commit):
     return {(crate_of(path), entry.split()[2]) for entry, path in entries if is_edit(path)}
 
 
+def beside_imports(text):
+    """The lines of a source file that aren't blank and import nothing."""
+    return [line for line in text.splitlines() if line.strip() and not IMPORT.match(line)]
+
+
+def has_other_imports_alone(top, commit, path):
+    """Whether a source file is another than in a commit in the lines alone that import names, as where what it uses has moved to another crate."""
+    old = output_of(["git", "show", f"{commit}:{path}"], top)
+    if old is None or not path.endswith((".rt", ".antt")):
+        return False
+    with open(os.path.join(top, path), encoding="utf-8", errors="replace") as file:
+        return beside_imports(old) == beside_imports(file.read())
+
+
 def changes_since(top, commit):
-    """What changed since a commit; None where the commit isn't here. An edit that is gone, or that has only another name, is no change."""
+    """What changed since a commit, other imports aside; None where the commit isn't here. An edit that is gone, or that has only another name, is no change."""
     named = output_of(["git", "diff", "--name-status", "--no-renames", "-z", commit, "--", "crates"], top)
     new = output_of(["git", "ls-files", "-z", "--others", "--exclude-standard", "crates"], top)
     if named is None or new is None:
         return None
     words = named.split("\0")
     paths = [(status, path) for status, path in zip(words[::2], words[1::2])] + [("A", path) for path in new.split("\0")]
-    paths = [(status, path) for status, path in paths if path.count("/") > 1]
+    paths = [(status, path) for status, path in paths if path.count("/") > 1 and not (status == "M" and has_other_imports_alone(top, commit, path))]
     added = sorted(path for status, path in paths if is_edit(path) and status != "D")
     hashes = (output_of(["git", "hash-object", "--", *added], top) or "").split() if added else []
     known = old_edits(top, commit)

@@ -123,6 +123,21 @@ class Changes(unittest.TestCase):
             ]:
                 self.assertEqual(gate.is_turned(top, edit, files), is_due, files)
 
+    def test_other_imports_are_no_change(self):
+        with tempfile.TemporaryDirectory() as top:
+            repository = Repository(top)
+            repository.fill()
+            commit = repository.commit("before")
+            for line, is_due in [
+                ("ghost use Rattle.std.specs.Prelude.{◌≡◌, ◌+◌, ◌<◌};", False),
+                ("ghost use Rattle.std.specs.Prelude.{◌≡◌, ◌+◌}; // a comment", True),
+                ("", False),
+            ]:
+                repository.write("crates/changed/src/lib.rt", SOURCE.replace("ghost use Rattle.std.specs.Prelude.{◌≡◌, ◌+◌};", line))
+                self.assertEqual(gate.changes_since(top, commit).files, {"crates/changed/src/lib.rt"} if is_due else set(), line)
+            repository.write("crates/changed/src/lib.rt", SOURCE.replace("+ 1\n", "+ 2\n"))
+            self.assertEqual(gate.changes_since(top, commit).files, {"crates/changed/src/lib.rt"})
+
     def test_what_a_landing_tried_is_not_due_again(self):
         with tempfile.TemporaryDirectory() as top:
             repository = Repository(top)
