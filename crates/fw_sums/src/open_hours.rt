@@ -14,7 +14,7 @@ use std::alloc::{AllocError, Global};
 use std::thread::{Threads, map_indices};
 
 // So many hours are found at once, before what was found is kept: what they come to is in memory together.
-const HOURS_AT_ONCE: usize = 256;
+const HOURS_AT_ONCE: usize = 1_024;
 
 // Whether there is a mark at a place, and it is true.
 fn is_true_at(marks: &[bool], place: usize) -> bool
@@ -83,8 +83,9 @@ impl OpenHours {
         None
     }
 
-    // The same of so many hours from a place on.
-    fn find_piece<'a>(
+    // The same of the hour at a place and of each so many hours behind it, before an end. Hours next to each other mostly cost about the same, and those of one part
+    // of a range more than those of another: so hours are dealt one by one.
+    fn find_each<'a>(
         &self,
         alloc: Global,
         key: &str,
@@ -92,13 +93,15 @@ impl OpenHours {
         roster: &Roster<'a>,
         from: u64,
         first: usize,
-        count: usize,
+        step: usize,
+        end: usize,
     ) -> Result<Vec<HourSum>, AllocError>
         requires can { CanFind (lent segments.now) roster.now from self.now }
+        requires step { 0 < step }
         ensures { AreFound roster.now.commitments (all_rows (lent segments.now)) key.now result }
     {
         let mut found = Vec::new(alloc);
-        for place in first..first.saturating_add(count) {
+        for place in (first..end).step_by(step) {
             if let Some(one) = self.find(alloc, key, segments, roster, from, place) {
                 found.push(one)?;
             }
@@ -106,7 +109,7 @@ impl OpenHours {
         Ok(found)
     }
 
-    // The same of some hours from a place on, a piece of them for each of so many workers, in a thread of its own.
+    // The same of some hours from a place on, dealt to so many workers, each in a thread of its own.
     fn find_pieces<'a>(
         &self,
         rt: &(impl Threads + Sync),
@@ -122,17 +125,18 @@ impl OpenHours {
         requires can { CanFind (lent segments.now) roster.now from self.now }
         ensures { IfOk result (λ pieces. All (AreFound roster.now.commitments (all_rows (lent segments.now)) key.now) pieces.items) }
     {
-        let size = HOURS_AT_ONCE.div_ceil(workers as usize);
+        let end = first.saturating_add(HOURS_AT_ONCE);
+        let step = workers as usize;
         map_indices(
             rt,
             alloc,
             workers as usize,
             &|worker: usize| -> Result<Vec<HourSum>, AllocError>
-                requires { CanFind (lent segments.now) roster.now from self.now }
+                requires { (0 < step) × CanFind (lent segments.now) roster.now from self.now }
                 ensures { AreFound roster.entry.now.commitments (all_rows (lent segments.entry.now)) key.entry.now result }
             {
-                let start = first.saturating_add(size.saturating_mul(worker));
-                self.find_piece(alloc, key, segments, roster, from, start, size)
+                let start = first.saturating_add(worker);
+                self.find_each(alloc, key, segments, roster, from, start, step, end)
             },
         )
     }

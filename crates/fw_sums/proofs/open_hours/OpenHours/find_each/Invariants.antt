@@ -1,7 +1,7 @@
 use Rattle.std.proofs.Common.{All}
 use Rattle.fw_sums.specs.Covers.{IsFound}
 use Rattle.fw_sums.specs.Hours.{all_rows, lent}
-use Rattle.fw_sums.proofs.open_hours.OpenHours.find_piece.Given as goal
+use Rattle.fw_sums.proofs.open_hours.OpenHours.find_each.Given as goal
 
 -- what was found so far
 abbrev pub invariant-loop-place : goal.invariant-loop-place
