@@ -3,6 +3,7 @@ pub mod UntouchedFacts
 pub mod SumFacts
 pub mod SortedFacts
 pub mod HourFacts
+pub mod SegmentFacts
 pub mod MarkFacts
 pub mod CodeFacts
 pub mod CodeSumFacts

@@ -10,13 +10,13 @@ use Rattle.fw_sums.specs.Covers.{AreOpen, AreOpenByHour, KeepsMore, is_open, kep
 use Rattle.fw_sums.specs.Hours.{AreByHour, AreThere, AreTouched, IsThere, is_touched, rows_at, rows_marked}
 use Rattle.fw_sums.specs.declared.covers.HourSums.{HourSums}
 use Rattle.fw_sums.specs.declared.groups.Groups.{Groups}
-use Rattle.fw_sums.specs.declared.hours.RowPlace.{RowPlace}
+use Rattle.fw_sums.specs.declared.hours.HourPlace.{HourPlace}
 use Rattle.fw_sums.specs.declared.open_hours.OpenHours.{OpenHours}
 use Rattle.fw_sums.proofs.HourFacts.{of_hour, rows_of_hour}
 use Rattle.fw_sums.proofs.MarkFacts.{marked_at, rows_in_marked, touched_at, touched_long}
 
 -- the places of the hour in turn
-module _ (segments : List (List Charge)) (rows : List Charge) (by_hour : List (Vec RowPlace Global)) (from i : ℕ) (v : Vec RowPlace Global) (places : List RowPlace)
+module _ (segments : List (List Charge)) (rows : List Charge) (by_hour : List (Vec HourPlace Global)) (from i : ℕ) (v : Vec HourPlace Global) (places : List HourPlace)
     (by : AreByHour segments rows from (length by_hour) by_hour) (below : i < length by_hour) (is : v ≡ get_or by_hour i v) (items : places ≡ v.items) where
   -- there is a row at each
   pub there_in_turn : All (IsThere segments) places
@@ -31,7 +31,7 @@ module _ (segments : List (List Charge)) (rows : List Charge) (by_hour : List (V
   of_turn hour at = rw (items, at) (of_hour segments rows by_hour from i v by below is)
 
 -- the rows at the places of a marked hour are all of the hour's
-pub all_in_turn : (segments : List (List Charge)) (rows : List Charge) (marks : List Bool) (by_hour : List (Vec RowPlace Global)) (from i : ℕ) (v : Vec RowPlace Global) (places : List RowPlace)
+pub all_in_turn : (segments : List (List Charge)) (rows : List Charge) (marks : List Bool) (by_hour : List (Vec HourPlace Global)) (from i : ℕ) (v : Vec HourPlace Global) (places : List HourPlace)
     → AreByHour segments (rows_marked marks from rows) from (length by_hour) by_hour → i < length by_hour → v ≡ get_or by_hour i v → places ≡ v.items
     → (hour : ℕ) → hour ≡ from + i → get_or marks (hour - from) false ≡ true → rows_at segments places ≡ rows_in hour rows
 all_in_turn segments rows marks by_hour from i v places by below is items hour at marked =
@@ -41,7 +41,7 @@ all_in_turn segments rows marks by_hour from i v places by below is items hour a
     rw at (here ∙ own)
 
 -- the rows at the places of a touched hour of which nothing is kept are all of the hour's
-pub open_in_turn : (segments : List (List Charge)) (rows : List Charge) (cs : List CommitmentValue) (kept now : HourSums) (by_hour : List (Vec RowPlace Global)) (from i : ℕ) (v : Vec RowPlace Global) (places : List RowPlace)
+pub open_in_turn : (segments : List (List Charge)) (rows : List Charge) (cs : List CommitmentValue) (kept now : HourSums) (by_hour : List (Vec HourPlace Global)) (from i : ℕ) (v : Vec HourPlace Global) (places : List HourPlace)
     → AreOpenByHour segments rows cs kept from (length by_hour) by_hour → i < length by_hour → v ≡ get_or by_hour i v → places ≡ v.items
     → (hour : ℕ) → hour ≡ from + i → is_touched cs (from + i) ≡ true → kept_at now hour ≡ kept_at kept hour → IfNone (kept_at now hour) (rows_at segments places ≡ rows_in hour rows)
 open_in_turn segments rows cs kept now by_hour from i v places opened below is items hour at touched same = by (kept_at now hour) refl

@@ -25,59 +25,6 @@ use Rattle.fw_sums.proofs.HourFacts.{all_rows-more, lent_there}
 use Rattle.fw_sums.proofs.MarkFacts.{marked_at, marked_before, marked_past}
 use Rattle.fw_sums.proofs.MovedFacts.{Counts-moved}
 
--- ---- the hours of rows
-
--- the second at a place
-abbrev pub second_at : List ℤ → ℕ → ℕ
-second_at starts k = nat_abs (get_or starts k (pos 0))
-
--- one more second
-pub bounds_more : (starts : List ℤ) (i least most less more s : ℕ) → ((k : ℕ) → k < i → (least ≤ second_at starts k) × (second_at starts k ≤ most)) → s ≡ second_at starts i
-    → less ≤ least → less ≤ s → most ≤ more → s ≤ more → (k : ℕ) → k < i + 1 → (less ≤ second_at starts k) × (second_at starts k ≤ more)
-bounds_more starts i least most less more s so_far at low here_low high here_high k below = two_ways (nat_lt k i)
-    (λ before.
-    let old = so_far k (ltb-true _ _ before) in
-    let a = old.0 in
-    let b = old.1 in
-    (omega (arith, a, low), omega (arith, b, high)))
-    (λ last.
-    let is : k ≡ i = (let past = ltb-false _ _ last in omega (arith, past, below)) in
-    rw is (rw (← at) (here_low, here_high)))
-
--- the larger of two numbers is at least either
-pub max_bounds : (a b : ℕ) → (a ≤ ord_max nat_cmp a b) × (b ≤ ord_max nat_cmp a b)
-max_bounds a b = two_ways (is_lt (nat_cmp b a))
-    (λ less.
-    let below : b ≤ a = le_from_not_gt b a (not_above (nat_cmp b a) less) in
-    rw less (omega arith, below))
-    (λ other.
-    let below : a ≤ b = ge_from_not_lt b a other in
-    rw other (below, omega arith))
-  where
-    not_above : (o : Ordering) → is_lt o ≡ true → is_gt o ≡ false
-    not_above Less e = refl
-    not_above Equal e = refl
-    not_above Greater e = absurd cc
-
--- there is an hour behind that of a second
-pub hour_behind : (s : ℕ) → s < 2 ^ 64 → hour_of s + 1 < 2 ^ 64
-unfolding hour_of
-hour_behind s small = omega arith
-
--- so are the hours of the seconds
-pub hours_within : (least most second : ℕ) → least ≤ second → second ≤ most → (hour_of least ≤ hour_of second) × (hour_of second < hour_of most + 1)
-unfolding hour_of
-hours_within least most second low high = (omega arith, omega arith)
-
--- the rows of such seconds are between these hours
-pub rows_between : (rows : List Charge) (starts : List ℤ) (from to : ℕ) → starts ≡ map (λ (row : Charge). pos row.start) rows
-    → ((k : ℕ) → k < length starts → (from ≤ hour_of (second_at starts k)) × (hour_of (second_at starts k) < to)) → All (IsBetween from to) rows
-rows_between rows starts from to are each = λ k d below.
-    let long : k < length starts = rw (are, length-map rows (λ (row : Charge). pos row.start)) below in
-    let at : second_at starts k ≡ (get_or rows k d).start = ap (λ l. second_at l k) are ∙ ap nat_abs (get_or-map (λ (row : Charge). pos row.start) rows k d (pos 0) below) in
-    let both = rw at at (each k long) in
-    record { since = both.0; before = both.1 }
-
 -- ---- what rows bring that are of hours between these
 
 between : (from to hour : ℕ) → from ≤ hour → hour < to → is_marked (replicate (to - from) true) from hour ≡ true

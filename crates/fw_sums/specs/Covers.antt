@@ -19,7 +19,7 @@ use Rattle.fw_sums.specs.declared.covers.HourSum.{HourSum}
 use Rattle.fw_sums.specs.declared.covers.HourSums.{HourSums}
 use Rattle.fw_sums.specs.declared.covers.Kept.{Kept}
 use Rattle.fw_sums.specs.declared.groups.Groups.{Groups}
-use Rattle.fw_sums.specs.declared.hours.RowPlace.{RowPlace}
+use Rattle.fw_sums.specs.declared.hours.HourPlace.{HourPlace}
 use Rattle.fw_sums.specs.declared.open_hours.OpenHours.{OpenHours}
 
 -- the sums are those of what commitments bring to an hour whose rows these are: their own lines, and what corrects the rows that they took of
@@ -49,7 +49,7 @@ abbrev pub is_open : HourSums → Bool → ℕ → Bool
 is_open kept touched hour = touched && is_none (kept_at kept hour)
 
 -- the lists have the places of the rows of each open hour, hour by hour, of so many hours from this one on
-pub record AreOpenByHour (segments : List (List Charge)) (rows : List Charge) (cs : List CommitmentValue) (kept : HourSums) (from hours : ℕ) (by_hour : List (Vec RowPlace Global)) : Type 0 where
+pub record AreOpenByHour (segments : List (List Charge)) (rows : List Charge) (cs : List CommitmentValue) (kept : HourSums) (from hours : ℕ) (by_hour : List (Vec HourPlace Global)) : Type 0 where
   pub marks : List Bool
   pub each : (k : ℕ) → k < hours → is_open kept (is_touched cs (from + k)) (from + k) ≡ true → slice_index_or marks k false ≡ true
   pub lists_are : AreByHour segments (rows_marked marks from rows) from hours by_hour

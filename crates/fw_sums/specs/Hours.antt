@@ -1,16 +1,17 @@
 -- Rows by hour, and the hours in which commitments have lines. What is computed over a range of hours cites it.
-use Rattle.std.specs.Prelude.{◌≡◌, ◌<◌, ◌≤◌, ◌+◌, ◌-◌, ◌^◌, ℕ, nat_le, ◌==◌, ◌||◌, ◌&&◌, Bool, true, false, List, [], length, map, filter, slice_get, slice_index_or, Option, Some, None, All, Vec}
+use Rattle.std.specs.Prelude.{◌≡◌, ◌<◌, ◌≤◌, ◌+◌, ◌-◌, ◌^◌, ℕ, nat_le, ◌==◌, ◌||◌, ◌&&◌, Bool, true, false, List, [], length, map, filter, slice_get, slice_index, slice_index_or, Option, Some, None, All, Vec}
 use Rattle.std.specs.Borrow.{Bor}
 use Rattle.std.specs.declared.alloc.Global.{Global}
 use Rattle.std.specs.List.{filter_map, flat_map, list_any, range_with_len}
 use Rattle.fw_charge.specs.Charge.{Charge, hour_of}
 use Rattle.fw_charge.specs.Tags.{group_of}
 use Rattle.fw_terms.specs.Commitment.{CommitmentValue}
+use Rattle.fw_columns.specs.Hours.{hours_of}
 use Rattle.fw_cover.specs.Applies.{is_in_term}
 use Rattle.fw_cover.specs.RosterView.{RosterValue}
 use Rattle.fw_amortise.specs.Lines.{rows_in}
 use Rattle.fw_sums.specs.Costs.{Cost}
-use Rattle.fw_sums.specs.declared.hours.RowPlace.{RowPlace}
+use Rattle.fw_sums.specs.declared.hours.HourPlace.{HourPlace}
 
 -- the segments that references lend
 abbrev pub lent : List (Bor (List Charge)) → List (List Charge)
@@ -20,29 +21,33 @@ lent segments = map (λ s. s.now) segments
 abbrev pub all_rows : List (List Charge) → List Charge
 all_rows segments = flat_map (λ rows. rows) segments
 
--- the row at a place, where there is one
-abbrev pub row_at : List (List Charge) → RowPlace → Option Charge
-row_at segments p = slice_get (slice_index_or segments p.segment []) p.place
+-- the rows at a place: those of an hour of a segment
+abbrev pub rows_there : List (List Charge) → HourPlace → List Charge
+rows_there segments p = rows_in (slice_index (hours_of (slice_index_or segments p.segment [])) p.number) (slice_index_or segments p.segment [])
 
--- there is a row at the place
-pub record IsThere (segments : List (List Charge)) (p : RowPlace) : Type 0 where
+-- there is such a segment, and such an hour in it
+pub record IsThere (segments : List (List Charge)) (p : HourPlace) : Type 0 where
   pub segment : p.segment < length segments
-  pub place : p.place < length (slice_index_or segments p.segment [])
+  pub number : p.number < length (hours_of (slice_index_or segments p.segment []))
 
 -- the rows at places, in their order
-abbrev pub rows_at : List (List Charge) → List RowPlace → List Charge
-rows_at segments places = filter_map (row_at segments) places
+abbrev pub rows_at : List (List Charge) → List HourPlace → List Charge
+rows_at segments places = flat_map (rows_there segments) places
+
+-- the rows of a list at places, in their order
+abbrev pub rows_of_places : List Charge → List ℕ → List Charge
+rows_of_places rows places = filter_map (slice_get rows) places
 
 -- the rows at the places of a list
-abbrev pub rows_of_list : List (List Charge) → Vec RowPlace Global → List Charge
+abbrev pub rows_of_list : List (List Charge) → Vec HourPlace Global → List Charge
 rows_of_list segments list = rows_at segments list.items
 
 -- there is a row at each place of a list
-abbrev pub AreThere : List (List Charge) → Vec RowPlace Global → Type 0
+abbrev pub AreThere : List (List Charge) → Vec HourPlace Global → Type 0
 AreThere segments list = All (IsThere segments) list.items
 
 -- the lists have the places of the rows of so many hours from this one on, hour by hour
-pub record AreByHour (segments : List (List Charge)) (rows : List Charge) (from hours : ℕ) (by_hour : List (Vec RowPlace Global)) : Type 0 where
+pub record AreByHour (segments : List (List Charge)) (rows : List Charge) (from hours : ℕ) (by_hour : List (Vec HourPlace Global)) : Type 0 where
   pub there : All (AreThere segments) by_hour
   pub each : map (rows_of_list segments) by_hour ≡ map (λ h. rows_in h rows) (range_with_len from hours)
 
@@ -71,10 +76,10 @@ is_marked marks from hour = nat_le from hour && slice_index_or marks (hour - fro
 abbrev pub rows_marked : List Bool → ℕ → List Charge → List Charge
 rows_marked marks from rows = filter (λ row. is_marked marks from (hour_of row.start)) rows
 
--- the place of a second's hour among the marks, or none where it isn't marked
+-- the place of an hour among the marks, or none where it isn't marked
 abbrev pub IsMarkedPlace : ℕ → ℕ → List Bool → Option ℕ → Type 0
-IsMarkedPlace second from marks None = is_marked marks from (hour_of second) ≡ false
-IsMarkedPlace second from marks (Some k) = (k < length marks) × (hour_of second ≡ from + k) × (is_marked marks from (hour_of second) ≡ true)
+IsMarkedPlace hour from marks None = is_marked marks from hour ≡ false
+IsMarkedPlace hour from marks (Some k) = (k < length marks) × (hour ≡ from + k) × (is_marked marks from hour ≡ true)
 
 -- of so many hours from this one on those are marked in which some commitment has a line, and these can be the hours of lines
 pub record AreTouched (cs : List CommitmentValue) (from hours : ℕ) (marks : List Bool) : Type 0 where

@@ -10,7 +10,7 @@ ghost use Rattle.fw_sums.specs.Sums.{AddsLine, AreAmounts, AreSums, Counts, Coun
 ghost use Rattle.fw_sums.specs.Totals.{AreTotals};
 
 use crate::covers::HourSums;
-use crate::hours::RowPlace;
+use crate::hours::HourPlace;
 use crate::open_hours::OpenHours;
 use crate::segments::rows_at;
 use crate::total::Total;
@@ -120,7 +120,7 @@ impl Groups {
         segments: &[&'a Columns],
         roster: &Roster<'a>,
         kept: &mut HourSums,
-        by_hour: &[Vec<RowPlace>],
+        by_hour: &[Vec<HourPlace>],
         touched: &[bool],
         from: u64,
     ) -> Result<(), AllocError>
@@ -152,7 +152,7 @@ impl Groups {
         segments: &[&'a Columns],
         roster: &Roster<'a>,
         kept: &mut HourSums,
-        places: &[RowPlace],
+        places: &[HourPlace],
         hour: u32,
     ) -> Result<(), AllocError>
         requires counts { (costs : List Cost) × Counts self.old costs }
@@ -179,7 +179,7 @@ impl Groups {
         key: &str,
         segments: &[&'a Columns],
         roster: &Roster<'a>,
-        places: &[RowPlace],
+        places: &[HourPlace],
         hour: u32,
     ) -> Result<Groups, AllocError>
         requires hour { HasHour roster.now hour }

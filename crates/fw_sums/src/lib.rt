@@ -21,7 +21,7 @@ mod wholes;
 mod workers;
 
 pub use covers::Covers;
-pub use hours::{RowPlace, is_touched, rows_by_hour};
+pub use hours::{HourPlace, is_touched, rows_by_hour};
 pub use marks::{every_hour, touched_hours};
 pub use query::{MOST_HOURS, Query};
 pub use segments::rows_at;

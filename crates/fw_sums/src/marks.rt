@@ -34,12 +34,10 @@ pub fn touched_hours(
     Ok(marks)
 }
 
-// The place of a second's hour among the hours of the marks, of which this one is the first, where it is marked.
-#[tactic(auto, unfolding(fw_charge::specs::Charge::hour_of))]
-pub(crate) fn marked_place(second: u64, from: u64, marks: &[bool]) -> Option<usize>
-    ensures { IsMarkedPlace second from marks.now result }
+// The place of an hour among the hours of the marks, of which this one is the first, where it is marked.
+pub(crate) fn place_of_hour(hour: u64, from: u64, marks: &[bool]) -> Option<usize>
+    ensures { IsMarkedPlace hour from marks.now result }
 {
-    let hour = hour_of(second);
     if hour < from {
         return None;
     }
@@ -54,7 +52,7 @@ pub(crate) fn marked_place(second: u64, from: u64, marks: &[bool]) -> Option<usi
 fn is_marked(second: u64, from: u64, marks: &[bool]) -> bool
     ensures { result ≡ is_marked marks.now from (hour_of second) }
 {
-    marked_place(second, from, marks).is_some()
+    place_of_hour(hour_of(second), from, marks).is_some()
 }
 
 // For each of these seconds whether it is of a marked hour.

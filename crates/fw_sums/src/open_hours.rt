@@ -5,7 +5,7 @@ ghost use Rattle.fw_sums.specs.Hours.{HasHours, all_rows, lent};
 
 use crate::covers::{HourSum, HourSums};
 use crate::groups::Groups;
-use crate::hours::{RowPlace, rows_by_hour};
+use crate::hours::{HourPlace, rows_by_hour};
 use crate::marks::touched_hours;
 use fw_columns::Columns;
 use fw_cover::Roster;
@@ -31,7 +31,7 @@ fn is_true_at(marks: &[bool], place: usize) -> bool
 pub(crate) struct OpenHours {
     pub(crate) touched: Vec<bool>,
     pub(crate) marks: Vec<bool>,
-    pub(crate) by_hour: Vec<Vec<RowPlace>>,
+    pub(crate) by_hour: Vec<Vec<HourPlace>>,
 }
 
 impl OpenHours {

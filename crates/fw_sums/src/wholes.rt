@@ -1,17 +1,16 @@
 //! The sums of whole segments, kept from one report to the next.
-ghost use Rattle.std.specs.Prelude.{◌≡◌, ◌⊎◌, ◌<◌, ◌≤◌, ◌&&◌, ◌||◌, ℕ, List, [], Some, drop, length, nat_abs, nat_le, option_copied, pos, slice_index_or, take, IfOk, IfSome, OnOk};
-ghost use Rattle.fw_charge.specs.Charge.{Charge, hour_of};
+ghost use Rattle.std.specs.Prelude.{◌≡◌, ◌⊎◌, ◌<◌, ◌≤◌, ◌&&◌, ℕ, List, [], Some, drop, length, nat_le, option_copied, take, All, IfOk, IfSome, OnOk};
+ghost use Rattle.std.specs.Bool.{OnTrue};
+ghost use Rattle.fw_charge.specs.Charge.{Charge};
 ghost use Rattle.fw_sums.specs.Hours.{all_rows, lent};
 ghost use Rattle.fw_sums.specs.Parts.{PartCounts, range_costs};
 ghost use Rattle.fw_sums.specs.Sums.{Counts};
-ghost use Rattle.fw_sums.specs.Wholes.{AreDivided, AreWholes, IsWhole, whole_at};
+ghost use Rattle.fw_sums.specs.Wholes.{AreDivided, AreWholes, IsBetween, IsWhole, whole_at};
 
 use crate::covers::MOST_GROUPS;
 use crate::groups::Groups;
-use crate::hours::second_of;
 use crate::marks::every_hour;
 use crate::query::MOST_HOURS;
-use fw_charge::hour_of;
 use fw_columns::Columns;
 use indexmap::IndexMap;
 use std::alloc::{AllocError, Global};
@@ -37,19 +36,21 @@ pub(crate) struct Wholes {
     groups: usize,
 }
 
-// The hour that these seconds are from on, and the one that they are before.
-#[tactic(auto, unfolding(fw_charge::specs::Charge::hour_of))]
-fn hours_between(starts: &[i64]) -> (u64, u64)
-    ensures { (k : ℕ) → k < length starts.now → (result.0 ≤ hour_of (nat_abs (slice_index_or starts.now k (pos 0)))) × (hour_of (nat_abs (slice_index_or starts.now k (pos 0))) < result.1) }
+// The hour that the rows of a segment are from on, and the one that they are before.
+fn hours_between(segment: &Columns) -> (u64, u64)
+    ensures { All (IsBetween result.0 result.1) segment.now }
 {
-    let mut least = u64::MAX;
-    let mut most = 0;
-    for place in 0..starts.len() {
-        let second = second_of(starts, place);
-        least = least.min(second);
-        most = most.max(second);
-    }
-    (hour_of(least), hour_of(most) + 1)
+    let hours = segment.hours();
+    let last = hours.len() - 1;
+    (u64::from(hours[0]), u64::from(hours[last]) + 1)
+}
+
+// Whether no row of a segment is of an hour from this one on and before that one.
+fn is_outside(segment: &Columns, from: u64, to: u64) -> bool
+    ensures { OnTrue result ((key : List ℕ) → range_costs key from to segment.now ≡ []) }
+{
+    let (first, behind) = hours_between(segment);
+    behind <= from || to <= first
 }
 
 impl Whole {
@@ -58,7 +59,7 @@ impl Whole {
         ensures sums { IfOk result (λ found. IfSome found (IsWhole key.now segment.now)) }
         ensures len { IfOk result (λ found. IfSome found (λ whole. whole.len ≡ length segment.now)) }
     {
-        let (from, to) = hours_between(segment.starts());
+        let (from, to) = hours_between(segment);
         let hours = to.saturating_sub(from);
         if hours > MOST_HOURS {
             return Ok(None);
@@ -79,13 +80,6 @@ impl Whole {
         ensures { result ≡ (nat_le from self.now.from && nat_le self.now.to to) }
     {
         from <= self.from && self.to <= to
-    }
-
-    // Whether none of the rows is.
-    fn is_without(&self, from: u64, to: u64) -> bool
-        ensures { result ≡ (nat_le self.now.to from || nat_le to self.now.from) }
-    {
-        self.to <= from || to <= self.from
     }
 }
 
@@ -156,7 +150,7 @@ impl Wholes {
 
 impl Groups {
     // Counts the rows of those segments whose sums are kept and whose rows are all of hours from this one on and before that one. What comes back are
-    // the segments whose rows are still to be counted. More rows than 2^64, which no memory holds, are answered as out of memory.
+    // the segments whose rows are still to be counted: others that have a row of these hours. More rows than 2^64, which no memory holds, are answered as out of memory.
     fn add_wholes<'a>(
         &mut self,
         wholes: &Wholes,
@@ -177,7 +171,7 @@ impl Groups {
             };
             match wholes.of_rows(first, len) {
                 Some(whole) if whole.is_within(from, to) => self.add_groups(&whole.sums)?,
-                Some(whole) if whole.is_without(from, to) => {}
+                _ if is_outside(segment, from, to) => {}
                 _ => others.push(*segment)?,
             }
             first = behind;
