@@ -16,7 +16,7 @@ use fw_columns::Columns;
 use fw_cover::Roster;
 use fw_query::QueryFault;
 use fw_snapshot::{Snapshot, State};
-use fw_sums::{MOST_HOURS, RowPlace, rows_at, rows_by_hour, touched_hours};
+use fw_sums::{MOST_HOURS, HourPlace, rows_at, rows_by_hour, touched_hours};
 use fw_terms::Commitment;
 use std::alloc::{AllocError, Global};
 
@@ -99,7 +99,7 @@ fn tallies_of<'a>(
     alloc: Global,
     segments: &[&'a Columns],
     roster: &Roster<'a>,
-    by_hour: &[Vec<RowPlace>],
+    by_hour: &[Vec<HourPlace>],
     touched: &[bool],
     from: u64,
 ) -> Result<Vec<Tally<'a>>, AllocError>
@@ -135,7 +135,7 @@ fn with_places<'a>(
     tallies: Vec<Tally<'a>>,
     segments: &[&'a Columns],
     roster: &Roster<'a>,
-    places: &[RowPlace],
+    places: &[HourPlace],
     is_touched: bool,
     hour: u64,
 ) -> Result<Vec<Tally<'a>>, AllocError>

@@ -19,7 +19,7 @@ use fw_amortise::lines_by_roster;
 use fw_columns::{Columns, LentRow};
 use fw_cover::{Roster, references};
 use fw_snapshot::{Snapshot, State};
-use fw_sums::{MOST_HOURS, RowPlace, every_hour, is_touched, rows_at, rows_by_hour};
+use fw_sums::{MOST_HOURS, HourPlace, every_hour, is_touched, rows_at, rows_by_hour};
 use fw_terms::Commitment;
 use std::alloc::{AllocError, Global};
 
@@ -101,7 +101,7 @@ fn write_hours<'a>(
     writer: &mut Writer<Vec<u8>>,
     segments: &[&'a Columns],
     roster: &Roster<'a>,
-    by_hour: &[Vec<RowPlace>],
+    by_hour: &[Vec<HourPlace>],
     from: u64,
 ) -> Result<(), AllocError>
     requires fits { from + length by_hour.now < 2 ^ 64 }

@@ -6,18 +6,19 @@ use Rattle.std.proofs.lemmas.Bool.{cases_eq}
 use Rattle.std.proofs.lemmas.Bool.Decides.{nat_tests}
 use Rattle.std.proofs.lemmas.Grind.{flat_map-append}
 use Rattle.std.proofs.lemmas.List.{take_more, ext_get_or, length-map, length-set, get_or-map, get_or-set_same, get_or-set_other}
-use Rattle.std.proofs.lemmas.List.Elements.{All-nil, filter-append}
+use Rattle.std.proofs.lemmas.List.Elements.{All-nil, filter_map-append}
 use Rattle.std.proofs.lemmas.List.FromFn.{length-map-range_with_len, get_or-map-range_with_len}
 use Rattle.std.proofs.lemmas.Option.{get_or_from_slice_get, slice_get_cases, slice_get_read, slice_get_within}
 use Rattle.std.proofs.lemmas.Simd.{map-map}
 use Rattle.std.specs.List.{range_with_len}
 use Rattle.fw_charge.specs.Charge.{Charge, hour_of}
-use Rattle.fw_columns.specs.Hours.{hours_of}
+use Rattle.fw_columns.specs.Hours.{hours_of, places_of_hour}
+use Rattle.fw_columns.proofs.HourFacts.{rows_at_places}
 use Rattle.fw_cover.specs.Eligible.{is_of_hour}
 use Rattle.fw_cover.specs.RosterView.{HasHour, RosterValue}
 use Rattle.fw_amortise.specs.Lines.{rows_in}
 use Rattle.fw_amortise.proofs.EachLine.{rows_are_of_hour}
-use Rattle.fw_sums.specs.Hours.{AreByHour, AreThere, HasHours, IsThere, all_rows, lent, rows_at, rows_of_list, rows_there}
+use Rattle.fw_sums.specs.Hours.{AreByHour, AreThere, HasHours, IsThere, all_rows, lent, rows_at, rows_of_list, rows_of_places, rows_there}
 use Rattle.fw_sums.specs.declared.hours.HourPlace.{HourPlace}
 
 -- one of a roster's hours
@@ -84,6 +85,19 @@ rows_at-more segments places i d below =
     ap (rows_at segments) (take_more places i d below)
     ∙ flat_map-append (rows_there segments) (take i places) (get_or places i d ∷ [])
     ∙ ap (λ l. rows_at segments (take i places) ++ l) (append-nil (rows_there segments (get_or places i d)))
+
+-- the row at one more place of a segment
+pub places-more : (rows : List Charge) (places : List ℕ) (i d : ℕ) (row : Charge) → i < length places → slice_get rows (get_or places i d) ≡ Some row
+    → rows_of_places rows (take (i + 1) places) ≡ rows_of_places rows (take i places) ++ row ∷ []
+places-more rows places i d row below there =
+    ap (rows_of_places rows) (take_more places i d below)
+    ∙ filter_map-append (slice_get rows) (take i places) (get_or places i d ∷ [])
+    ∙ ap (λ l. rows_of_places rows (take i places) ++ l) (rw there refl)
+
+-- the rows at the places of an hour are the hour's
+pub rows_of_hour_places : (hour : ℕ) (rows : List Charge) → rows_of_places rows (places_of_hour hour rows) ≡ rows_in hour rows
+unfolding rows_in is_of_hour
+rows_of_hour_places hour rows = rows_at_places hour rows
 
 -- ---- the lists of places
 
