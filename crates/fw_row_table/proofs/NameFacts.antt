@@ -30,7 +30,7 @@ distinct_images {X} f (x ∷ xs) h = (differ xs h.0, distinct_images f xs h.1)
     differ (y ∷ ys) a = (a.0, differ ys a.1)
 
 -- a text that is there has a place, one that isn't has none
-pub place-there : (p : Text → Bool) (names : List Text) → list_any p names ≡ true → position_or_len p names < length names
+pub place-there : {X : Type 0} (p : X → Bool) (names : List X) → list_any p names ≡ true → position_or_len p names < length names
 place-there p [] h = absurd (true≢false (sym h))
 place-there p (x ∷ xs) h = by (p x) refl (place-there p xs)
   where
@@ -38,7 +38,7 @@ place-there p (x ∷ xs) h = by (p x) refl (place-there p xs)
     by true e rest = rw e (omega arith)
     by false e rest = rw e (let there : position_or_len p xs < length xs = rest (rw e at h) in omega arith)
 
-pub place-missing : (p : Text → Bool) (names : List Text) → list_any p names ≡ false → position_or_len p names ≡ length names
+pub place-missing : {X : Type 0} (p : X → Bool) (names : List X) → list_any p names ≡ false → position_or_len p names ≡ length names
 place-missing p [] h = refl
 place-missing p (x ∷ xs) h = by (p x) refl (place-missing p xs)
   where
@@ -47,7 +47,7 @@ place-missing p (x ∷ xs) h = by (p x) refl (place-missing p xs)
     by false e rest = rw e (let missing : position_or_len p xs ≡ length xs = rest (rw e at h) in omega arith)
 
 -- a place stays where more names come behind
-pub place-kept : (p : Text → Bool) (names more : List Text) → position_or_len p names < length names → position_or_len p (names ++ more) ≡ position_or_len p names
+pub place-kept : {X : Type 0} (p : X → Bool) (names more : List X) → position_or_len p names < length names → position_or_len p (names ++ more) ≡ position_or_len p names
 place-kept p [] more h = absurd (omega arith)
 place-kept p (x ∷ xs) more h = by (p x) refl (place-kept p xs more)
   where
