@@ -40,14 +40,17 @@ impl Columns {
     /// The most rows of columns.
     pub const MOST_ROWS: usize = 65_536;
 
-    /// The columns of the rows of a table, of which there is one at least.
+    /// The columns of the rows of a table, of which there is one at least. All columns are made here, of a table that is
+    /// shrunk first.
     pub(crate) fn of_table(alloc: Global, table: Table) -> Result<Columns, AllocError>
         requires some { 0 < length (rows_of table) }
         requires columns { AreColumns table (rows_of table) }
         ensures { IfOk result (λ columns. columns ≡ rows_of table) }
     {
+        let mut kept = table;
+        kept.shrink();
         Ok(Columns {
-            table: Arc::new(alloc, table)?,
+            table: Arc::new(alloc, kept)?,
         })
     }
 

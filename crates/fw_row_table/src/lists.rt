@@ -8,8 +8,8 @@ use std::marker::Model;
 
 /// Lists of places, each once, numbered from 0 in the order in which they were first seen. The number of a list is its code.
 ///
-/// While lists come, they are kept in a hash table. [`Lists::shrink`] packs them into one buffer: a list then takes 4 bytes beside its places, and to
-/// look one up takes a pass over all of them.
+/// While lists come, they are kept in a hash table. [`Lists::shrink`] packs them into one buffer: a list then takes
+/// 4 bytes beside its places, and looking one up takes a pass over all of them.
 ///
 /// A contract sees the list of these lists in this order.
 #[derive(Drop)]
@@ -84,8 +84,8 @@ impl Lists {
         }
     }
 
-    /// Packs the lists, and gives back the memory that none needs. Where memory is refused for that, or the lists have 2^32 places or more together, they
-    /// stay in the hash table.
+    /// Packs the lists, and gives back the memory that none needs. They stay in the hash table where memory is refused
+    /// for that, or where they have 2^32 places or more together.
     pub fn shrink(&mut self)
         ensures { self.new ≡ self.old }
     {

@@ -8,8 +8,8 @@ use std::marker::Model;
 
 /// Texts, each once, numbered from 0 in the order in which they were first seen. The number of a text is its code.
 ///
-/// While texts come, they are kept in a hash table. [`Names::shrink`] packs them into one buffer: a text then takes 4 bytes beside its own, and to look
-/// one up takes a pass over all of them.
+/// While texts come, they are kept in a hash table. [`Names::shrink`] packs them into one buffer: a text then takes
+/// 4 bytes beside its own, and looking one up takes a pass over all of them.
 ///
 /// A contract sees the list of the texts in this order.
 #[derive(Debug, Drop)]
@@ -102,8 +102,8 @@ impl Names {
         self.text(code) == text
     }
 
-    /// Packs the texts, and gives back the memory that none needs. Where memory is refused for that, or the texts have 4 GiB or more together, they stay
-    /// in the hash table.
+    /// Packs the texts, and gives back the memory that none needs. They stay in the hash table where memory is refused
+    /// for that, or where they have 4 GiB or more together.
     pub fn shrink(&mut self)
         ensures { self.new ≡ self.old }
     {

@@ -68,7 +68,8 @@ impl<T: Copy> Packed<T> {
         Ok(Packed { values, ends })
     }
 
-    /// The lists and one more. The error comes where memory is refused, and where the values are more than a `u32` counts.
+    /// The lists and one more. The error comes where memory is refused, and where the values are more than a `u32`
+    /// counts.
     pub fn with(self, list: &[T]) -> Result<Packed<T>, AllocError>
         ensures { IfOk result (λ more. more ≡ self ++ list.now ∷ []) }
     {
