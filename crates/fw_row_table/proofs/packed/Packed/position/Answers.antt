@@ -1,4 +1,4 @@
-use Rattle.std.proofs.Common.{◌≡◌, ◌∙◌, ℕ, false, [], get_or, sym, ap, arith}
+use Rattle.std.proofs.Common.{◌≡◌, ◌∙◌, ℕ, false, [], get_or, sym, arith}
 use borrow.Author.Count.{below_more}
 use Rattle.std.specs.Cmp.Lexicographic.{pointwise}
 use Rattle.std.proofs.lemmas.Option.{get_or_from_slice_get}
@@ -14,8 +14,11 @@ pub loop-place-preserved : goal.loop-place-preserved
 loop-place-preserved g c =
     let fails = pointwise g.T.PartialEq.eq c.args.list.now in
     let lists = c.args.self.now in
+    let place = c.loop-place.place in
     let P : ℕ → Type 0 = λ k. fails (get_or lists k []) ≡ false in
-    below_more P c.loop-place.place c.loop-place.invariant (ap fails (get_or_from_slice_get lists _ _ [] c.list.ensures) ∙ (sym c.eq.ensures ∙ c.if-eq.false))
+    let same : get_or lists place [] ≡ c.list.result.now = get_or_from_slice_get lists place c.list.result.now [] c.list.ensures in
+    let differs : fails c.list.result.now ≡ false = rw (← c.eq.ensures) c.if-eq.false in
+    below_more P place c.loop-place.invariant (rw same differs)
 
 pub returns : goal.returns
 returns g c =
