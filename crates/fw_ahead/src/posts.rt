@@ -91,13 +91,15 @@ impl Posts {
     // Takes the posts of the worker whose turn it is, and has it read the next ones.
     fn fetch(&mut self, rt: &impl Threads, alloc: Global, currency: Currency) {
         self.start_all(rt, alloc, currency);
-        if self.turn >= self.readers.len() {
-            self.turn = 0;
-        }
-        if self.turn < self.readers.len() {
-            self.read = self.readers[self.turn].finish(rt, alloc);
-            self.start(rt, alloc, self.turn, currency);
-            self.turn += 1;
+        let turn = if self.turn < self.readers.len() {
+            self.turn
+        } else {
+            0
+        };
+        if let Some(reader) = self.readers.get_mut(turn) {
+            self.read = reader.finish(rt, alloc);
+            self.start(rt, alloc, turn, currency);
+            self.turn = turn.saturating_add(1);
         }
     }
 
