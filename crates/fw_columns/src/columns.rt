@@ -6,6 +6,7 @@ ghost use Rattle.fw_money.specs.Amount.{most_nanos};
 ghost use Rattle.fw_row_table.specs.Table.{most_column_rows, rows_of, AreColumns};
 ghost use Rattle.fw_row_table.specs.Texts.{names_of};
 ghost use Rattle.fw_charge.specs.Codes.{category_code, class_code};
+ghost use Rattle.fw_columns.specs.ByHour.{AreByHour};
 ghost use Rattle.fw_columns.specs.Codes.{tag_code, AgreeWithGroups};
 ghost use Rattle.fw_columns.specs.Hours.{hours_of, places_of_hour};
 
@@ -74,7 +75,8 @@ impl Columns {
 
     /// The rows by hour.
     fn by_hour(&self) -> &RowsByHour
-        ensures { AreByHour result.now self.now }
+        ensures by_hour { AreByHour result.now self.now }
+        ensures some { 0 < length self.now }
     {
         &self.shared.by_hour
     }
