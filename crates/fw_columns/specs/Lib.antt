@@ -5,3 +5,5 @@ pub mod Adding
 pub mod Grouping
 pub mod Parts
 pub mod PartsView
+pub mod Hours
+pub mod ByHour

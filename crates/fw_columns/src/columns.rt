@@ -1,13 +1,17 @@
 //! Rows kept by column.
-ghost use Rattle.std.specs.Prelude.{◌≡◌, ◌<◌, ◌≤◌, ◌+◌, ◌++◌, Some, length, map, nat_abs, pos, slice_get, All, IfOk};
-ghost use Rattle.fw_charge.specs.Charge.{Charge};
+ghost use Rattle.std.specs.Prelude.{◌≡◌, ◌<◌, ◌≤◌, ◌+◌, ◌↔◌, ◌++◌, ℕ, Some, length, map, nat_abs, pos, slice_get, slice_index, All, Contains, IfOk};
+ghost use Rattle.std.specs.List.Sorted.{IsStrictlyIncreasing};
+ghost use Rattle.fw_charge.specs.Charge.{Charge, hour_of};
 ghost use Rattle.fw_money.specs.Amount.{most_nanos};
 ghost use Rattle.fw_row_table.specs.Table.{most_column_rows, rows_of, AreColumns};
 ghost use Rattle.fw_row_table.specs.Texts.{names_of};
 ghost use Rattle.fw_charge.specs.Codes.{category_code, class_code};
+ghost use Rattle.fw_columns.specs.ByHour.{AreByHour};
 ghost use Rattle.fw_columns.specs.Codes.{tag_code, AgreeWithGroups};
+ghost use Rattle.fw_columns.specs.Hours.{hours_of, places_of_hour};
 
 use crate::builder::ColumnsBuilder;
+use crate::by_hour::RowsByHour;
 use crate::grouping::group_codes;
 use crate::joining::joined;
 use fw_charge::Row;
@@ -18,22 +22,30 @@ use std::sync::Arc;
 
 /// 1 to [`Columns::MOST_ROWS`] charge rows kept by column, each of their texts and each of their lists of tags once. A contract sees the list of the rows.
 ///
-/// Columns are never changed, so a [copy](Columns::copy) shares them.
+/// Columns are never changed, so a [copy](Columns::copy) shares them, and the order of the rows by hour is found once.
 #[derive(Drop)]
 pub struct Columns {
-    table: Arc<Table>,
+    shared: Arc<Kept>,
+}
+
+/// What the copies of columns share.
+#[derive(Drop)]
+struct Kept {
+    table: Table,
+    by_hour: RowsByHour,
 }
 
 impl Model for Columns {
     ghost use Rattle.std.specs.Prelude.{◌<◌, List, length};
     ghost use Rattle.fw_charge.specs.Charge.{Charge};
     ghost use Rattle.fw_row_table.specs.Table.{rows_of, AreColumns};
+    ghost use Rattle.fw_columns.specs.ByHour.{AreByHour};
 
     ghost Value = { List Charge };
 
-    ghost view = { λ c. rows_of c.table.value };
+    ghost view = { λ c. rows_of c.shared.value.table };
 
-    ghost invariant = { λ c. (0 < length (rows_of c.table.value)) × AreColumns c.table.value (rows_of c.table.value) };
+    ghost invariant = { λ c. (0 < length (rows_of c.shared.value.table)) × AreColumns c.shared.value.table (rows_of c.shared.value.table) × AreByHour c.shared.value.by_hour (rows_of c.shared.value.table) };
 }
 
 impl Columns {
@@ -47,10 +59,11 @@ impl Columns {
         requires columns { AreColumns table (rows_of table) }
         ensures { IfOk result (λ columns. columns ≡ rows_of table) }
     {
-        let mut kept = table;
-        kept.shrink();
+        let mut table = table;
+        table.shrink();
+        let by_hour = RowsByHour::of_starts(alloc, table.starts.as_slice())?;
         Ok(Columns {
-            table: Arc::new(alloc, kept)?,
+            shared: Arc::new(alloc, Kept { table, by_hour })?,
         })
     }
 
@@ -60,7 +73,15 @@ impl Columns {
         ensures columns { AreColumns result.now (rows_of result.now) }
         ensures some { 0 < length self.now }
     {
-        &self.table
+        &self.shared.table
+    }
+
+    /// The rows by hour.
+    fn by_hour(&self) -> &RowsByHour
+        ensures by_hour { AreByHour result.now self.now }
+        ensures some { 0 < length self.now }
+    {
+        &self.shared.by_hour
     }
 
     /// The same rows, shared. It takes no memory. The error comes only where the columns have as many owners as can be counted.
@@ -68,7 +89,7 @@ impl Columns {
         ensures { IfOk result (λ copy. copy ≡ self.now) }
     {
         Ok(Columns {
-            table: Arc::try_clone(&self.table)?,
+            shared: Arc::try_clone(&self.shared)?,
         })
     }
 
@@ -146,6 +167,27 @@ impl Columns {
         ensures { result.now ≡ map (λ c. pos c.start) self.now }
     {
         self.table().starts.as_slice()
+    }
+
+    /// The hours in which the rows' periods start, counted from 1970: in rising order, each once, at least one.
+    pub fn hours(&self) -> &[u32]
+        ensures hours { result.now ≡ hours_of self.now }
+        ensures rising { IsStrictlyIncreasing result.now }
+        ensures each { (hour : ℕ) → Contains result.now hour ↔ Contains (map (λ c. hour_of c.start) self.now) hour }
+        ensures some { 0 < length result.now }
+    {
+        self.by_hour().hours()
+    }
+
+    /// The places, counted from 0, of the rows whose periods start in an hour, in rising order, at least one. The hour is that at the place
+    /// `number` of the [hours](Columns::hours).
+    pub fn places_in(&self, number: usize) -> &[u16]
+        requires { number < length (hours_of self.now) }
+        ensures places { result.now ≡ places_of_hour (slice_index (hours_of self.now) number) self.now }
+        ensures within { All (λ place. place < length self.now) result.now }
+        ensures some { 0 < length result.now }
+    {
+        self.by_hour().places_in(number)
     }
 
     /// The code of each row's category, as `Category::code` returns it.

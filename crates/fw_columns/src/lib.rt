@@ -6,6 +6,7 @@
 
 mod adding;
 mod builder;
+mod by_hour;
 mod checking;
 mod codes;
 mod columns;
