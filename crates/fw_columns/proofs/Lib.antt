@@ -4,3 +4,6 @@ mod AddFacts
 mod KeptFacts
 pub mod PartFacts
 mod PartColumns
+pub mod HourFacts
+mod RunFacts
+mod OrderFacts

@@ -127,8 +127,7 @@ impl ColumnsBuilder {
         ensures { IfOk result (λ columns. columns ≡ self) }
     {
         let alloc = *self.list.allocator();
-        let mut table = self.table;
-        table.shrink();
+        let table = self.table;
         let columns = Columns::of_table(alloc, table)?;
         Ok(columns)
     }

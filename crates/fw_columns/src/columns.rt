@@ -6,6 +6,7 @@ ghost use Rattle.fw_money.specs.Amount.{most_nanos};
 ghost use Rattle.fw_row_table.specs.Table.{most_column_rows, rows_of, AreColumns};
 ghost use Rattle.fw_row_table.specs.Texts.{names_of};
 ghost use Rattle.fw_charge.specs.Codes.{category_code, class_code};
+ghost use Rattle.fw_columns.specs.ByHour.{AreByHour};
 ghost use Rattle.fw_columns.specs.Codes.{tag_code, AgreeWithGroups};
 ghost use Rattle.fw_columns.specs.Hours.{hours_of, places_of_hour};
 
@@ -51,12 +52,15 @@ impl Columns {
     /// The most rows of columns.
     pub const MOST_ROWS: usize = 65_536;
 
-    /// The columns of the rows of a table, of which there is one at least.
+    /// The columns of the rows of a table, of which there is one at least. All columns are made here, of a table that is
+    /// shrunk first.
     pub(crate) fn of_table(alloc: Global, table: Table) -> Result<Columns, AllocError>
         requires some { 0 < length (rows_of table) }
         requires columns { AreColumns table (rows_of table) }
         ensures { IfOk result (λ columns. columns ≡ rows_of table) }
     {
+        let mut table = table;
+        table.shrink();
         let by_hour = RowsByHour::of_starts(alloc, table.starts.as_slice())?;
         Ok(Columns {
             shared: Arc::new(alloc, Kept { table, by_hour })?,
@@ -74,7 +78,8 @@ impl Columns {
 
     /// The rows by hour.
     fn by_hour(&self) -> &RowsByHour
-        ensures { AreByHour result.now self.now }
+        ensures by_hour { AreByHour result.now self.now }
+        ensures some { 0 < length self.now }
     {
         &self.shared.by_hour
     }

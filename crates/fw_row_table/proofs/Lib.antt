@@ -1,3 +1,4 @@
+pub mod PackedFacts
 pub mod NameFacts
 pub mod TextFacts
 pub mod ListFacts

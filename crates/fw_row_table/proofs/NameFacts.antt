@@ -1,11 +1,15 @@
 -- Facts on names: where a text stands among them, and what a text adds to them.
-use Rattle.std.proofs.Common.{◌≡◌, ℕ, zero, suc, ◌+◌, ◌<◌, Bool, true, false, cond, eqb, List, [], ◌∷◌, ◌++◌, length, map, get_or, refl, sym, ap, ◌∙◌, true≢false, arith, if◌then◌else◌, Some, None, position}
+use Rattle.std.proofs.Common.{◌≡◌, ℕ, zero, suc, ◌+◌, ◌<◌, Bool, true, false, cond, eqb, List, [], ◌∷◌, ◌++◌, length, map, take, get_or, refl, sym, ap, ◌∙◌, true≢false, arith, append_assoc, length-append, if◌then◌else◌, Some, None, ltb, position}
 use Rattle.std.specs.List.{list_any, position_or_len, IsDistinct, AllByRecursion}
 use Rattle.std.specs.Str.{bytes_eq}
-use Rattle.std.specs.Cmp.Lexicographic.{bytes_decides}
-use Rattle.std.proofs.lemmas.List.Sums.{passes_at_first}
-use Rattle.std.proofs.lemmas.List.Folds.{position_or_len_push}
-use Rattle.std.proofs.lemmas.List.{map_push, length-map}
+use Rattle.std.specs.Cmp.Lexicographic.{bytes_decides, nat_list_eq_equiv}
+use Rattle.std.proofs.lemmas.Bool.{lt-ltb, or_parts}
+use Rattle.std.proofs.lemmas.Option.{none-some}
+use Rattle.std.proofs.lemmas.List.Sums.{passes_at_first, position_or_len_is}
+use Rattle.std.proofs.lemmas.List.Folds.{position_or_len_push, list_any-append}
+use Rattle.std.proofs.lemmas.List.Quantifiers.{position-Some}
+use Rattle.std.proofs.lemmas.List.{map_push, length-map, get_or-map, get_or_append_left, take_more}
+use Rattle.std.proofs.lemmas.Map.Keys.{IsDistinct-push}
 use Rattle.fw_row_table.specs.Names.{Text, AreDistinct, place_of, with_text}
 
 -- a test of a list's images
@@ -30,7 +34,7 @@ distinct_images {X} f (x ∷ xs) h = (differ xs h.0, distinct_images f xs h.1)
     differ (y ∷ ys) a = (a.0, differ ys a.1)
 
 -- a text that is there has a place, one that isn't has none
-pub place-there : (p : Text → Bool) (names : List Text) → list_any p names ≡ true → position_or_len p names < length names
+pub place-there : {X : Type 0} (p : X → Bool) (names : List X) → list_any p names ≡ true → position_or_len p names < length names
 place-there p [] h = absurd (true≢false (sym h))
 place-there p (x ∷ xs) h = by (p x) refl (place-there p xs)
   where
@@ -38,7 +42,7 @@ place-there p (x ∷ xs) h = by (p x) refl (place-there p xs)
     by true e rest = rw e (omega arith)
     by false e rest = rw e (let there : position_or_len p xs < length xs = rest (rw e at h) in omega arith)
 
-pub place-missing : (p : Text → Bool) (names : List Text) → list_any p names ≡ false → position_or_len p names ≡ length names
+pub place-missing : {X : Type 0} (p : X → Bool) (names : List X) → list_any p names ≡ false → position_or_len p names ≡ length names
 place-missing p [] h = refl
 place-missing p (x ∷ xs) h = by (p x) refl (place-missing p xs)
   where
@@ -47,7 +51,7 @@ place-missing p (x ∷ xs) h = by (p x) refl (place-missing p xs)
     by false e rest = rw e (let missing : position_or_len p xs ≡ length xs = rest (rw e at h) in omega arith)
 
 -- a place stays where more names come behind
-pub place-kept : (p : Text → Bool) (names more : List Text) → position_or_len p names < length names → position_or_len p (names ++ more) ≡ position_or_len p names
+pub place-kept : {X : Type 0} (p : X → Bool) (names more : List X) → position_or_len p names < length names → position_or_len p (names ++ more) ≡ position_or_len p names
 place-kept p [] more h = absurd (omega arith)
 place-kept p (x ∷ xs) more h = by (p x) refl (place-kept p xs more)
   where
@@ -117,3 +121,88 @@ text_is_new names t code is end = by (list_any (bytes_eq t) names) refl
         let same : code ≡ position_or_len (bytes_eq t) names = rw e at is in
         absurd (omega (arith, below, same, end))
     by false e = rw e refl
+
+-- ---- texts of which the first are packed
+
+-- the place of a text that stands among the first
+pub place_first : (p : Text → Bool) (packed texts : List Text) (i : ℕ) → position p packed ≡ Some i → (i ≡ position_or_len p (packed ++ texts)) × (i < length (packed ++ texts))
+place_first p packed texts i at =
+    let found = position-Some p packed i [] at in
+    let whole : length (packed ++ texts) ≡ length packed + length texts = length-append packed texts in
+    let here : p (get_or (packed ++ texts) i []) ≡ true = ap p (get_or_append_left packed texts [] i found.0) ∙ found.1 in (
+      sym (position_or_len_is p (packed ++ texts) i [] (omega (arith, found.0, whole)) (λ k lt. ap p (get_or_append_left packed texts [] k (omega (arith, found.0, lt))) ∙ found.2 k lt) (λ _. here)),
+      omega (arith, found.0, whole),
+    )
+
+-- a test that none of a list passes
+none_there : (p : Text → Bool) (names : List Text) → position p names ≡ None → list_any p names ≡ false
+none_there p names none = by (list_any p names) refl
+  where
+    by : (b : Bool) → list_any p names ≡ b → b ≡ false
+    by true e = let there : ltb (position_or_len p names) (length names) ≡ true = lt-ltb _ _ (place-there p names e) in absurd (none-some (position_or_len p names) (sym (rw there at none)))
+    by false e = refl
+
+place_past : (p : Text → Bool) (packed texts : List Text) → list_any p packed ≡ false → position_or_len p (packed ++ texts) ≡ length packed + position_or_len p texts
+place_past p [] texts none = omega arith
+place_past p (x ∷ xs) texts none = by (p x) refl (place_past p xs texts)
+  where
+    by : (b : Bool) → p x ≡ b → (list_any p xs ≡ false → position_or_len p (xs ++ texts) ≡ length xs + position_or_len p texts) → position_or_len p (x ∷ (xs ++ texts)) ≡ length (x ∷ xs) + position_or_len p texts
+    by true e rest = absurd (true≢false (rw e at none))
+    by false e rest = rw e (let past : position_or_len p (xs ++ texts) ≡ length xs + position_or_len p texts = rest (rw e at none) in omega (arith, past))
+
+-- and the place of one that stands behind them
+pub place_behind : (p : Text → Bool) (packed texts : List Text) → position p packed ≡ None → position_or_len p (packed ++ texts) ≡ length packed + position_or_len p texts
+place_behind p packed texts none = place_past p packed texts (none_there p packed none)
+
+pub found_behind : {X : Type 0} (f : X → Text) (packed : List Text) (keys : List X) (text : Text) (i : ℕ) → position (bytes_eq text) packed ≡ None → position (λ x. bytes_eq text (f x)) keys ≡ Some i
+    → list_any (λ x. bytes_eq text (f x)) keys ≡ true → length packed + i ≡ place_of (packed ++ map f keys) text
+unfolding place_of
+found_behind f packed keys text i none at there = (λ j. length packed + (found_text f keys text i at there).1 j) ∙ sym (place_behind (bytes_eq text) packed (map f keys) none)
+
+pub found_nowhere : {X : Type 0} (f : X → Text) (packed : List Text) (keys : List X) (text : Text) → position (bytes_eq text) packed ≡ None → list_any (λ x. bytes_eq text (f x)) keys ≡ false
+    → place_of (packed ++ map f keys) text ≡ length (packed ++ map f keys)
+unfolding place_of
+found_nowhere f packed keys text none missing =
+    place_behind (bytes_eq text) packed (map f keys) none
+    ∙ ((λ j. length packed + sym (missing_text f keys text missing) j) ∙ rw (length-append packed (map f keys), length-map keys f) refl)
+
+-- a text whose place is behind all names is none of them
+none_at_the_end : (p : Text → Bool) (names : List Text) → position_or_len p names ≡ length names → list_any p names ≡ false
+none_at_the_end p names end = by (list_any p names) refl
+  where
+    by : (b : Bool) → list_any p names ≡ b → b ≡ false
+    by true e = absurd (omega (arith, end, place-there p names e))
+    by false e = refl
+
+-- a new text goes last
+pub goes_last : {X : Type 0} (f : X → Text) (packed : List Text) (keys : List X) (key : X) (text : Text) → f key ≡ text → place_of (packed ++ map f keys) text ≡ length (packed ++ map f keys)
+    → packed ++ map f (if list_any (λ x. bytes_eq (f key) (f x)) keys then keys else keys ++ key ∷ []) ≡ with_text (packed ++ map f keys) text
+unfolding with_text place_of
+goes_last f packed keys key text same end =
+    let missing : list_any (bytes_eq text) (packed ++ map f keys) ≡ false = none_at_the_end (bytes_eq text) (packed ++ map f keys) end in
+    let gone : list_any (bytes_eq text) (map f keys) ≡ false = (or_parts _ _ (sym (list_any-append (bytes_eq text) packed (map f keys)) ∙ missing)).1 in
+    let none : list_any (λ x. bytes_eq text (f x)) keys ≡ false = list_any-map f (bytes_eq text) keys ∙ gone in
+    rw (same, none, missing, map_push f keys key, same) (sym (append_assoc packed (map f keys) (text ∷ [])))
+
+pub has_its_place : (names : List Text) (text : Text) → place_of names text ≡ length names → length names ≡ place_of (with_text names text) text
+unfolding with_text place_of
+has_its_place names text end =
+    let missing : list_any (bytes_eq text) names ≡ false = none_at_the_end (bytes_eq text) names end in
+    rw missing (sym (at_its_end names text missing))
+
+pub stays_distinct : (names : List Text) (text : Text) → AreDistinct names → AreDistinct (with_text names text)
+unfolding with_text
+stays_distinct names text h = by (list_any (bytes_eq text) names) refl
+  where
+    by : (b : Bool) → list_any (bytes_eq text) names ≡ b → AreDistinct (with_text names text)
+    by true e = rw e h
+    by false e = rw e (IsDistinct-push nat_list_eq_equiv names text h e)
+
+-- one more text behind the packed ones
+pub one_more : {X : Type 0} (f : X → Text) (packed : List Text) (xs : List X) (i : ℕ) (x : X) (text : Text) (before now : List Text) → i < length xs → x ≡ get_or xs i x → text ≡ f x
+    → before ≡ packed ++ take i (map f xs) → now ≡ before ++ text ∷ [] → now ≡ packed ++ take (i + 1) (map f xs)
+one_more f packed xs i x text before now lt is same so_far pushed =
+    let texts = map f xs in
+    let here : text ≡ get_or texts i [] = same ∙ (ap f is ∙ sym (get_or-map f xs i x [] lt)) in
+    let next : take i texts ++ get_or texts i [] ∷ [] ≡ take (i + 1) texts = sym (take_more texts i [] (rw (length-map xs f) lt)) in
+    pushed ∙ ((λ j. so_far j ++ here j ∷ []) ∙ (append_assoc packed (take i texts) (get_or texts i [] ∷ []) ∙ ap (λ ys. packed ++ ys) next))

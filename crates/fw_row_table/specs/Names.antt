@@ -1,5 +1,5 @@
 -- Texts numbered from 0 in the order in which each is first seen.
-use Rattle.std.specs.Prelude.{ℕ, List, [], ◌∷◌, ◌++◌, if◌then◌else◌}
+use Rattle.std.specs.Prelude.{ℕ, ◌+◌, ◌≤◌, ◌^◌, List, [], ◌∷◌, ◌++◌, length, if◌then◌else◌, All, IsUtf8}
 use Rattle.std.specs.List.{list_any, position_or_len, IsDistinct}
 use Rattle.std.specs.Str.{bytes_eq}
 
@@ -18,3 +18,9 @@ place_of names text = position_or_len (bytes_eq text) names
 -- the names once a text was seen: a new text goes last
 unfoldable pub with_text : List Text → Text → List Text
 with_text names text = if list_any (bytes_eq text) names then names else names ++ text ∷ []
+
+-- texts that are packed and texts that stand behind them can be kept as names
+pub record AreKept (packed texts : List Text) : Type 0 where
+  pub few : length packed + length texts ≤ 2 ^ 30
+  pub text : All IsUtf8 packed
+  pub distinct : AreDistinct (packed ++ texts)

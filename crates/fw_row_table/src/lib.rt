@@ -9,6 +9,7 @@ mod lengths;
 mod lists;
 mod names;
 mod naming;
+mod packed;
 mod reading;
 mod table;
 

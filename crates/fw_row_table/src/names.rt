@@ -1,26 +1,34 @@
 //! Texts that are numbered.
-ghost use Rattle.std.specs.Prelude.{◌≡◌, ◌^◌, ◌<◌, ◌≤◌, ◌+◌, [], Some, length, map, slice_get, string_bytes, IfOk, IfSome, IsTrue, OnOk, OnErr};
+ghost use Rattle.std.specs.Prelude.{◌≡◌, ◌^◌, ◌<◌, ◌≤◌, ◌+◌, ◌++◌, [], Some, length, map, slice_get, string_bytes, All, IfNone, IfOk, IfSome, IsTrue, IsUtf8, OnOk, OnErr};
 
+use crate::packed::Packed;
 use indexmap::IndexSet;
 use std::alloc::{AllocError, Global};
 use std::marker::Model;
 
 /// Texts, each once, numbered from 0 in the order in which they were first seen. The number of a text is its code.
 ///
+/// While texts come, they are kept in a hash table. [`Names::shrink`] packs them into one buffer: a text then takes
+/// 4 bytes beside its own, and looking one up takes a pass over all of them.
+///
 /// A contract sees the list of the texts in this order.
 #[derive(Debug, Drop)]
 pub struct Names {
+    /// The first of the texts, packed.
+    packed: Packed<u8>,
+    /// The texts behind them.
     texts: IndexSet<String>,
 }
 
 impl Model for Names {
-    ghost use Rattle.std.specs.Prelude.{ℕ, ◌≤◌, ◌^◌, List, length, map, string_bytes};
+    ghost use Rattle.std.specs.Prelude.{ℕ, ◌++◌, List, map, string_bytes};
+    ghost use Rattle.fw_row_table.specs.Names.{AreKept};
 
     ghost Value = { List (List ℕ) };
 
-    ghost view = { λ n. map string_bytes n.texts.keys };
+    ghost view = { λ n. n.packed ++ map string_bytes n.texts.keys };
 
-    ghost invariant = { λ n. length n.texts.keys ≤ 2 ^ 30 };
+    ghost invariant = { λ n. AreKept n.packed (map string_bytes n.texts.keys) };
 }
 
 impl Names {
@@ -31,6 +39,7 @@ impl Names {
         ensures { result ≡ [] }
     {
         Names {
+            packed: Packed::new(alloc),
             texts: IndexSet::new(alloc),
         }
     }
@@ -41,7 +50,7 @@ impl Names {
         ensures each_once { AreDistinct self.now }
         ensures few { result ≤ 2 ^ 30 }
     {
-        self.texts.len()
+        self.packed.len() + self.texts.len()
     }
 
     /// The code of a text. A text that is new goes last. Where memory for it is refused, nothing changes.
@@ -53,10 +62,10 @@ impl Names {
         ensures few { length self.new ≤ length self.old + 1 }
         ensures refused { OnErr result (self.new ≡ self.old) }
     {
-        match self.texts.get_index_of(text) {
-            Some(place) => Ok(place as u32),
+        match self.known(text) {
+            Some(code) => Ok(code),
             None => {
-                let place = self.texts.len();
+                let place = self.len();
                 let kept = String::from_str(*self.texts.allocator(), text)?;
                 self.texts.insert(kept)?;
                 Ok(place as u32)
@@ -93,11 +102,22 @@ impl Names {
         self.text(code) == text
     }
 
-    /// Gives back the memory that no text needs.
+    /// Packs the texts, and gives back the memory that none needs. They stay in the hash table where memory is refused
+    /// for that, or where they have 4 GiB or more together.
     pub fn shrink(&mut self)
         ensures { self.new ≡ self.old }
     {
-        self.texts.shrink_to_fit();
+        if self.texts.is_empty() {
+            return;
+        }
+        let alloc = *self.texts.allocator();
+        match pack(alloc, &self.packed, self.texts.as_slice()) {
+            Ok(packed) => {
+                self.packed = packed;
+                self.texts = IndexSet::new(alloc);
+            }
+            Err(_) => self.texts.shrink_to_fit(),
+        }
     }
 
     /// Texts as they stand, if each is there once; else `None`.
@@ -123,9 +143,25 @@ impl Names {
         ensures place { result ≡ place_of self.now text.now }
         ensures within { result ≤ 2 ^ 30 }
     {
+        let count = self.len();
+        match self.known(text) {
+            Some(code) => code,
+            None => count as u32,
+        }
+    }
+
+    // The code of a text that is there.
+    fn known(&self, text: &str) -> Option<u32>
+        ensures place { IfSome result (λ code. code ≡ place_of self.now text.now) }
+        ensures within { IfSome result (λ code. code < length self.now) }
+        ensures new { IfNone result (place_of self.now text.now ≡ length self.now) }
+    {
+        if let Some(place) = self.packed.position(text.as_bytes()) {
+            return Some(place as u32);
+        }
         match self.texts.get_index_of(text) {
-            Some(place) => place as u32,
-            None => self.texts.len() as u32,
+            Some(place) => Some((self.packed.len() + place) as u32),
+            None => None,
         }
     }
 
@@ -134,6 +170,36 @@ impl Names {
         requires { code < length self.now }
         ensures { slice_get self.now code ≡ Some result.now }
     {
-        self.texts.as_slice()[code as usize].as_str()
+        let place = code as usize;
+        let count = self.packed.len();
+        if place < count {
+            packed_text(&self.packed, place)
+        } else {
+            self.texts.as_slice()[place - count].as_str()
+        }
     }
+}
+
+// The text at a place of packed ones. That each of them is text is known: no byte is looked at.
+fn packed_text(packed: &Packed<u8>, place: usize) -> &str
+    requires text { All IsUtf8 packed.now }
+    requires within { place < length packed.now }
+    ensures { slice_get packed.now place ≡ Some result.now }
+{
+    let bytes = packed.list(place);
+    unsafe { str::from_utf8_unchecked(bytes) }
+}
+
+// Packed texts and further ones, packed.
+fn pack(alloc: Global, packed: &Packed<u8>, texts: &[String]) -> Result<Packed<u8>, AllocError>
+    requires { All IsUtf8 packed.now }
+    ensures texts { IfOk result (λ all. all ≡ packed.now ++ map string_bytes texts.now) }
+    ensures text { IfOk result (λ all. All IsUtf8 all) }
+{
+    let mut all = packed.copy(alloc)?;
+    for text in texts {
+        all = all.with(text.as_str().as_bytes())?;
+    }
+    all.shrink();
+    Ok(all)
 }

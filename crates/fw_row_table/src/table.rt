@@ -7,8 +7,9 @@ use crate::lists::Lists;
 use crate::names::Names;
 use std::alloc::Global;
 
-/// The columns of rows, one value a row in each: 65 bytes a row, beside the texts and the lists of tags, each of which is kept once. A text that
-/// may be null is its code: 0 where it is null, else 1 more than its place in the names.
+/// The columns of rows, one value a row in each: 65 bytes a row, beside the texts and the lists of tags, each of which
+/// is kept once, in hash tables while rows come, and packed by [`Table::shrink`]. A text that may be null is its code:
+/// 0 where it is null, else 1 more than its place in the names.
 #[derive(Drop)]
 pub struct Table {
     /// The texts of the rows, each once.
@@ -74,7 +75,9 @@ impl Table {
         }
     }
 
-    /// Gives back the memory that no value needs. The columns stay as they are.
+    /// Gives back the memory that no value needs, and packs the texts and the lists of tags: from then on each takes 4
+    /// bytes beside its own, and looking one up takes a pass over all of them. The columns stay as they are. Where
+    /// memory is refused for the packing, texts and lists stay in hash tables.
     pub fn shrink(&mut self)
         ensures { (rows : List Charge) → AreColumns self.old rows → AreColumns self.new rows }
     {

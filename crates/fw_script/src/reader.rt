@@ -30,6 +30,13 @@ impl<'a> Script<'a> {
         Script { rest: text }
     }
 
+    /// How many bytes are left.
+    pub fn left(&self) -> usize
+        ensures { result ≡ length self.now }
+    {
+        self.rest.len()
+    }
+
     /// The next command, or `None` where nothing is left. What is left then begins after the command's line and the lines that
     /// it takes. After `BadEnd` nothing is left.
     pub fn next_command(&mut self) -> Option<Command<'a>>

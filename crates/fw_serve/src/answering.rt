@@ -38,7 +38,7 @@ pub(crate) fn answer<V: Volume>(
     alloc: Global,
     store: &mut Store<V>,
     covers: &mut Covers,
-    posts: &mut Posts<'_>,
+    posts: &mut Posts,
     command: Command<'_>,
     workers: u32,
 ) -> Reply
@@ -75,7 +75,7 @@ fn enter<V: Volume>(
     rt: &(impl Threads + Sync),
     alloc: Global,
     store: &mut Store<V>,
-    posts: &mut Posts<'_>,
+    posts: &mut Posts,
     kind: EntryKind,
     origin: &[u8],
     sequence: &[u8],

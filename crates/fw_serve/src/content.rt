@@ -20,7 +20,7 @@ use std::thread::Threads;
 pub(crate) fn read_content(
     rt: &(impl Threads + Sync),
     alloc: Global,
-    posts: &mut Posts<'_>,
+    posts: &mut Posts,
     kind: EntryKind,
     content: &[u8],
     currency: Currency,

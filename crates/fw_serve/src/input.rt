@@ -6,6 +6,7 @@ ghost use Rattle.fw_serve.specs.Served.{most_bytes};
 use crate::fault::ServeFault;
 use std::alloc::Global;
 use std::io::Read;
+use std::sync::Arc;
 
 /// The most bytes of a script.
 const MOST_BYTES: usize = 1 << 30;
@@ -13,14 +14,21 @@ const MOST_BYTES: usize = 1 << 30;
 /// How many bytes one read asks for.
 const PIECE: usize = 64 * 1024;
 
-/// Reads the script to its end. A read that fails, an interrupted one too, is `Read`; a script of more than 2^30 bytes is `TooLong`.
-pub(crate) fn read_script<R: Read>(alloc: Global, reader: &mut R) -> Result<Vec<u8>, ServeFault>
-    ensures whole { IfOk result (λ script. IfSome (R.remaining reader.old) (λ bytes. script.items ≡ bytes)) }
-    ensures short { IfOk result (λ script. length script.items ≤ most_bytes) }
+/// Reads the script to its end, for all to share who read of it. A read that fails, an interrupted one too, is `Read`; a script of more than 2^30 bytes is `TooLong`.
+pub(crate) fn read_script<R: Read>(
+    alloc: Global,
+    reader: &mut R,
+) -> Result<Arc<Vec<u8>>, ServeFault>
+    ensures whole { IfOk result (λ script. IfSome (R.remaining reader.old) (λ bytes. script.value.items ≡ bytes)) }
+    ensures short { IfOk result (λ script. length script.value.items ≤ most_bytes) }
     ensures too_long { result ≡ Err ServeFault.TooLong → IfSome (R.remaining reader.old) (λ bytes. most_bytes < length bytes) }
     ensures reads { result ≢ Err ServeFault.Write }
 {
-    read_within(alloc, reader, MOST_BYTES)
+    let text = read_within(alloc, reader, MOST_BYTES)?;
+    match Arc::new(alloc, text) {
+        Ok(script) => Ok(script),
+        Err(_refused) => Err(ServeFault::NoMemory),
+    }
 }
 
 /// Reads a text of at most `limit` bytes to its end; the limit itself is at most 2^30. A read that fails, an interrupted one too, is `Read`, a

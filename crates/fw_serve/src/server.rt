@@ -34,7 +34,7 @@ use std::thread::Threads;
 /// moment of one leaves what the commands before it left, perhaps with the entry that it sends, and after it what it left. Once the device has failed, a crash
 /// leaves what the commands left, perhaps with the entry that the failed one sent. A store that had failed before stays as it was, and so does its volume.
 ///
-/// Posts are read and reports are made by 1 to 64 workers: each reads one of the next posts, ahead of their commands, and counts a piece of a report's rows.
+/// Posts are read and reports are made by 1 to 64 workers: each reads some of the next posts, ahead of their commands, and counts a piece of a report's rows.
 /// Their number changes no answer.
 pub fn serve<R: Read, W: Write, V: Volume>(
     rt: &(impl Threads + Sync),
@@ -60,7 +60,9 @@ pub fn serve<R: Read, W: Write, V: Volume>(
 {
     store.keeps();
     let text = read_script(alloc, reader)?;
-    let served = answer_all(rt, alloc, text.as_slice(), writer, store, workers);
+    let mut posts = Posts::new(alloc, &text, workers);
+    let served = answer_all(rt, alloc, text.as_slice(), &mut posts, writer, store, workers);
+    posts.stop(rt, alloc);
     store.keeps();
     served
 }
@@ -70,6 +72,7 @@ fn answer_all<W: Write, V: Volume>(
     rt: &(impl Threads + Sync),
     alloc: Global,
     text: &[u8],
+    posts: &mut Posts,
     writer: &mut W,
     store: &mut Store<V>,
     workers: u32,
@@ -82,10 +85,9 @@ fn answer_all<W: Write, V: Volume>(
 {
     let mut script = Script::new(text);
     let mut covers = Covers::new(alloc);
-    let mut posts = Posts::new(alloc, text, workers);
     while let Some(command) = script.next_command() {
         store.keeps();
-        let reply = answer(rt, alloc, store, &mut covers, &mut posts, command, workers);
+        let reply = answer(rt, alloc, store, &mut covers, posts, command, workers);
         store.keeps();
         write_reply(writer, &reply)?;
     }

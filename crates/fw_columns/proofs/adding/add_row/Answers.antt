@@ -1,4 +1,4 @@
-use Rattle.std.proofs.Common.{◌≡◌, ◌∙◌, ◌≤◌, ◌+◌, ◌*◌, length, ap, sym, refl, arith}
+use Rattle.std.proofs.Common.{◌≡◌, ◌∙◌, ◌≤◌, ◌+◌, ◌*◌, length, ap, sym, arith}
 use Rattle.fw_row_table.specs.Lending.{tags_lent}
 use Rattle.fw_row_table.specs.Lists.{tag_places}
 use Rattle.fw_row_table.specs.Names.{place_of, with_text}

@@ -1,4 +1,4 @@
-use Rattle.std.proofs.Common.{◌<◌, length, refl, rules}
+use Rattle.std.proofs.Common.{◌<◌, length, rules}
 use Rattle.std.proofs.lemmas.List.{get_or_read}
 use Rattle.fw_row_table.specs.Table.{rows_of}
 use Rattle.fw_columns.proofs.AddFacts.{pushed_like}

@@ -1,6 +1,5 @@
 use Rattle.std.proofs.Common.{◌≡◌, ◌∙◌, ◌++◌, ◌∷◌, [], map, length, append_assoc, refl, sym, ap, arith, subst}
 use Rattle.std.proofs.lemmas.List.{append-nil}
-use Rattle.fw_charge.specs.Tags.{TagText}
 use Rattle.fw_row_table.specs.Lending.{tag_lent, tags_lent, tags_split}
 use Rattle.fw_row_table.specs.Names.{place_of}
 use Rattle.fw_row_table.specs.Texts.{texts_of_tags, with_texts}

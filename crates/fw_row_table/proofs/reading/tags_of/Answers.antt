@@ -1,6 +1,6 @@
-use Rattle.std.proofs.Common.{◌≡◌, ◌∙◌, ◌++◌, [], ◌∷◌, ap, sym, subst, arith, length, get_or, drop, List, ℕ}
+use Rattle.std.proofs.Common.{◌≡◌, ◌∙◌, ◌++◌, [], ◌∷◌, ap, sym, subst, arith, get_or, drop, List, ℕ}
 use Rattle.fw_charge.specs.Tags.{TagText, IsTags}
-use Rattle.fw_row_table.specs.Table.{tag_of, tags_of}
+use Rattle.fw_row_table.specs.Table.{tag_of}
 use Rattle.fw_row_table.proofs.ListFacts.{behind_two}
 use Rattle.fw_row_table.proofs.TableFacts.{AreSplit, no_tag_more, one_tag_more}
 use Rattle.fw_row_table.proofs.reading.tags_of.Goals as goal

@@ -1,24 +1,24 @@
-use Rattle.std.proofs.Common.{sym}
+use Rattle.std.proofs.Common.{◌≡◌, ◌∙◌, List, length, subst, sym, arith}
 use Rattle.std.specs.Prelude.{vec_items}
-use Rattle.fw_row_table.proofs.NameFacts.{found_text, new_text}
-use Rattle.fw_row_table.proofs.TextFacts.{with_text_adds_one}
+use Rattle.fw_row_table.specs.Names.{Text, place_of}
+use Rattle.fw_row_table.proofs.NameFacts.{goes_last, has_its_place}
+use Rattle.fw_row_table.proofs.TextFacts.{known_adds_nothing, with_text_adds_one}
 use Rattle.fw_row_table.proofs.lists.Lists.code.Goals as goal
 
 pub returns-in-Some-clause-lists : goal.returns-in-Some-clause-lists
-returns-in-Some-clause-lists c = rw (← c.self.view_is) (found_text vec_items c.self.inside.lists.keys _ _ (sym c.in-Some.ensures.index) (sym c.in-Some.ensures.found)).0
-
-pub returns-in-Some-clause-place : goal.returns-in-Some-clause-place
-returns-in-Some-clause-place c = rw (← c.self.view_is) (found_text vec_items c.self.inside.lists.keys _ _ (sym c.in-Some.ensures.index) (sym c.in-Some.ensures.found)).1
+returns-in-Some-clause-lists c = sym (known_adds_nothing c.args.self.now c.args.list.now (record { below = omega (arith, c.in-Some.ensures.place, c.in-Some.ensures.within) }))
 
 pub returns-in_ok-insert-in-None-clause-lists : goal.returns-in_ok-insert-in-None-clause-lists
 returns-in_ok-insert-in-None-clause-lists c =
+    let one = c.args.list.now in
+    let IsLast : List Text → Type 0 = λ names. place_of names one ≡ length names in
+    let last = subst IsLast (sym c.self.view_is) c.in-None.ensures.new in
     rw (← c.self.view_is, c.in_ok-insert-in-None.ensures.keys)
-    (new_text vec_items c.self.inside.lists.keys c.in_ok-kept-in-None.kept c.args.list.now c.in_ok-kept-in-None.ensures.items (sym c.in-None.ensures.found)).0
+    (goes_last vec_items c.self.inside.packed c.self.inside.lists.keys c.in_ok-kept-in-None.kept one c.in_ok-kept-in-None.ensures.items last)
 
 pub returns-in_ok-insert-in-None-clause-place : goal.returns-in_ok-insert-in-None-clause-place
 returns-in_ok-insert-in-None-clause-place c =
-    let new = new_text vec_items c.self.inside.lists.keys c.in_ok-kept-in-None.kept c.args.list.now c.in_ok-kept-in-None.ensures.items (sym c.in-None.ensures.found) in
-    rw (c.in_ok-insert-in-None.ensures.keys, new.0, ← new.1) c.len-place.ensures.len
+    rw (returns-in_ok-insert-in-None-clause-lists c) (c.len-place.ensures.count ∙ has_its_place c.args.self.now c.args.list.now c.in-None.ensures.new)
 
 pub returns-in_ok-insert-in-None-clause-few : goal.returns-in_ok-insert-in-None-clause-few
 returns-in_ok-insert-in-None-clause-few c =

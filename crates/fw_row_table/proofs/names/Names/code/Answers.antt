@@ -1,24 +1,23 @@
-use Rattle.std.proofs.Common.{◌≡◌, ◌∙◌, ap, string_bytes, sym, arith}
-use Rattle.fw_row_table.specs.Names.{place_of, with_text}
-use Rattle.fw_row_table.proofs.NameFacts.{found_text, new_text}
-use Rattle.fw_row_table.proofs.TextFacts.{IsKnown-seen, with_text_adds_one}
+use Rattle.std.proofs.Common.{◌≡◌, ◌∙◌, ◌++◌, List, length, map, subst, sym, ap, arith, length-append, string_bytes}
+use Rattle.fw_row_table.specs.Names.{Text, place_of, with_text, AreDistinct}
+use Rattle.fw_row_table.proofs.NameFacts.{goes_last, has_its_place, stays_distinct}
+use Rattle.fw_row_table.proofs.TextFacts.{known_adds_nothing, with_text_adds_one, IsKnown-seen}
 use Rattle.fw_row_table.proofs.names.Names.code.Goals as goal
 
 pub returns-in-Some-clause-names : goal.returns-in-Some-clause-names
-returns-in-Some-clause-names c = rw (← c.self.view_is) (found_text string_bytes c.self.inside.texts.keys _ _ (sym c.in-Some.ensures.index) (sym c.in-Some.ensures.found)).0
-
-pub returns-in-Some-clause-place : goal.returns-in-Some-clause-place
-returns-in-Some-clause-place c = rw (← c.self.view_is) (found_text string_bytes c.self.inside.texts.keys _ _ (sym c.in-Some.ensures.index) (sym c.in-Some.ensures.found)).1
+returns-in-Some-clause-names c = sym (known_adds_nothing c.args.self.now c.args.text.now (record { below = omega (arith, c.in-Some.ensures.place, c.in-Some.ensures.within) }))
 
 pub returns-in_ok-insert-in-None-clause-names : goal.returns-in_ok-insert-in-None-clause-names
 returns-in_ok-insert-in-None-clause-names c =
+    let one = c.args.text.now in
+    let IsLast : List Text → Type 0 = λ names. place_of names one ≡ length names in
+    let last = subst IsLast (sym c.self.view_is) c.in-None.ensures.new in
     rw (← c.self.view_is, c.in_ok-insert-in-None.ensures.keys)
-    (new_text string_bytes c.self.inside.texts.keys c.in_ok-kept-in-None.kept c.args.text.now c.in_ok-kept-in-None.ensures.ok (sym c.in-None.ensures.found)).0
+    (goes_last string_bytes c.self.inside.packed c.self.inside.texts.keys c.in_ok-kept-in-None.kept one c.in_ok-kept-in-None.ensures.ok last)
 
 pub returns-in_ok-insert-in-None-clause-place : goal.returns-in_ok-insert-in-None-clause-place
 returns-in_ok-insert-in-None-clause-place c =
-    let new = new_text string_bytes c.self.inside.texts.keys c.in_ok-kept-in-None.kept c.args.text.now c.in_ok-kept-in-None.ensures.ok (sym c.in-None.ensures.found) in
-    rw (c.in_ok-insert-in-None.ensures.keys, new.0, ← new.1) c.len-place.ensures.len
+    rw (returns-in_ok-insert-in-None-clause-names c) (c.len-place.ensures.count ∙ has_its_place c.args.self.now c.args.text.now c.in-None.ensures.new)
 
 pub returns-in_ok-insert-in-None-clause-few : goal.returns-in_ok-insert-in-None-clause-few
 returns-in_ok-insert-in-None-clause-few c =
@@ -26,7 +25,20 @@ returns-in_ok-insert-in-None-clause-few c =
 
 pub returns-in_ok-insert-in-None-clause-within : goal.returns-in_ok-insert-in-None-clause-within
 returns-in_ok-insert-in-None-clause-within c =
+    let names = c.args.self.now in
     let text = c.args.text.now in
-    let names = returns-in_ok-insert-in-None-clause-names c in
-    let there : c.len-place.result ≡ place_of (with_text c.args.self.now text) text = returns-in_ok-insert-in-None-clause-place c ∙ ap (λ ns. place_of ns text) names in
-    rw names (omega (arith, there, (IsKnown-seen c.args.self.now text).below))
+    let there : c.len-place.result ≡ place_of (with_text names text) text = c.len-place.ensures.count ∙ has_its_place names text c.in-None.ensures.new in
+    rw (returns-in_ok-insert-in-None-clause-names c) (omega (arith, there, (IsKnown-seen names text).below))
+
+pub invariant_of-self-in-None : goal.invariant_of-self-in-None
+invariant_of-self-in-None c =
+    let packed = c.self.inside.packed in
+    let old = c.args.self.now in
+    let text = c.args.text.now in
+    let names : packed ++ map string_bytes c.insert.new.self.keys ≡ with_text old text = returns-in_ok-insert-in-None-clause-names c in
+    let size : length (packed ++ map string_bytes c.insert.new.self.keys) ≡ length (with_text old text) = ap length names in
+    record {
+      few = omega (arith, size, length-append packed (map string_bytes c.insert.new.self.keys), with_text_adds_one old text, c.requires);
+      text = c.self.invariant.text;
+      distinct = subst AreDistinct (sym names) (stays_distinct old text (subst AreDistinct c.self.view_is c.self.invariant.distinct));
+    }

@@ -1,0 +1,40 @@
+use Rattle.std.proofs.Common.{◌≡◌, ◌∙◌, ap, ◌<◌, ◌≤◌, ◌^◌, List, ℤ, All, arith, length, nat_abs, subst, sym}
+use Rattle.fw_charge.specs.Charge.{hour_of}
+use Rattle.fw_row_table.specs.Table.{most_column_rows, rows_of, AreColumns}
+use Rattle.fw_row_table.proofs.TableFacts.{columns_shown, shown}
+use Rattle.fw_columns.proofs.OrderFacts.{starts_early, starts_few}
+use Rattle.fw_columns.specs.ByHour.{AreByHour}
+use Rattle.fw_columns.specs.declared.columns.Kept.{Kept}
+use Rattle.fw_columns.proofs.columns.Columns.of_table.Goals as goal
+use Rattle.fw_columns.proofs.columns.Columns.of_table.Goals.{In_ok-new}
+
+pub of_starts-requires-clause-few : goal.of_starts-requires-clause-few
+of_starts-requires-clause-few c =
+    let AreFew : List ℤ → Type 0 = λ starts. length starts ≤ most_column_rows in
+    let rows = rows_of c.args.table in
+    subst AreFew (sym c.as_slice.ensures.value) (starts_few c.shrink.new.self rows (c.shrink.ensures rows c.requires.columns))
+
+pub of_starts-requires-clause-early : goal.of_starts-requires-clause-early
+of_starts-requires-clause-early c =
+    let AreEarly : List ℤ → Type 0 = λ starts. All (λ s. hour_of (nat_abs s) < 2 ^ 32) starts in
+    let rows = rows_of c.args.table in
+    subst AreEarly (sym c.as_slice.ensures.value) (starts_early c.shrink.new.self rows (c.shrink.ensures rows c.requires.columns))
+
+-- what is shared is the table, shrunk, and its rows by hour
+kept : (c : In_ok-new) → c.in_ok-new.field-0.value ≡ record { table = c.shrink.new.self; by_hour = c.in_ok-by_hour.by_hour }
+kept c = c.in_ok-new.ensures.ok
+
+pub invariant_of-result : goal.invariant_of-result
+invariant_of-result c =
+    let IsKept : Kept → Type 0 = λ k. (0 < length (rows_of k.table)) × AreColumns k.table (rows_of k.table) × AreByHour k.by_hour (rows_of k.table) in
+    let rows = rows_of c.args.table in
+    let t = c.shrink.new.self in
+    let columns = c.shrink.ensures rows c.requires.columns in
+    let size : length (rows_of t) ≡ length rows = ap length (shown t rows columns) in
+    let again : AreColumns t (rows_of t) = columns_shown t rows columns in
+    subst IsKept (sym (kept c)) (omega (arith, size, c.requires.some), again, c.in_ok-by_hour.ensures (rows_of t) (c.as_slice.ensures.value ∙ again.starts))
+
+pub returns : goal.returns
+returns c =
+    let rows = rows_of c.args.table in
+    ap (λ (k : Kept). rows_of k.table) (kept c) ∙ shown c.shrink.new.self rows (c.shrink.ensures rows c.requires.columns)
