@@ -1,20 +1,36 @@
 -- Rows that no commitment applies to may be left out of what commitments bring to an hour.
-use Rattle.std.proofs.Common.{◌≡◌, ◌∙◌, ℕ, ◌+◌, ◌≤◌, Bool, true, false, cond, nat_lt, List, [], ◌∷◌, ◌++◌, length, filter, Option, Some, None, arith, refl, sym, ap, subst, append_assoc}
-use Rattle.std.specs.List.{cons_option, enumerate_from, filter_map, flat_map}
-use Rattle.std.proofs.lemmas.Bool.{le-ltb, lt-ltb}
+use Rattle.std.proofs.Common.{◌≡◌, ◌∙◌, ⊎_elim, ℕ, zero, suc, ◌+◌, ◌<◌, ◌≤◌, Bool, true, false, cond, not, nat_lt, List, [], ◌∷◌, ◌++◌, length, get_or, map, filter, Option, Some, None, arith, refl, sym, ap, subst, append_assoc}
+use Rattle.std.specs.Prelude.{slice_get}
+use Rattle.std.specs.List.{cons_option, enumerate_from, filter_map, flat_map, list_any}
+use Rattle.std.specs.Str.{bytes_eq}
+use Rattle.std.proofs.Math.ListN.{get_or-append}
+use Rattle.std.proofs.lemmas.Bool.{cases_lt, le-ltb, lt-ltb, ltb-true}
+use Rattle.std.proofs.lemmas.List.{get_or_at, get_or_past, length-append}
 use Rattle.fw_charge.specs.Charge.{Charge}
 use Rattle.fw_terms.specs.Commitment.{CommitmentValue}
 use Rattle.fw_cover.specs.Hour.{hour_cover, left_of, quantity_of}
+use Rattle.fw_cover.specs.RosterView.{HasHour, RosterValue, lists_row, lists_sku}
 use Rattle.fw_cover.specs.Untouched.{IsUntouched, place_past}
+use Rattle.fw_cover.proofs.Listed.{unlisted_untouched}
 use Rattle.fw_cover.proofs.Sorting.{two_ways}
 use Rattle.fw_cover.proofs.Untouched.{left_past, left_whole}
 use Rattle.fw_amortise.proofs.Untouched.{own_past}
+use Rattle.fw_row_table.specs.Codes.{text_code}
+use Rattle.fw_row_table.specs.Names.{Text, place_of}
+use Rattle.fw_row_table.specs.Texts.{names_of}
+use Rattle.fw_row_table.proofs.NameFacts.{place-missing}
 use Rattle.fw_sums.specs.Corrections.{correction_of, corrections}
 use Rattle.fw_sums.specs.Costs.{Cost, costs_of}
 use Rattle.fw_sums.specs.Covers.{AreOwnSums}
+use Rattle.fw_sums.specs.Hours.{row_at}
+use Rattle.fw_sums.specs.Listed.{AreListed, AreUnlisted, is_marked_code, is_unlisted, may_be_listed, sku_codes}
 use Rattle.fw_sums.specs.Sums.{Counts}
 use Rattle.fw_sums.specs.declared.groups.Groups.{Groups}
+use Rattle.fw_sums.specs.declared.hours.RowPlace.{RowPlace}
+use Rattle.fw_sums.specs.declared.listed.Listed.{Listed}
+use Rattle.fw_sums.proofs.CodeFacts.{name_there}
 use Rattle.fw_sums.proofs.CorrectionFacts.{corrections_by, none_lost}
+use Rattle.fw_sums.proofs.UntouchedFacts.{both_true, not_false}
 
 -- ---- one such row corrects nothing, and the others are corrected as without it
 
@@ -87,3 +103,60 @@ module _ {X : Type 0} (f : X → Option Charge) (test : X → Bool) (cs : List C
 
   pub without_untouched : LeavesOut → (xs : List X) → AreOwnSums cs (filter_map f (filter test xs)) key hour sums → AreOwnSums cs (filter_map f xs) key hour sums
   without_untouched none xs are = rows_left_out none xs [] are
+
+-- ---- rows by the codes of their SKUs
+
+-- one element more at the end
+pub each_pushed : {X : Type 0} (P : ℕ → X → Type 0) (d : X) → ((k : ℕ) → P k d) → (xs : List X) (x : X) → ((k : ℕ) → P k (get_or xs k d)) → P (length xs) x → (k : ℕ) → P k (get_or (xs ++ x ∷ []) k d)
+each_pushed P d past xs x each last k = ⊎_elim
+    (λ (early : k < length xs). subst (P k) (sym (get_or-append xs (x ∷ []) d k early)) (each k))
+    (λ late. ⊎_elim
+    (λ (behind : length xs < k). subst (P k) (sym (get_or_past (xs ++ x ∷ []) k d (omega (arith, behind, length-append xs (x ∷ []))))) (past k))
+    (λ upto.
+    let same : length xs ≡ k = omega (arith, late, upto) in
+    rw (← same) (subst (P (length xs)) (sym (get_or_at xs x [] d (length xs) refl)) last))
+    (cases_lt (length xs) k))
+    (cases_lt k (length xs))
+
+-- a row whose SKU has such a code is one that no commitment applies to
+sku_place : (r : RosterValue) (names : List Text) (sku : Text) (place : ℕ) → place ≡ place_of names sku → is_unlisted r names (suc place) ≡ true → lists_sku r sku ≡ false
+unfolding is_unlisted place_of
+sku_place r names sku place at out =
+    let both = both_true (nat_lt place (length names)) (not (lists_sku r (get_or names place []))) out in
+    let within : place < length names = ltb-true place (length names) both.0 in
+    two_ways (list_any (bytes_eq sku) names)
+    (λ among. let there : get_or names place [] ≡ sku = rw at (name_there names sku among) in rw there at (not_false (lists_sku r (get_or names place [])) both.1))
+    (λ missing. let end : place_of names sku ≡ length names = place-missing (bytes_eq sku) names missing in absurd (omega (arith, at, end, within)))
+
+sku_code : (r : RosterValue) (names : List Text) (sku : Option Text) → is_unlisted r names (text_code names sku) ≡ true → (row : Charge) → row.sku ≡ sku → lists_row r row ≡ false
+unfolding text_code
+sku_code r names None out row is = rw is refl
+sku_code r names (Some sku) out row is =
+    let next : 1 + place_of names sku ≡ suc (place_of names sku) = omega arith in
+    rw is (sku_place r names sku (place_of names sku) refl (rw next at out))
+
+code_at : (names : List Text) (rows : List Charge) (k : ℕ) (row : Charge) → slice_get rows k ≡ Some row → get_or (map (λ row. text_code names row.sku) rows) k 0 ≡ text_code names row.sku
+code_at names [] k row is = absurd (let e : None ≡ Some row = is in cc)
+code_at names (x ∷ rows) zero row is = let same : x ≡ row = cc in ap (λ row. text_code names row.sku) same
+code_at names (x ∷ rows) (suc k) row is = code_at names rows k row is
+
+-- so is the row at a place that isn't kept
+place_untouched : (segments : List (List Charge)) (r : RosterValue) (listed : Listed) (hour : ℕ) → AreListed segments r listed → HasHour r hour → (p : RowPlace) (row : Charge) → may_be_listed listed segments p ≡ false → row_at segments p ≡ Some row
+    → IsUntouched r.commitments hour row
+unfolding AreListed
+place_untouched segments r listed hour are has p row out is =
+    let rows : List Charge = get_or segments p.segment [] in
+    let names : List Text = names_of rows in
+    let code : ℕ = get_or (sku_codes rows) p.place 0 in
+    let marked : is_marked_code listed p.segment code ≡ true = not_not (is_marked_code listed p.segment code) out in
+    let known : is_unlisted r names (text_code names row.sku) ≡ true = rw (code_at names rows p.place row is) at (are p.segment code marked) in
+    unlisted_untouched r row hour has (sku_code r names row.sku known row refl)
+  where
+    not_not : (b : Bool) → not b ≡ false → b ≡ true
+    not_not true e = refl
+    not_not false e = sym e
+
+pub without_unlisted : (segments : List (List Charge)) (r : RosterValue) (listed : Listed) (places : List RowPlace) (key : List ℕ) (hour : ℕ) (sums : Groups) → AreListed segments r listed → HasHour r hour
+    → AreOwnSums r.commitments (filter_map (row_at segments) (filter (may_be_listed listed segments) places)) key hour sums → AreOwnSums r.commitments (filter_map (row_at segments) places) key hour sums
+without_unlisted segments r listed places key hour sums are has own =
+    without_untouched (row_at segments) (may_be_listed listed segments) r.commitments key hour sums (place_untouched segments r listed hour are has) places own
