@@ -15,3 +15,4 @@ pub mod Beside
 pub mod Split
 pub mod Costs
 pub mod Tagged
+pub mod Untouched

@@ -105,7 +105,7 @@ tie_of Greater = refl
 tie_is : (a b : List ℕ) → (not (is_lt (slice_cmp nat_cmp a b)) && not (is_lt (slice_cmp nat_cmp b a))) ≡ bytes_eq b a
 tie_is a b = rw (nat_list_cmp_total.antisymm a b) (tie_of (slice_cmp nat_cmp b a) ∙ is_eq-slice_cmp b a)
 
-offered_in_order : (sku : List ℕ) (offers : List OfferValue) → offered sku (in_order offer_before offers) ≡ offered sku offers
+pub offered_in_order : (sku : List ℕ) (offers : List OfferValue) → offered sku (in_order offer_before offers) ≡ offered sku offers
 offered_in_order sku [] = refl
 offered_in_order sku (o ∷ offers) = let probe : OfferValue = record o { sku = sku } in
     let agree = λ (x : OfferValue). tie_is sku x.sku in

@@ -9,6 +9,7 @@ pub mod ByRank
 pub mod Listing
 pub mod Index
 pub mod RosterFacts
+pub mod Listed
 pub mod Taking
 pub mod Grouping
 pub mod Untouched

@@ -57,7 +57,7 @@ not_in_term r hour c has out = two_ways (nat_le c.start hour)
     (λ before. rw before refl)
 
 -- it applies to no row
-applies_to_none : (c : CommitmentValue) (hour : ℕ) (row : Charge) → is_in_term c hour ≡ false → applied c hour row ≡ None
+pub applies_to_none : (c : CommitmentValue) (hour : ℕ) (row : Charge) → is_in_term c hour ≡ false → applied c hour row ≡ None
 unfolding applied fits
 applies_to_none c hour row out = two_ways (is_open hour row) (λ open_row. rw (out, open_row) refl) (λ closed. rw (out, closed) refl)
 

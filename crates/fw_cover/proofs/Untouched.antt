@@ -1,6 +1,6 @@
 -- A row that no commitment applies to changes nothing but the places of the rows after it.
-use Rattle.std.proofs.Common.{◌≡◌, ℕ, suc, ◌+◌, ◌-◌, ◌<◌, ◌≤◌, ◌==◌, true, false, cond, nat_lt, List, [], ◌∷◌, ◌++◌, length, get_or, map, filter, sum_by, All, Option, Some, None, option_map, refl, sym, ap, ◌∙◌, arith}
-use Rattle.std.specs.Prelude.{slice_index}
+use Rattle.std.proofs.Common.{◌≡◌, ℕ, zero, suc, ◌+◌, ◌-◌, ◌<◌, ◌≤◌, ◌==◌, true, false, cond, nat_lt, List, [], ◌∷◌, ◌++◌, length, get_or, map, filter, sum_by, All, Option, Some, None, option_map, refl, sym, ap, ◌∙◌, add-one, arith}
+use Rattle.std.specs.Prelude.{slice_get, slice_index}
 use Rattle.std.specs.List.{enumerate_from, filter_map, flat_map, cons_option}
 use Rattle.std.proofs.Math.ListN.{get_or-append}
 use Rattle.std.proofs.Math.Seq.{get_or-append_right}
@@ -12,7 +12,7 @@ use Rattle.fw_charge.specs.Charge.{Charge}
 use Rattle.fw_terms.specs.Commitment.{CommitmentValue}
 use Rattle.fw_cover.specs.Applies.{applied}
 use Rattle.fw_cover.specs.Cover.{cover_of, taken_by, taken_of_row, used_of, takes_something}
-use Rattle.fw_cover.specs.Hour.{quantity_of, billed_of, quantities_of, capacities_of, hour_cover, left_of, unused_of}
+use Rattle.fw_cover.specs.Hour.{quantity_of, billed_of, quantities_of, capacities_of, hour_cover, left_of, takes_of, unused_of}
 use Rattle.fw_cover.specs.Order.{in_order, commitment_before, commitments_in_order, pair_for, has_lower_rate, pairs_of_commitment, pairs_of}
 use Rattle.fw_cover.specs.Untouched.{IsUntouched, place_past, take_past}
 use Rattle.fw_cover.specs.declared.pair.Pair.{Pair}
@@ -60,6 +60,17 @@ number_past f before after row r =
 
 number_of : (f : Charge → ℕ) (before after : List Charge) (row : Charge) → slice_index (map f (before ++ row ∷ after)) (length before) ≡ f row
 number_of f before after row = rw (map-append f before (row ∷ after)) (get_or_at (map f before) (f row) (map f after) 0 (length before) (length-map before f))
+
+-- and the row at a place is the one that was there
+pub charge_past : (before after : List Charge) (row : Charge) (r : ℕ) → slice_get (before ++ row ∷ after) (place_past (length before) r) ≡ slice_get (before ++ after) r
+charge_past [] after row r = let least : nat_lt r 0 ≡ false = le-ltb r 0 (omega arith) in rw (least, add-one) refl
+charge_past (x ∷ before) after row zero = let less : nat_lt 0 (length (x ∷ before)) ≡ true = lt-ltb 0 (length (x ∷ before)) (omega arith) in rw less refl
+charge_past (x ∷ before) after row (suc r) = let known = charge_past before after row r in
+    two_ways (nat_lt r (length before))
+    (λ early. let less : nat_lt (suc r) (length (x ∷ before)) ≡ true = lt-ltb (suc r) (length (x ∷ before)) (omega (arith, ltb-true r (length before) early)) in
+    rw less (rw early at known))
+    (λ late. let least : nat_lt (suc r) (length (x ∷ before)) ≡ false = le-ltb (suc r) (length (x ∷ before)) (omega (arith, ltb-false r (length before) late)) in
+    rw (least, add-one) (rw (late, add-one) at known))
 
 -- ---- what was taken of each row, and used of each commitment
 sum_alike : (f g : Taken → ℕ) (h : Taken → Taken) → ((t : Taken) → f (h t) ≡ g t) → (ts : List Taken) → sum_by f (map h ts) ≡ sum_by g ts
@@ -196,3 +207,10 @@ pub unused_past : (cs : List CommitmentValue) (before after : List Charge) (row 
 unfolding unused_of
 unused_past cs before after row hour none place =
     rw (cover_past cs before after row hour none, used_past (length before) place (hour_cover cs (before ++ after) hour)) refl
+
+-- the takes of a commitment
+pub takes_past : (cs : List CommitmentValue) (before after : List Charge) (row : Charge) (hour : ℕ) → IsUntouched cs hour row → (place : ℕ)
+    → takes_of place (hour_cover cs (before ++ row ∷ after) hour) ≡ map (take_past (length before)) (takes_of place (hour_cover cs (before ++ after) hour))
+unfolding takes_of
+takes_past cs before after row hour none place =
+    ap (filter (λ t. t.commitment == place)) (cover_past cs before after row hour none) ∙ filter_map_of (take_past (length before)) (λ t. t.commitment == place) (hour_cover cs (before ++ after) hour)

@@ -1,8 +1,12 @@
 -- A roster as a value: commitments, and the hours in which they are asked.
-use Rattle.std.specs.Prelude.{◌≡◌, ◌<◌, ◌≤◌, ◌+◌, ◌&&◌, ℕ, Bool, List, All, Vec, filter, length, map, nat_lt}
+use Rattle.std.specs.Prelude.{◌≡◌, ◌<◌, ◌≤◌, ◌+◌, ◌&&◌, ℕ, Bool, false, List, All, Vec, filter, is_some, length, map, nat_lt}
 use Rattle.std.specs.declared.alloc.Global.{Global}
+use Rattle.std.specs.List.{list_any}
 use Rattle.std.specs.List.Sorted.{IsSortedBy}
+use Rattle.std.specs.Option.{option_map_or}
+use Rattle.fw_charge.specs.Charge.{Charge}
 use Rattle.fw_terms.specs.Commitment.{CommitmentValue, IsCommitment}
+use Rattle.fw_cover.specs.Applies.{rate_for}
 use Rattle.fw_cover.specs.Hour.{capacities_of}
 use Rattle.fw_cover.specs.Order.{commitments_in_order}
 use Rattle.fw_cover.specs.Offers.{offer_before, index_of, table_of, table_view}
@@ -22,6 +26,14 @@ pub record HasHour (r : RosterValue) (hour : ℕ) : Type 0 where
 -- whether a commitment runs in one of the hours from `from` up to, and not including, `to`
 unfoldable pub runs_between : ℕ → ℕ → CommitmentValue → Bool
 runs_between from to c = nat_lt c.start to && nat_lt from (c.start + c.hours)
+
+-- whether some commitment that runs in one of the roster's hours lists a SKU
+unfoldable pub lists_sku : RosterValue → List ℕ → Bool
+lists_sku r sku = list_any (λ c. runs_between r.from r.to c && is_some (rate_for c.terms sku)) r.commitments
+
+-- whether one lists the SKU of a row; none does where the row has no SKU
+abbrev pub lists_row : RosterValue → Charge → Bool
+lists_row r row = option_map_or (lists_sku r) row.sku false
 
 -- the commitments that run in one of the roster's hours, in their order, each beside its place in the list of all
 unfoldable pub roster_order : RosterValue → List (ℕ × CommitmentValue)

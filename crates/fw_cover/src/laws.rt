@@ -10,6 +10,7 @@ ghost use Rattle.fw_cover.specs.Hour.{capacities_of, hour_cover, left_of, quanti
 ghost use Rattle.fw_cover.specs.Meeting.{Meets};
 ghost use Rattle.fw_cover.specs.Order.{GoesLast, commitments_in_order, pairs_of};
 ghost use Rattle.fw_cover.specs.Part.{IsOutOfReach};
+ghost use Rattle.fw_cover.specs.RosterView.{HasHour, RosterValue, lists_row};
 ghost use Rattle.fw_cover.specs.Untouched.{IsUntouched, place_past, take_past};
 
 /// What the commitments took stands commitment by commitment, in their order.
@@ -53,4 +54,10 @@ pub fn untouched_rows_change_nothing()
     ensures takes { (cs : List CommitmentValue) (before after : List Charge) (row : Charge) (hour : ℕ) → IsUntouched cs hour row → hour_cover cs (before ++ row ∷ after) hour ≡ map (take_past (length before)) (hour_cover cs (before ++ after) hour) }
     ensures left { (cs : List CommitmentValue) (before after : List Charge) (row : Charge) (hour : ℕ) → IsUntouched cs hour row → (place : ℕ) → left_of (before ++ row ∷ after) (hour_cover cs (before ++ row ∷ after) hour) (place_past (length before) place) ≡ left_of (before ++ after) (hour_cover cs (before ++ after) hour) place }
     ensures unused { (cs : List CommitmentValue) (before after : List Charge) (row : Charge) (hour : ℕ) → IsUntouched cs hour row → (place : ℕ) → unused_of cs (hour_cover cs (before ++ row ∷ after) hour) place ≡ unused_of cs (hour_cover cs (before ++ after) hour) place }
+{}
+
+/// Where no commitment of a roster that runs in one of its hours lists a row's SKU, or the row has none, no commitment of the roster applies to the row
+/// in any of the hours.
+pub fn unlisted_rows_are_untouched()
+    ensures { (r : RosterValue) (row : Charge) (hour : ℕ) → HasHour r hour → lists_row r row ≡ false → IsUntouched r.commitments hour row }
 {}

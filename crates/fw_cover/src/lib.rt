@@ -32,7 +32,8 @@ pub use eligible::is_eligible;
 pub use hour::{HourCover, cover, cover_hour};
 pub use laws::{
     a_commitment_that_goes_last_changes_nothing_before_it, commitments_take_what_they_can,
-    takes_apply, takes_stand_by_commitment, takes_stay_within, untouched_rows_change_nothing,
+    takes_apply, takes_stand_by_commitment, takes_stay_within, unlisted_rows_are_untouched,
+    untouched_rows_change_nothing,
 };
 pub use lending::{lend, references};
 pub use order::{in_order, is_in_term};

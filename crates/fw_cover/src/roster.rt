@@ -2,13 +2,13 @@
 ghost use Rattle.std.specs.Prelude.{◌≡◌, map, IfOk};
 ghost use Rattle.fw_cover.specs.HourCovers.{IsHourCover};
 ghost use Rattle.fw_cover.specs.PlacedView.{placed_of};
-ghost use Rattle.fw_cover.specs.RosterView.{HasHour, roster_order, runs_between};
+ghost use Rattle.fw_cover.specs.RosterView.{HasHour, lists_sku, roster_order, runs_between};
 
 use crate::covering::cover_pairs;
 use crate::hour::HourCover;
 use crate::matching::pairs_in_order;
 use crate::numbers::{billed_costs, capacities, quantities};
-use crate::offers::{Offer, table};
+use crate::offers::{Offer, offered, table};
 use crate::order::{Placed, ordered, places};
 use fw_row_table::LentRow;
 use fw_terms::Commitment;
@@ -99,6 +99,15 @@ impl<'a> Roster<'a> {
         ensures { result.now ≡ map (λ c. c.0) (roster_order self.now) }
     {
         &self.order
+    }
+
+    /// Whether some commitment that runs in one of the roster's hours lists a SKU. Where none does, no commitment applies to a row of this SKU in any of
+    /// the hours ([`unlisted_rows_are_untouched`](crate::unlisted_rows_are_untouched)).
+    pub fn lists_sku(&self, sku: &str) -> bool
+        ensures { result ≡ lists_sku self.now sku.now }
+    {
+        let offers = offered(&self.table, sku);
+        !offers.is_empty()
     }
 
     /// What the commitments cover of the rows of one of the roster's hours; rows of other hours are passed over. The places are those in the

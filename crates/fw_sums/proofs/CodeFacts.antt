@@ -108,7 +108,7 @@ row_group key row =
 
 -- ---- the text of a code
 
-name_there : (names : List Text) (t : Text) → is_among t names ≡ true → get_or names (place_of names t) [] ≡ t
+pub name_there : (names : List Text) (t : Text) → is_among t names ≡ true → get_or names (place_of names t) [] ≡ t
 unfolding place_of
 name_there [] t h = absurd (true≢false (sym h))
 name_there (x ∷ names) t h = by (bytes_eq t x) refl (name_there names t)

@@ -10,7 +10,7 @@ use Rattle.std.proofs.lemmas.List.Elements.{All-nil, filter_map-append}
 use Rattle.std.proofs.lemmas.List.FromFn.{length-map-range_with_len, get_or-map-range_with_len}
 use Rattle.std.proofs.lemmas.Option.{get_or_from_slice_get, slice_get_cases, slice_get_read, slice_get_within}
 use Rattle.std.proofs.lemmas.Simd.{map-map}
-use Rattle.std.specs.List.{range_with_len}
+use Rattle.std.specs.List.{filter_map, range_with_len}
 use Rattle.fw_charge.specs.Charge.{Charge, hour_of}
 use Rattle.fw_columns.specs.Hours.{hours_of, places_of_hour}
 use Rattle.fw_columns.proofs.HourFacts.{rows_at_places}
@@ -18,8 +18,9 @@ use Rattle.fw_cover.specs.Eligible.{is_of_hour}
 use Rattle.fw_cover.specs.RosterView.{HasHour, RosterValue}
 use Rattle.fw_amortise.specs.Lines.{rows_in}
 use Rattle.fw_amortise.proofs.EachLine.{rows_are_of_hour}
-use Rattle.fw_sums.specs.Hours.{AreByHour, AreThere, HasHours, IsThere, all_rows, lent, rows_at, rows_of_list, rows_of_places, rows_there}
+use Rattle.fw_sums.specs.Hours.{AreByHour, AreThere, HasHours, HasRow, IsThere, all_rows, lent, row_at, rows_at, rows_of_list, rows_of_places, rows_there}
 use Rattle.fw_sums.specs.declared.hours.HourPlace.{HourPlace}
+use Rattle.fw_sums.specs.declared.hours.RowPlace.{RowPlace}
 
 -- one of a roster's hours
 pub has_hour : (r : RosterValue) (from hours k hour : ℕ) → HasHours r from hours → k < hours → hour ≡ from + k → HasHour r hour
@@ -177,11 +178,30 @@ rows_at-step segments places i d s below all is =
     rows_at-more (lent segments) places i d below
     ∙ ap (λ l. rows_at (lent segments) (take i places) ++ l) (rows_of_segment (lent segments) s.now (get_or places i d) (place_there segments places i d s below all is))
 
+-- it stands at its number
+pub segment_there : (segments : List (Bor (List Charge))) (places : List HourPlace) (i : ℕ) (d : HourPlace) (s : Bor (List Charge)) → i < length places → All (IsThere (lent segments)) places
+    → s ≡ get_or segments (get_or places i d).segment s → get_or (lent segments) (get_or places i d).segment [] ≡ s.now
+segment_there segments places i d s below all is = get_or_from_slice_get (lent segments) (get_or places i d).segment s.now [] (place_there segments places i d s below all is)
+
 -- the hour of a place is one of its segment
 pub number_there : (segments : List (Bor (List Charge))) (places : List HourPlace) (i : ℕ) (d : HourPlace) (s : Bor (List Charge)) → i < length places → All (IsThere (lent segments)) places
     → s ≡ get_or segments (get_or places i d).segment s → (get_or places i d).number < length (hours_of s.now)
 number_there segments places i d s below all is =
-    rw (get_or_from_slice_get (lent segments) (get_or places i d).segment s.now [] (place_there segments places i d s below all is)) at (all i d below).number
+    rw (segment_there segments places i d s below all is) at (all i d below).number
+
+-- one more row, as references lend the segments
+pub lent-more : (segments : List (Bor (List Charge))) (places : List RowPlace) (i : ℕ) (d : RowPlace) (s : Bor (List Charge)) (row : Charge) → i < length places → All (HasRow (lent segments)) places
+    → s ≡ get_or segments (get_or places i d).segment s → slice_get s.now (get_or places i d).place ≡ Some row
+    → filter_map (row_at (lent segments)) (take (i + 1) places) ≡ filter_map (row_at (lent segments)) (take i places) ++ row ∷ []
+lent-more segments places i d s row below all is there =
+    let here : (get_or places i d).segment < length (lent segments) = (all i d below).segment in
+    let inside : (get_or places i d).segment < length segments = rw (← length-map segments (λ (x : Bor (List Charge)). x.now)) here in
+    let at : get_or (lent segments) (get_or places i d).segment [] ≡ s.now =
+    get_or_from_slice_get (lent segments) (get_or places i d).segment s.now [] (lent_there segments (get_or places i d).segment s inside is) in
+    let found : row_at (lent segments) (get_or places i d) ≡ Some row = ap (λ rows. slice_get rows (get_or places i d).place) at ∙ there in
+    ap (filter_map (row_at (lent segments))) (take_more places i d below)
+    ∙ filter_map-append (row_at (lent segments)) (take i places) (get_or places i d ∷ [])
+    ∙ ap (λ l. filter_map (row_at (lent segments)) (take i places) ++ l) (rw found refl)
 
 -- the rows at the places of a list are of its hour
 pub of_hour : (segments : List (List Charge)) (rows : List Charge) (by_hour : List (Vec HourPlace Global)) (from i : ℕ) (v : Vec HourPlace Global) → AreByHour segments rows from (length by_hour) by_hour → i < length by_hour

@@ -17,3 +17,4 @@ pub mod MovedFacts
 pub mod RangeFacts
 pub mod TurnFacts
 pub mod WholeFacts
+pub mod ListedFacts

@@ -12,6 +12,7 @@ use Rattle.fw_amortise.specs.Lines.{AreOwnLines, rows_in}
 use Rattle.fw_sums.specs.Corrections.{corrections}
 use Rattle.fw_sums.specs.Hours.{AreByHour, AreTouched, HasHours, all_rows, is_touched, rows_marked}
 use Rattle.fw_sums.specs.Costs.{costs_of}
+use Rattle.fw_sums.specs.Listed.{AreListed}
 use Rattle.fw_sums.specs.Sums.{Counts}
 use Rattle.fw_sums.specs.Wholes.{AreWholes}
 use Rattle.fw_sums.specs.declared.covers.Covers.{Covers}
@@ -20,6 +21,7 @@ use Rattle.fw_sums.specs.declared.covers.HourSums.{HourSums}
 use Rattle.fw_sums.specs.declared.covers.Kept.{Kept}
 use Rattle.fw_sums.specs.declared.groups.Groups.{Groups}
 use Rattle.fw_sums.specs.declared.hours.HourPlace.{HourPlace}
+use Rattle.fw_sums.specs.declared.listed.Listed.{Listed}
 use Rattle.fw_sums.specs.declared.open_hours.OpenHours.{OpenHours}
 
 -- the sums are those of what commitments bring to an hour whose rows these are: their own lines, and what corrects the rows that they took of
@@ -61,7 +63,8 @@ pub record AreOpen (segments : List (List Charge)) (rows : List Charge) (cs : Li
   pub lists_are : AreByHour segments (rows_marked range.marks.items from rows) from hours range.by_hour.items
 
 -- what is there to find of the hours from this one on, of the rows of these segments and the commitments of a roster
-pub record CanFind (segments : List (List Charge)) (roster : RosterValue) (from : ℕ) (range : OpenHours) : Type 0 where
+pub record CanFind (segments : List (List Charge)) (roster : RosterValue) (listed : Listed) (from : ℕ) (range : OpenHours) : Type 0 where
+  pub are_listed : AreListed segments roster listed
   pub fits : from + length range.by_hour.items < 2 ^ 64
   pub roster_has : HasHours roster from (length range.by_hour.items)
   pub kept : HourSums

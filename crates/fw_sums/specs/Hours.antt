@@ -6,12 +6,13 @@ use Rattle.std.specs.List.{filter_map, flat_map, list_any, range_with_len}
 use Rattle.fw_charge.specs.Charge.{Charge, hour_of}
 use Rattle.fw_charge.specs.Tags.{group_of}
 use Rattle.fw_terms.specs.Commitment.{CommitmentValue}
-use Rattle.fw_columns.specs.Hours.{hours_of}
+use Rattle.fw_columns.specs.Hours.{hours_of, places_of_hour}
 use Rattle.fw_cover.specs.Applies.{is_in_term}
 use Rattle.fw_cover.specs.RosterView.{RosterValue}
 use Rattle.fw_amortise.specs.Lines.{rows_in}
 use Rattle.fw_sums.specs.Costs.{Cost}
 use Rattle.fw_sums.specs.declared.hours.HourPlace.{HourPlace}
+use Rattle.fw_sums.specs.declared.hours.RowPlace.{RowPlace}
 
 -- the segments that references lend
 abbrev pub lent : List (Bor (List Charge)) → List (List Charge)
@@ -37,6 +38,27 @@ rows_at segments places = flat_map (rows_there segments) places
 -- the rows of a list at places, in their order
 abbrev pub rows_of_places : List Charge → List ℕ → List Charge
 rows_of_places rows places = filter_map (slice_get rows) places
+
+-- the row at a place of a segment, where there is one
+abbrev pub row_at : List (List Charge) → RowPlace → Option Charge
+row_at segments p = slice_get (slice_index_or segments p.segment []) p.place
+
+-- there is a row at the place
+pub record HasRow (segments : List (List Charge)) (p : RowPlace) : Type 0 where
+  pub segment : p.segment < length segments
+  pub place : p.place < length (slice_index_or segments p.segment [])
+
+-- places of a segment
+abbrev pub row_places : ℕ → List ℕ → List RowPlace
+row_places segment places = map (λ place. record { segment = segment; place = place }) places
+
+-- where the rows at a place are, one by one
+abbrev pub row_places_there : List (List Charge) → HourPlace → List RowPlace
+row_places_there segments p = row_places p.segment (places_of_hour (slice_index (hours_of (slice_index_or segments p.segment [])) p.number) (slice_index_or segments p.segment []))
+
+-- so of the rows at places
+abbrev pub row_places_at : List (List Charge) → List HourPlace → List RowPlace
+row_places_at segments places = flat_map (row_places_there segments) places
 
 -- the rows at the places of a list
 abbrev pub rows_of_list : List (List Charge) → Vec HourPlace Global → List Charge

@@ -8,4 +8,5 @@ pub mod Parts
 pub mod CodeSums
 pub mod Corrections
 pub mod Wholes
+pub mod Listed
 pub mod Covers

@@ -6,13 +6,15 @@ ghost use Rattle.fw_cover.specs.RosterView.{HasHour};
 ghost use Rattle.fw_sums.specs.Costs.{Cost, costs_of};
 ghost use Rattle.fw_sums.specs.Covers.{AreKeptUnder, AreOpen, AreOpenByHour, AreOwnSums, kept_at};
 ghost use Rattle.fw_sums.specs.Hours.{AreTouched, HasHours, IsThere, all_rows, lent, row_cost, rows_at, rows_marked};
+ghost use Rattle.fw_sums.specs.Listed.{AreListed};
 ghost use Rattle.fw_sums.specs.Sums.{AddsLine, AreAmounts, AreSums, Counts, CountsHour, CountsHours, HasRoom, IsInOrder, kept_total, sums_at};
 ghost use Rattle.fw_sums.specs.Totals.{AreTotals};
 
 use crate::covers::HourSums;
 use crate::hours::HourPlace;
+use crate::listed::Listed;
 use crate::open_hours::OpenHours;
-use crate::segments::rows_at;
+use crate::segments::rows_lent;
 use crate::total::Total;
 use fw_amortise::{Line, own_lines};
 use fw_columns::Columns;
@@ -88,12 +90,14 @@ impl Groups {
         key: &str,
         segments: &[&'a Columns],
         roster: &Roster<'a>,
+        listed: &Listed,
         kept: &mut HourSums,
         hours: &OpenHours,
         from: u64,
     ) -> Result<Groups, AllocError>
         requires fits { from + length hours.now.by_hour.items < 2 ^ 64 }
         requires roster { HasHours roster.now from (length hours.now.by_hour.items) }
+        requires listed { AreListed (lent segments.now) roster.now listed.now }
         requires hours { AreOpen (lent segments.now) (all_rows (lent segments.now)) roster.now.commitments kept.old from (length hours.now.by_hour.items) hours.now }
         requires rows { Counts rows (map (row_cost key.now) (rows_marked (replicate (length hours.now.by_hour.items) true) from (all_rows (lent segments.now)))) }
         requires kept { AreKeptUnder roster.now.commitments (all_rows (lent segments.now)) key.now kept.old }
@@ -104,6 +108,7 @@ impl Groups {
             key,
             segments,
             roster,
+            listed,
             kept,
             hours.by_hour.as_slice(),
             hours.touched.as_slice(),
@@ -119,6 +124,7 @@ impl Groups {
         key: &str,
         segments: &[&'a Columns],
         roster: &Roster<'a>,
+        listed: &Listed,
         kept: &mut HourSums,
         by_hour: &[Vec<HourPlace>],
         touched: &[bool],
@@ -126,6 +132,7 @@ impl Groups {
     ) -> Result<(), AllocError>
         requires fits { from + length by_hour.now < 2 ^ 64 }
         requires roster { HasHours roster.now from (length by_hour.now) }
+        requires listed { AreListed (lent segments.now) roster.now listed.now }
         requires many { length touched.now ≡ length by_hour.now }
         requires touched { AreTouched roster.now.commitments from (length by_hour.now) touched.now }
         requires by_hour { AreOpenByHour (lent segments.now) (all_rows (lent segments.now)) roster.now.commitments kept.old from (length by_hour.now) by_hour.now }
@@ -137,7 +144,15 @@ impl Groups {
         let mut hour = from;
         for places in by_hour {
             if touched[(hour - from) as usize] {
-                self.add_hour(key, segments, roster, kept, places.as_slice(), hour as u32)?;
+                self.add_hour(
+                    key,
+                    segments,
+                    roster,
+                    listed,
+                    kept,
+                    places.as_slice(),
+                    hour as u32,
+                )?;
             }
             hour += 1;
         }
@@ -151,12 +166,14 @@ impl Groups {
         key: &str,
         segments: &[&'a Columns],
         roster: &Roster<'a>,
+        listed: &Listed,
         kept: &mut HourSums,
         places: &[HourPlace],
         hour: u32,
     ) -> Result<(), AllocError>
         requires counts { (costs : List Cost) × Counts self.old costs }
         requires hour { HasHour roster.now hour }
+        requires listed { AreListed (lent segments.now) roster.now listed.now }
         requires there { All (IsThere (lent segments.now)) places.now }
         requires rows { IfNone (kept_at kept.old hour) (rows_at (lent segments.now) places.now ≡ rows_in hour (all_rows (lent segments.now))) }
         requires kept { AreKeptUnder roster.now.commitments (all_rows (lent segments.now)) key.now kept.old }
@@ -167,26 +184,30 @@ impl Groups {
         if let Some(sums) = kept.of_hour(hour) {
             return self.add_groups(sums);
         }
-        let sums = Groups::of_commitments(self.alloc, key, segments, roster, places, hour)?;
+        let sums = Groups::of_commitments(self.alloc, key, segments, roster, listed, places, hour)?;
         self.add_groups(&sums)?;
         kept.keep(hour, sums);
         Ok(())
     }
 
-    // What commitments bring to an hour whose rows are at these places: their own lines, and what corrects the rows that they took of.
+    // What commitments bring to an hour whose rows are at these places: their own lines, and what corrects the rows that they took of. A row whose SKU none
+    // of them lists isn't lent.
     pub(crate) fn of_commitments<'a>(
         alloc: Global,
         key: &str,
         segments: &[&'a Columns],
         roster: &Roster<'a>,
+        listed: &Listed,
         places: &[HourPlace],
         hour: u32,
     ) -> Result<Groups, AllocError>
         requires hour { HasHour roster.now hour }
+        requires listed { AreListed (lent segments.now) roster.now listed.now }
         requires there { All (IsThere (lent segments.now)) places.now }
         ensures { IfOk result (AreOwnSums roster.now.commitments (rows_at (lent segments.now) places.now) key.now hour) }
     {
-        let rows = rows_at(alloc, segments, places)?;
+        let listed = listed.places(alloc, segments, places)?;
+        let rows = rows_lent(alloc, segments, listed.as_slice())?;
         let each = references(alloc, rows.as_slice())?;
         let cover = roster.cover(alloc, each.as_slice(), hour)?;
         let own = own_lines(alloc, roster, each.as_slice(), &cover, hour)?;

@@ -10,6 +10,7 @@ mod corrections;
 mod covers;
 mod groups;
 mod hours;
+mod listed;
 mod marks;
 mod open_hours;
 mod query;

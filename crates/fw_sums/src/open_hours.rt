@@ -2,10 +2,12 @@
 ghost use Rattle.std.specs.Prelude.{◌≡◌, ◌+◌, ◌<◌, ◌^◌, All, IfOk, IfSome, false, length, slice_index_or};
 ghost use Rattle.fw_sums.specs.Covers.{AreFound, AreKeptUnder, AreOpen, CanFind, IsFound, KeepsMore};
 ghost use Rattle.fw_sums.specs.Hours.{HasHours, all_rows, lent};
+ghost use Rattle.fw_sums.specs.Listed.{AreListed};
 
 use crate::covers::{HourSum, HourSums};
 use crate::groups::Groups;
 use crate::hours::{HourPlace, rows_by_hour};
+use crate::listed::Listed;
 use crate::marks::touched_hours;
 use fw_columns::Columns;
 use fw_cover::Roster;
@@ -64,10 +66,11 @@ impl OpenHours {
         key: &str,
         segments: &[&'a Columns],
         roster: &Roster<'a>,
+        listed: &Listed,
         from: u64,
         place: usize,
     ) -> Option<HourSum>
-        requires can { CanFind (lent segments.now) roster.now from self.now }
+        requires can { CanFind (lent segments.now) roster.now listed.now from self.now }
         ensures { IfSome result (IsFound roster.now.commitments (all_rows (lent segments.now)) key.now) }
     {
         if place >= self.by_hour.len() {
@@ -76,7 +79,9 @@ impl OpenHours {
         if is_true_at(&self.touched, place) && is_true_at(&self.marks, place) {
             let hour = (from + place as u64) as u32;
             let places = self.by_hour[place].as_slice();
-            if let Ok(sums) = Groups::of_commitments(alloc, key, segments, roster, places, hour) {
+            if let Ok(sums) = Groups::of_commitments(
+                alloc, key, segments, roster, listed, places, hour,
+            ) {
                 return Some(HourSum { hour, sums });
             }
         }
@@ -91,18 +96,19 @@ impl OpenHours {
         key: &str,
         segments: &[&'a Columns],
         roster: &Roster<'a>,
+        listed: &Listed,
         from: u64,
         first: usize,
         step: usize,
         end: usize,
     ) -> Result<Vec<HourSum>, AllocError>
-        requires can { CanFind (lent segments.now) roster.now from self.now }
+        requires can { CanFind (lent segments.now) roster.now listed.now from self.now }
         requires step { 0 < step }
         ensures { AreFound roster.now.commitments (all_rows (lent segments.now)) key.now result }
     {
         let mut found = Vec::new(alloc);
         for place in (first..end).step_by(step) {
-            if let Some(one) = self.find(alloc, key, segments, roster, from, place) {
+            if let Some(one) = self.find(alloc, key, segments, roster, listed, from, place) {
                 found.push(one)?;
             }
         }
@@ -117,12 +123,13 @@ impl OpenHours {
         key: &str,
         segments: &[&'a Columns],
         roster: &Roster<'a>,
+        listed: &Listed,
         from: u64,
         first: usize,
         workers: u32,
     ) -> Result<Vec<Result<Vec<HourSum>, AllocError>>, AllocError>
         requires workers { 0 < workers }
-        requires can { CanFind (lent segments.now) roster.now from self.now }
+        requires can { CanFind (lent segments.now) roster.now listed.now from self.now }
         ensures { IfOk result (λ pieces. All (AreFound roster.now.commitments (all_rows (lent segments.now)) key.now) pieces.items) }
     {
         let end = first.saturating_add(HOURS_AT_ONCE);
@@ -132,11 +139,11 @@ impl OpenHours {
             alloc,
             workers as usize,
             &|worker: usize| -> Result<Vec<HourSum>, AllocError>
-                requires { (0 < step) × CanFind (lent segments.now) roster.now from self.now }
+                requires { (0 < step) × CanFind (lent segments.now) roster.now listed.now from self.now }
                 ensures { AreFound roster.entry.now.commitments (all_rows (lent segments.entry.now)) key.entry.now result }
             {
                 let start = first.saturating_add(worker);
-                self.find_each(alloc, key, segments, roster, from, start, step, end)
+                self.find_each(alloc, key, segments, roster, listed, from, start, step, end)
             },
         )
     }
@@ -150,6 +157,7 @@ impl OpenHours {
         key: &str,
         segments: &[&'a Columns],
         roster: &Roster<'a>,
+        listed: &Listed,
         kept: &mut HourSums,
         from: u64,
         workers: u32,
@@ -157,6 +165,7 @@ impl OpenHours {
         requires workers { 0 < workers }
         requires fits { from + length self.now.by_hour.items < 2 ^ 64 }
         requires roster { HasHours roster.now from (length self.now.by_hour.items) }
+        requires listed { AreListed (lent segments.now) roster.now listed.now }
         requires hours { AreOpen (lent segments.now) (all_rows (lent segments.now)) roster.now.commitments kept.old from (length self.now.by_hour.items) self.now }
         requires kept { AreKeptUnder roster.now.commitments (all_rows (lent segments.now)) key.now kept.old }
         ensures kept { AreKeptUnder roster.now.commitments (all_rows (lent segments.now)) key.now kept.new }
@@ -170,7 +179,9 @@ impl OpenHours {
             if !kept.has_room() {
                 return;
             }
-            match self.find_pieces(rt, alloc, key, segments, roster, from, first, workers) {
+            match self.find_pieces(
+                rt, alloc, key, segments, roster, listed, from, first, workers,
+            ) {
                 Ok(pieces) => kept.keep_pieces(pieces),
                 Err(AllocError) => return,
             }

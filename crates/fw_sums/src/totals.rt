@@ -2,6 +2,7 @@
 ghost use Rattle.std.specs.Prelude.{◌≤◌, ◌-◌, IfOk};
 ghost use Rattle.fw_sums.specs.Covers.{AreKept, AreKeptUnder, AreOpen};
 ghost use Rattle.fw_sums.specs.Hours.{HasHours, all_rows, lent};
+ghost use Rattle.fw_sums.specs.Listed.{AreListed};
 ghost use Rattle.fw_sums.specs.Limits.{IsRange};
 ghost use Rattle.fw_sums.specs.Parts.{range_costs};
 ghost use Rattle.fw_sums.specs.Sums.{Counts};
@@ -9,6 +10,7 @@ ghost use Rattle.fw_sums.specs.Totals.{HasTotals};
 
 use crate::covers::{Covers, HourSums};
 use crate::groups::Groups;
+use crate::listed::Listed;
 use crate::marks::every_hour;
 use crate::open_hours::OpenHours;
 use crate::query::Query;
@@ -53,17 +55,27 @@ pub fn totals_keeping<'a>(
     )?;
     let roster = Roster::new(alloc, commitments, query.from_hour, query.to_hour)?;
     let hours = open_hours(alloc, segments, commitments, &kept.hours, query)?;
+    let listed = listed(alloc, segments, &roster, &hours, query)?;
     hours.keep_all(
         rt,
         alloc,
         query.key,
         segments,
         &roster,
+        &listed,
         &mut kept.hours,
         query.from_hour,
         workers,
     );
-    let totals = totals_of(segments, rows, &roster, &mut kept.hours, &hours, query)?;
+    let totals = totals_of(
+        segments,
+        rows,
+        &roster,
+        &listed,
+        &mut kept.hours,
+        &hours,
+        query,
+    )?;
     covers.put(query.key, kept);
     Ok(totals)
 }
@@ -89,7 +101,8 @@ pub fn totals_alone<'a>(
     let roster = Roster::new(alloc, commitments, query.from_hour, query.to_hour)?;
     let mut kept = HourSums::new(alloc);
     let hours = open_hours(alloc, segments, commitments, &kept, query)?;
-    totals_of(segments, rows, &roster, &mut kept, &hours, query)
+    let listed = listed(alloc, segments, &roster, &hours, query)?;
+    totals_of(segments, rows, &roster, &listed, &mut kept, &hours, query)
 }
 
 // The open hours of the query's range.
@@ -107,11 +120,31 @@ fn open_hours(
     OpenHours::of_range(alloc, segments, commitments, kept, query.from_hour, hours)
 }
 
+// What the roster lists of the rows of the open hours of the query's range.
+fn listed(
+    alloc: Global,
+    segments: &[&Columns],
+    roster: &Roster<'_>,
+    hours: &OpenHours,
+    query: &Query<'_>,
+) -> Result<Listed, AllocError>
+    ensures { IfOk result (AreListed (lent segments.now) roster.now) }
+{
+    Listed::of_segments(
+        alloc,
+        segments,
+        roster,
+        query.from_hour,
+        hours.marks.as_slice(),
+    )
+}
+
 // The totals, given the sums of the range's rows.
 fn totals_of<'a>(
     segments: &[&'a Columns],
     rows: Groups,
     roster: &Roster<'a>,
+    listed: &Listed,
     kept: &mut HourSums,
     hours: &OpenHours,
     query: &Query<'_>,
@@ -119,6 +152,7 @@ fn totals_of<'a>(
     requires range { IsRange query.now.from_hour query.now.to_hour }
     requires rows { Counts rows (range_costs query.now.key.now query.now.from_hour query.now.to_hour (all_rows (lent segments.now))) }
     requires roster { HasHours roster.now query.now.from_hour (query.now.to_hour - query.now.from_hour) }
+    requires listed { AreListed (lent segments.now) roster.now listed.now }
     requires hours { AreOpen (lent segments.now) (all_rows (lent segments.now)) roster.now.commitments kept.old query.now.from_hour (query.now.to_hour - query.now.from_hour) hours.now }
     requires kept { AreKeptUnder roster.now.commitments (all_rows (lent segments.now)) query.now.key.now kept.old }
     ensures kept { AreKeptUnder roster.now.commitments (all_rows (lent segments.now)) query.now.key.now kept.new }
@@ -126,5 +160,5 @@ fn totals_of<'a>(
 {
     let key = query.key;
     let from = query.from_hour;
-    Groups::of_hours(rows, key, segments, roster, kept, hours, from)?.into_totals()
+    Groups::of_hours(rows, key, segments, roster, listed, kept, hours, from)?.into_totals()
 }

@@ -1,0 +1,146 @@
+//! Rows whose SKU no commitment lists: commitments take nothing of them, so they needn't be lent to be covered.
+ghost use Rattle.std.specs.Prelude.{◌≡◌, ◌<◌, ◌++◌, [], List, not, filter, length, slice_index_or, All, IfOk, OnOk};
+ghost use Rattle.fw_charge.specs.Charge.{Charge};
+ghost use Rattle.fw_row_table.specs.Texts.{names_of};
+ghost use Rattle.fw_sums.specs.Hours.{IsThere, lent, row_places, row_places_at};
+ghost use Rattle.fw_sums.specs.Listed.{AreListed, AreUnlisted, is_marked_code, is_unlisted, may_be_listed, sku_codes};
+
+use crate::hours::{HourPlace, RowPlace};
+use crate::marks::{has_mark, mask_of};
+use crate::segments::count_at;
+use fw_columns::{Columns, Names};
+use fw_cover::Roster;
+use fw_lanes::{code_count, marks_by_code};
+use std::alloc::{AllocError, Global};
+
+// Which rows of some segments may have a SKU that a commitment lists: for each segment, the codes of SKUs that none lists are marked. A code that isn't
+// marked, or a segment without marks, may have such rows.
+#[derive(Drop)]
+pub(crate) struct Listed {
+    pub(crate) unlisted: Vec<Vec<bool>>,
+}
+
+// Whether a code is that of no SKU, or of one that no commitment of the roster lists.
+#[tactic(auto, unfolding(crate::specs::Listed::is_unlisted))]
+fn is_unlisted(roster: &Roster<'_>, names: &Names, code: usize) -> bool
+    ensures { result ≡ is_unlisted roster.now names.now code }
+{
+    if code == 0 {
+        return true;
+    }
+    let place = code - 1;
+    if place >= names.len() {
+        return false;
+    }
+    !roster.lists_sku(names.text(place as u32))
+}
+
+// The marks of a segment's codes. Each SKU is looked up once, and only where a row of a marked hour has it; the first mark is of the hour `from`. A segment
+// without such rows has no marks.
+fn unlisted_codes(
+    alloc: Global,
+    segment: &Columns,
+    roster: &Roster<'_>,
+    from: u64,
+    marks: &[bool],
+) -> Result<Vec<bool>, AllocError>
+    ensures { IfOk result (λ unlisted. AreUnlisted roster.now (names_of segment.now) unlisted.items) }
+{
+    let mut unlisted = Vec::new(alloc);
+    let mask = mask_of(alloc, segment.starts(), from, marks)?;
+    if !has_mark(mask.as_slice()) {
+        return Ok(unlisted);
+    }
+    let codes = segment.sku_codes();
+    let used = marks_by_code(alloc, codes, mask.as_slice(), code_count(codes))?;
+    for (code, is_used) in used.iter().enumerate() {
+        unlisted.push(*is_used && is_unlisted(roster, segment.names(), code))?;
+    }
+    Ok(unlisted)
+}
+
+impl Listed {
+    // What a roster lists of the rows of marked hours; the first mark is of the hour `from`.
+    pub(crate) fn of_segments(
+        alloc: Global,
+        segments: &[&Columns],
+        roster: &Roster<'_>,
+        from: u64,
+        marks: &[bool],
+    ) -> Result<Listed, AllocError>
+        ensures { IfOk result (AreListed (lent segments.now) roster.now) }
+    {
+        let mut unlisted = Vec::new(alloc);
+        if !has_mark(marks) {
+            return Ok(Listed { unlisted });
+        }
+        for segment in segments {
+            unlisted.push(unlisted_codes(alloc, segment, roster, from, marks)?)?;
+        }
+        Ok(Listed { unlisted })
+    }
+
+    // Whether a segment's code is marked.
+    fn is_marked(&self, segment: usize, code: usize) -> bool
+        ensures { result ≡ is_marked_code self.now segment code }
+    {
+        let Some(marks) = self.unlisted.get(segment) else {
+            return false;
+        };
+        match marks.get(code) {
+            Some(mark) => *mark,
+            None => false,
+        }
+    }
+
+    // Whether the SKU of the row at a place of a segment may be one that a commitment lists.
+    fn may_list(&self, segment: &Columns, at: &RowPlace) -> bool
+        requires { at.now.place < length segment.now }
+        ensures { result ≡ not (is_marked_code self.now at.now.segment (slice_index_or (sku_codes segment.now) at.now.place 0)) }
+    {
+        let code = segment.sku_codes()[usize::from(at.place)];
+        !self.is_marked(at.segment as usize, code as usize)
+    }
+
+    // Adds those of a segment's rows at these places that may have a SKU that a commitment lists.
+    fn add_places(
+        &self,
+        listed: &mut Vec<RowPlace>,
+        segment: &Columns,
+        number: u32,
+        places: &[u16],
+    ) -> Result<(), AllocError>
+        requires { All (λ place. place < length segment.now) places.now }
+        ensures { OnOk result ((segments : List (List Charge)) → slice_index_or segments number [] ≡ segment.now → listed.new.items ≡ listed.old.items ++ filter (may_be_listed self.now segments) (row_places number places.now)) }
+    {
+        for place in places {
+            let at = RowPlace {
+                segment: number,
+                place: *place,
+            };
+            if self.may_list(segment, &at) {
+                listed.push(at)?;
+            }
+        }
+        Ok(())
+    }
+
+    // Where those rows of the hours at these places are that may have a SKU that a commitment lists.
+    pub(crate) fn places(
+        &self,
+        alloc: Global,
+        segments: &[&Columns],
+        places: &[HourPlace],
+    ) -> Result<Vec<RowPlace>, AllocError>
+        requires { All (IsThere (lent segments.now)) places.now }
+        ensures { IfOk result (λ listed. listed.items ≡ filter (may_be_listed self.now (lent segments.now)) (row_places_at (lent segments.now) places.now)) }
+    {
+        let mut listed = Vec::with_capacity(alloc, count_at(segments, places))?;
+        for at in places {
+            let segment = segments[at.segment as usize];
+            let rows = segment.places_in(at.number as usize);
+            self.add_places(&mut listed, segment, at.segment, rows)?;
+        }
+        Ok(listed)
+    }
+}
