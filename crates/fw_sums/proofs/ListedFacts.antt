@@ -1,5 +1,5 @@
 -- Rows that no commitment applies to may be left out of what commitments bring to an hour.
-use Rattle.std.proofs.Common.{◌≡◌, ◌∙◌, ⊎_elim, ℕ, zero, suc, ◌+◌, ◌<◌, ◌≤◌, Bool, true, false, cond, not, nat_lt, List, [], ◌∷◌, ◌++◌, length, get_or, map, filter, Option, Some, None, arith, refl, sym, ap, subst, append_assoc}
+use Rattle.std.proofs.Common.{◌≡◌, ◌∙◌, ⊎_elim, ℕ, zero, suc, ◌+◌, ◌<◌, ◌≤◌, Bool, true, false, not, nat_lt, List, [], ◌∷◌, ◌++◌, length, get_or, map, filter, Option, Some, None, arith, refl, sym, ap, subst, append_assoc}
 use Rattle.std.specs.Prelude.{slice_get}
 use Rattle.std.specs.List.{cons_option, enumerate_from, filter_map, flat_map, list_any}
 use Rattle.std.specs.Str.{bytes_eq}
@@ -20,10 +20,10 @@ use Rattle.fw_row_table.specs.Names.{Text, place_of}
 use Rattle.fw_row_table.specs.Texts.{names_of}
 use Rattle.fw_row_table.proofs.NameFacts.{place-missing}
 use Rattle.fw_sums.specs.Corrections.{correction_of, corrections}
-use Rattle.fw_sums.specs.Costs.{Cost, costs_of}
+use Rattle.fw_sums.specs.Costs.{costs_of}
 use Rattle.fw_sums.specs.Covers.{AreOwnSums}
 use Rattle.fw_sums.specs.Hours.{row_at}
-use Rattle.fw_sums.specs.Listed.{AreListed, AreUnlisted, is_marked_code, is_unlisted, may_be_listed, sku_codes}
+use Rattle.fw_sums.specs.Listed.{AreListed, is_marked_code, is_unlisted, may_be_listed, sku_codes}
 use Rattle.fw_sums.specs.Sums.{Counts}
 use Rattle.fw_sums.specs.declared.groups.Groups.{Groups}
 use Rattle.fw_sums.specs.declared.hours.RowPlace.{RowPlace}
