@@ -52,7 +52,7 @@ each_past cs before after row hour none [] (lines ∷ shared) are = absurd are
 each_past cs before after row hour none (c ∷ some) [] are = absurd are
 each_past cs before after row hour none (c ∷ some) (lines ∷ shared) are = (
   rw (takes_past cs before after row hour none c.0, unused_past cs before after row hour none c.0)
-  (lines_past hour c.1 before after row (takes_of c.0 (hour_cover cs (before ++ after) hour)) (unused_of cs (hour_cover cs (before ++ after) hour) c.0) lines are.0),
+      (lines_past hour c.1 before after row (takes_of c.0 (hour_cover cs (before ++ after) hour)) (unused_of cs (hour_cover cs (before ++ after) hour) c.0) lines are.0),
   each_past cs before after row hour none some shared are.1,
 )
 

@@ -24,7 +24,7 @@ use Rattle.fw_row_table.specs.Names.{Text, place_of}
 use Rattle.fw_row_table.specs.Texts.{names_of}
 use Rattle.fw_row_table.proofs.NameFacts.{place-missing}
 use Rattle.fw_sums.specs.Corrections.{correction_of, corrections}
-use Rattle.fw_sums.specs.Costs.{Cost, costs_of}
+use Rattle.fw_sums.specs.Costs.{costs_of}
 use Rattle.fw_sums.specs.Covers.{AreOwnSums}
 use Rattle.fw_sums.specs.Hours.{HasRow, IsThere, row_at, row_places, row_places_at, row_places_there, rows_at, rows_there}
 use Rattle.fw_sums.specs.Listed.{AreListed, AreUnlisted, is_marked_code, is_unlisted, may_be_listed, sku_codes}
