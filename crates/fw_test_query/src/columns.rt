@@ -174,8 +174,14 @@ fn are_by_hour(columns: &Columns, hours: &[u32], places: &[&[u16]]) -> bool {
 
 /// Whether rows that come by hour, and the same rows in another order, have their hours. 2024 begins 473,352 hours after 1970.
 fn have_hours(alloc: Global) -> Result<bool, AllocError> {
-    let in_turn = columns(alloc, format!(in alloc; "{BOUGHT}{WEB}{DATA}{LATER}")?.as_str())?;
-    let mixed = columns(alloc, format!(in alloc; "{LATER}{WEB}{BOUGHT}{DATA}")?.as_str())?;
+    let in_turn = columns(
+        alloc,
+        format!(in alloc; "{BOUGHT}{WEB}{DATA}{LATER}")?.as_str(),
+    )?;
+    let mixed = columns(
+        alloc,
+        format!(in alloc; "{LATER}{WEB}{BOUGHT}{DATA}")?.as_str(),
+    )?;
     let hours = &[0, 473_352, 473_353];
     Ok(
         are_by_hour(&in_turn, hours, &[&[0], &[1, 2], &[3]])
