@@ -22,6 +22,11 @@ const BOUGHT: &str =
     r#"-5e-9,7e-9,USD,Purchase,Correction,1970-01-01T00:00Z,1970-01-01T01:00Z,ri-9,Spend,,,,,north,"{""team"":""""}"
 "#;
 
+/// An hour of use that starts in the last minute of 01:00.
+const LATER: &str =
+    r#"0.1,0.1,USD,Usage,,2024-01-01T01:59Z,2024-01-01T02:59Z,,,,1,Hours,vm,,"{""team"":""web""}"
+"#;
+
 /// The columns of the rows of these records.
 fn columns(alloc: Global, records: &str) -> Result<Box<Columns>, AllocError> {
     let rows = rows(alloc, records)?;
@@ -152,4 +157,39 @@ fn has_bought(alloc: Global) -> Result<bool, AllocError> {
 #[test]
 fn nulls_and_empty_texts(rt: HostRuntime) -> Result<(), Fail> {
     check(&rt, has_bought(rt.alloc()))
+}
+
+/// Whether these are the hours of the rows, and the places of the rows of each.
+fn are_by_hour(columns: &Columns, hours: &[u32], places: &[&[u16]]) -> bool {
+    if columns.hours() != hours || places.len() != hours.len() {
+        return false;
+    }
+    for (number, wanted) in places.iter().enumerate() {
+        if number >= columns.hours().len() || columns.places_in(number) != *wanted {
+            return false;
+        }
+    }
+    true
+}
+
+/// Whether rows that come by hour, and the same rows in another order, have their hours. 2024 begins 473,352 hours after 1970.
+fn have_hours(alloc: Global) -> Result<bool, AllocError> {
+    let in_turn = columns(
+        alloc,
+        format!(in alloc; "{BOUGHT}{WEB}{DATA}{LATER}")?.as_str(),
+    )?;
+    let mixed = columns(
+        alloc,
+        format!(in alloc; "{LATER}{WEB}{BOUGHT}{DATA}")?.as_str(),
+    )?;
+    let hours = &[0, 473_352, 473_353];
+    Ok(
+        are_by_hour(&in_turn, hours, &[&[0], &[1, 2], &[3]])
+            && are_by_hour(&mixed, hours, &[&[2], &[1, 3], &[0]]),
+    )
+}
+
+#[test]
+fn rows_by_hour(rt: HostRuntime) -> Result<(), Fail> {
+    check(&rt, have_hours(rt.alloc()))
 }
