@@ -1,5 +1,5 @@
 -- Rows that no commitment applies to may be left out of what commitments bring to an hour.
-use Rattle.std.proofs.Common.{◌≡◌, ◌∙◌, ⊎_elim, ℕ, zero, suc, ◌+◌, ◌<◌, ◌≤◌, All, Bool, true, false, cond, not, nat_lt, List, [], ◌∷◌, ◌++◌, length, get_or, map, filter, take, Option, Some, None, arith, refl, sym, ap, subst, append-nil, append_assoc}
+use Rattle.std.proofs.Common.{◌≡◌, ◌∙◌, ⊎_elim, ℕ, zero, suc, ◌+◌, ◌<◌, ◌≤◌, All, Bool, true, false, not, nat_lt, Bor, List, [], ◌∷◌, ◌++◌, length, get_or, map, filter, take, Option, Some, None, arith, refl, sym, ap, subst, append-nil, append_assoc}
 use Rattle.std.specs.Prelude.{slice_get, slice_index}
 use Rattle.std.specs.List.{cons_option, enumerate_from, filter_map, flat_map, list_any}
 use Rattle.std.specs.Str.{bytes_eq}
@@ -26,8 +26,8 @@ use Rattle.fw_row_table.proofs.NameFacts.{place-missing}
 use Rattle.fw_sums.specs.Corrections.{correction_of, corrections}
 use Rattle.fw_sums.specs.Costs.{costs_of}
 use Rattle.fw_sums.specs.Covers.{AreOwnSums}
-use Rattle.fw_sums.specs.Hours.{HasRow, IsThere, row_at, row_places, row_places_at, row_places_there, rows_at, rows_there}
-use Rattle.fw_sums.specs.Listed.{AreListed, AreUnlisted, is_marked_code, is_unlisted, may_be_listed, sku_codes}
+use Rattle.fw_sums.specs.Hours.{HasRow, IsThere, lent, row_at, row_places, row_places_at, row_places_there, rows_at, rows_there}
+use Rattle.fw_sums.specs.Listed.{AreListed, is_marked_code, is_unlisted, may_be_listed, sku_codes}
 use Rattle.fw_sums.specs.Sums.{Counts}
 use Rattle.fw_sums.specs.declared.groups.Groups.{Groups}
 use Rattle.fw_sums.specs.declared.hours.HourPlace.{HourPlace}
@@ -35,7 +35,7 @@ use Rattle.fw_sums.specs.declared.hours.RowPlace.{RowPlace}
 use Rattle.fw_sums.specs.declared.listed.Listed.{Listed}
 use Rattle.fw_sums.proofs.CodeFacts.{name_there}
 use Rattle.fw_sums.proofs.CorrectionFacts.{corrections_by, none_lost}
-use Rattle.fw_sums.proofs.HourFacts.{rows_of_hour_places}
+use Rattle.fw_sums.proofs.HourFacts.{rows_of_hour_places, segment_there}
 use Rattle.fw_sums.proofs.UntouchedFacts.{both_true, not_false}
 
 -- ---- one such row corrects nothing, and the others are corrected as without it
@@ -162,6 +162,22 @@ hour_more listed segments places i d below =
     ap (λ l. filter (may_be_listed listed segments) (row_places_at segments l)) (take_more places i d below)
     ∙ ap (filter (may_be_listed listed segments)) (flat_map-append (row_places_there segments) (take i places) (get_or places i d ∷ []) ∙ ap (λ l. row_places_at segments (take i places) ++ l) (append-nil (row_places_there segments (get_or places i d))))
     ∙ filter-append (may_be_listed listed segments) (row_places_at segments (take i places)) (row_places_there segments (get_or places i d))
+
+-- as references lend the segments
+pub hour_step : (listed : Listed) (segments : List (Bor (List Charge))) (places : List HourPlace) (i : ℕ) (d : HourPlace) (s : Bor (List Charge)) (at : List ℕ) (old new : List RowPlace) → i < length places → All (IsThere (lent segments)) places
+    → s ≡ get_or segments (get_or places i d).segment s → at ≡ places_of_hour (slice_index (hours_of s.now) (get_or places i d).number) s.now
+    → old ≡ filter (may_be_listed listed (lent segments)) (row_places_at (lent segments) (take i places))
+    → new ≡ old ++ filter (may_be_listed listed (lent segments)) (row_places (get_or places i d).segment at)
+    → new ≡ filter (may_be_listed listed (lent segments)) (row_places_at (lent segments) (take (i + 1) places))
+hour_step listed segments places i d s at old new below all is are so_far more =
+    let p : HourPlace = get_or places i d in
+    let here : get_or (lent segments) p.segment [] ≡ s.now = segment_there segments places i d s below all is in
+    let own : row_places_there (lent segments) p ≡ row_places p.segment at =
+    ap (λ rows. row_places p.segment (places_of_hour (slice_index (hours_of rows) p.number) rows)) here ∙ ap (row_places p.segment) (sym are) in
+    more
+    ∙ ap (λ l. l ++ filter (may_be_listed listed (lent segments)) (row_places p.segment at)) so_far
+    ∙ ap (λ l. filter (may_be_listed listed (lent segments)) (row_places_at (lent segments) (take i places)) ++ filter (may_be_listed listed (lent segments)) l) (sym own)
+    ∙ sym (hour_more listed (lent segments) places i d below)
 
 -- ---- rows by the codes of their SKUs
 

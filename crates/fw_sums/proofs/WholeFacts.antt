@@ -1,15 +1,14 @@
 -- Lemmas on the sums of whole segments.
-use Rattle.std.proofs.Common.{◌≡◌, ◌∙◌, ℕ, zero, suc, ◌+◌, ◌-◌, ◌<◌, ◌≤◌, ◌^◌, ◌||◌, Ordering, Less, Equal, Greater, is_gt, ℤ, pos, nat_abs, nat_le, nat_lt, true, false, Bor, List, [], ◌∷◌, ◌++◌, Some, All, length, map, take, drop, replicate, get_or, sym, ap, refl, subst, arith, append-nil, append_assoc}
+use Rattle.std.proofs.Common.{◌≡◌, ◌∙◌, ℕ, zero, suc, ◌+◌, ◌-◌, ◌<◌, ◌≤◌, ◌||◌, nat_le, Bool, true, false, Bor, List, [], ◌∷◌, ◌++◌, Some, All, length, map, take, drop, replicate, get_or, sym, ap, refl, subst, arith, append-nil, append_assoc}
 use Rattle.std.specs.Prelude.{slice_get}
-use Rattle.std.specs.Ordering.{is_lt, nat_cmp, ord_max}
+use Rattle.std.specs.Bool.{OnTrue}
 use Rattle.std.specs.List.{AllByRecursion}
 use Rattle.std.specs.List.Sorted.{IsPermutation}
 use Rattle.std.proofs.Math.Seq.{drop-append-add, take-append_seam}
-use Rattle.std.proofs.lemmas.Bool.{leb-true, leb-false, ltb-true, ltb-false}
+use Rattle.std.proofs.lemmas.Bool.{leb-true, leb-false}
 use Rattle.std.proofs.lemmas.Grind.{flat_map-append}
-use Rattle.std.proofs.lemmas.List.{get_or-map, get_or-replicate, length-append, length-map, length-replicate, map-append}
+use Rattle.std.proofs.lemmas.List.{get_or-replicate, length-append, length-replicate, map-append}
 use Rattle.std.proofs.lemmas.List.Elements.{filter-append, recursion_from_All}
-use Rattle.std.proofs.lemmas.Map.Keys.{ge_from_not_lt, le_from_not_gt}
 use Rattle.std.proofs.lemmas.List.Sorted.{IsPermutation-append_comm, IsPermutation-append_left, IsPermutation-append_right, IsPermutation-refl, IsPermutation-trans}
 use Rattle.fw_charge.specs.Charge.{Charge, hour_of}
 use Rattle.fw_cover.proofs.Sorting.{two_ways}
@@ -64,6 +63,15 @@ no_range key from to least most rows apart all = go rows (recursion_from_All (Is
     go : (rows : List Charge) → AllByRecursion (IsBetween least most) rows → range_costs key from to rows ≡ []
     go [] each = refl
     go (row ∷ rows) each = rw (outside (hour_of row.start) each.0.since each.0.before) (go rows each.1)
+
+-- what follows from a test
+pub on_true : {P : Type 0} (b : Bool) → (b ≡ true → P) → OnTrue b P
+on_true true holds = holds refl
+on_true false holds = tt
+
+pub either_true : (a : Bool) → (a || true) ≡ true
+either_true true = refl
+either_true false = refl
 
 -- ---- rows in turn
 

@@ -1,9 +1,9 @@
 use Rattle.std.proofs.Common.{◌≡◌, ◌∙◌, ◌++◌, ap, refl, sym, take}
 use Rattle.std.proofs.lemmas.Bool.{and_parts, leb-true}
 use Rattle.fw_sums.specs.Hours.{all_rows, lent}
-use Rattle.fw_sums.proofs.WholeFacts.{divided_none, divided_other, divided_whole, divided_without, lent_more, next_first, next_rows, no_range, whole_here, whole_range}
+use Rattle.fw_sums.proofs.WholeFacts.{divided_none, divided_other, divided_whole, divided_without, lent_more, next_first, next_rows, whole_here, whole_range}
 use Rattle.fw_sums.proofs.groups.Groups.add_wholes.Goals as goal
-use Rattle.fw_sums.proofs.groups.Groups.add_wholes.Goals.{in-Some-of_rows+in_ok-add_groups-in-Some-of_rows, in-Some-2, in_default-of_rows+in_ok-push-in_default-of_rows}
+use Rattle.fw_sums.proofs.groups.Groups.add_wholes.Goals.{in-Some-of_rows+in_ok-add_groups-in-Some-of_rows, in_default-of_rows, in_default-2+in_ok-push-in_default-2}
 
 pub loop-segment-init : goal.loop-segment-init
 loop-segment-init c = record { divided = λ key are. rw c.new-others.ensures.items (divided_none key c.args.from c.args.to c.args.self.now c.requires.none); at = refl }
@@ -45,17 +45,13 @@ loop-segment-preserved c =
             rw next (divided_whole key from to before s.now others c.loop-segment.self (c.loop-segment.invariant.divided key are) w.add_groups.new.self whole.sums all own.counts w.in_ok-add_groups-in-Some-of_rows.ensures);
         at = behind;
       })
-      | in-Some-2 w ↦ rw (w.self-is, w.others-is, w.first-is) (record {
-        divided = λ key are.
-            let whole = w.in-Some-of_rows.whole.now in
-            let own = whole_here segments i s below is first len at long key wholes whole are w.in-Some-of_rows.ensures.0 w.in-Some-of_rows.ensures.1 in
-            let none = no_range key from to whole.from whole.to s.now (sym w.is_without.ensures ∙ w.if-is_without.true) own.between in
-            rw next (divided_without key from to before s.now others c.loop-segment.self (c.loop-segment.invariant.divided key are) none);
+      | in_default-of_rows w ↦ rw (w.self-is, w.others-is, w.first-is) (record {
+        divided = λ key are. rw next (divided_without key from to before s.now others c.loop-segment.self (c.loop-segment.invariant.divided key are) ((rw w.if-is_outside.true at w.is_outside.ensures) key));
         at = behind;
       })
-      | in_default-of_rows+in_ok-push-in_default-of_rows w ↦ rw (w.self-is, w.others-is, w.first-is) (record {
+      | in_default-2+in_ok-push-in_default-2 w ↦ rw (w.self-is, w.others-is, w.first-is) (record {
         divided = λ key are.
-            let more : all_rows (lent w.push.new.self.items) ≡ others ++ s.now = ap (λ l. all_rows (lent l)) w.in_ok-push-in_default-of_rows.ensures.items ∙ lent_more c.loop-segment.others.items s in
+            let more : all_rows (lent w.push.new.self.items) ≡ others ++ s.now = ap (λ l. all_rows (lent l)) w.in_ok-push-in_default-2.ensures.items ∙ lent_more c.loop-segment.others.items s in
             rw (next, more) (divided_other key from to before s.now others c.loop-segment.self (c.loop-segment.invariant.divided key are));
         at = behind;
       })

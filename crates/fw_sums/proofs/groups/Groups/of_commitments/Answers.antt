@@ -38,7 +38,7 @@ returns c =
     let lines : Counts c.add_lines.new.self (costs_of key c.in_ok-own.own.items) = rw c.as_slice-5.ensures.value at (c.in_ok-add_lines.ensures [] c.new-sums.ensures.counts) in
     let corrected : Counts c.correct_rows.new.self (costs_of key c.in_ok-own.own.items ++ corrections key rows (slice_index c.as_slice-7.result.now)) = rw c.as_slice-6.ensures.value at (c.in_ok-correct_rows.ensures _ lines) in
     let found : rows ≡ filter_map (row_at segments) (filter (may_be_listed c.args.listed.now segments) (row_places_at segments c.args.places.now)) = c.in_ok-rows.ensures ∙ ap (filter_map (row_at segments)) (c.as_slice.ensures.value ∙ c.in_ok-listed.ensures) in
-    rw (rows_of_row_places segments c.args.places.now) at (without_unlisted segments c.args.roster.now c.args.listed.now (row_places_at segments c.args.places.now) key c.args.hour _ c.requires.listed c.requires.hour (rw (← found) (record {
+    rw (rows_of_row_places segments c.args.places.now) at (without_unlisted segments c.args.roster.now c.args.listed.now (row_places_at segments c.args.places.now) key c.args.hour c.correct_rows.new.self c.requires.listed c.requires.hour (rw (← found) (record {
       own = c.in_ok-own.own.items;
       are_own = rw again at c.in_ok-own.ensures;
       counts = subst (λ f. Counts c.correct_rows.new.self (costs_of key c.in_ok-own.own.items ++ corrections key rows f)) (λ j r. left r j) corrected;
