@@ -1,9 +1,10 @@
 //! Rows kept by column.
-ghost use Rattle.std.specs.Prelude.{◌≡◌, ◌<◌, ◌≤◌, ◌+◌, ◌↔◌, ◌++◌, ℕ, Some, length, map, nat_abs, pos, slice_get, slice_index, All, Contains, IfOk};
+ghost use Rattle.std.specs.Prelude.{◌≡◌, ◌<◌, ◌≤◌, ◌+◌, ◌↔◌, ◌++◌, ℕ, Some, length, map, nat_abs, option_map, pos, slice_get, slice_index, All, Contains, IfOk};
 ghost use Rattle.std.specs.List.Sorted.{IsStrictlyIncreasing};
 ghost use Rattle.fw_charge.specs.Charge.{Charge, hour_of};
 ghost use Rattle.fw_money.specs.Amount.{most_nanos};
 ghost use Rattle.fw_row_table.specs.Table.{most_column_rows, rows_of, AreColumns};
+ghost use Rattle.fw_row_table.specs.Codes.{text_code};
 ghost use Rattle.fw_row_table.specs.Texts.{names_of};
 ghost use Rattle.fw_charge.specs.Codes.{category_code, class_code};
 ghost use Rattle.fw_columns.specs.ByHour.{AreByHour};
@@ -202,6 +203,13 @@ impl Columns {
         ensures { result.now ≡ map (λ c. class_code c.is_correction) self.now }
     {
         self.table().classes.as_slice()
+    }
+
+    /// The code of the id of each row's commitment discount: 0 where there is no discount, else 1 more than the id's place among the names.
+    pub fn discount_codes(&self) -> &[u32]
+        ensures { result.now ≡ map (λ c. text_code (names_of self.now) (option_map (λ d. d.id) c.discount)) self.now }
+    {
+        self.table().discounts.as_slice()
     }
 
     /// The rows of one and then those of another, together at most [`Columns::MOST_ROWS`].
