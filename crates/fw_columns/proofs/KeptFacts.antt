@@ -1,18 +1,11 @@
 -- The lists of columns, as those who copy them see them.
-use Rattle.std.proofs.Common.{◌≡◌, ℕ, ◌<◌, ◌≤◌, List, [], ◌∷◌, length, Option, Some, None, sym, ap, ◌∙◌, arith}
-use Rattle.std.specs.Prelude.{option_map, option_to_list, slice_get, All, IfSome}
-use Rattle.std.specs.List.{flat_map}
-use Rattle.std.proofs.lemmas.List.Elements.{All-nil, All-cons, All-head, All-tail, All-append}
+use Rattle.std.proofs.Common.{◌≡◌, ℕ, ◌<◌, List, length, Some, sym, ap, ◌∙◌}
+use Rattle.std.specs.Prelude.{option_map, slice_get}
 use Rattle.std.proofs.lemmas.Option.{slice_get-map}
-use Rattle.fw_charge.specs.Tags.{TagText, IsTagSized, longest_tag_text}
-use Rattle.fw_charge.specs.Charge.{Charge, DiscountText, IsShortText, IsDiscountOf, IsCharge}
-use Rattle.fw_charge.specs.declared.category.Category.{Category}
+use Rattle.fw_charge.specs.Charge.{Charge}
 use Rattle.fw_row_table.specs.declared.table.Table.{Table}
-use Rattle.fw_row_table.specs.Names.{Text}
-use Rattle.fw_row_table.specs.Texts.{texts_of_tags, texts_of, names_of}
 use Rattle.fw_row_table.specs.Lists.{tag_places, lists_of}
 use Rattle.fw_row_table.specs.Table.{AreColumns, list_at, charge_at}
-use Rattle.fw_row_table.proofs.ListFacts.{with_texts-all}
 use Rattle.fw_row_table.proofs.TableFacts.{list-shown, row-shown}
 use Rattle.fw_row_table.proofs.RowFacts.{row_there}
 
