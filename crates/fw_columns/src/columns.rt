@@ -1,7 +1,9 @@
 //! Rows kept by column.
-ghost use Rattle.std.specs.Prelude.{◌≡◌, ◌<◌, ◌≤◌, ◌+◌, ◌↔◌, ◌++◌, ℕ, Some, length, map, nat_abs, pos, slice_get, slice_index, All, Contains, IfOk};
+ghost use Rattle.std.specs.Prelude.{◌≡◌, ◌<◌, ◌≤◌, ◌+◌, ◌*◌, ◌↔◌, ◌++◌, ℕ, Some, length, map, nat_abs, option_map, pos, slice_get, slice_index, All, Contains, IfOk};
+ghost use Rattle.std.specs.List.{flat_map};
 ghost use Rattle.std.specs.List.Sorted.{IsStrictlyIncreasing};
 ghost use Rattle.fw_charge.specs.Charge.{Charge, hour_of};
+ghost use Rattle.fw_charge.specs.Spelling.{row, IsRow};
 ghost use Rattle.fw_money.specs.Amount.{most_nanos};
 ghost use Rattle.fw_row_table.specs.Table.{most_column_rows, rows_of, AreColumns};
 ghost use Rattle.fw_row_table.specs.Codes.{text_code};
@@ -16,14 +18,14 @@ use crate::by_hour::RowsByHour;
 use crate::grouping::group_codes;
 use crate::joining::joined;
 use fw_charge::Row;
-use fw_row_table::{LentRow, Names, Table, fields_at, lent_row, lent_tags};
+use fw_row_table::{LentRow, Names, Table, fields_at, lent_row, lent_tags, table_len};
 use std::alloc::{AllocError, Global};
 use std::marker::Model;
 use std::sync::Arc;
 
 /// 1 to [`Columns::MOST_ROWS`] charge rows kept by column, each of their texts and each of their lists of tags once. A contract sees the list of the rows.
 ///
-/// Columns are never changed, so a [copy](Columns::copy) shares them, and the order of the rows by hour is found once.
+/// Columns are never changed, so a [copy](Columns::copy) shares them, and the order of the rows by hour and their length in bytes are found once.
 #[derive(Drop)]
 pub struct Columns {
     shared: Arc<Kept>,
@@ -34,11 +36,15 @@ pub struct Columns {
 struct Kept {
     table: Table,
     by_hour: RowsByHour,
+    /// How many bytes the rows are written in.
+    encoded_len: usize,
 }
 
 impl Model for Columns {
-    ghost use Rattle.std.specs.Prelude.{◌<◌, List, length};
+    ghost use Rattle.std.specs.Prelude.{◌≡◌, ◌<◌, List, length, All};
+    ghost use Rattle.std.specs.List.{flat_map};
     ghost use Rattle.fw_charge.specs.Charge.{Charge};
+    ghost use Rattle.fw_charge.specs.Spelling.{row, IsRow};
     ghost use Rattle.fw_row_table.specs.Table.{rows_of, AreColumns};
     ghost use Rattle.fw_columns.specs.ByHour.{AreByHour};
 
@@ -46,7 +52,7 @@ impl Model for Columns {
 
     ghost view = { λ c. rows_of c.shared.value.table };
 
-    ghost invariant = { λ c. (0 < length (rows_of c.shared.value.table)) × AreColumns c.shared.value.table (rows_of c.shared.value.table) × AreByHour c.shared.value.by_hour (rows_of c.shared.value.table) };
+    ghost invariant = { λ c. (0 < length (rows_of c.shared.value.table)) × AreColumns c.shared.value.table (rows_of c.shared.value.table) × AreByHour c.shared.value.by_hour (rows_of c.shared.value.table) × (c.shared.value.encoded_len ≡ length (flat_map row (rows_of c.shared.value.table))) × All IsRow (rows_of c.shared.value.table) };
 }
 
 impl Columns {
@@ -63,8 +69,16 @@ impl Columns {
         let mut table = table;
         table.shrink();
         let by_hour = RowsByHour::of_starts(alloc, table.starts.as_slice())?;
+        let encoded_len = table_len(alloc, &table)?;
         Ok(Columns {
-            shared: Arc::new(alloc, Kept { table, by_hour })?,
+            shared: Arc::new(
+                alloc,
+                Kept {
+                    table,
+                    by_hour,
+                    encoded_len,
+                },
+            )?,
         })
     }
 
@@ -115,6 +129,15 @@ impl Columns {
         ensures few { result ≤ most_column_rows }
     {
         self.table().billed.len()
+    }
+
+    /// How many bytes the rows have where they are written, together: at most 527,429 each. Each row has a spelling.
+    pub fn encoded_len(&self) -> usize
+        ensures value { result ≡ length (flat_map row self.now) }
+        ensures few { result ≤ 527429 * length self.now }
+        ensures valid { All IsRow self.now }
+    {
+        self.shared.encoded_len
     }
 
     /// The row at a place, counted from 0.
@@ -210,6 +233,12 @@ impl Columns {
         ensures { result.now ≡ map (λ c. text_code (names_of self.now) c.sku) self.now }
     {
         self.table().skus.as_slice()
+    }
+    /// The code of the id of each row's commitment discount: 0 where there is no discount, else 1 more than the id's place among the names.
+    pub fn discount_codes(&self) -> &[u32]
+        ensures { result.now ≡ map (λ c. text_code (names_of self.now) (option_map (λ d. d.id) c.discount)) self.now }
+    {
+        self.table().discounts.as_slice()
     }
 
     /// The rows of one and then those of another, together at most [`Columns::MOST_ROWS`].

@@ -85,11 +85,7 @@ fn rows_len(rows: &Columns) -> usize
     ensures short { result < 2 ^ 32 - 1 }
     ensures valid { All IsRow rows.now }
 {
-    let mut len = 4;
-    for place in 0..rows.len() {
-        len += rows.lent(place).encoded_len();
-    }
-    len
+    4 + rows.encoded_len()
 }
 
 // Whether a byte may stand in the name of an origin.

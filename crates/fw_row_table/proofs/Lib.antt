@@ -6,3 +6,4 @@ pub mod TableFacts
 pub mod RowFacts
 pub mod LendingFacts
 pub mod SpelledFacts
+pub mod LengthFacts

@@ -14,11 +14,11 @@ use Rattle.fw_row_table.proofs.NameFacts.{text_at_place}
 use Rattle.fw_row_table.proofs.TextFacts.{AreKnown, IsKnown, rows-known}
 
 -- a text among names that are UTF-8 is UTF-8
-known_is_text : (names : List Text) (t : Text) → All IsUtf8 names → IsKnown names t → IsUtf8 t
+pub known_is_text : (names : List Text) (t : Text) → All IsUtf8 names → IsKnown names t → IsUtf8 t
 known_is_text names t all known = subst (λ x. IsUtf8 x) (text_at_place names t [] known.below) (all (place_of names t) [] known.below)
 
 -- and so are tags
-known_are_text : (names : List Text) (tags : List TagText) → All IsUtf8 names → AreKnown names (texts_of_tags tags) → All IsTextTag tags
+pub known_are_text : (names : List Text) (tags : List TagText) → All IsUtf8 names → AreKnown names (texts_of_tags tags) → All IsTextTag tags
 unfolding texts_of_tags
 known_are_text names [] all known = All-nil IsTextTag
 known_are_text names (t ∷ tags) all known =

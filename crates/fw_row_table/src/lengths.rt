@@ -35,7 +35,7 @@ fn tag_len(one: LentTag<'_>) -> usize
 }
 
 /// How many bytes tags have, without their number.
-fn tags_len(all: LentTags<'_>) -> usize
+pub(crate) fn tags_len(all: LentTags<'_>) -> usize
     requires few { length (tags_lent all) ≤ most_tags }
     requires sized { All IsTagSized (tags_lent all) }
     ensures value { result ≡ length (flat_map tag (tags_lent all.entry)) }

@@ -12,6 +12,7 @@ mod naming;
 mod packed;
 mod reading;
 mod table;
+mod table_lengths;
 
 pub use codes::quantity_of;
 pub use lending::{LentDiscount, LentRow, LentTag, LentTags, lent_row, lent_tags};
@@ -20,3 +21,4 @@ pub use names::Names;
 pub use naming::{joined_names, places_in, see_tags};
 pub use reading::{amount_at, category_at, class_at, fields_at};
 pub use table::Table;
+pub use table_lengths::table_len;

@@ -1,18 +1,19 @@
 -- What lists of entries come to with one more at their end.
-use Rattle.std.proofs.Common.{◌≡◌, ◌+◌, ◌≤◌, ◌||◌, ◌&&◌, ◌<◌, ℕ, zero, suc, List, [], ◌∷◌, ◌++◌, Option, Some, None, Bool, true, false, cond, if◌then◌else◌, length, filter, take, get_or, nat_lt, nat_le, refl, sym, ap, ◌∙◌, arith, Bor, IfOk}
+use Rattle.std.proofs.Common.{◌≡◌, ◌+◌, ◌≤◌, ◌||◌, ◌&&◌, ◌<◌, ℕ, zero, suc, List, [], ◌∷◌, ◌++◌, Option, Some, None, Bool, true, false, cond, if◌then◌else◌, length, filter, map, take, get_or, nat_lt, nat_le, refl, sym, ap, ◌∙◌, arith, Bor, IfOk}
 use Rattle.std.specs.List.{list_any}
-use Rattle.std.specs.Option.{option_copied, option_map, option_map_or, option_to_list, is_some}
+use Rattle.std.specs.Option.{option_copied, option_map, option_map_or, option_to_list}
 use Rattle.std.specs.Str.{bytes_eq}
 use Rattle.std.specs.declared.result.Result.{Result}
 use Rattle.std.proofs.Math.Bool.{or-false}
-use Rattle.std.proofs.lemmas.Bool.{false≢true}
 use Rattle.std.proofs.lemmas.Bool.Decides.{nat_tests}
 use Rattle.std.proofs.lemmas.Result.{IfOk-weaker}
-use Rattle.std.proofs.lemmas.List.{flat_map_more, length-append, take_more}
+use Rattle.std.proofs.lemmas.List.{flat_map_more, get_or-map, length-append, length-map, take_more}
 use Rattle.std.proofs.lemmas.List.Elements.{filter-append}
 use Rattle.std.proofs.lemmas.List.Folds.{list_any-append}
 use Rattle.std.proofs.lemmas.List.Sums.{fold-append}
 use Rattle.fw_charge.specs.Charge.{Charge, DiscountText}
+use Rattle.fw_row_table.specs.Codes.{text_code}
+use Rattle.fw_row_table.specs.Names.{Text}
 use Rattle.fw_persistent.specs.Counts.{Counts, count_of}
 use Rattle.fw_terms.specs.Commitment.{CommitmentValue}
 use Rattle.fw_entry.specs.Entry.{EntryValue}
@@ -121,16 +122,40 @@ counts_next start before after rows i row within read so_far step id =
     counted_once (count_of id start) (count_of id before) (count_of id after) (carries id (take i rows)) (has_id id row) (so_far id) (step id)
     ∙ ap (λ b. count_of id start + (if b then 1 else 0)) (sym (carries_more id rows i row within (sym read)))
 
--- a row without a discount has no id
-pub no_id : {L : Type 0} (id : List ℕ) (row : Charge) (shown : L → DiscountText) (found : Option L) → option_map shown found ≡ row.discount → is_some found ≡ false → has_id id row ≡ false
-no_id id row shown None is none = ap (λ (d : Option DiscountText). option_map_or (λ x. bytes_eq id x.id) d false) (sym is)
-no_id id row shown (Some d) is none = absurd (false≢true (sym none))
-
 -- a row that has no id is counted for none
 pub counts_stay : (start before after : Counts) (rows : List Charge) (i : ℕ) (row : Charge) → i < length rows → row ≡ get_or rows i row → ((id : List ℕ) → count_of id before ≡ count_of id start + (if carries id (take i rows) then 1 else 0)) → after ≡ before → ((id : List ℕ) → has_id id row ≡ false) → (id : List ℕ) → count_of id after ≡ count_of id start + (if carries id (take (i + 1) rows) then 1 else 0)
 counts_stay start before after rows i row within read so_far same none =
     counts_next start before after rows i row within read so_far
     (λ id. let kept = ap (count_of id) same in let without = ap {B = ℕ} (λ b. if b && nat_le (count_of id before) (count_of id start) then 1 else 0) (none id) in omega (arith, kept, without))
+
+-- ---- rows that are passed over by the codes of their discounts
+
+row_there : (rows : List Charge) (i : ℕ) → i < length rows → (row : Charge) × (get_or rows i row ≡ row)
+row_there [] i lt = absurd (omega (arith, lt))
+row_there (r ∷ rs) zero lt = (r, refl)
+row_there (r ∷ rs) (suc i) lt = let rest = row_there rs i (omega (arith, lt)) in (rest.0, rest.1)
+
+none_coded : (names : List Text) (d : Option DiscountText) → text_code names (option_map (λ x. x.id) d) ≡ 0 → d ≡ None
+unfolding text_code
+none_coded names None e = refl
+none_coded names (Some d) e = absurd (omega (arith, e))
+
+pub coded_all : (names : List Text) (rows : List Charge) (codes : List ℕ) → codes ≡ map (λ c. text_code names (option_map (λ d. d.id) c.discount)) rows → length codes ≡ length rows
+coded_all names rows codes are = ap length are ∙ length-map rows (λ (c : Charge). text_code names (option_map (λ d. d.id) c.discount))
+
+-- a code of 0 is that of a row without a discount
+pub passed_over : (names : List Text) (rows : List Charge) (codes : List ℕ) (i e : ℕ) → codes ≡ map (λ c. text_code names (option_map (λ d. d.id) c.discount)) rows → i < length rows → get_or codes i e ≡ 0 → (row : Charge) × ((get_or rows i row ≡ row) × (row.discount ≡ None))
+passed_over names rows codes i e are within none =
+    let found = row_there rows i within in
+    let code : get_or codes i e ≡ text_code names (option_map (λ d. d.id) (get_or rows i found.0).discount) =
+    ap (λ xs. get_or xs i e) are ∙ get_or-map (λ (c : Charge). text_code names (option_map (λ d. d.id) c.discount)) rows i found.0 e within in
+    (found.0, (found.1, ap (λ (c : Charge). c.discount) (sym found.1) ∙ none_coded names (get_or rows i found.0).discount (sym code ∙ none)))
+
+pub counts_pass : (start before after : Counts) (names : List Text) (rows : List Charge) (codes : List ℕ) (i e : ℕ) → codes ≡ map (λ c. text_code names (option_map (λ d. d.id) c.discount)) rows → i < length rows → get_or codes i e ≡ 0 → ((id : List ℕ) → count_of id before ≡ count_of id start + (if carries id (take i rows) then 1 else 0)) → after ≡ before → (id : List ℕ) → count_of id after ≡ count_of id start + (if carries id (take (i + 1) rows) then 1 else 0)
+counts_pass start before after names rows codes i e are within none so_far same =
+    let over = passed_over names rows codes i e are within none in
+    counts_stay start before after rows i over.0 within (sym over.1.0) so_far same
+    (λ id. ap (λ (d : Option DiscountText). option_map_or (λ x. bytes_eq id x.id) d false) over.1.1)
 
 -- how many of one commitment, or of none, have an id
 pub commitments_with_option : (id : List ℕ) (more : Option (Bor CommitmentValue)) (c : Bor CommitmentValue) → more ≡ Some c → commitments_with id (option_to_list (option_copied more)) ≡ (if bytes_eq id c.now.id then 1 else 0)

@@ -107,10 +107,13 @@ pub(crate) fn commitment_conflict(
 fn carry_registered(state: &State, rows: &Columns) -> bool
     ensures { result ≡ carries_any rows.now (commitments_of state.now.entries) }
 {
-    for place in 0..rows.len() {
-        let row = rows.lent(place);
-        if carries_registered(state, &row) {
-            return true;
+    let discounts = rows.discount_codes();
+    for place in 0..discounts.len() {
+        if discounts[place] != 0 {
+            let row = rows.lent(place);
+            if carries_registered(state, &row) {
+                return true;
+            }
         }
     }
     false

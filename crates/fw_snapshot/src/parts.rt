@@ -218,9 +218,10 @@ fn carried_with_rows(
     ensures { IfOk result (λ after. (id : List ℕ) → count_of id after ≡ count_of id carried.now + (if carries id rows.now then 1 else 0)) }
 {
     let mut after = carried.copy()?;
-    for place in 0..rows.len() {
-        let row = rows.lent(place);
-        if row.discount().is_some() {
+    let discounts = rows.discount_codes();
+    for place in 0..discounts.len() {
+        if discounts[place] != 0 {
+            let row = rows.lent(place);
             after = carried_with(alloc, carried, &after, &row)?;
         }
     }

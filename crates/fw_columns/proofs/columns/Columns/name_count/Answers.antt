@@ -3,7 +3,7 @@ use Rattle.fw_charge.specs.Tags.{longest_tag_text}
 use Rattle.fw_charge.specs.Charge.{Charge}
 use Rattle.fw_row_table.specs.Table.{rows_of}
 use Rattle.fw_row_table.specs.Texts.{names_of}
-use Rattle.fw_columns.proofs.KeptFacts.{names_sized}
+use Rattle.fw_row_table.proofs.LengthFacts.{names_sized}
 use Rattle.fw_columns.proofs.columns.Columns.name_count.Goals as goal
 
 pub returns-clause-sized : goal.returns-clause-sized
