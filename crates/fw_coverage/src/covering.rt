@@ -16,7 +16,7 @@ use fw_columns::Columns;
 use fw_cover::Roster;
 use fw_query::QueryFault;
 use fw_snapshot::{Snapshot, State};
-use fw_sums::{MOST_HOURS, HourPlace, rows_at, rows_by_hour, touched_hours};
+use fw_sums::{HourPlace, MOST_HOURS, rows_at, rows_by_hour, touched_hours};
 use fw_terms::Commitment;
 use std::alloc::{AllocError, Global};
 

@@ -19,7 +19,7 @@ use fw_amortise::lines_by_roster;
 use fw_columns::{Columns, LentRow};
 use fw_cover::{Roster, references};
 use fw_snapshot::{Snapshot, State};
-use fw_sums::{MOST_HOURS, HourPlace, every_hour, is_touched, rows_at, rows_by_hour};
+use fw_sums::{HourPlace, MOST_HOURS, every_hour, is_touched, rows_at, rows_by_hour};
 use fw_terms::Commitment;
 use std::alloc::{AllocError, Global};
 

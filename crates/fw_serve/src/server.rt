@@ -61,7 +61,15 @@ pub fn serve<R: Read, W: Write, V: Volume>(
     store.keeps();
     let text = read_script(alloc, reader)?;
     let mut posts = Posts::new(alloc, &text, workers);
-    let served = answer_all(rt, alloc, text.as_slice(), &mut posts, writer, store, workers);
+    let served = answer_all(
+        rt,
+        alloc,
+        text.as_slice(),
+        &mut posts,
+        writer,
+        store,
+        workers,
+    );
     posts.stop(rt, alloc);
     store.keeps();
     served
