@@ -234,6 +234,7 @@ impl Columns {
     {
         self.table().skus.as_slice()
     }
+
     /// The code of the id of each row's commitment discount: 0 where there is no discount, else 1 more than the id's place among the names.
     pub fn discount_codes(&self) -> &[u32]
         ensures { result.now ≡ map (λ c. text_code (names_of self.now) (option_map (λ d. d.id) c.discount)) self.now }
