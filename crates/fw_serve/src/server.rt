@@ -18,6 +18,7 @@ use fw_recover::Store;
 use fw_script::Script;
 use std::alloc::Global;
 use std::io::{Read, Write};
+use std::sync::Arc;
 use std::thread::Threads;
 
 /// Reads a script to its end, runs its commands on the store in order, writes their answers, and flushes the writer.
@@ -64,7 +65,7 @@ pub fn serve<R: Read, W: Write, V: Volume>(
     let served = answer_all(
         rt,
         alloc,
-        text.as_slice(),
+        bytes_of(&text),
         &mut posts,
         writer,
         store,
@@ -73,6 +74,13 @@ pub fn serve<R: Read, W: Write, V: Volume>(
     posts.stop(rt, alloc);
     store.keeps();
     served
+}
+
+// The bytes of a script that is shared.
+fn bytes_of(script: &Arc<Vec<u8>>) -> &[u8]
+    ensures { result.now ≡ script.now.value.items }
+{
+    script.as_slice()
 }
 
 // Runs the commands of a script, and writes their answers.
