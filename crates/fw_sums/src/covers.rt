@@ -192,7 +192,7 @@ impl HourSums {
         }
     }
 
-    // Keeps what a worker found of a piece of the hours: nothing where memory was short.
+    // Keeps what a worker found of the hours that it took: nothing where memory was short.
     fn keep_piece(&mut self, piece: Result<Vec<HourSum>, AllocError>)
         ensures kept { (cs : List CommitmentValue) (rows : List Charge) (key : List ℕ) → AreFound cs rows key piece → AreKeptUnder cs rows key self.old → AreKeptUnder cs rows key self.new }
         ensures more { KeepsMore self.old self.new }
@@ -202,7 +202,7 @@ impl HourSums {
         }
     }
 
-    // Keeps what workers found, each of a piece of the hours.
+    // Keeps what workers found, each of the hours that it took.
     pub(crate) fn keep_pieces(&mut self, pieces: Vec<Result<Vec<HourSum>, AllocError>>)
         ensures kept { (cs : List CommitmentValue) (rows : List Charge) (key : List ℕ) → All (AreFound cs rows key) pieces.items → AreKeptUnder cs rows key self.old → AreKeptUnder cs rows key self.new }
         ensures more { KeepsMore self.old self.new }

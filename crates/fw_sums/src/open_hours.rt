@@ -13,6 +13,7 @@ use fw_columns::Columns;
 use fw_cover::Roster;
 use fw_terms::Commitment;
 use std::alloc::{AllocError, Global};
+use std::sync::atomic::{AtomicUsize, Ordering};
 use std::thread::{Threads, map_indices};
 
 // So many hours are found at once, before what was found is kept: what they come to is in memory together.
@@ -88,8 +89,8 @@ impl OpenHours {
         None
     }
 
-    // The same of the hour at a place and of each so many hours behind it, before an end. Hours next to each other mostly cost about the same, and those of one part
-    // of a range more than those of another: so hours are dealt one by one.
+    // The same of each hour that this worker takes: the next one before the end that no worker took yet, again and again. Commitments aren't spread evenly over a
+    // range, so some hours cost more than others; a worker that is done with one takes another, and none waits while there are hours left.
     fn find_each<'a>(
         &self,
         alloc: Global,
@@ -98,16 +99,18 @@ impl OpenHours {
         roster: &Roster<'a>,
         listed: &Listed,
         from: u64,
-        first: usize,
-        step: usize,
+        next: &AtomicUsize,
         end: usize,
     ) -> Result<Vec<HourSum>, AllocError>
         requires can { CanFind (lent segments.now) roster.now listed.now from self.now }
-        requires step { 0 < step }
         ensures { AreFound roster.now.commitments (all_rows (lent segments.now)) key.now result }
     {
         let mut found = Vec::new(alloc);
-        for place in (first..end).step_by(step) {
+        for _taken in 0..HOURS_AT_ONCE {
+            let place = next.fetch_add(1, Ordering::SeqCst);
+            if place >= end {
+                break;
+            }
             if let Some(one) = self.find(alloc, key, segments, roster, listed, from, place) {
                 found.push(one)?;
             }
@@ -115,7 +118,7 @@ impl OpenHours {
         Ok(found)
     }
 
-    // The same of some hours from a place on, dealt to so many workers, each in a thread of its own.
+    // The same of some hours from a place on, found by so many workers, each in a thread of its own.
     fn find_pieces<'a>(
         &self,
         rt: &(impl Threads + Sync),
@@ -128,23 +131,19 @@ impl OpenHours {
         first: usize,
         workers: u32,
     ) -> Result<Vec<Result<Vec<HourSum>, AllocError>>, AllocError>
-        requires workers { 0 < workers }
         requires can { CanFind (lent segments.now) roster.now listed.now from self.now }
         ensures { IfOk result (λ pieces. All (AreFound roster.now.commitments (all_rows (lent segments.now)) key.now) pieces.items) }
     {
-        let end = first.saturating_add(HOURS_AT_ONCE);
-        let step = workers as usize;
+        let end = first.saturating_add(HOURS_AT_ONCE).min(self.by_hour.len());
+        let next = AtomicUsize::new(first);
         map_indices(
             rt,
             alloc,
             workers as usize,
-            &|worker: usize| -> Result<Vec<HourSum>, AllocError>
-                requires { (0 < step) × CanFind (lent segments.now) roster.now listed.now from self.now }
+            &|_worker: usize| -> Result<Vec<HourSum>, AllocError>
+                requires { CanFind (lent segments.now) roster.now listed.now from self.now }
                 ensures { AreFound roster.entry.now.commitments (all_rows (lent segments.entry.now)) key.entry.now result }
-            {
-                let start = first.saturating_add(worker);
-                self.find_each(alloc, key, segments, roster, listed, from, start, step, end)
-            },
+            { self.find_each(alloc, key, segments, roster, listed, from, &next, end) },
         )
     }
 
@@ -162,7 +161,6 @@ impl OpenHours {
         from: u64,
         workers: u32,
     )
-        requires workers { 0 < workers }
         requires fits { from + length self.now.by_hour.items < 2 ^ 64 }
         requires roster { HasHours roster.now from (length self.now.by_hour.items) }
         requires listed { AreListed (lent segments.now) roster.now listed.now }
