@@ -6,11 +6,10 @@ ghost use Rattle.fw_sums.specs.Hours.{IsThere, lent, row_places, row_places_at};
 ghost use Rattle.fw_sums.specs.Listed.{AreListed, AreUnlisted, is_marked_code, is_unlisted, may_be_listed, sku_codes};
 
 use crate::hours::{HourPlace, RowPlace};
-use crate::marks::{has_mark, mask_of};
+use crate::marks::{has_mark, place_of_hour};
 use crate::segments::count_at;
 use fw_columns::{Columns, Names};
 use fw_cover::Roster;
-use fw_lanes::{code_count, marks_by_code};
 use std::alloc::{AllocError, Global};
 
 // Which rows of some segments may have a SKU that a commitment lists: for each segment, the codes of SKUs that none lists are marked. A code that isn't
@@ -35,6 +34,21 @@ fn is_unlisted(roster: &Roster<'_>, names: &Names, code: usize) -> bool
     !roster.lists_sku(names.text(place as u32))
 }
 
+// Notes which codes of SKUs a segment's rows at these places have.
+fn note_used(used: &mut Vec<bool>, segment: &Columns, places: &[u16]) -> Result<(), AllocError>
+    requires { All (λ place. place < length segment.now) places.now }
+{
+    let codes = segment.sku_codes();
+    for place in places {
+        let code = codes[usize::from(*place)] as usize;
+        if code >= used.len() {
+            used.resize(code + 1, false)?;
+        }
+        used[code] = true;
+    }
+    Ok(())
+}
+
 // The marks of a segment's codes. Each SKU is looked up once, and only where a row of a marked hour has it; the first mark is of the hour `from`. A segment
 // without such rows has no marks.
 fn unlisted_codes(
@@ -46,13 +60,14 @@ fn unlisted_codes(
 ) -> Result<Vec<bool>, AllocError>
     ensures { IfOk result (λ unlisted. AreUnlisted roster.now (names_of segment.now) unlisted.items) }
 {
-    let mut unlisted = Vec::new(alloc);
-    let mask = mask_of(alloc, segment.starts(), from, marks)?;
-    if !has_mark(mask.as_slice()) {
-        return Ok(unlisted);
+    let hours = segment.hours();
+    let mut used = Vec::new(alloc);
+    for number in 0..hours.len() {
+        if place_of_hour(u64::from(hours[number]), from, marks).is_some() {
+            note_used(&mut used, segment, segment.places_in(number))?;
+        }
     }
-    let codes = segment.sku_codes();
-    let used = marks_by_code(alloc, codes, mask.as_slice(), code_count(codes))?;
+    let mut unlisted = Vec::new(alloc);
     for (code, is_used) in used.iter().enumerate() {
         unlisted.push(*is_used && is_unlisted(roster, segment.names(), code))?;
     }

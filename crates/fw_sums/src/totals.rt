@@ -55,7 +55,13 @@ pub fn totals_keeping<'a>(
     )?;
     let roster = Roster::new(alloc, commitments, query.from_hour, query.to_hour)?;
     let hours = open_hours(alloc, segments, commitments, &kept.hours, query)?;
-    let listed = listed(alloc, segments, &roster, &hours, query)?;
+    let listed = Listed::of_segments(
+        alloc,
+        segments,
+        &roster,
+        query.from_hour,
+        hours.marks.as_slice(),
+    )?;
     hours.keep_all(
         rt,
         alloc,
@@ -101,7 +107,13 @@ pub fn totals_alone<'a>(
     let roster = Roster::new(alloc, commitments, query.from_hour, query.to_hour)?;
     let mut kept = HourSums::new(alloc);
     let hours = open_hours(alloc, segments, commitments, &kept, query)?;
-    let listed = listed(alloc, segments, &roster, &hours, query)?;
+    let listed = Listed::of_segments(
+        alloc,
+        segments,
+        &roster,
+        query.from_hour,
+        hours.marks.as_slice(),
+    )?;
     totals_of(segments, rows, &roster, &listed, &mut kept, &hours, query)
 }
 
@@ -118,25 +130,6 @@ fn open_hours(
 {
     let hours = (query.to_hour - query.from_hour) as usize;
     OpenHours::of_range(alloc, segments, commitments, kept, query.from_hour, hours)
-}
-
-// What the roster lists of the rows of the open hours of the query's range.
-fn listed(
-    alloc: Global,
-    segments: &[&Columns],
-    roster: &Roster<'_>,
-    hours: &OpenHours,
-    query: &Query<'_>,
-) -> Result<Listed, AllocError>
-    ensures { IfOk result (AreListed (lent segments.now) roster.now) }
-{
-    Listed::of_segments(
-        alloc,
-        segments,
-        roster,
-        query.from_hour,
-        hours.marks.as_slice(),
-    )
 }
 
 // The totals, given the sums of the range's rows.
