@@ -4,8 +4,8 @@
 #![tactic(auto)]
 
 mod content;
+mod piece;
 mod posts;
 mod read_post;
-mod reader;
 
 pub use posts::Posts;

@@ -1,63 +1,100 @@
 //! The posts of a script.
-ghost use Rattle.std.specs.Prelude.{IfSome};
+ghost use Rattle.std.specs.Prelude.{◌≡◌, IfSome, OnOk};
 ghost use Rattle.fw_rows.specs.Rows.{RowsRead};
 
-use crate::content::Content;
+use crate::piece::Piece;
 use crate::read_post::ReadPost;
-use crate::reader::Reader;
 use fw_column_rows::{KnownTexts, read_columns_after};
 use fw_columns::Columns;
 use fw_rows::{Currency, RowFault};
+use fw_script::ScriptText;
 use std::alloc::{AllocError, Global};
-use std::sync::Arc;
 use std::thread::Threads;
 
-// So many bytes of posts a worker reads in one thread, or one post that is longer.
-const BYTES_AT_ONCE: usize = 262_144;
+// A piece that a worker reads in one thread has about so many bytes, or one command that is longer.
+const PIECE_BYTES: usize = 1 << 20;
 
-// And so many posts at most.
-const POSTS_AT_ONCE: usize = 1_024;
+// So many pieces are read at most before their posts are asked for.
+const PIECES_AHEAD: usize = 128;
 
-/// The posts of a script, which are asked for in the order of its commands. Several workers read ahead, each some 256 KiB of posts at a time, while whoever asks does
-/// something else; one worker reads each post when it is asked for.
+/// The posts of a script, which are asked for in the order of its commands. Several workers read ahead, each a piece of about 1 MiB at a time, while the script
+/// comes and while whoever asks does something else; one worker reads each post when it is asked for.
 #[derive(Drop)]
 pub struct Posts {
-    // The script, which the workers share; none where it has as many owners as can be counted.
-    script: Option<Arc<Vec<u8>>>,
-    // Where what isn't read ahead yet begins.
-    at: usize,
-    // The workers, of which there are two at least, or none, in the order in which they were started.
-    readers: Vec<Reader>,
-    // Whether they were started.
-    are_started: bool,
-    // Whose posts are next.
+    // Whether workers read ahead.
+    reads_ahead: bool,
+    // What each worker that doesn't read knows of tags.
+    idle: Vec<KnownTexts>,
+    // The pieces of the script, in order.
+    pieces: Vec<Piece>,
+    // The first piece that no worker was given.
+    next: usize,
+    // The first piece whose posts weren't taken.
     turn: usize,
-    // The posts that were read and not asked for yet, the first one last.
+    // So many bytes are to come before a piece is cut off.
+    next_cut: usize,
+    // The posts of the piece before that one that weren't asked for yet, the first one last.
     read: Vec<ReadPost>,
     // The tags that are known of texts from the posts that were read when they were asked for.
     known: KnownTexts,
 }
 
 impl Posts {
-    /// The posts of a script, read by so many workers. Where memory for these is refused, there are fewer.
-    pub fn new(alloc: Global, script: &Arc<Vec<u8>>, workers: u32) -> Posts {
+    /// The posts of a script that is to come, read by so many workers. Where memory for these is refused, there are fewer.
+    pub fn new(alloc: Global, workers: u32) -> Posts {
         let mut posts = Posts {
-            script: Arc::try_clone(script).ok(),
-            at: 0,
-            readers: Vec::new(alloc),
-            are_started: false,
+            reads_ahead: workers > 1,
+            idle: Vec::new(alloc),
+            pieces: Vec::new(alloc),
+            next: 0,
             turn: 0,
+            next_cut: PIECE_BYTES,
             read: Vec::new(alloc),
             known: KnownTexts::new(alloc),
         };
-        if workers > 1 {
+        if posts.reads_ahead {
             for _ in 0..workers {
-                if posts.readers.push(Reader::new(alloc)).is_err() {
+                if posts.idle.push(KnownTexts::new(alloc)).is_err() {
                     break;
                 }
             }
         }
         posts
+    }
+
+    /// Has workers read what came of the script, where there are several, once there is enough for one: its whole commands are cut off then. The script's bytes stay the same. The
+    /// one error is that memory ran out.
+    pub fn read_ahead(
+        &mut self,
+        rt: &impl Threads,
+        alloc: Global,
+        script: &mut ScriptText,
+        currency: Currency,
+    ) -> Result<(), AllocError>
+        ensures { OnOk result (script.new ≡ script.old) }
+    {
+        if !self.reads_ahead {
+            return Ok(());
+        }
+        if script.uncut() >= self.next_cut {
+            self.cut(alloc, script)?;
+        }
+        self.go_on(rt, alloc, currency);
+        Ok(())
+    }
+
+    /// The same, where nothing of the script is to come any more.
+    pub fn read_rest(
+        &mut self,
+        rt: &impl Threads,
+        alloc: Global,
+        script: &mut ScriptText,
+        currency: Currency,
+    ) -> Result<(), AllocError>
+        ensures { OnOk result (script.new ≡ script.old) }
+    {
+        self.next_cut = 0;
+        self.read_ahead(rt, alloc, script, currency)
     }
 
     /// What the content of a post reads as, where costs are in `currency`. It was read ahead, or is read now. `NoMemory` comes where memory ran out when it was
@@ -71,9 +108,7 @@ impl Posts {
     ) -> Result<Columns, RowFault>
         ensures { RowsRead currency content.now result }
     {
-        if self.read.is_empty() {
-            self.fetch(rt, alloc, currency);
-        }
+        self.fetch(rt, alloc, currency);
         match self.take_rows_of(content, currency) {
             Some(rows) => rows,
             None => read_columns_after(alloc, content, currency, &mut self.known),
@@ -81,65 +116,97 @@ impl Posts {
     }
 
     /// Waits for the workers to end what they read. Nothing is read ahead any more.
-    pub fn stop(&mut self, rt: &impl Threads, alloc: Global) {
-        for reader in self.readers.iter_mut() {
-            let _posts = reader.finish(rt, alloc);
+    pub fn stop(&mut self, rt: &impl Threads) {
+        for place in self.turn..self.next {
+            self.finish(rt, place);
         }
-        self.readers.clear();
+        self.reads_ahead = false;
+        self.turn = self.next;
+        self.idle.clear();
     }
 
-    // Takes the posts of the worker whose turn it is, and has it read the next ones.
-    fn fetch(&mut self, rt: &impl Threads, alloc: Global, currency: Currency) {
-        self.start_all(rt, alloc, currency);
-        let turn = if self.turn < self.readers.len() {
-            self.turn
-        } else {
-            0
-        };
-        if let Some(reader) = self.readers.get_mut(turn) {
-            self.read = reader.finish(rt, alloc);
-            self.start(rt, alloc, turn, currency);
-            self.turn = turn.saturating_add(1);
-        }
-    }
-
-    // Has each worker read, the first time.
-    fn start_all(&mut self, rt: &impl Threads, alloc: Global, currency: Currency) {
-        if self.are_started {
-            return;
-        }
-        self.are_started = true;
-        for place in 0..self.readers.len() {
-            self.start(rt, alloc, place, currency);
-        }
-    }
-
-    // Has the worker at a place read the next posts.
-    fn start(&mut self, rt: &impl Threads, alloc: Global, place: usize, currency: Currency) {
-        let contents = self.next_contents(alloc);
-        if let (Some(reader), Ok(contents)) = (self.readers.get_mut(place), contents) {
-            reader.start(rt, alloc, contents, currency);
-        }
-    }
-
-    // The contents of the next posts that a worker reads in one thread.
-    fn next_contents(&mut self, alloc: Global) -> Result<Vec<Content>, AllocError> {
-        let mut contents = Vec::new(alloc);
-        let Some(script) = &self.script else {
-            return Ok(contents);
-        };
-        let end = self.at.saturating_add(BYTES_AT_ONCE);
-        for _ in 0..POSTS_AT_ONCE {
-            if self.at >= end {
-                break;
+    // Cuts a piece off the script, or waits for twice as many bytes where no command is whole yet.
+    fn cut(&mut self, alloc: Global, script: &mut ScriptText) -> Result<(), AllocError>
+        ensures { OnOk result (script.new ≡ script.old) }
+    {
+        match script.cut(alloc)? {
+            Some(text) => {
+                self.pieces.push(Piece::new(alloc, text))?;
+                self.next_cut = PIECE_BYTES;
             }
-            let Some((content, behind)) = Content::next(script, self.at) else {
+            None => self.next_cut = self.next_cut.saturating_mul(2),
+        }
+        Ok(())
+    }
+
+    // Takes back the workers that are done, and has them read the next pieces.
+    fn go_on(&mut self, rt: &impl Threads, alloc: Global, currency: Currency) {
+        for place in self.turn..self.next {
+            if self.is_done(place) {
+                self.finish(rt, place);
+            }
+        }
+        let end = self.turn.saturating_add(PIECES_AHEAD);
+        for place in self.next..self.pieces.len().min(end) {
+            let Some(known) = self.idle.pop() else {
                 break;
             };
-            contents.push(content)?;
-            self.at = behind;
+            self.start(rt, alloc, place, currency, known);
+            self.next = place.saturating_add(1);
         }
-        Ok(contents)
+    }
+
+    // Whether the piece at a place was read, and its worker isn't taken back.
+    fn is_done(&self, place: usize) -> bool {
+        match self.pieces.get(place) {
+            Some(piece) => piece.is_done(),
+            None => false,
+        }
+    }
+
+    // Has a worker that knows these tags read the piece at a place.
+    fn start(
+        &mut self,
+        rt: &impl Threads,
+        alloc: Global,
+        place: usize,
+        currency: Currency,
+        known: KnownTexts,
+    ) {
+        if let Some(piece) = self.pieces.get_mut(place) {
+            if let Some(known) = piece.start(rt, alloc, currency, known) {
+                let _pushed = self.idle.push(known);
+            }
+        }
+    }
+
+    // Waits for the worker that reads the piece at a place, if one does, and takes it back.
+    fn finish(&mut self, rt: &impl Threads, place: usize) {
+        if let Some(piece) = self.pieces.get_mut(place) {
+            if let Some(known) = piece.finish(rt) {
+                let _pushed = self.idle.push(known);
+            }
+        }
+    }
+
+    // Takes the posts of the next pieces, where all that were read were asked for.
+    fn fetch(&mut self, rt: &impl Threads, alloc: Global, currency: Currency) {
+        for _ in self.turn..self.pieces.len() {
+            if !self.read.is_empty() {
+                break;
+            }
+            self.go_on(rt, alloc, currency);
+            if self.turn >= self.next {
+                break;
+            }
+            let turn = self.turn;
+            self.finish(rt, turn);
+            if let Some(piece) = self.pieces.get_mut(turn) {
+                self.read = piece.take_posts(alloc);
+            }
+            self.turn = turn.saturating_add(1);
+            self.go_on(rt, alloc, currency);
+        }
     }
 
     // What the content of a post reads as, if it is the next one that was read ahead.

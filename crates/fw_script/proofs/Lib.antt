@@ -1,4 +1,6 @@
 pub mod CommandsLaws
 pub mod HoursLaws
 pub mod LinesLaws
+pub mod PieceLaws
+pub mod WholeLaws
 pub mod WordsLaws

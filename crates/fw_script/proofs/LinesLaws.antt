@@ -23,7 +23,7 @@ line_length (x ∷ xs) line following some (inr h) = rw h.1 (omega arith)
 pub StartsWithLine-shorter : (text line following : List ℕ) → StartsWithLine text line following → length following < length text
 StartsWithLine-shorter text line following h = line_length text line following h.some h.in_turn
 
-line_suffix : (text line following : List ℕ) → (text ≡ line ++ line_feed ∷ following) ⊎ ((text ≡ line) × (following ≡ [])) → (front : List ℕ) × (text ≡ front ++ following)
+pub line_suffix : (text line following : List ℕ) → (text ≡ line ++ line_feed ∷ following) ⊎ ((text ≡ line) × (following ≡ [])) → (front : List ℕ) × (text ≡ front ++ following)
 line_suffix text line following (inl h) = (line ++ line_feed ∷ [], h ∙ sym (append_assoc line (line_feed ∷ []) following))
 line_suffix text line following (inr h) = (text, sym (ap (λ r. text ++ r) h.1 ∙ append-nil text))
 
@@ -53,7 +53,7 @@ FollowsLines-ended (suc i) (suc n) text following lt h k =
     let same = StartsWithLine-one text h.0 h.1 k.0 k.1 h.2 k.2 in
     FollowsLines-ended i n k.1 following (omega arith) (subst (λ t. FollowsLines i t []) same.1 h.3) k.3
 
-suffix : (n : ℕ) (text following : List ℕ) → FollowsLines n text following → (front : List ℕ) × (text ≡ front ++ following)
+pub suffix : (n : ℕ) (text following : List ℕ) → FollowsLines n text following → (front : List ℕ) × (text ≡ front ++ following)
 unfolding FollowsLines
 suffix zero text following h = ([], sym h)
 suffix (suc n) text following h =

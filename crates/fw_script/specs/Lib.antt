@@ -3,4 +3,5 @@ pub mod Hours
 pub mod Lines
 pub mod Plain
 pub mod Splits
+pub mod Whole
 pub mod Words

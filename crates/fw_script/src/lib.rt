@@ -14,16 +14,21 @@
 //! the script ends.
 //!
 //! An entry's origin and sequence number are taken as they stand. `sequence_number` says which number such a word writes.
+//!
+//! A script may come piece by piece: [`ScriptText`] keeps what came, and cuts off what is whole commands.
 #![tactic(auto)]
 
 mod commands;
 mod hours;
 mod laws;
 mod lines;
+mod pieces;
 mod reader;
+mod whole;
 mod words;
 
 pub use commands::{Command, EntryKind};
 pub use laws::{commands_are_one, first_command_is_one};
+pub use pieces::{Commands, ScriptText};
 pub use reader::Script;
 pub use words::sequence_number;

@@ -354,10 +354,10 @@ Runs-whole tells view script left a b x y z done kept = record {
 }
 
 -- of the script that a reader had
-pub IsRun-of : {V : Type 0} (tells : Bool) (view : V → View) (bytes : Option (List ℕ)) (items script : List ℕ) (old new : StoreState V) (held holds : Option (List ℕ)) → script ≡ items
-    → IsScriptOf bytes items → (runs : Runs tells view script old new held holds) → IsRun bytes (standing_of view old) (standing_of view new) held holds runs.commands runs.answers
-IsRun-of tells view bytes items script old new held holds same given runs = record {
-  reads = inr (items, runs.left, given, subst (λ (s : List ℕ). StartsWithCommands s runs.commands runs.left) same runs.reads);
+pub IsRun-of : {V : Type 0} (tells : Bool) (view : V → View) (bytes : Option (List ℕ)) (script : List ℕ) (old new : StoreState V) (held holds : Option (List ℕ))
+    → IsScriptOf bytes script → (runs : Runs tells view script old new held holds) → IsRun bytes (standing_of view old) (standing_of view new) held holds runs.commands runs.answers
+IsRun-of tells view bytes script old new held holds given runs = record {
+  reads = inr (script, runs.left, given, runs.reads);
   answered = runs.answered;
   writes = runs.writes;
 }

@@ -15,10 +15,9 @@ use fw_ahead::Posts;
 use fw_disk::Volume;
 use fw_query::Covers;
 use fw_recover::Store;
-use fw_script::Script;
+use fw_script::ScriptText;
 use std::alloc::Global;
 use std::io::{Read, Write};
-use std::sync::Arc;
 use std::thread::Threads;
 
 /// Reads a script to its end, runs its commands on the store in order, writes their answers, and flushes the writer.
@@ -60,34 +59,20 @@ pub fn serve<R: Read, W: Write, V: Volume>(
     ensures cause { store.old.failed ≡ false → store.new.failed ≡ true → Rose (V.view store.old.volume).failures (V.view store.new.volume).failures }
 {
     store.keeps();
-    let text = read_script(alloc, reader)?;
-    let mut posts = Posts::new(alloc, &text, workers);
-    let served = answer_all(
-        rt,
-        alloc,
-        bytes_of(&text),
-        &mut posts,
-        writer,
-        store,
-        workers,
-    );
-    posts.stop(rt, alloc);
+    let mut posts = Posts::new(alloc, workers);
+    let currency = store.state().state().currency();
+    let text = read_script(rt, alloc, reader, &mut posts, currency)?;
+    let served = answer_all(rt, alloc, &text, &mut posts, writer, store, workers);
+    posts.stop(rt);
     store.keeps();
     served
-}
-
-// The bytes of a script that is shared.
-fn bytes_of(script: &Arc<Vec<u8>>) -> &[u8]
-    ensures { result.now ≡ script.now.value.items }
-{
-    script.as_slice()
 }
 
 // Runs the commands of a script, and writes their answers.
 fn answer_all<W: Write, V: Volume>(
     rt: &(impl Threads + Sync),
     alloc: Global,
-    text: &[u8],
+    text: &ScriptText,
     posts: &mut Posts,
     writer: &mut W,
     store: &mut Store<V>,
@@ -99,7 +84,7 @@ fn answer_all<W: Write, V: Volume>(
     ensures write { IfErr result (λ why. (why ≡ ServeFault.Write) × ServesInPart text.now (standing_of V.view store.old) (standing_of V.view store.new) (W.contents writer.old) (W.contents writer.new)) }
     ensures runs { Runs V.tells V.view text.now store.old store.new (W.contents writer.old) (W.contents writer.new) }
 {
-    let mut script = Script::new(text);
+    let mut script = text.commands();
     let mut covers = Covers::new(alloc);
     while let Some(command) = script.next_command() {
         store.keeps();

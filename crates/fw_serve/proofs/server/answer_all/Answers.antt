@@ -9,8 +9,8 @@ use Rattle.fw_serve.proofs.server.answer_all.Goals as goal
 
 pub loop-command-init : goal.loop-command-init
 loop-command-init g c = record {
-  so_far = ServesSoFar-none _ _ _ _ c.new-script.ensures;
-  runs = RunsSoFar-none _ _ _ _ _ _ c.new-script.ensures;
+  so_far = ServesSoFar-none _ _ _ _ c.commands-script.ensures;
+  runs = RunsSoFar-none _ _ _ _ _ _ c.commands-script.ensures;
   kept = c.new-covers.ensures.kept _ _;
 }
 

@@ -19,7 +19,7 @@ returns-clause-any_moment g c = λ told works.
     record {
       commands = runs.commands;
       answers = runs.answers;
-      run = IsRun-of _ _ _ _ _ _ _ _ _ c.bytes_of.ensures (c.in_ok-text.ensures.whole, c.in_ok-text.ensures.short) runs;
+      run = IsRun-of _ _ _ _ _ _ _ _ (c.in_ok-text.ensures.whole, c.in_ok-text.ensures.short) runs;
       any_moment = moved_at g.V.Volume.tells g.V.Volume.view _ c.args.store.now c.answer_all-served.new.store c.keeps.ensures (g.met.V.Volume.only_now c.args.store.now.volume) runs.moves told works;
       once_failed = moved_failed g.V.Volume.tells g.V.Volume.view _ c.args.store.now c.answer_all-served.new.store runs.moves told works;
     }
@@ -34,7 +34,7 @@ returns-clause-each_command g c =
     record {
       commands = runs.commands;
       answers = runs.answers;
-      run = IsRun-of _ _ _ _ _ _ _ _ _ c.bytes_of.ensures (c.in_ok-text.ensures.whole, c.in_ok-text.ensures.short) runs;
+      run = IsRun-of _ _ _ _ _ _ _ _ (c.in_ok-text.ensures.whole, c.in_ok-text.ensures.short) runs;
       in_turn = runs.in_turn;
     }
 
