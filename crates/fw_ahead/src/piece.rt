@@ -37,6 +37,7 @@ fn read_batch(
         }
         at = behind;
     }
+    posts.shrink_to_fit();
     posts.reverse();
     Batch { posts, known }
 }
@@ -92,8 +93,8 @@ impl Piece {
         }
     }
 
-    // Has a worker that knows these tags read it in a thread of its own. Where the thread is refused nothing is read, and what another worker is to know
-    // comes back.
+    // Has a worker that knows these tags read it in a thread of its own. Where memory or the thread is refused nothing is read, and what a new worker knows
+    // comes back: nothing.
     pub(crate) fn start(
         &mut self,
         rt: &impl Threads,
@@ -128,6 +129,11 @@ impl Piece {
         let Batch { posts, known } = reading.thread.join(rt);
         self.posts = posts;
         Some(known)
+    }
+
+    // How many of its posts were read, and not taken.
+    pub(crate) fn count(&self) -> usize {
+        self.posts.len()
     }
 
     // Takes its posts, of which the first one stands last.

@@ -11,11 +11,14 @@ use fw_script::ScriptText;
 use std::alloc::{AllocError, Global};
 use std::thread::Threads;
 
-// A piece that a worker reads in one thread has about so many bytes, or one command that is longer.
+// A piece that a worker reads in one thread has about so many bytes: less before a command that is longer, and up to twice such a command.
 const PIECE_BYTES: usize = 1 << 20;
 
 // So many pieces are read at most before their posts are asked for.
 const PIECES_AHEAD: usize = 128;
+
+// Where so many posts were read and not asked for, no further piece is begun.
+const POSTS_AHEAD: usize = 16_384;
 
 /// The posts of a script, which are asked for in the order of its commands. Several workers read ahead, each a piece of about 1 MiB at a time, while the script
 /// comes and while whoever asks does something else; one worker reads each post when it is asked for.
@@ -31,6 +34,8 @@ pub struct Posts {
     next: usize,
     // The first piece whose posts weren't taken.
     turn: usize,
+    // How many posts are in the pieces whose workers are done and whose posts weren't taken.
+    held: usize,
     // So many bytes are to come before a piece is cut off.
     next_cut: usize,
     // The posts of the piece before that one that weren't asked for yet, the first one last.
@@ -48,6 +53,7 @@ impl Posts {
             pieces: Vec::new(alloc),
             next: 0,
             turn: 0,
+            held: 0,
             next_cut: PIECE_BYTES,
             read: Vec::new(alloc),
             known: KnownTexts::new(alloc),
@@ -62,8 +68,8 @@ impl Posts {
         posts
     }
 
-    /// Has workers read what came of the script, where there are several, once there is enough for one: its whole commands are cut off then. The script's bytes stay the same. The
-    /// one error is that memory ran out.
+    /// Has workers read what came of the script, where there are several, once there is enough for one: its whole commands are cut off then. The script's
+    /// bytes stay the same. The one error is that memory ran out: then the script may have lost some.
     pub fn read_ahead(
         &mut self,
         rt: &impl Threads,
@@ -134,7 +140,7 @@ impl Posts {
                 self.pieces.push(Piece::new(alloc, text))?;
                 self.next_cut = PIECE_BYTES;
             }
-            None => self.next_cut = self.next_cut.saturating_mul(2),
+            None => self.next_cut = script.uncut().saturating_mul(2),
         }
         Ok(())
     }
@@ -146,12 +152,14 @@ impl Posts {
                 self.finish(rt, place);
             }
         }
+        if self.held >= POSTS_AHEAD {
+            return;
+        }
         let end = self.turn.saturating_add(PIECES_AHEAD);
         for place in self.next..self.pieces.len().min(end) {
-            let Some(known) = self.idle.pop() else {
+            if !self.start(rt, alloc, place, currency) {
                 break;
-            };
-            self.start(rt, alloc, place, currency, known);
+            }
             self.next = place.saturating_add(1);
         }
     }
@@ -164,18 +172,22 @@ impl Posts {
         }
     }
 
-    // Has a worker that knows these tags read the piece at a place.
+    // Has a worker that does nothing read the piece at a place: false where there is none, or no thread.
     fn start(
         &mut self,
         rt: &impl Threads,
         alloc: Global,
         place: usize,
         currency: Currency,
-        known: KnownTexts,
-    ) {
-        if let Some(piece) = self.pieces.get_mut(place) {
-            if let Some(known) = piece.start(rt, alloc, currency, known) {
+    ) -> bool {
+        let (Some(piece), Some(known)) = (self.pieces.get_mut(place), self.idle.pop()) else {
+            return false;
+        };
+        match piece.start(rt, alloc, currency, known) {
+            None => true,
+            Some(known) => {
                 let _pushed = self.idle.push(known);
+                false
             }
         }
     }
@@ -184,6 +196,7 @@ impl Posts {
     fn finish(&mut self, rt: &impl Threads, place: usize) {
         if let Some(piece) = self.pieces.get_mut(place) {
             if let Some(known) = piece.finish(rt) {
+                self.held = self.held.saturating_add(piece.count());
                 let _pushed = self.idle.push(known);
             }
         }
@@ -196,20 +209,24 @@ impl Posts {
                 break;
             }
             self.go_on(rt, alloc, currency);
-            if self.turn >= self.next {
+            let turn = self.turn;
+            if turn >= self.next {
+                // No worker can read it: its posts are read when they are asked for.
+                self.turn = turn.saturating_add(1);
+                self.next = self.turn;
                 break;
             }
-            let turn = self.turn;
             self.finish(rt, turn);
             if let Some(piece) = self.pieces.get_mut(turn) {
                 self.read = piece.take_posts(alloc);
+                self.held = self.held.saturating_sub(self.read.len());
             }
             self.turn = turn.saturating_add(1);
             self.go_on(rt, alloc, currency);
         }
     }
 
-    // What the content of a post reads as, if it is the next one that was read ahead.
+    // What the content of a post reads as, if it is the next one that was read ahead, and memory didn't run out.
     fn take_rows_of(
         &mut self,
         content: &[u8],
@@ -218,6 +235,7 @@ impl Posts {
         ensures { IfSome result (λ rows. RowsRead currency content.now rows) }
     {
         match self.read.pop()?.into_rows_of(content, currency) {
+            Ok(Err(RowFault::NoMemory)) => None,
             Ok(rows) => Some(rows),
             Err(post) => {
                 let _pushed = self.read.push(post);
