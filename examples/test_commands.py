@@ -879,6 +879,35 @@ class Dumps(unittest.TestCase):
             self.assertEqual((ran.returncode, ran.stderr), (1, b"focusd: F2 Write\n"))
 
 
+class Workers(unittest.TestCase):
+    """A script of several MiB, whose posts workers read while it comes."""
+
+    HEAD = b"BilledCost,EffectiveCost,BillingCurrency,ChargeCategory,ChargePeriodStart,ChargePeriodEnd,Tags\n"
+    REPORT = b"report team 2024-01-01T00:00Z 2024-02-01T00:00Z\n"
+
+    def post(self, number, rows, category="Usage"):
+        """A post of so many rows, each different."""
+        lines = [self.HEAD]
+        for row in range(rows):
+            start = f"2024-01-{row % 28 + 1:02}T{row % 23:02}:00:00Z,2024-01-{row % 28 + 1:02}T{row % 23 + 1:02}:00:00Z"
+            lines.append(f'{number}.{row:09},{row}.5,USD,{category},{start},"{{""team"": ""t{row % 5}""}}"\n'.encode())
+        return f"post importer {number} {rows + 1}\n".encode() + b"".join(lines)
+
+    def test_the_answers_are_those_of_one_worker(self):
+        sizes = [1, 4096, 3, 4096, 4096, 17, 1, 1, 2000, *[40] * 200, 4096, 4096, 1, 4096]
+        script = b"".join(
+            self.post(number, rows) + (self.REPORT + b"state\n" if number % 50 == 0 else b"") for number, rows in enumerate(sizes, 1)
+        )
+        script += self.post(len(sizes) + 1, 4096, "Rent") + self.post(5, 3000) + self.post(len(sizes) + 3, 1) + self.REPORT
+        self.assertGreater(len(script), 3 * 2**20)
+        right = "".join(expected.answers(io.BytesIO(script)))
+        cut_short = b"post importer 9 100000\n" + self.HEAD
+        for end, answer in ((b"", ""), (b"state", f"state {len(sizes)} {sum(sizes)} 0 0\n"), (cut_short, "bad end\n")):
+            for workers in ("1", "2", "3", "4", "64"):
+                with self.subTest(end=end, workers=workers):
+                    self.assertEqual(focusd("run", "--workers", workers, given=script + end), (0, right + answer, ""))
+
+
 if __name__ == "__main__":
     if len(sys.argv) != 2 or sys.argv[1].startswith("-"):
         print(__doc__)
