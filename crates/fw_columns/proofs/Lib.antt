@@ -6,4 +6,5 @@ pub mod PartFacts
 mod PartColumns
 pub mod HourFacts
 mod RunFacts
+pub mod SkuFacts
 mod OrderFacts

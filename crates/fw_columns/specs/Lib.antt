@@ -7,3 +7,4 @@ pub mod Parts
 pub mod PartsView
 pub mod Hours
 pub mod ByHour
+pub mod BySku

@@ -10,11 +10,13 @@ ghost use Rattle.fw_row_table.specs.Codes.{text_code};
 ghost use Rattle.fw_row_table.specs.Texts.{names_of};
 ghost use Rattle.fw_charge.specs.Codes.{category_code, class_code};
 ghost use Rattle.fw_columns.specs.ByHour.{AreByHour};
+ghost use Rattle.fw_columns.specs.BySku.{AreSkusByHour, skus_of_hour};
 ghost use Rattle.fw_columns.specs.Codes.{tag_code, AgreeWithGroups};
 ghost use Rattle.fw_columns.specs.Hours.{hours_of, places_of_hour};
 
 use crate::builder::ColumnsBuilder;
 use crate::by_hour::RowsByHour;
+use crate::by_sku::SkusByHour;
 use crate::grouping::group_codes;
 use crate::joining::joined;
 use fw_charge::Row;
@@ -25,7 +27,8 @@ use std::sync::Arc;
 
 /// 1 to [`Columns::MOST_ROWS`] charge rows kept by column, each of their texts and each of their lists of tags once. A contract sees the list of the rows.
 ///
-/// Columns are never changed, so a [copy](Columns::copy) shares them, and the order of the rows by hour and their length in bytes are found once.
+/// Columns are never changed, so a [copy](Columns::copy) shares them, and the order of the rows by hour, the SKUs of each hour and the length of the rows in
+/// bytes are found once.
 #[derive(Drop)]
 pub struct Columns {
     shared: Arc<Kept>,
@@ -36,6 +39,7 @@ pub struct Columns {
 struct Kept {
     table: Table,
     by_hour: RowsByHour,
+    by_sku: SkusByHour,
     /// How many bytes the rows are written in.
     encoded_len: usize,
 }
@@ -47,12 +51,13 @@ impl Model for Columns {
     ghost use Rattle.fw_charge.specs.Spelling.{row, IsRow};
     ghost use Rattle.fw_row_table.specs.Table.{rows_of, AreColumns};
     ghost use Rattle.fw_columns.specs.ByHour.{AreByHour};
+    ghost use Rattle.fw_columns.specs.BySku.{AreSkusByHour};
 
     ghost Value = { List Charge };
 
     ghost view = { λ c. rows_of c.shared.value.table };
 
-    ghost invariant = { λ c. (0 < length (rows_of c.shared.value.table)) × AreColumns c.shared.value.table (rows_of c.shared.value.table) × AreByHour c.shared.value.by_hour (rows_of c.shared.value.table) × (c.shared.value.encoded_len ≡ length (flat_map row (rows_of c.shared.value.table))) × All IsRow (rows_of c.shared.value.table) };
+    ghost invariant = { λ c. (0 < length (rows_of c.shared.value.table)) × AreColumns c.shared.value.table (rows_of c.shared.value.table) × AreByHour c.shared.value.by_hour (rows_of c.shared.value.table) × AreSkusByHour c.shared.value.by_sku (rows_of c.shared.value.table) × (c.shared.value.encoded_len ≡ length (flat_map row (rows_of c.shared.value.table))) × All IsRow (rows_of c.shared.value.table) };
 }
 
 impl Columns {
@@ -69,6 +74,7 @@ impl Columns {
         let mut table = table;
         table.shrink();
         let by_hour = RowsByHour::of_starts(alloc, table.starts.as_slice())?;
+        let by_sku = SkusByHour::of_rows(alloc, &by_hour, table.skus.as_slice())?;
         let encoded_len = table_len(alloc, &table)?;
         Ok(Columns {
             shared: Arc::new(
@@ -76,6 +82,7 @@ impl Columns {
                 Kept {
                     table,
                     by_hour,
+                    by_sku,
                     encoded_len,
                 },
             )?,
@@ -97,6 +104,13 @@ impl Columns {
         ensures some { 0 < length self.now }
     {
         &self.shared.by_hour
+    }
+
+    /// The SKUs by hour.
+    fn by_sku(&self) -> &SkusByHour
+        ensures { AreSkusByHour result.now self.now }
+    {
+        &self.shared.by_sku
     }
 
     /// The same rows, shared. It takes no memory. The error comes only where the columns have as many owners as can be counted.
@@ -212,6 +226,15 @@ impl Columns {
         ensures some { 0 < length result.now }
     {
         self.by_hour().places_in(number)
+    }
+
+    /// The codes of the SKUs of the rows whose periods start in an hour, each once, in the order in which it first occurs among these rows. The hour is
+    /// that at the place `number` of the [hours](Columns::hours).
+    pub fn skus_in(&self, number: usize) -> &[u32]
+        requires { number < length (hours_of self.now) }
+        ensures { result.now ≡ skus_of_hour (slice_index (hours_of self.now) number) self.now }
+    {
+        self.by_sku().codes_in(number)
     }
 
     /// The code of each row's category, as `Category::code` returns it.

@@ -7,6 +7,7 @@
 mod adding;
 mod builder;
 mod by_hour;
+mod by_sku;
 mod checking;
 mod codes;
 mod columns;

@@ -1,6 +1,6 @@
 -- Rows that no commitment applies to may be left out of what commitments bring to an hour.
 use Rattle.std.proofs.Common.{◌≡◌, ◌∙◌, ⊎_elim, ℕ, zero, suc, ◌+◌, ◌<◌, ◌≤◌, All, Bool, true, false, not, nat_lt, Bor, List, [], ◌∷◌, ◌++◌, length, get_or, map, filter, take, Option, Some, None, arith, refl, sym, ap, subst, append-nil, append_assoc}
-use Rattle.std.specs.Prelude.{slice_get, slice_index}
+use Rattle.std.specs.Prelude.{◌||◌, slice_get, slice_index, slice_index_or}
 use Rattle.std.specs.List.{cons_option, enumerate_from, filter_map, flat_map, list_any}
 use Rattle.std.specs.Str.{bytes_eq}
 use Rattle.std.proofs.Math.ListN.{get_or-append}
@@ -9,8 +9,10 @@ use Rattle.std.proofs.lemmas.Grind.{flat_map-append}
 use Rattle.std.proofs.lemmas.List.{get_or_at, get_or_past, length-append, map-append, take_more}
 use Rattle.std.proofs.lemmas.List.Elements.{All-append, All-cons, All-head, All-nil, All-tail, filter-append, filter_map-append}
 use Rattle.fw_charge.specs.Charge.{Charge}
+use Rattle.fw_columns.specs.BySku.{sku_codes, skus_of_hour}
 use Rattle.fw_columns.specs.Hours.{hours_of, places_of_hour}
 use Rattle.fw_columns.proofs.HourFacts.{places_within}
+use Rattle.fw_columns.proofs.SkuFacts.{any_sku}
 use Rattle.fw_terms.specs.Commitment.{CommitmentValue}
 use Rattle.fw_cover.specs.Hour.{hour_cover, left_of, quantity_of}
 use Rattle.fw_cover.specs.RosterView.{HasHour, RosterValue, lists_row, lists_sku}
@@ -27,7 +29,7 @@ use Rattle.fw_sums.specs.Corrections.{correction_of, corrections}
 use Rattle.fw_sums.specs.Costs.{costs_of}
 use Rattle.fw_sums.specs.Covers.{AreOwnSums}
 use Rattle.fw_sums.specs.Hours.{HasRow, IsThere, lent, row_at, row_places, row_places_at, row_places_there, rows_at, rows_there}
-use Rattle.fw_sums.specs.Listed.{AreListed, is_marked_code, is_unlisted, may_be_listed, sku_codes}
+use Rattle.fw_sums.specs.Listed.{AreListed, is_marked_code, is_unlisted, may_be_listed}
 use Rattle.fw_sums.specs.Sums.{Counts}
 use Rattle.fw_sums.specs.declared.groups.Groups.{Groups}
 use Rattle.fw_sums.specs.declared.hours.HourPlace.{HourPlace}
@@ -178,6 +180,23 @@ hour_step listed segments places i d s at old new below all is are so_far more =
     ∙ ap (λ l. l ++ filter (may_be_listed listed (lent segments)) (row_places p.segment at)) so_far
     ∙ ap (λ l. filter (may_be_listed listed (lent segments)) (row_places_at (lent segments) (take i places)) ++ filter (may_be_listed listed (lent segments)) l) (sym own)
     ∙ sym (hour_more listed (lent segments) places i d below)
+
+-- where no row of an hour has a SKU that may be listed, none is added
+filter_none : (test : RowPlace → Bool) (number : ℕ) (places : List ℕ) → list_any (λ place. test (record { segment = number; place = place })) places ≡ false → filter test (row_places number places) ≡ []
+filter_none test number [] e = refl
+filter_none test number (place ∷ places) e = by (test (record { segment = number; place = place })) refl e (filter_none test number places)
+  where
+    by : (b : Bool) → test (record { segment = number; place = place }) ≡ b → (b || list_any (λ place. test (record { segment = number; place = place })) places) ≡ false
+        → (list_any (λ place. test (record { segment = number; place = place })) places ≡ false → filter test (row_places number places) ≡ []) → filter test (row_places number (place ∷ places)) ≡ []
+    by true is h rest = absurd (cc)
+    by false is h rest = rw is (rest h)
+
+pub none_listed : (listed : Listed) (segments : List (List Charge)) (number hour : ℕ) (rows : List Charge) (codes : List ℕ) → get_or segments number [] ≡ rows → codes ≡ skus_of_hour hour rows
+    → list_any (λ code. not (is_marked_code listed number code)) codes ≡ false → filter (may_be_listed listed segments) (row_places number (places_of_hour hour rows)) ≡ []
+none_listed listed segments number hour rows codes here are none =
+    filter_none (may_be_listed listed segments) number (places_of_hour hour rows)
+    ((λ j. list_any (λ place. not (is_marked_code listed number (slice_index_or (sku_codes (here j)) place 0))) (places_of_hour hour rows))
+    ∙ sym (any_sku (λ code. not (is_marked_code listed number code)) hour rows) ∙ ap (list_any (λ code. not (is_marked_code listed number code))) (sym are) ∙ none)
 
 -- ---- rows by the codes of their SKUs
 

@@ -76,7 +76,7 @@ IsFound cs rows key found = AreOwnSums cs (rows_in found.hour rows) key found.ho
 
 -- so of each hour that a worker found
 abbrev pub AreFound : List CommitmentValue → List Charge → List ℕ → Result (Vec HourSum Global) AllocError → Type 0
-AreFound cs rows key piece = IfOk piece (λ found. All (IsFound cs rows key) found.items)
+AreFound cs rows key result = IfOk result (λ found. All (IsFound cs rows key) found.items)
 
 -- of each hour something is kept of which it was before
 abbrev pub KeepsMore : HourSums → HourSums → Type 0

@@ -1,16 +1,12 @@
 -- Which rows have a SKU that no commitment of a roster lists, by the codes of the SKUs. The private functions of the report cite it.
 use Rattle.std.specs.Prelude.{◌≡◌, ◌&&◌, ℕ, zero, suc, nat_lt, Bool, true, false, not, List, [], length, map, slice_index_or}
 use Rattle.fw_charge.specs.Charge.{Charge}
-use Rattle.fw_row_table.specs.Codes.{text_code}
+use Rattle.fw_columns.specs.BySku.{sku_codes}
 use Rattle.fw_row_table.specs.Names.{Text}
 use Rattle.fw_row_table.specs.Texts.{names_of}
 use Rattle.fw_cover.specs.RosterView.{RosterValue, lists_sku}
 use Rattle.fw_sums.specs.declared.hours.RowPlace.{RowPlace}
 use Rattle.fw_sums.specs.declared.listed.Listed.{Listed}
-
--- the code of each row's SKU
-abbrev pub sku_codes : List Charge → List ℕ
-sku_codes rows = map (λ row. text_code (names_of rows) row.sku) rows
 
 -- whether a code is that of no SKU, or of one that no commitment of the roster lists; a code that no name has isn't
 unfoldable pub is_unlisted : RosterValue → List Text → ℕ → Bool

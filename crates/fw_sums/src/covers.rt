@@ -193,22 +193,22 @@ impl HourSums {
     }
 
     // Keeps what a worker found of the hours that it took: nothing where memory was short.
-    fn keep_piece(&mut self, piece: Result<Vec<HourSum>, AllocError>)
-        ensures kept { (cs : List CommitmentValue) (rows : List Charge) (key : List ℕ) → AreFound cs rows key piece → AreKeptUnder cs rows key self.old → AreKeptUnder cs rows key self.new }
+    fn keep_any(&mut self, found: Result<Vec<HourSum>, AllocError>)
+        ensures kept { (cs : List CommitmentValue) (rows : List Charge) (key : List ℕ) → AreFound cs rows key found → AreKeptUnder cs rows key self.old → AreKeptUnder cs rows key self.new }
         ensures more { KeepsMore self.old self.new }
     {
-        if let Ok(found) = piece {
+        if let Ok(found) = found {
             self.keep_found(found);
         }
     }
 
     // Keeps what workers found, each of the hours that it took.
-    pub(crate) fn keep_pieces(&mut self, pieces: Vec<Result<Vec<HourSum>, AllocError>>)
-        ensures kept { (cs : List CommitmentValue) (rows : List Charge) (key : List ℕ) → All (AreFound cs rows key) pieces.items → AreKeptUnder cs rows key self.old → AreKeptUnder cs rows key self.new }
+    pub(crate) fn keep_each(&mut self, each: Vec<Result<Vec<HourSum>, AllocError>>)
+        ensures kept { (cs : List CommitmentValue) (rows : List Charge) (key : List ℕ) → All (AreFound cs rows key) each.items → AreKeptUnder cs rows key self.old → AreKeptUnder cs rows key self.new }
         ensures more { KeepsMore self.old self.new }
     {
-        for piece in pieces {
-            self.keep_piece(piece);
+        for found in each {
+            self.keep_any(found);
         }
     }
 

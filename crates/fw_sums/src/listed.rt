@@ -1,9 +1,11 @@
 //! Rows whose SKU no commitment lists: commitments take nothing of them, so they needn't be lent to be covered.
 ghost use Rattle.std.specs.Prelude.{◌≡◌, ◌<◌, ◌++◌, [], List, not, filter, length, slice_index_or, All, IfOk, OnOk};
+ghost use Rattle.std.specs.List.{list_any};
 ghost use Rattle.fw_charge.specs.Charge.{Charge};
+ghost use Rattle.fw_columns.specs.BySku.{sku_codes};
 ghost use Rattle.fw_row_table.specs.Texts.{names_of};
 ghost use Rattle.fw_sums.specs.Hours.{IsThere, lent, row_places, row_places_at};
-ghost use Rattle.fw_sums.specs.Listed.{AreListed, AreUnlisted, is_marked_code, is_unlisted, may_be_listed, sku_codes};
+ghost use Rattle.fw_sums.specs.Listed.{AreListed, AreUnlisted, is_marked_code, is_unlisted, may_be_listed};
 
 use crate::hours::{HourPlace, RowPlace};
 use crate::marks::{has_mark, place_of_hour};
@@ -34,13 +36,10 @@ fn is_unlisted(roster: &Roster<'_>, names: &Names, code: usize) -> bool
     !roster.lists_sku(names.text(place as u32))
 }
 
-// Notes which codes of SKUs a segment's rows at these places have.
-fn note_used(used: &mut Vec<bool>, segment: &Columns, places: &[u16]) -> Result<(), AllocError>
-    requires { All (λ place. place < length segment.now) places.now }
-{
-    let codes = segment.sku_codes();
-    for place in places {
-        let code = codes[usize::from(*place)] as usize;
+// Notes codes of SKUs that are in use.
+fn note_used(used: &mut Vec<bool>, codes: &[u32]) -> Result<(), AllocError> {
+    for code in codes {
+        let code = *code as usize;
         if code >= used.len() {
             used.resize(code + 1, false)?;
         }
@@ -64,7 +63,7 @@ fn unlisted_codes(
     let mut used = Vec::new(alloc);
     for number in 0..hours.len() {
         if place_of_hour(u64::from(hours[number]), from, marks).is_some() {
-            note_used(&mut used, segment, segment.places_in(number))?;
+            note_used(&mut used, segment.skus_in(number))?;
         }
     }
     let mut unlisted = Vec::new(alloc);
@@ -117,6 +116,15 @@ impl Listed {
         !self.is_marked(at.segment as usize, code as usize)
     }
 
+    // Whether one of these codes of a segment may be of a SKU that a commitment lists.
+    fn may_list_any(&self, segment: usize, codes: &[u32]) -> bool
+        ensures { result ≡ list_any (λ code. not (is_marked_code self.now segment code)) codes.now }
+    {
+        codes
+            .iter()
+            .any(|code| !self.is_marked(segment, *code as usize))
+    }
+
     // Adds those of a segment's rows at these places that may have a SKU that a commitment lists.
     fn add_places(
         &self,
@@ -153,8 +161,11 @@ impl Listed {
         let mut listed = Vec::with_capacity(alloc, count_at(segments, places))?;
         for at in places {
             let segment = segments[at.segment as usize];
-            let rows = segment.places_in(at.number as usize);
-            self.add_places(&mut listed, segment, at.segment, rows)?;
+            let number = at.number as usize;
+            if self.may_list_any(at.segment as usize, segment.skus_in(number)) {
+                let rows = segment.places_in(number);
+                self.add_places(&mut listed, segment, at.segment, rows)?;
+            }
         }
         Ok(listed)
     }

@@ -8,7 +8,7 @@ use crate::covers::{HourSum, HourSums};
 use crate::groups::Groups;
 use crate::hours::{HourPlace, rows_by_hour};
 use crate::listed::Listed;
-use crate::marks::touched_hours;
+use crate::marks::{has_mark, touched_hours};
 use fw_columns::Columns;
 use fw_cover::Roster;
 use fw_terms::Commitment;
@@ -89,7 +89,8 @@ impl OpenHours {
         None
     }
 
-    // The same of each hour that this worker takes: the next one before the end that no worker took yet, again and again. Commitments aren't spread evenly over a
+    // The same of each hour that this worker takes: the next one before the end that no worker took yet, again and again. The workers begin at most `HOURS_AT_ONCE` hours before the
+    // end. Commitments aren't spread evenly over a
     // range, so some hours cost more than others; a worker that is done with one takes another, and none waits while there are hours left.
     fn find_each<'a>(
         &self,
@@ -118,8 +119,8 @@ impl OpenHours {
         Ok(found)
     }
 
-    // The same of some hours from a place on, found by so many workers, each in a thread of its own.
-    fn find_pieces<'a>(
+    // The same of at most `HOURS_AT_ONCE` hours from a place on, found by so many workers, each in a thread of its own.
+    fn find_by_workers<'a>(
         &self,
         rt: &(impl Threads + Sync),
         alloc: Global,
@@ -132,7 +133,7 @@ impl OpenHours {
         workers: u32,
     ) -> Result<Vec<Result<Vec<HourSum>, AllocError>>, AllocError>
         requires can { CanFind (lent segments.now) roster.now listed.now from self.now }
-        ensures { IfOk result (λ pieces. All (AreFound roster.now.commitments (all_rows (lent segments.now)) key.now) pieces.items) }
+        ensures { IfOk result (λ each. All (AreFound roster.now.commitments (all_rows (lent segments.now)) key.now) each.items) }
     {
         let end = first.saturating_add(HOURS_AT_ONCE).min(self.by_hour.len());
         let next = AtomicUsize::new(first);
@@ -169,7 +170,7 @@ impl OpenHours {
         ensures kept { AreKeptUnder roster.now.commitments (all_rows (lent segments.now)) key.now kept.new }
         ensures more { KeepsMore kept.old kept.new }
     {
-        if workers == 1 {
+        if workers == 1 || !has_mark(self.marks.as_slice()) {
             return;
         }
         let mut first = 0_usize;
@@ -177,10 +178,10 @@ impl OpenHours {
             if !kept.has_room() {
                 return;
             }
-            match self.find_pieces(
+            match self.find_by_workers(
                 rt, alloc, key, segments, roster, listed, from, first, workers,
             ) {
-                Ok(pieces) => kept.keep_pieces(pieces),
+                Ok(each) => kept.keep_each(each),
                 Err(AllocError) => return,
             }
             first = first.saturating_add(HOURS_AT_ONCE);

@@ -27,6 +27,11 @@ const LATER: &str =
     r#"0.1,0.1,USD,Usage,,2024-01-01T01:59Z,2024-01-01T02:59Z,,,,1,Hours,vm,,"{""team"":""web""}"
 "#;
 
+/// Half an hour of use of `disk` by the team `web`, in the same hour as `WEB` and `DATA`.
+const DISK: &str =
+    r#"0.1,0.1,USD,Usage,,2024-01-01T00:30Z,2024-01-01T01:00Z,,,,0.5,Hours,disk,,"{""team"":""web""}"
+"#;
+
 /// The columns of the rows of these records.
 fn columns(alloc: Global, records: &str) -> Result<Box<Columns>, AllocError> {
     let rows = rows(alloc, records)?;
@@ -192,4 +197,36 @@ fn have_hours(alloc: Global) -> Result<bool, AllocError> {
 #[test]
 fn rows_by_hour(rt: HostRuntime) -> Result<(), Fail> {
     check(&rt, have_hours(rt.alloc()))
+}
+
+/// Whether the rows have so many hours, and the rows of each have SKUs with these codes.
+fn are_skus(columns: &Columns, codes: &[&[u32]]) -> bool {
+    if columns.hours().len() != codes.len() {
+        return false;
+    }
+    for (number, wanted) in codes.iter().enumerate() {
+        if number >= columns.hours().len() || columns.skus_in(number) != *wanted {
+            return false;
+        }
+    }
+    true
+}
+
+/// Whether the SKUs of each hour are there once, in the order of the hour's rows. Where `BOUGHT`, which has no SKU, comes first, `vm` is the sixth text and `disk` the
+/// eighth; where `LATER` and then `DISK` do, they are the second and the fifth.
+fn have_skus(alloc: Global) -> Result<bool, AllocError> {
+    let in_turn = columns(
+        alloc,
+        format!(in alloc; "{BOUGHT}{WEB}{DISK}{DATA}{LATER}")?.as_str(),
+    )?;
+    let mixed = columns(
+        alloc,
+        format!(in alloc; "{LATER}{DISK}{WEB}{BOUGHT}{DATA}")?.as_str(),
+    )?;
+    Ok(are_skus(&in_turn, &[&[0], &[6, 8], &[6]]) && are_skus(&mixed, &[&[0], &[5, 2], &[2]]))
+}
+
+#[test]
+fn skus_by_hour(rt: HostRuntime) -> Result<(), Fail> {
+    check(&rt, have_skus(rt.alloc()))
 }

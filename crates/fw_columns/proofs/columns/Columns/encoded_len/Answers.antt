@@ -9,7 +9,7 @@ use Rattle.fw_columns.proofs.columns.Columns.encoded_len.Goals as goal
 pub returns-clause-few : goal.returns-clause-few
 returns-clause-few c =
     let rows = rows_of c.self.inside.shared.value.table in
-    let len : c.deref.result.now.encoded_len ≡ length (flat_map row rows) = ap (λ (k : Kept). k.encoded_len) c.deref.ensures ∙ c.self.invariant.3 in
+    let len : c.deref.result.now.encoded_len ≡ length (flat_map row rows) = ap (λ (k : Kept). k.encoded_len) c.deref.ensures ∙ c.self.invariant.4 in
     let few = short_rows rows c.self.invariant.1.charges in
     let size : length rows ≡ length c.args.self.now = ap length c.self.view_is in
     omega (arith, len, few, size)

@@ -1,11 +1,13 @@
-use Rattle.std.proofs.Common.{◌≡◌, ◌∙◌, ap, ◌<◌, ◌≤◌, ◌^◌, List, ℤ, All, arith, length, nat_abs, subst, sym}
+use Rattle.std.proofs.Common.{◌≡◌, ◌∙◌, ap, ◌<◌, ◌≤◌, ◌^◌, List, ℕ, ℤ, All, arith, length, nat_abs, subst, sym}
 use Rattle.std.specs.List.{flat_map}
 use Rattle.fw_charge.specs.Charge.{hour_of}
 use Rattle.fw_charge.specs.Spelling.{row, IsRow}
 use Rattle.fw_row_table.specs.Table.{most_column_rows, rows_of, AreColumns}
 use Rattle.fw_row_table.proofs.TableFacts.{columns_shown, shown}
 use Rattle.fw_columns.proofs.OrderFacts.{starts_early, starts_few}
+use Rattle.fw_columns.proofs.SkuFacts.{skus_are, skus_few}
 use Rattle.fw_columns.specs.ByHour.{AreByHour}
+use Rattle.fw_columns.specs.BySku.{AreSkusByHour}
 use Rattle.fw_columns.specs.declared.columns.Kept.{Kept}
 use Rattle.fw_columns.proofs.columns.Columns.of_table.Goals as goal
 use Rattle.fw_columns.proofs.columns.Columns.of_table.Goals.{In_ok-new}
@@ -23,8 +25,20 @@ of_starts-requires-clause-early c =
     subst AreEarly (sym c.as_slice.ensures.value) (starts_early c.shrink.new.self rows (c.shrink.ensures rows c.requires.columns))
 
 -- what is shared is the table, shrunk, and its rows by hour
-kept : (c : In_ok-new) → c.in_ok-new.field-0.value ≡ record { table = c.shrink.new.self; by_hour = c.in_ok-by_hour.by_hour; encoded_len = c.in_ok-encoded_len.encoded_len }
+kept : (c : In_ok-new) → c.in_ok-new.field-0.value ≡ record { table = c.shrink.new.self; by_hour = c.in_ok-by_hour.by_hour; by_sku = c.in_ok-by_sku.by_sku; encoded_len = c.in_ok-encoded_len.encoded_len }
 kept c = c.in_ok-new.ensures.ok
+
+pub of_rows-requires-clause-few : goal.of_rows-requires-clause-few
+of_rows-requires-clause-few c =
+    let AreFew : List ℕ → Type 0 = λ skus. length skus ≤ most_column_rows in
+    let rows = rows_of c.args.table in
+    subst AreFew (sym c.as_slice-2.ensures.value) (skus_few c.shrink.new.self rows (c.shrink.ensures rows c.requires.columns))
+
+pub of_rows-requires-clause-rows : goal.of_rows-requires-clause-rows
+of_rows-requires-clause-rows c =
+    let rows = rows_of c.args.table in
+    let columns = c.shrink.ensures rows c.requires.columns in
+    (rows, c.in_ok-by_hour.ensures rows (c.as_slice.ensures.value ∙ columns.starts), c.as_slice-2.ensures.value ∙ skus_are c.shrink.new.self rows columns)
 
 pub table_len-requires : goal.table_len-requires
 table_len-requires c =
@@ -33,13 +47,13 @@ table_len-requires c =
 
 pub invariant_of-result : goal.invariant_of-result
 invariant_of-result c =
-    let IsKept : Kept → Type 0 = λ k. (0 < length (rows_of k.table)) × AreColumns k.table (rows_of k.table) × AreByHour k.by_hour (rows_of k.table) × (k.encoded_len ≡ length (flat_map row (rows_of k.table))) × All IsRow (rows_of k.table) in
+    let IsKept : Kept → Type 0 = λ k. (0 < length (rows_of k.table)) × AreColumns k.table (rows_of k.table) × AreByHour k.by_hour (rows_of k.table) × AreSkusByHour k.by_sku (rows_of k.table) × (k.encoded_len ≡ length (flat_map row (rows_of k.table))) × All IsRow (rows_of k.table) in
     let rows = rows_of c.args.table in
     let t = c.shrink.new.self in
     let columns = c.shrink.ensures rows c.requires.columns in
     let size : length (rows_of t) ≡ length rows = ap length (shown t rows columns) in
     let again : AreColumns t (rows_of t) = columns_shown t rows columns in
-    subst IsKept (sym (kept c)) (omega (arith, size, c.requires.some), again, c.in_ok-by_hour.ensures (rows_of t) (c.as_slice.ensures.value ∙ again.starts), c.in_ok-encoded_len.ensures.value, c.in_ok-encoded_len.ensures.valid)
+    subst IsKept (sym (kept c)) (omega (arith, size, c.requires.some), again, c.in_ok-by_hour.ensures (rows_of t) (c.as_slice.ensures.value ∙ again.starts), c.in_ok-by_sku.ensures (rows_of t) (c.in_ok-by_hour.ensures (rows_of t) (c.as_slice.ensures.value ∙ again.starts)) (c.as_slice-2.ensures.value ∙ skus_are t (rows_of t) again), c.in_ok-encoded_len.ensures.value, c.in_ok-encoded_len.ensures.valid)
 
 pub returns : goal.returns
 returns c =
