@@ -1,7 +1,5 @@
 //! The command line, and what its help says.
-use crate::commands::{
-    check, checkpoint, coverage, dump, explain, import, lines, load, report, run, status, verify,
-};
+use crate::commands::Name;
 use clap::{Arg, ArgAction, ArgMatches, Command};
 use fw_rows::Currency;
 use std::alloc::{AllocError, Global};
@@ -141,17 +139,8 @@ pub(crate) fn command_line<'a>(alloc: Global) -> Result<Command<'a>, AllocError>
 // The commands, in the order in which the help has them.
 fn commands<'a>(alloc: Global) -> Result<Vec<Command<'a>>, AllocError> {
     let mut commands = Vec::new(alloc);
-    commands.push(run::command(alloc)?)?;
-    commands.push(import::command(alloc)?)?;
-    commands.push(load::command(alloc)?)?;
-    commands.push(check::command(alloc)?)?;
-    commands.push(report::command(alloc)?)?;
-    commands.push(lines::command(alloc)?)?;
-    commands.push(coverage::command(alloc)?)?;
-    commands.push(status::command(alloc)?)?;
-    commands.push(verify::command(alloc)?)?;
-    commands.push(checkpoint::command(alloc)?)?;
-    commands.push(dump::command(alloc)?)?;
-    commands.push(explain::command(alloc)?)?;
+    for name in &Name::ALL {
+        commands.push(name.command(alloc)?)?;
+    }
     Ok(commands)
 }

@@ -1,8 +1,8 @@
 //! The range of time of a question: the options `--from` and `--to`.
 use crate::fault::Fault;
-use clap::{Arg, ArgMatches, Command};
+use clap::{Arg, ArgMatches};
 use fw_calendar::read_time;
-use std::alloc::{AllocError, Global};
+use std::alloc::Global;
 use std::process::ExitCode;
 
 /// The id of the option that says when the range begins.
@@ -20,18 +20,18 @@ fn time_option<'a>(alloc: Global, id: &'a str, help: &'a str) -> Arg<'a> {
         .help(help)
 }
 
-/// The command with the options that name a range.
-pub(crate) fn with_range<'a>(
-    alloc: Global,
-    command: Command<'a>,
-) -> Result<Command<'a>, AllocError> {
-    command
-        .arg(time_option(alloc, FROM, "When the range begins"))?
-        .arg(time_option(
-            alloc,
-            TO,
-            "When the range ends; the hour that begins then is not in it",
-        ))
+/// The option that says when the range begins.
+pub(crate) fn from_option<'a>(alloc: Global) -> Arg<'a> {
+    time_option(alloc, FROM, "When the range begins")
+}
+
+/// The option that says when the range ends.
+pub(crate) fn to_option<'a>(alloc: Global) -> Arg<'a> {
+    time_option(
+        alloc,
+        TO,
+        "When the range ends; the hour that begins then is not in it",
+    )
 }
 
 /// The first hour of the range and the hour after the last, counted from 1970, or the id of the option that is no time.

@@ -37,23 +37,30 @@ fn cost_currency<'a>(alloc: Global) -> Arg<'a> {
         .help("The currency that all costs must have: three capital letters")
 }
 
+// The options, in the order in which the help has them.
+fn options<'a>(alloc: Global) -> Result<Vec<Arg<'a>>, AllocError> {
+    Ok(vec![in alloc;
+        format_option(
+            alloc,
+            FORMATS.as_slice(),
+            "text",
+            "How the answer is written",
+        ),
+        cost_currency(alloc),
+        quiet_option(alloc),
+        files_argument(
+            alloc,
+            "A CSV with the columns of FOCUS 1.0, or `-` for standard input",
+        ),
+    ]?)
+}
+
 /// The command's part of the command line.
 pub(crate) fn command<'a>(alloc: Global) -> Result<Command<'a>, AllocError> {
     Command::new(alloc, "check")
         .about("Lists all faults of CSV exports, and what is in them")
         .after_help(HELP)
-        .arg(format_option(
-            alloc,
-            FORMATS.as_slice(),
-            "text",
-            "How the answer is written",
-        ))?
-        .arg(cost_currency(alloc))?
-        .arg(quiet_option(alloc))?
-        .arg(files_argument(
-            alloc,
-            "A CSV with the columns of FOCUS 1.0, or `-` for standard input",
-        ))
+        .args(options(alloc)?)
 }
 
 /// Checks the files that the options name.

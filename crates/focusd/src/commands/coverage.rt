@@ -2,8 +2,8 @@
 use crate::ask::ask;
 use crate::command_line::{FORMAT, folder_option, format_option};
 use crate::fault::Fault;
-use crate::range::{read_range, with_range, wrong_time};
-use clap::{ArgMatches, Command};
+use crate::range::{from_option, read_range, to_option, wrong_time};
+use clap::{Arg, ArgMatches, Command};
 use fw_views::{Format, Question};
 use std::alloc::{AllocError, Global};
 use std::process::ExitCode;
@@ -25,18 +25,27 @@ range. A table shows hundredths and cents, rounded from the exact sums; csv is e
 Example: which commitments were paid for and not used in January 2024
   focusd coverage --dir costs --from 2024-01 --to 2024-02";
 
+// The options, in the order in which the help has them.
+fn options<'a>(alloc: Global) -> Result<Vec<Arg<'a>>, AllocError> {
+    Ok(vec![in alloc;
+        folder_option(alloc),
+        from_option(alloc),
+        to_option(alloc),
+        format_option(
+            alloc,
+            FORMATS.as_slice(),
+            "table",
+            "How the coverage is written",
+        ),
+    ]?)
+}
+
 /// The command's part of the command line.
 pub(crate) fn command<'a>(alloc: Global) -> Result<Command<'a>, AllocError> {
-    let command = Command::new(alloc, "coverage")
+    Command::new(alloc, "coverage")
         .about("Shows how well commitments were used in a range of time")
         .after_help(EXAMPLE)
-        .arg(folder_option(alloc))?;
-    with_range(alloc, command)?.arg(format_option(
-        alloc,
-        FORMATS.as_slice(),
-        "table",
-        "How the coverage is written",
-    ))
+        .args(options(alloc)?)
 }
 
 /// Prints the coverage that the options ask for.

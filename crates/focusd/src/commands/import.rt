@@ -53,23 +53,30 @@ fn origin_option<'a>(alloc: Global) -> Arg<'a> {
         .help("Who sends the rows")
 }
 
+// The options, in the order in which the help has them.
+fn options<'a>(alloc: Global) -> Result<Vec<Arg<'a>>, AllocError> {
+    Ok(vec![in alloc;
+        folder_option(alloc),
+        create_option(
+            alloc,
+            "Creates a warehouse where the folder, which has to be there, holds none",
+        ),
+        currency_option(alloc),
+        origin_option(alloc),
+        quiet_option(alloc),
+        files_argument(
+            alloc,
+            "A CSV with the columns of FOCUS 1.0, or `-` for standard input",
+        ),
+    ]?)
+}
+
 /// The command's part of the command line.
 pub(crate) fn command<'a>(alloc: Global) -> Result<Command<'a>, AllocError> {
     Command::new(alloc, "import")
         .about("Takes CSV exports of any length into a warehouse")
         .after_help(HELP)
-        .arg(folder_option(alloc))?
-        .arg(create_option(
-            alloc,
-            "Creates a warehouse where the folder, which has to be there, holds none",
-        ))?
-        .arg(currency_option(alloc))?
-        .arg(origin_option(alloc))?
-        .arg(quiet_option(alloc))?
-        .arg(files_argument(
-            alloc,
-            "A CSV with the columns of FOCUS 1.0, or `-` for standard input",
-        ))
+        .args(options(alloc)?)
 }
 
 /// Where an import stands.

@@ -2,8 +2,8 @@
 use crate::ask::ask;
 use crate::command_line::folder_option;
 use crate::fault::Fault;
-use crate::range::{read_range, with_range, wrong_time};
-use clap::{ArgMatches, Command};
+use crate::range::{from_option, read_range, to_option, wrong_time};
+use clap::{Arg, ArgMatches, Command};
 use fw_views::Question;
 use std::alloc::{AllocError, Global};
 use std::process::ExitCode;
@@ -20,13 +20,17 @@ from 1970; costs are exact, to the nano.
 Example: what one day cost, line by line
   focusd lines --dir costs --from 2024-01-31 --to 2024-02-01 > lines.csv";
 
+// The options, in the order in which the help has them.
+fn options<'a>(alloc: Global) -> Result<Vec<Arg<'a>>, AllocError> {
+    Ok(vec![in alloc; folder_option(alloc), from_option(alloc), to_option(alloc)]?)
+}
+
 /// The command's part of the command line.
 pub(crate) fn command<'a>(alloc: Global) -> Result<Command<'a>, AllocError> {
-    let command = Command::new(alloc, "lines")
+    Command::new(alloc, "lines")
         .about("Lists what a range of time cost, line by line, as CSV")
         .after_help(EXAMPLE)
-        .arg(folder_option(alloc))?;
-    with_range(alloc, command)
+        .args(options(alloc)?)
 }
 
 /// Prints the lines of the range that the options name.

@@ -62,22 +62,29 @@ fn origin_option<'a>(alloc: Global) -> Arg<'a> {
         .help("The first part of the names of the origins")
 }
 
+// The options, in the order in which the help has them.
+fn options<'a>(alloc: Global) -> Result<Vec<Arg<'a>>, AllocError> {
+    Ok(vec![in alloc;
+        currency_option(alloc),
+        dir_option(alloc).help(
+            "Keeps the warehouse in this folder, which has to be there; without it the warehouse is in memory",
+        ),
+        create_option(
+            alloc,
+            "Creates the warehouse in the folder; without --dir it changes nothing",
+        ),
+        analysts_option(alloc),
+        origin_option(alloc),
+        files_argument(alloc, "A CSV with the columns of FOCUS 1.0"),
+    ]?)
+}
+
 /// The command's part of the command line.
 pub(crate) fn command<'a>(alloc: Global) -> Result<Command<'a>, AllocError> {
     Command::new(alloc, "load")
         .about("Takes up to 64 CSV files into a warehouse side by side")
         .after_help(HELP)
-        .arg(currency_option(alloc))?
-        .arg(dir_option(alloc).help(
-            "Keeps the warehouse in this folder, which has to be there; without it the warehouse is in memory",
-        ))?
-        .arg(create_option(
-            alloc,
-            "Creates the warehouse in the folder; without --dir it changes nothing",
-        ))?
-        .arg(analysts_option(alloc))?
-        .arg(origin_option(alloc))?
-        .arg(files_argument(alloc, "A CSV with the columns of FOCUS 1.0"))
+        .args(options(alloc)?)
 }
 
 /// Loads the files that the options name.

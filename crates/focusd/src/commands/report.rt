@@ -2,7 +2,7 @@
 use crate::ask::ask;
 use crate::command_line::{FORMAT, folder_option, format_option};
 use crate::fault::Fault;
-use crate::range::{read_range, with_range, wrong_time};
+use crate::range::{from_option, read_range, to_option, wrong_time};
 use clap::{Arg, ArgMatches, Command};
 use fw_calendar::Step;
 use fw_query::Query;
@@ -80,22 +80,30 @@ fn top_option<'a>(alloc: Global) -> Arg<'a> {
     )
 }
 
-/// The command's part of the command line.
-pub(crate) fn command<'a>(alloc: Global) -> Result<Command<'a>, AllocError> {
-    let command = Command::new(alloc, "report")
-        .about("Sums the costs of a range of time by the values of a tag")
-        .after_help(EXAMPLE)
-        .arg(folder_option(alloc))?
-        .arg(tag_option(alloc))?;
-    with_range(alloc, command)?
-        .arg(by_option(alloc))?
-        .arg(top_option(alloc))?
-        .arg(format_option(
+// The options, in the order in which the help has them.
+fn options<'a>(alloc: Global) -> Result<Vec<Arg<'a>>, AllocError> {
+    Ok(vec![in alloc;
+        folder_option(alloc),
+        tag_option(alloc),
+        from_option(alloc),
+        to_option(alloc),
+        by_option(alloc),
+        top_option(alloc),
+        format_option(
             alloc,
             FORMATS.as_slice(),
             "table",
             "How the report is written",
-        ))
+        ),
+    ]?)
+}
+
+/// The command's part of the command line.
+pub(crate) fn command<'a>(alloc: Global) -> Result<Command<'a>, AllocError> {
+    Command::new(alloc, "report")
+        .about("Sums the costs of a range of time by the values of a tag")
+        .after_help(EXAMPLE)
+        .args(options(alloc)?)
 }
 
 /// Prints the report that the options ask for.

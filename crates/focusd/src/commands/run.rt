@@ -57,29 +57,39 @@ NAME` on standard error), 2 where the command line is wrong.
 Example: what a script has is kept in a folder, and the answers in a file
   focusd run --dir costs --create < october.script > october.answers";
 
+// The option that says how many workers there are.
+fn workers_option<'a>(alloc: Global) -> Arg<'a> {
+    Arg::new(alloc, WORKERS)
+        .long("workers")
+        .value_name("N")
+        .default_value("1")
+        .value_parser(value_parser!(u8).range(1..=64))
+        .help(
+            "How many workers read posts ahead and share the rows of a report: 1 to 64; each answer stays the same",
+        )
+}
+
+// The options, in the order in which the help has them.
+fn options<'a>(alloc: Global) -> Result<Vec<Arg<'a>>, AllocError> {
+    Ok(vec![in alloc;
+        currency_option(alloc),
+        dir_option(alloc).help(
+            "The folder of the warehouse, which has to be there; without it the warehouse is in memory",
+        ),
+        create_option(
+            alloc,
+            "Creates the warehouse in the folder; without --dir it changes nothing",
+        ),
+        workers_option(alloc),
+    ]?)
+}
+
 /// The command's part of the command line.
 pub(crate) fn command<'a>(alloc: Global) -> Result<Command<'a>, AllocError> {
     Command::new(alloc, "run")
         .about("Reads a script from standard input and prints the answers")
         .after_help(SCRIPT)
-        .arg(currency_option(alloc))?
-        .arg(dir_option(alloc).help(
-            "The folder of the warehouse, which has to be there; without it the warehouse is in memory",
-        ))?
-        .arg(create_option(
-            alloc,
-            "Creates the warehouse in the folder; without --dir it changes nothing",
-        ))?
-        .arg(
-            Arg::new(alloc, WORKERS)
-                .long("workers")
-                .value_name("N")
-                .default_value("1")
-                .value_parser(value_parser!(u8).range(1..=64))
-                .help(
-                    "How many workers read posts ahead and share the rows of a report: 1 to 64; each answer stays the same",
-                ),
-        )
+        .args(options(alloc)?)
 }
 
 /// Opens or creates the warehouse that the options name, and serves the script on standard input from it.
