@@ -1,8 +1,8 @@
 #!/usr/bin/env python3
 """Runs the toolchain's gate, `rt ci`, over a copy of the tree that has only the must-fail edits that are due.
 
-    tools/gate.py             tries the edits of each file that changed since the last landing, those of each crate whose
-                              definitions changed, edits that are new, and those of a twenty-fourth of all crates, which
+    tools/gate.py             tries the edits of each file that changed since the last landing, or that goes by definitions of its
+                              crate that did, edits that are new, and those of a twenty-fourth of all crates, which
                               the commit's hash picks; other imports are no change
     tools/gate.py --all       tries every edit
     tools/gate.py --program   tries none: proves and builds focusd and the crates that it stands on, and no more
@@ -183,12 +183,27 @@ def changes_since(top, commit):
     return Changes({path for _, path in paths if not is_edit(path)}, {path for path, text in zip(added, hashes) if (crate_of(path), text) not in known})
 
 
+def definitions_named(top, crate, path):
+    """The files of definitions of its crate that a source file names by its imports, and those that these name, and so on."""
+    found, waiting = set(), [path]
+    while waiting:
+        try:
+            with open(os.path.join(top, waiting.pop()), encoding="utf-8", errors="replace") as file:
+                named = {f"crates/{crate}/specs/{module}.antt" for module in re.findall(rf"\bRattle\.{crate}\.specs\.([A-Z]\w*)", file.read())}
+        except FileNotFoundError:
+            continue
+        waiting += named - found
+        found |= named
+    return found
+
+
 def is_turned(top, edit, files):
-    """Whether one of the files that an edit turns is among these, or a definition of its crate."""
-    crate = f"crates/{crate_of(edit)}"
+    """Whether one of the files that an edit turns is among these, or a definition that such a file goes by."""
+    crate = crate_of(edit)
     with open(os.path.join(top, edit), encoding="utf-8", errors="replace") as file:
-        turned = {f"{crate}/{line[6:].strip()}" for line in file if line.startswith("file: ")}
-    return any(path in turned or path.startswith(f"{crate}/specs/") for path in files)
+        turned = {f"crates/{crate}/{line[6:].strip()}" for line in file if line.startswith("file: ")}
+    definitions = {path for path in files if path.startswith(f"crates/{crate}/specs/")}
+    return bool(turned & files) or bool(definitions) and any(definitions & definitions_named(top, crate, path) for path in turned)
 
 
 def read_costs(top):

@@ -110,14 +110,19 @@ class Changes(unittest.TestCase):
             self.assertEqual(gate.changes_since(top, commit), gate.Changes({code}, {three}))
             self.assertIsNone(gate.changes_since(top, "0" * 40))
 
-    def test_an_edit_is_due_where_its_file_or_a_definition_of_its_crate_changed(self):
+    def test_an_edit_is_due_where_its_file_or_a_definition_that_it_goes_by_changed(self):
         with tempfile.TemporaryDirectory() as top:
             repository = Repository(top)
             repository.fill()
+            repository.write("crates/changed/src/lib.rt", SOURCE + "ghost use Rattle.changed.specs.Sums.{sum};\nghost use Rattle.same.specs.Other.{other};\n")
+            repository.write("crates/changed/specs/Sums.antt", "use Rattle.changed.specs.Numbers.{number}\n")
+            repository.write("crates/changed/specs/Numbers.antt", "use Rattle.changed.specs.Sums.{sum}\n")
             edit = "crates/changed/must-fail/adds_two.edit"
             for files, is_due in [
                 ({"crates/changed/src/lib.rt"}, True),
-                ({"crates/changed/specs/Lib.antt"}, True),
+                ({"crates/changed/specs/Sums.antt"}, True),
+                ({"crates/changed/specs/Numbers.antt"}, True),
+                ({"crates/changed/specs/Other.antt", "crates/changed/specs/Lib.antt", "crates/same/specs/Other.antt"}, False),
                 ({"crates/changed/src/other.rt", "crates/changed/proofs/Lib.antt"}, False),
                 ({"crates/same/src/lib.rt", "crates/same/specs/Lib.antt"}, False),
             ]:
