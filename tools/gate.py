@@ -2,8 +2,8 @@
 """Runs the toolchain's gate, `rt ci`, over a copy of the tree that has only the must-fail edits that are due.
 
     tools/gate.py             tries the edits of each file that changed since the last landing, or that goes by definitions of its
-                              crate that did, edits that are new, and those of a twenty-fourth of all crates, which
-                              the commit's hash picks; other imports are no change
+                              crate that did: it names them, or a module from which it imports does. And edits that are new,
+                              and those of a twenty-fourth of all crates, which the commit's hash picks; other imports are no change
     tools/gate.py --all       tries every edit
     tools/gate.py --program   tries none: proves and builds focusd and the crates that it stands on, and no more
     tools/gate.py --list      says which edits are due and what they will cost about, and runs nothing
@@ -21,6 +21,7 @@ Exit status: that of `rt ci`; 2 where nothing could be run.
 """
 
 import argparse
+import functools
 import os
 import re
 import resource
@@ -183,27 +184,45 @@ def changes_since(top, commit):
     return Changes({path for _, path in paths if not is_edit(path)}, {path for path, text in zip(added, hashes) if (crate_of(path), text) not in known})
 
 
-def definitions_named(top, crate, path):
-    """The files of definitions of its crate that a source file names by its imports, and those that these name, and so on."""
-    found, waiting = set(), [path]
-    while waiting:
-        try:
-            with open(os.path.join(top, waiting.pop()), encoding="utf-8", errors="replace") as file:
-                named = {f"crates/{crate}/specs/{module}.antt" for module in re.findall(rf"\bRattle\.{crate}\.specs\.([A-Z]\w*)", file.read())}
-        except FileNotFoundError:
-            continue
-        waiting += named - found
-        found |= named
+def texts_of(top, commit, path):
+    """A file as it is and as it was in a commit, where it is or was."""
+    old = output_of(["git", "show", f"{commit}:{path}"], top) if commit else None
+    try:
+        with open(os.path.join(top, path), encoding="utf-8", errors="replace") as file:
+            return [file.read()] + ([old] if old else [])
+    except FileNotFoundError:
+        return [old] if old else []
+
+
+def files_named(crate, text):
+    """The files of its crate that a source file names by its imports: definitions, and modules with types that it sees by their views and functions that it calls."""
+    found = {f"crates/{crate}/specs/{module}.antt" for module in re.findall(rf"\bRattle\.{crate}\.specs\.([A-Z]\w*)", text)}
+    for words in re.findall(r"\bcrate((?:::[a-z]\w*)+)", text):
+        modules = words.split("::")[1:]
+        found |= {f"crates/{crate}/src/{'/'.join(modules[:count])}.rt" for count in range(1, len(modules) + 1)}
+    for group in re.findall(r"\bcrate::\{([^}]*)\}", text):
+        found |= {f"crates/{crate}/src/{module}.rt" for module in re.findall(r"\b([a-z]\w*)", group)}
     return found
 
 
-def is_turned(top, edit, files):
-    """Whether one of the files that an edit turns is among these, or a definition that such a file goes by."""
+@functools.lru_cache(maxsize=None)
+def definitions_named(top, commit, crate, path):
+    """The files of definitions of its crate that a source file goes by: those that it names, now or in a commit, those that these name, and those that the modules name from which it imports."""
+    found, waiting = set(), [path]
+    while waiting:
+        named = {name for text in texts_of(top, commit, waiting.pop()) for name in files_named(crate, text)}
+        waiting += named - found
+        found |= named
+    return {name for name in found if name.endswith(".antt")}
+
+
+def is_turned(top, commit, edit, files):
+    """Whether one of the files that an edit turns is among these, or a definition that such a file goes by, now or in a commit."""
     crate = crate_of(edit)
     with open(os.path.join(top, edit), encoding="utf-8", errors="replace") as file:
         turned = {f"crates/{crate}/{line[6:].strip()}" for line in file if line.startswith("file: ")}
     definitions = {path for path in files if path.startswith(f"crates/{crate}/specs/")}
-    return bool(turned & files) or bool(definitions) and any(definitions & definitions_named(top, crate, path) for path in turned)
+    return bool(turned & files) or bool(definitions) and any(definitions & definitions_named(top, commit, crate, path) for path in turned)
 
 
 def read_costs(top):
@@ -277,7 +296,7 @@ def choose(top, files, kit, tries_all):
     if head is None:
         raise GateError("git names no commit")
     part = part_of(costs_of(counts, read_costs(top)), head)
-    turned = {path for path in edits if is_turned(top, path, changes.files)}
+    turned = {path for path in edits if is_turned(top, base, path, changes.files)}
     chosen = {path for path in edits if crate_of(path) in part} | turned | changes.edits
     changed = {crate_of(path) for path in turned}
     reasons = {crate_of(path): "its turn" if crate_of(path) in part else "changed" if crate_of(path) in changed else "new edits" for path in chosen}

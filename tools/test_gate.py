@@ -114,19 +114,24 @@ class Changes(unittest.TestCase):
         with tempfile.TemporaryDirectory() as top:
             repository = Repository(top)
             repository.fill()
-            repository.write("crates/changed/src/lib.rt", SOURCE + "ghost use Rattle.changed.specs.Sums.{sum};\nghost use Rattle.same.specs.Other.{other};\n")
+            code = "crates/changed/src/lib.rt"
+            repository.write(code, SOURCE + "ghost use Rattle.changed.specs.Before.{before};\n")
+            commit = repository.commit("before")
+            repository.write(code, SOURCE + "ghost use Rattle.changed.specs.Sums.{sum};\nghost use Rattle.same.specs.Other.{other};\nuse crate::views::{View};\nuse crate::{given, taken};\n")
+            repository.write("crates/changed/src/views.rt", "ghost use Rattle.changed.specs.View.{view};\nuse crate::deep::inner::add;\n")
+            repository.write("crates/changed/src/deep/inner.rt", "ghost use Rattle.changed.specs.Deep.{deep};\n")
+            repository.write("crates/changed/src/taken.rt", "ghost use Rattle.changed.specs.Taken.{taken};\n")
             repository.write("crates/changed/specs/Sums.antt", "use Rattle.changed.specs.Numbers.{number}\n")
             repository.write("crates/changed/specs/Numbers.antt", "use Rattle.changed.specs.Sums.{sum}\n")
             edit = "crates/changed/must-fail/adds_two.edit"
             for files, is_due in [
-                ({"crates/changed/src/lib.rt"}, True),
-                ({"crates/changed/specs/Sums.antt"}, True),
-                ({"crates/changed/specs/Numbers.antt"}, True),
+                ({code}, True),
+                *[({f"crates/changed/specs/{name}.antt"}, True) for name in ("Sums", "Numbers", "View", "Deep", "Taken", "Before")],
                 ({"crates/changed/specs/Other.antt", "crates/changed/specs/Lib.antt", "crates/same/specs/Other.antt"}, False),
-                ({"crates/changed/src/other.rt", "crates/changed/proofs/Lib.antt"}, False),
+                ({"crates/changed/src/views.rt", "crates/changed/proofs/Lib.antt"}, False),
                 ({"crates/same/src/lib.rt", "crates/same/specs/Lib.antt"}, False),
             ]:
-                self.assertEqual(gate.is_turned(top, edit, files), is_due, files)
+                self.assertEqual(gate.is_turned(top, commit, edit, files), is_due, files)
 
     def test_other_imports_are_no_change(self):
         with tempfile.TemporaryDirectory() as top:
