@@ -6,7 +6,7 @@ use crate::progress::Progress;
 use crate::wrong_use;
 use clap::{Arg, ArgMatches, Command};
 use fw_check::{Checker, as_json, as_text};
-use fw_cut::{CutFault, Cutter};
+use fw_cut::{CutFault, Cutter, Part};
 use fw_rows::{Currency, RowFault};
 use std::alloc::{AllocError, Global};
 use std::fs;
@@ -119,46 +119,118 @@ fn check_file<R: Read + Drop>(
     is_json: bool,
     progress: &mut Progress,
 ) -> Result<bool, Fault> {
-    let alloc = rt.alloc();
-    let mut checker = Checker::new(alloc, currency);
-    let mut cutter = match Cutter::open(alloc, reader) {
-        Ok(cutter) => cutter,
-        Err(fault) => return refused(rt, name, fault),
+    let mut checker = Checker::new(rt.alloc(), currency);
+    match Cutter::open(rt.alloc(), reader) {
+        Ok(mut cutter) => check_cut(rt, name, &mut cutter, &mut checker, is_json, progress),
+        Err(fault) => refused(rt, name, fault),
+    }
+}
+
+// Checks a file that is cut into parts, and prints what was found.
+fn check_cut<R: Read>(
+    rt: &HostRuntime,
+    name: &str,
+    cutter: &mut Cutter<R>,
+    checker: &mut Checker,
+    is_json: bool,
+    progress: &mut Progress,
+) -> Result<bool, Fault> {
+    if !check_parts(rt, name, cutter, checker, progress)? {
+        return Ok(false);
+    }
+    progress.end(rt);
+    print_found(rt, name, checker, is_json)?;
+    Ok(checker.faults == 0 && checker.records > 0)
+}
+
+// Prints what was found in a file.
+fn print_found(
+    rt: &HostRuntime,
+    name: &str,
+    checker: &Checker,
+    is_json: bool,
+) -> Result<ExitCode, Fault> {
+    let answer = if is_json {
+        as_json(rt.alloc(), name, checker)?
+    } else {
+        as_text(rt.alloc(), name, checker)?
     };
+    print_answer(rt, answer.as_bytes())
+}
+
+// Checks the parts of a file in order; false where it was refused, which was said.
+fn check_parts<R: Read>(
+    rt: &HostRuntime,
+    name: &str,
+    cutter: &mut Cutter<R>,
+    checker: &mut Checker,
+    progress: &mut Progress,
+) -> Result<bool, Fault> {
     checker.pass_header(cutter.header());
     progress.took(rt, 0, cutter.header().len());
     for _ in 0..u64::MAX {
-        let part = match cutter.next_part(alloc) {
-            Ok(part) => part,
-            Err(fault) => {
-                progress.end(rt);
-                return refused(rt, name, fault);
-            }
-        };
-        let before = checker.records;
-        match checker.check(alloc, &part) {
-            Ok(()) => {}
-            Err(RowFault::NoMemory) => return Err(Fault::NoMemory),
-            Err(fault) => {
-                progress.end(rt);
-                let _ = eprintln!(rt; "focusd: {name}: {fault}");
-                return Ok(false);
-            }
-        }
-        let records = checker.records.saturating_sub(before);
-        progress.took(rt, records, part.text.len().saturating_sub(part.header));
-        if part.is_last {
-            break;
+        match check_next(rt, name, cutter, checker, progress)? {
+            Checked::Part => {}
+            Checked::Last => return Ok(true),
+            Checked::Refused => return Ok(false),
         }
     }
-    progress.end(rt);
-    let answer = if is_json {
-        as_json(alloc, name, &checker)?
+    Ok(true)
+}
+
+// What became of a part.
+enum Checked {
+    // More parts follow it.
+    Part,
+    // It is the last one.
+    Last,
+    // It was refused, which was said.
+    Refused,
+}
+
+// Checks the next part of a file.
+fn check_next<R: Read>(
+    rt: &HostRuntime,
+    name: &str,
+    cutter: &mut Cutter<R>,
+    checker: &mut Checker,
+    progress: &mut Progress,
+) -> Result<Checked, Fault> {
+    match cutter.next_part(rt.alloc()) {
+        Ok(part) => check_part(rt, name, &part, checker, progress),
+        Err(fault) => {
+            progress.end(rt);
+            let _said = refused(rt, name, fault)?;
+            Ok(Checked::Refused)
+        }
+    }
+}
+
+// Checks a part of a file.
+fn check_part(
+    rt: &HostRuntime,
+    name: &str,
+    part: &Part,
+    checker: &mut Checker,
+    progress: &mut Progress,
+) -> Result<Checked, Fault> {
+    let before = checker.records;
+    match checker.check(rt.alloc(), part) {
+        Ok(()) => {}
+        Err(RowFault::NoMemory) => return Err(Fault::NoMemory),
+        Err(fault) => {
+            progress.end(rt);
+            let _ = eprintln!(rt; "focusd: {name}: {fault}");
+            return Ok(Checked::Refused);
+        }
+    }
+    let records = checker.records.saturating_sub(before);
+    progress.took(rt, records, part.text.len().saturating_sub(part.header));
+    Ok(if part.is_last {
+        Checked::Last
     } else {
-        as_text(alloc, name, &checker)?
-    };
-    print_answer(rt, answer.as_bytes())?;
-    Ok(checker.faults == 0 && checker.records > 0)
+        Checked::Part
+    })
 }
 
 // Says why a file can't be cut.
