@@ -1,17 +1,18 @@
 -- Rows that no commitment applies to may be left out of what commitments bring to an hour.
-use Rattle.std.proofs.Common.{◌≡◌, ◌∙◌, ⊎_elim, ℕ, zero, suc, ◌+◌, ◌<◌, ◌≤◌, All, Bool, true, false, not, nat_lt, Bor, List, [], ◌∷◌, ◌++◌, length, get_or, map, filter, take, Option, Some, None, arith, refl, sym, ap, subst, append-nil, append_assoc}
-use Rattle.std.specs.Prelude.{◌||◌, slice_get, slice_index, slice_index_or}
+use Rattle.std.proofs.Common.{◌≡◌, ◌∙◌, ⊎_elim, ℕ, zero, suc, ◌+◌, ◌-◌, ◌<◌, ◌≤◌, All, Bool, true, false, cond, not, nat_lt, Bor, List, [], ◌∷◌, ◌++◌, length, get_or, map, filter, drop, take, Option, Some, None, arith, refl, sym, ap, subst, append-nil, append_assoc}
+use Rattle.std.specs.Prelude.{◌==◌, ◌||◌, slice_get, slice_index, slice_index_or}
 use Rattle.std.specs.List.{cons_option, enumerate_from, filter_map, flat_map, list_any}
 use Rattle.std.specs.Str.{bytes_eq}
 use Rattle.std.proofs.Math.ListN.{get_or-append}
-use Rattle.std.proofs.lemmas.Bool.{cases_lt, le-ltb, lt-ltb, ltb-true}
+use Rattle.std.proofs.lemmas.Bool.{cases_lt, eq-eqb, le-ltb, lt-ltb, ltb-true, ne_eqb}
 use Rattle.std.proofs.lemmas.Grind.{flat_map-append}
-use Rattle.std.proofs.lemmas.List.{get_or_at, get_or_past, length-append, map-append, take_more}
-use Rattle.std.proofs.lemmas.List.Elements.{All-append, All-cons, All-head, All-nil, All-tail, filter-append, filter_map-append}
+use Rattle.std.proofs.lemmas.List.{get_or-drop, get_or_at, get_or_past, length-append, length-drop, map-append, take_more}
+use Rattle.std.proofs.lemmas.List.Elements.{All-append, All-cons, All-from_get_or, All-head, All-nil, All-tail, All-weaker, filter-append, filter_map-append}
+use Rattle.std.proofs.lemmas.List.Folds.{list_any_none}
 use Rattle.fw_charge.specs.Charge.{Charge}
-use Rattle.fw_columns.specs.BySku.{sku_codes, skus_of_hour}
+use Rattle.fw_columns.specs.BySku.{places_of_sku, sku_codes, skus_of_hour}
 use Rattle.fw_columns.specs.Hours.{hours_of, places_of_hour}
-use Rattle.fw_columns.proofs.HourFacts.{places_within}
+use Rattle.fw_columns.proofs.HourFacts.{alike, apart, kept_alike, lower, no_lower, places_within}
 use Rattle.fw_columns.proofs.SkuFacts.{any_sku}
 use Rattle.fw_terms.specs.Commitment.{CommitmentValue}
 use Rattle.fw_cover.specs.Hour.{hour_cover, left_of, quantity_of}
@@ -29,7 +30,7 @@ use Rattle.fw_sums.specs.Corrections.{correction_of, corrections}
 use Rattle.fw_sums.specs.Costs.{costs_of}
 use Rattle.fw_sums.specs.Covers.{AreOwnSums}
 use Rattle.fw_sums.specs.Hours.{HasRow, IsThere, lent, row_at, row_places, row_places_at, row_places_there, rows_at, rows_there}
-use Rattle.fw_sums.specs.Listed.{AreListed, is_marked_code, is_unlisted, may_be_listed}
+use Rattle.fw_sums.specs.Listed.{AreListed, IsOnly, is_marked_code, is_unlisted, may_be_listed}
 use Rattle.fw_sums.specs.Sums.{Counts}
 use Rattle.fw_sums.specs.declared.groups.Groups.{Groups}
 use Rattle.fw_sums.specs.declared.hours.HourPlace.{HourPlace}
@@ -165,21 +166,20 @@ hour_more listed segments places i d below =
     ∙ ap (filter (may_be_listed listed segments)) (flat_map-append (row_places_there segments) (take i places) (get_or places i d ∷ []) ∙ ap (λ l. row_places_at segments (take i places) ++ l) (append-nil (row_places_there segments (get_or places i d))))
     ∙ filter-append (may_be_listed listed segments) (row_places_at segments (take i places)) (row_places_there segments (get_or places i d))
 
--- as references lend the segments
-pub hour_step : (listed : Listed) (segments : List (Bor (List Charge))) (places : List HourPlace) (i : ℕ) (d : HourPlace) (s : Bor (List Charge)) (at : List ℕ) (old new : List RowPlace) → i < length places → All (IsThere (lent segments)) places
-    → s ≡ get_or segments (get_or places i d).segment s → at ≡ places_of_hour (slice_index (hours_of s.now) (get_or places i d).number) s.now
-    → old ≡ filter (may_be_listed listed (lent segments)) (row_places_at (lent segments) (take i places))
-    → new ≡ old ++ filter (may_be_listed listed (lent segments)) (row_places (get_or places i d).segment at)
-    → new ≡ filter (may_be_listed listed (lent segments)) (row_places_at (lent segments) (take (i + 1) places))
-hour_step listed segments places i d s at old new below all is are so_far more =
-    let p : HourPlace = get_or places i d in
-    let here : get_or (lent segments) p.segment [] ≡ s.now = segment_there segments places i d s below all is in
-    let own : row_places_there (lent segments) p ≡ row_places p.segment at =
-    ap (λ rows. row_places p.segment (places_of_hour (slice_index (hours_of rows) p.number) rows)) here ∙ ap (row_places p.segment) (sym are) in
-    more
-    ∙ ap (λ l. l ++ filter (may_be_listed listed (lent segments)) (row_places p.segment at)) so_far
-    ∙ ap (λ l. filter (may_be_listed listed (lent segments)) (row_places_at (lent segments) (take i places)) ++ filter (may_be_listed listed (lent segments)) l) (sym own)
-    ∙ sym (hour_more listed (lent segments) places i d below)
+-- the rows of one more hour are added
+pub hour_step : (listed : Listed) (segments : List (List Charge)) (places : List HourPlace) (i : ℕ) (d : HourPlace) (old new : List RowPlace) → i < length places
+    → old ≡ filter (may_be_listed listed segments) (row_places_at segments (take i places)) → new ≡ old ++ filter (may_be_listed listed segments) (row_places_there segments (get_or places i d))
+    → new ≡ filter (may_be_listed listed segments) (row_places_at segments (take (i + 1) places))
+hour_step listed segments places i d old new below so_far more =
+    more ∙ ap (λ l. l ++ filter (may_be_listed listed segments) (row_places_there segments (get_or places i d))) so_far ∙ sym (hour_more listed segments places i d below)
+
+-- the rows of an hour of a segment
+pub hour_added : (listed : Listed) (segments : List (List Charge)) (at : HourPlace) (rows : List Charge) (old new added : List RowPlace) → get_or segments at.segment [] ≡ rows → new ≡ old ++ added
+    → filter (may_be_listed listed segments) (row_places at.segment (places_of_hour (slice_index (hours_of rows) at.number) rows)) ≡ added → new ≡ old ++ filter (may_be_listed listed segments) (row_places_there segments at)
+hour_added listed segments at rows old new added here more is =
+    let own : row_places_there segments at ≡ row_places at.segment (places_of_hour (slice_index (hours_of rows) at.number) rows) =
+    ap (λ rows. row_places at.segment (places_of_hour (slice_index (hours_of rows) at.number) rows)) here in
+    more ∙ ap (λ l. old ++ l) (sym (ap (filter (may_be_listed listed segments)) own ∙ is))
 
 -- where no row of an hour has a SKU that may be listed, none is added
 filter_none : (test : RowPlace → Bool) (number : ℕ) (places : List ℕ) → list_any (λ place. test (record { segment = number; place = place })) places ≡ false → filter test (row_places number places) ≡ []
@@ -197,6 +197,109 @@ none_listed listed segments number hour rows codes here are none =
     filter_none (may_be_listed listed segments) number (places_of_hour hour rows)
     ((λ j. list_any (λ place. not (is_marked_code listed number (slice_index_or (sku_codes (here j)) place 0))) (places_of_hour hour rows))
     ∙ sym (any_sku (λ code. not (is_marked_code listed number code)) hour rows) ∙ ap (list_any (λ code. not (is_marked_code listed number code))) (sym are) ∙ none)
+
+-- rows by the codes of an hour, of which each passes a test or none: the test by the code says which rows are kept
+differ : Bool → Bool → Bool
+differ a b = cond a (not b) b
+
+same_of_differ : (a b : Bool) → differ a b ≡ false → a ≡ b
+same_of_differ true true e = refl
+same_of_differ true false e = absurd (cc)
+same_of_differ false true e = absurd (cc)
+same_of_differ false false e = refl
+
+differ_none : (a b : Bool) → a ≡ b → differ a b ≡ false
+differ_none true b e = rw (← e) refl
+differ_none false b e = rw (← e) refl
+
+none_all : (p : ℕ → Bool) (xs : List ℕ) → list_any p xs ≡ false → All (λ x. p x ≡ false) xs
+none_all p [] e = All-nil (λ x. p x ≡ false)
+none_all p (x ∷ xs) e = by (p x) refl e (none_all p xs)
+  where
+    by : (b : Bool) → p x ≡ b → (b || list_any p xs) ≡ false → (list_any p xs ≡ false → All (λ x. p x ≡ false) xs) → All (λ x. p x ≡ false) (x ∷ xs)
+    by true is h rest = absurd (cc)
+    by false is h rest = All-cons (λ x. p x ≡ false) x xs is (rest h)
+
+kept_of_places : (test : RowPlace → Bool) (number : ℕ) (places : List ℕ) → filter test (row_places number places) ≡ row_places number (filter (λ place. test (record { segment = number; place = place })) places)
+kept_of_places test number [] = refl
+kept_of_places test number (place ∷ places) =
+    let p : RowPlace = record { segment = number; place = place } in
+    by (test p) (kept_of_places test number places)
+  where
+    by : (b : Bool) → filter test (row_places number places) ≡ row_places number (filter (λ place. test (record { segment = number; place = place })) places)
+        → cond b (record { segment = number; place = place } ∷ filter test (row_places number places)) (filter test (row_places number places))
+        ≡ row_places number (cond b (place ∷ filter (λ place. test (record { segment = number; place = place })) places) (filter (λ place. test (record { segment = number; place = place })) places))
+    by true rest = ap (λ l. record { segment = number; place = place } ∷ l) rest
+    by false rest = rest
+
+kept_by_code : (listed : Listed) (segments : List (List Charge)) (number hour : ℕ) (rows : List Charge) (codes : List ℕ) (test : ℕ → Bool) → get_or segments number [] ≡ rows → codes ≡ skus_of_hour hour rows
+    → All (λ code. not (is_marked_code listed number code) ≡ test code) codes
+    → filter (may_be_listed listed segments) (row_places number (places_of_hour hour rows)) ≡ row_places number (filter (λ place. test (slice_index_or (sku_codes rows) place 0)) (places_of_hour hour rows))
+kept_by_code listed segments number hour rows codes test here are same =
+    let may = λ (code : ℕ). not (is_marked_code listed number code) in
+    let bad = λ (code : ℕ). differ (may code) (test code) in
+    let none : list_any bad codes ≡ false = list_any_none bad codes (All-weaker (λ code. may code ≡ test code) (λ code. bad code ≡ false) (λ code e. differ_none (may code) (test code) e) codes same) in
+    let none' : list_any (λ place. bad (slice_index_or (sku_codes rows) place 0)) (places_of_hour hour rows) ≡ false = sym (any_sku bad hour rows) ∙ ap (list_any bad) (sym are) ∙ none in
+    let each = none_all (λ place. bad (slice_index_or (sku_codes rows) place 0)) (places_of_hour hour rows) none' in
+    kept_of_places (may_be_listed listed segments) number (places_of_hour hour rows)
+    ∙ (λ j. row_places number (filter (λ place. not (is_marked_code listed number (slice_index_or (sku_codes (here j)) place 0))) (places_of_hour hour rows)))
+    ∙ ap (row_places number)
+    (kept_alike (λ place. may (slice_index_or (sku_codes rows) place 0)) (λ place. test (slice_index_or (sku_codes rows) place 0)) (places_of_hour hour rows)
+    (All-weaker (λ place. bad (slice_index_or (sku_codes rows) place 0) ≡ false) (λ place. may (slice_index_or (sku_codes rows) place 0) ≡ test (slice_index_or (sku_codes rows) place 0))
+    (λ place e. same_of_differ (may (slice_index_or (sku_codes rows) place 0)) (test (slice_index_or (sku_codes rows) place 0)) e) (places_of_hour hour rows) each))
+
+all_kept : (xs : List ℕ) → filter (λ x. true) xs ≡ xs
+all_kept [] = refl
+all_kept (x ∷ xs) = ap (λ l. x ∷ l) (all_kept xs)
+
+-- where all SKUs of an hour may be listed, all its rows are added
+pub all_listed : (listed : Listed) (segments : List (List Charge)) (number hour : ℕ) (rows : List Charge) (codes : List ℕ) → get_or segments number [] ≡ rows → codes ≡ skus_of_hour hour rows
+    → list_any (λ code. is_marked_code listed number code) codes ≡ false → filter (may_be_listed listed segments) (row_places number (places_of_hour hour rows)) ≡ row_places number (places_of_hour hour rows)
+all_listed listed segments number hour rows codes here are none =
+    kept_by_code listed segments number hour rows codes (λ code. true) here are
+    (All-weaker (λ code. is_marked_code listed number code ≡ false) (λ code. not (is_marked_code listed number code) ≡ true) (λ code e. ap not e) codes (none_all (λ code. is_marked_code listed number code) codes none))
+    ∙ ap (row_places number) (all_kept (places_of_hour hour rows))
+
+-- just one code of these isn't marked
+pub only_one : (listed : Listed) (segment : ℕ) (codes : List ℕ) (which : ℕ) → which < length codes → ((k : ℕ) → k < which → is_marked_code listed segment (slice_index codes k) ≡ true) → is_marked_code listed segment (slice_index codes which) ≡ false
+    → list_any (λ code. not (is_marked_code listed segment code)) (drop (which + 1) codes) ≡ false → IsOnly listed segment codes which
+only_one listed segment codes which inside before mine rest = record { there = inside; each = λ k l. by k l (k == which) refl (nat_lt k which) refl }
+  where
+    late : (k : ℕ) → k < length codes → which < k → is_marked_code listed segment (slice_index codes k) ≡ true
+    late k l over =
+        let size = length-drop (which + 1) codes in
+        let same : which + 1 + (k - (which + 1)) ≡ k = omega (arith, over) in
+        let here : get_or (drop (which + 1) codes) (k - (which + 1)) 0 ≡ slice_index codes k = get_or-drop (which + 1) codes (k - (which + 1)) 0 ∙ ap (slice_index codes) same in
+        let no = none_all (λ code. not (is_marked_code listed segment code)) (drop (which + 1) codes) rest (k - (which + 1)) 0 (omega (arith, l, over, size)) in
+        marked_so (is_marked_code listed segment (slice_index codes k)) (ap (λ code. not (is_marked_code listed segment code)) (sym here) ∙ no)
+      where
+        marked_so : (b : Bool) → not b ≡ false → b ≡ true
+        marked_so true e = refl
+        marked_so false e = sym e
+
+    by : (k : ℕ) → k < length codes → (b : Bool) → (k == which) ≡ b → (early : Bool) → nat_lt k which ≡ early → is_marked_code listed segment (slice_index codes k) ≡ not b
+    by k l true is early e = ap (λ n. is_marked_code listed segment (slice_index codes n)) (alike k which is) ∙ mine
+    by k l false is true e = before k (lower k which e)
+    by k l false is false e = late k l (let other = apart k which is in let low = no_lower k which e in omega (arith, other, low))
+
+-- where one is, its rows are
+pub one_listed : (listed : Listed) (segments : List (List Charge)) (number hour : ℕ) (rows : List Charge) (codes : List ℕ) (which : ℕ) → get_or segments number [] ≡ rows → codes ≡ skus_of_hour hour rows → IsOnly listed number codes which
+    → filter (may_be_listed listed segments) (row_places number (places_of_hour hour rows)) ≡ row_places number (places_of_sku hour (slice_index (skus_of_hour hour rows) which) rows)
+unfolding places_of_sku
+one_listed listed segments number hour rows codes which here are only =
+    let one = slice_index codes which in
+    let marked = λ (code : ℕ). is_marked_code listed number code in
+    let mine : marked one ≡ false = only.each which only.there ∙ ap not (eq-eqb which which refl) in
+    let each : (k : ℕ) → k < length codes → not (marked (slice_index codes k)) ≡ (slice_index codes k == one) =
+    λ k l. ap not (only.each k l) ∙ by k l (k == which) refl mine in
+    kept_by_code listed segments number hour rows codes (λ code. code == one) here are (All-from_get_or (λ code. not (marked code) ≡ (code == one)) codes 0 each)
+    ∙ ap (λ code. row_places number (filter (λ place. slice_index_or (sku_codes rows) place 0 == code) (places_of_hour hour rows))) (ap (λ l. slice_index l which) are)
+  where
+    by : (k : ℕ) → k < length codes → (b : Bool) → (k == which) ≡ b → is_marked_code listed number (slice_index codes which) ≡ false → not (not b) ≡ (slice_index codes k == slice_index codes which)
+    by k l true is mine = sym (eq-eqb (slice_index codes k) (slice_index codes which) (ap (slice_index codes) (alike k which is)))
+    by k l false is mine =
+        let other : is_marked_code listed number (slice_index codes k) ≡ true = only.each k l ∙ ap not is in
+        sym (ne_eqb (slice_index codes k) (slice_index codes which) (λ e. let same = ap (is_marked_code listed number) e in cc))
 
 -- ---- rows by the codes of their SKUs
 

@@ -1,5 +1,5 @@
 -- Which rows have a SKU that no commitment of a roster lists, by the codes of the SKUs. The private functions of the report cite it.
-use Rattle.std.specs.Prelude.{◌≡◌, ◌&&◌, ℕ, zero, suc, nat_lt, Bool, true, false, not, List, [], length, map, slice_index_or}
+use Rattle.std.specs.Prelude.{◌≡◌, ◌==◌, ◌<◌, ◌&&◌, ℕ, zero, suc, nat_lt, Bool, true, false, not, List, [], length, map, slice_index, slice_index_or}
 use Rattle.fw_charge.specs.Charge.{Charge}
 use Rattle.fw_columns.specs.BySku.{sku_codes}
 use Rattle.fw_row_table.specs.Names.{Text}
@@ -28,6 +28,11 @@ AreListed segments r listed = (segment : ℕ) → AreUnlisted r (names_of (slice
 -- whether a segment's code is marked
 abbrev pub is_marked_code : Listed → ℕ → ℕ → Bool
 is_marked_code listed segment code = slice_index_or (slice_index_or (marks_of listed) segment []) code false
+
+-- of these codes of a segment all are marked but the one at a place
+pub record IsOnly (listed : Listed) (segment : ℕ) (codes : List ℕ) (which : ℕ) : Type 0 where
+  pub there : which < length codes
+  pub each : (k : ℕ) → k < length codes → is_marked_code listed segment (slice_index codes k) ≡ not (k == which)
 
 -- whether the code of the SKU of the row at a place isn't marked
 abbrev pub may_be_listed : Listed → List (List Charge) → RowPlace → Bool

@@ -1,11 +1,12 @@
 //! Rows whose SKU no commitment lists: commitments take nothing of them, so they needn't be lent to be covered.
-ghost use Rattle.std.specs.Prelude.{◌≡◌, ◌<◌, ◌++◌, [], List, not, filter, length, slice_index_or, All, IfOk, OnOk};
+ghost use Rattle.std.specs.Prelude.{◌≡◌, ◌<◌, ◌++◌, [], List, not, filter, length, slice_index_or, All, IfOk, IfSome, OnOk};
 ghost use Rattle.std.specs.List.{list_any};
 ghost use Rattle.fw_charge.specs.Charge.{Charge};
 ghost use Rattle.fw_columns.specs.BySku.{sku_codes};
+ghost use Rattle.fw_columns.specs.Hours.{hours_of};
 ghost use Rattle.fw_row_table.specs.Texts.{names_of};
-ghost use Rattle.fw_sums.specs.Hours.{IsThere, lent, row_places, row_places_at};
-ghost use Rattle.fw_sums.specs.Listed.{AreListed, AreUnlisted, is_marked_code, is_unlisted, may_be_listed};
+ghost use Rattle.fw_sums.specs.Hours.{IsThere, lent, row_places, row_places_at, row_places_there};
+ghost use Rattle.fw_sums.specs.Listed.{AreListed, AreUnlisted, IsOnly, is_marked_code, is_unlisted, may_be_listed};
 
 use crate::hours::{HourPlace, RowPlace};
 use crate::marks::{has_mark, place_of_hour};
@@ -73,6 +74,23 @@ fn unlisted_codes(
     Ok(unlisted)
 }
 
+// Adds rows of a segment.
+fn push_places(
+    listed: &mut Vec<RowPlace>,
+    segment: u32,
+    places: &[u16],
+) -> Result<(), AllocError>
+    ensures { OnOk result (listed.new.items ≡ listed.old.items ++ row_places segment places.now) }
+{
+    for place in places {
+        listed.push(RowPlace {
+            segment,
+            place: *place,
+        })?;
+    }
+    Ok(())
+}
+
 impl Listed {
     // What a roster lists of the rows of marked hours; the first mark is of the hour `from`.
     pub(crate) fn of_segments(
@@ -125,6 +143,30 @@ impl Listed {
             .any(|code| !self.is_marked(segment, *code as usize))
     }
 
+    // Whether one of these codes of a segment is marked.
+    fn marks_any(&self, segment: usize, codes: &[u32]) -> bool
+        ensures { result ≡ list_any (λ code. is_marked_code self.now segment code) codes.now }
+    {
+        codes
+            .iter()
+            .any(|code| self.is_marked(segment, *code as usize))
+    }
+
+    // The place of the one among these codes of a segment that isn't marked; none where others aren't either.
+    fn only_listed(&self, segment: usize, codes: &[u32]) -> Option<usize>
+        ensures { IfSome result (IsOnly self.now segment codes.now) }
+    {
+        for which in 0..codes.len() {
+            if !self.is_marked(segment, codes[which] as usize) {
+                if self.may_list_any(segment, &codes[which + 1..]) {
+                    return None;
+                }
+                return Some(which);
+            }
+        }
+        None
+    }
+
     // Adds those of a segment's rows at these places that may have a SKU that a commitment lists.
     fn add_places(
         &self,
@@ -148,6 +190,35 @@ impl Listed {
         Ok(())
     }
 
+    // Adds those of a segment's rows of an hour that may have a SKU that a commitment lists. A row is looked at only where some SKUs of the hour may be listed
+    // and others aren't.
+    fn add_hour(
+        &self,
+        listed: &mut Vec<RowPlace>,
+        segment: &Columns,
+        at: HourPlace,
+    ) -> Result<(), AllocError>
+        requires { at.number < length (hours_of segment.now) }
+        ensures { OnOk result ((segments : List (List Charge)) → slice_index_or segments at.segment [] ≡ segment.now → listed.new.items ≡ listed.old.items ++ filter (may_be_listed self.now segments) (row_places_there segments at)) }
+    {
+        let number = at.number as usize;
+        let codes = segment.skus_in(number);
+        if !self.may_list_any(at.segment as usize, codes) {
+            return Ok(());
+        }
+        if !self.marks_any(at.segment as usize, codes) {
+            push_places(listed, at.segment, segment.places_in(number))?;
+            return Ok(());
+        }
+        if let Some(which) = self.only_listed(at.segment as usize, codes) {
+            push_places(listed, at.segment, segment.places_of_sku(number, which))?;
+            return Ok(());
+        }
+        let rows = segment.places_in(number);
+        self.add_places(listed, segment, at.segment, rows)?;
+        Ok(())
+    }
+
     // Where those rows of the hours at these places are that may have a SKU that a commitment lists.
     pub(crate) fn places(
         &self,
@@ -161,11 +232,7 @@ impl Listed {
         let mut listed = Vec::with_capacity(alloc, count_at(segments, places))?;
         for at in places {
             let segment = segments[at.segment as usize];
-            let number = at.number as usize;
-            if self.may_list_any(at.segment as usize, segment.skus_in(number)) {
-                let rows = segment.places_in(number);
-                self.add_places(&mut listed, segment, at.segment, rows)?;
-            }
+            self.add_hour(&mut listed, segment, *at)?;
         }
         Ok(listed)
     }
