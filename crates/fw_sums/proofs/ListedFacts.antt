@@ -199,7 +199,7 @@ none_listed listed segments number hour rows codes here are none =
     ∙ sym (any_sku (λ code. not (is_marked_code listed number code)) hour rows) ∙ ap (list_any (λ code. not (is_marked_code listed number code))) (sym are) ∙ none)
 
 -- rows by the codes of an hour, of which each passes a test or none: the test by the code says which rows are kept
-differ : Bool → Bool → Bool
+abbrev differ : Bool → Bool → Bool
 differ a b = cond a (not b) b
 
 same_of_differ : (a b : Bool) → differ a b ≡ false → a ≡ b

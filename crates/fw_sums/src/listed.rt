@@ -158,7 +158,8 @@ impl Listed {
     {
         for which in 0..codes.len() {
             if !self.is_marked(segment, codes[which] as usize) {
-                if self.may_list_any(segment, &codes[which + 1..]) {
+                let rest = &codes[which + 1..];
+                if self.may_list_any(segment, rest) {
                     return None;
                 }
                 return Some(which);

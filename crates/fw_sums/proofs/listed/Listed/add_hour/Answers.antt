@@ -35,7 +35,7 @@ returns-in-Some c = λ segments here.
     let rows = c.args.segment.now in
     let at = c.args.at in
     let hour = slice_index (hours_of rows) at.number in
-    hour_added c.args.self.now segments at rows c.args.listed.now.items _ _ here c.in_ok-push_places-in-Some.ensures
+    hour_added c.args.self.now segments at rows c.args.listed.now.items _ _ here c.in_ok-push_places-2.ensures
     (one_listed c.args.self.now segments at.segment hour rows c.skus_in-codes.result.now c.in-Some.which here c.skus_in-codes.ensures c.in-Some.ensures
     ∙ ap (row_places at.segment) (sym c.places_of_sku.ensures.places))
 
