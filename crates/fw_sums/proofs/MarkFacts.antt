@@ -182,30 +182,6 @@ touched_long cs from hours marks are = ap length are.each ∙ length-map-range_w
 pub touched_at : (cs : List CommitmentValue) (from hours : ℕ) (marks : List Bool) (k : ℕ) → AreTouched cs from hours marks → k < hours → get_or marks k false ≡ is_touched cs (from + k)
 touched_at cs from hours marks k are below = ap (λ l. get_or l k false) are.each ∙ get_or-map-range_with_len (is_touched cs) from hours k (from + k) false below refl
 
--- no hour yet
-pub touched_none : (cs : List CommitmentValue) (from : ℕ) → AreTouched cs from 0 []
-touched_none cs from = record { each = refl; early = λ k h. absurd (true≢false (sym h)) }
-
--- one more hour
-pub touched_more : (cs : List CommitmentValue) (from n : ℕ) (marks : List Bool) (mark : Bool) → AreTouched cs from n marks → mark ≡ is_touched cs (from + n) → (mark ≡ true → from + n < 2 ^ 32)
-    → AreTouched cs from (n + 1) (marks ++ mark ∷ [])
-touched_more cs from n marks mark are is early = record {
-  each = (λ j. are.each j ++ is j ∷ []) ∙ sym (map-range_with_len_more (is_touched cs) from n (from + n) refl);
-  early = λ k h.
-      let long = touched_long cs from n marks are in
-      let within : from + (0 + k) < 2 ^ 32 = by marks 0 (omega (arith, long)) (λ j g. let e : from + j < 2 ^ 32 = are.early j g in omega (arith, e)) k h in
-      omega (arith, within);
-}
-  where
-    by : (ms : List Bool) (at : ℕ) → n ≡ at + length ms → ((k : ℕ) → get_or ms k false ≡ true → from + (at + k) < 2 ^ 32)
-        → (k : ℕ) → get_or (ms ++ mark ∷ []) k false ≡ true → from + (at + k) < 2 ^ 32
-    by [] at end before zero h = let last : from + n < 2 ^ 32 = early h in omega (arith, last, end)
-    by [] at end before (suc k) h = absurd (true≢false (sym h))
-    by (m ∷ ms) at end before zero h = before 0 h
-    by (m ∷ ms) at end before (suc k) h =
-        let rest : from + ((at + 1) + k) < 2 ^ 32 = by ms (at + 1) (omega arith) (λ j g. let b : from + (at + suc j) < 2 ^ 32 = before (suc j) g in omega (arith, b)) k h in
-        omega (arith, rest)
-
 -- where every hour is marked, those from a place on
 pub every_at : (n i : ℕ) → i < n → drop i (replicate n true) ≡ true ∷ drop (i + 1) (replicate n true)
 every_at n i below = drop_more (replicate n true) i true (rw (length-replicate n true) below) ∙ ap (λ b. b ∷ drop (i + 1) (replicate n true)) (get_or-replicate n i true true below)

@@ -2,11 +2,10 @@
 ghost use Rattle.std.specs.Prelude.{◌≡◌, ◌+◌, ◌<◌, ◌^◌, ◌&&◌, ℕ, length, map, nat_abs, nat_le, nat_lt, replicate, true, IfOk, IfSome};
 ghost use Rattle.std.specs.List.{list_all, list_any};
 ghost use Rattle.fw_charge.specs.Charge.{hour_of};
-ghost use Rattle.fw_sums.specs.Hours.{AreTouched, IsMarkedPlace, is_marked};
+ghost use Rattle.fw_sums.specs.Hours.{IsMarkedPlace, is_marked};
 
-use crate::hours::{is_touched, second_of};
+use crate::hours::second_of;
 use fw_charge::{SECONDS_PER_HOUR, hour_of};
-use fw_terms::Commitment;
 use std::alloc::{AllocError, Global};
 
 /// The marks of so many hours, all of them marked. The one error is that memory ran out.
@@ -14,24 +13,6 @@ pub fn every_hour(alloc: Global, hours: usize) -> Result<Vec<bool>, AllocError>
     ensures { IfOk result (λ marks. marks.items ≡ replicate hours true) }
 {
     Ok(vec![in alloc; true; hours]?)
-}
-
-/// The marks of the hours in which some commitment has a line, among so many hours from `from` on, counted from 1970. The one error is that
-/// memory ran out.
-pub fn touched_hours(
-    alloc: Global,
-    commitments: &[Commitment],
-    from: u64,
-    hours: usize,
-) -> Result<Vec<bool>, AllocError>
-    requires { from + hours < 2 ^ 64 }
-    ensures { IfOk result (λ marks. AreTouched commitments.now from hours marks.items) }
-{
-    let mut marks = Vec::new(alloc);
-    for place in 0..hours {
-        marks.push(is_touched(commitments, from + place as u64))?;
-    }
-    Ok(marks)
 }
 
 // The place of an hour among the hours of the marks, of which this one is the first, where it is marked.
