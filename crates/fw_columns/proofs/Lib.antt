@@ -7,4 +7,5 @@ mod PartColumns
 pub mod HourFacts
 mod RunFacts
 pub mod SkuFacts
+mod MetFacts
 mod OrderFacts

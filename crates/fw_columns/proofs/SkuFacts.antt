@@ -1,21 +1,21 @@
--- Lemmas on which SKUs the rows of each hour have.
-use Rattle.std.proofs.Common.{◌≡◌, ◌∙◌, ⊎_elim, ℕ, ◌+◌, ◌-◌, ◌<◌, ◌≤◌, Bool, true, false, not, cond, List, [], ◌∷◌, ◌++◌, length, map, filter, get_or, drop, take, Option, Some, None, All, refl, sym, ap, subst, arith, length-append, length-drop}
+-- Lemmas on which SKUs the rows of each hour have, and at which places.
+use Rattle.std.proofs.Common.{◌≡◌, ◌∙◌, ⊎_elim, ℕ, ◌+◌, ◌-◌, ◌<◌, ◌≤◌, Bool, true, false, List, [], ◌∷◌, ◌++◌, length, map, filter, get_or, drop, take, Option, Some, None, All, refl, sym, ap, subst, arith, length-append, length-drop}
 use Rattle.std.specs.Prelude.{◌==◌, ◌||◌, option_map, slice_get, slice_index, slice_index_or, unwrap_or}
 use Rattle.std.specs.List.{cons_option, filter_map, fold, list_any, slice_range}
+use Rattle.std.proofs.Math.Bool.{or-false, or_assoc}
 use Rattle.std.proofs.Math.Seq.{drop-append_seam, get_or-append_seam, take-length}
-use Rattle.std.proofs.lemmas.Bool.{eq-eqb, ne_eqb}
-use Rattle.std.proofs.lemmas.List.{drop-append-le, get_or_append_left, length-map, length-take-le, take-append-le}
-use Rattle.std.proofs.lemmas.List.Elements.{All-head, All-tail}
+use Rattle.std.proofs.lemmas.List.{drop-append-le, get_or-drop, get_or-map, get_or-take, get_or_append_left, length-map, length-take-le, take-append-le}
+use Rattle.std.proofs.lemmas.List.Elements.{All-filter, All-head, All-tail}
 use Rattle.std.proofs.lemmas.List.Folds.{list_any-append, list_any_at}
 use Rattle.std.proofs.lemmas.List.Sums.{fold-append}
-use Rattle.std.proofs.lemmas.Option.{slice_get-map, slice_get_cases, unwrap_or-slice_get}
+use Rattle.std.proofs.lemmas.Option.{get_or_from_slice_get, slice_get-map, slice_get_cases, unwrap_or-slice_get}
 use Rattle.fw_charge.specs.Charge.{Charge}
 use Rattle.fw_row_table.specs.Codes.{text_code}
 use Rattle.fw_row_table.specs.Table.{AreColumns, most_column_rows}
 use Rattle.fw_row_table.specs.Texts.{names_of}
 use Rattle.fw_row_table.specs.declared.table.Table.{Table}
 use Rattle.fw_columns.specs.ByHour.{AreByHour, HasRun}
-use Rattle.fw_columns.specs.BySku.{AreSkusByHour, each_once, is_among, sku_codes, skus_of_hour, with_number}
+use Rattle.fw_columns.specs.BySku.{AreSkusByHour, each_once, is_among, places_of_sku, sku_codes, skus_of_hour, with_number}
 use Rattle.fw_columns.specs.Hours.{hours_of, places_of_hour, starts_in}
 use Rattle.fw_columns.specs.declared.by_hour.RowsByHour.{RowsByHour}
 use Rattle.fw_columns.specs.declared.by_sku.SkusByHour.{SkusByHour}
@@ -28,21 +28,13 @@ unfolding each_once
 once_more numbers n = fold-append with_number [] numbers (n ∷ [])
 
 -- a number that isn't among them goes last, and another changes nothing
-pub with_new : (seen : List ℕ) (n : ℕ) → not (is_among seen n) ≡ true → with_number seen n ≡ seen ++ n ∷ []
+pub with_new : (seen : List ℕ) (n : ℕ) → is_among seen n ≡ false → with_number seen n ≡ seen ++ n ∷ []
 unfolding with_number
-with_new seen n e = by (is_among seen n) e
-  where
-    by : (b : Bool) → not b ≡ true → cond b seen (seen ++ n ∷ []) ≡ seen ++ n ∷ []
-    by true e = absurd (cc)
-    by false e = refl
+with_new seen n e = rw e refl
 
-pub with_old : (seen : List ℕ) (n : ℕ) → not (is_among seen n) ≡ false → with_number seen n ≡ seen
+pub with_old : (seen : List ℕ) (n : ℕ) → is_among seen n ≡ true → with_number seen n ≡ seen
 unfolding with_number
-with_old seen n e = by (is_among seen n) e
-  where
-    by : (b : Bool) → not b ≡ false → cond b seen (seen ++ n ∷ []) ≡ seen
-    by true e = refl
-    by false e = absurd (cc)
+with_old seen n e = rw e refl
 
 with_long : (seen : List ℕ) (n : ℕ) → length (with_number seen n) ≤ length seen + 1
 unfolding with_number
@@ -59,91 +51,38 @@ pub once_long : (numbers : List ℕ) → length (each_once numbers) ≤ length n
 unfolding each_once
 once_long numbers = let all = all_long [] numbers in omega (arith, all)
 
--- the numbers that were seen, and the new one, are among those that are seen
-pub among_with : (seen : List ℕ) (n m : ℕ) → is_among (with_number seen n) m ≡ ((n == m) || is_among seen m)
-unfolding with_number
-among_with seen n m =
-    chosen (λ l. is_among l m ≡ ((n == m) || is_among seen m)) (is_among seen n) _ _
-    (λ e. by (n == m) refl e)
-    (λ e. list_any-append (λ x. x == m) seen (n ∷ []) ∙ ends (is_among seen m) (n == m))
-  where
-    by : (b : Bool) → (n == m) ≡ b → is_among seen n ≡ true → is_among seen m ≡ (b || is_among seen m)
-    by true is e = ap (is_among seen) (sym (alike n m is)) ∙ e
-    by false is e = refl
-
-    ends : (a b : Bool) → (a || (b || false)) ≡ (b || a)
-    ends true true = refl
-    ends true false = refl
-    ends false true = refl
-    ends false false = refl
-
 -- a test that one of them passes
 with_any : (test : ℕ → Bool) (seen : List ℕ) (n : ℕ) → list_any test (with_number seen n) ≡ (list_any test seen || test n)
 unfolding with_number
 with_any test seen n =
     chosen (λ l. list_any test l ≡ (list_any test seen || test n)) (is_among seen n) seen (seen ++ n ∷ [])
     (λ e. old e (test n) refl)
-    (λ e. list_any-append test seen (n ∷ []) ∙ ap (λ b. list_any test seen || b) (last (test n)))
+    (λ e. list_any-append test seen (n ∷ []) ∙ ap (λ b. list_any test seen || b) (or-false (test n)))
   where
-    last : (b : Bool) → (b || false) ≡ b
-    last true = refl
-    last false = refl
-
     old : is_among seen n ≡ true → (b : Bool) → test n ≡ b → list_any test seen ≡ (list_any test seen || b)
     old e true is = let (k, l, same) = found n seen e in let some = list_any_at test seen k n l (ap test same ∙ is) in rw some refl
-    old e false is = sym (last (list_any test seen))
+    old e false is = sym (or-false (list_any test seen))
 
 any_from : (test : ℕ → Bool) (seen numbers : List ℕ) → list_any test (fold with_number seen numbers) ≡ (list_any test seen || list_any test numbers)
-any_from test seen [] = none (list_any test seen)
-  where
-    none : (b : Bool) → b ≡ (b || false)
-    none true = refl
-    none false = refl
-any_from test seen (n ∷ numbers) = any_from test (with_number seen n) numbers ∙ ap (λ b. b || list_any test numbers) (with_any test seen n) ∙ both (list_any test seen) (test n) (list_any test numbers)
-  where
-    both : (a b c : Bool) → ((a || b) || c) ≡ (a || (b || c))
-    both true b c = refl
-    both false b c = refl
+any_from test seen [] = sym (or-false (list_any test seen))
+any_from test seen (n ∷ numbers) = any_from test (with_number seen n) numbers ∙ ap (λ b. b || list_any test numbers) (with_any test seen n) ∙ or_assoc (list_any test seen) (test n) (list_any test numbers)
 
 -- one of the numbers passes it where one of them, each once, does
-any_once : (test : ℕ → Bool) (numbers : List ℕ) → list_any test (each_once numbers) ≡ list_any test numbers
+pub any_once : (test : ℕ → Bool) (numbers : List ℕ) → list_any test (each_once numbers) ≡ list_any test numbers
 unfolding each_once
 any_once test numbers = any_from test [] numbers
 
--- ---- the codes of an hour that were met
-
--- what is noted in an hour: no code is of a later one, and those met in it are listed
-pub record AreNoted (last : List ℕ) (hour : ℕ) (listed : List ℕ) : Type 0 where
-  pub met : (c : ℕ) → (slice_index_or last c 0 == hour) ≡ is_among listed c
-  pub before : (c : ℕ) → slice_index_or last c 0 ≤ hour
-
-pub noted_none : (last : List ℕ) (hour : ℕ) → ((c : ℕ) → slice_index_or last c 0 < hour) → AreNoted last hour []
-noted_none last hour earlier = record {
-  met = λ c. ne_eqb (slice_index_or last c 0) hour (λ is. let low = earlier c in omega (arith, is, low));
-  before = λ c. let low = earlier c in omega (arith, low);
-}
-
-pub noted_more : (last next : List ℕ) (hour : ℕ) (listed : List ℕ) (code : ℕ) → AreNoted last hour listed → ((c : ℕ) → slice_index_or next c 0 ≡ cond (c == code) hour (slice_index_or last c 0)) → AreNoted next hour (with_number listed code)
-noted_more last next hour listed code noted step = record {
-  met = λ c. ap (λ n. n == hour) (step c) ∙ by c (c == code) refl ∙ sym (among_with listed code c);
-  before = λ c. rw (step c) (chosen (λ n. n ≤ hour) (c == code) _ _ (λ e. omega arith) (λ e. noted.before c));
-}
-  where
-    by : (c : ℕ) (b : Bool) → (c == code) ≡ b → (cond b hour (slice_index_or last c 0) == hour) ≡ ((code == c) || is_among listed c)
-    by c true is = rw (eq-eqb code c (sym (alike c code is)), eq-eqb hour hour refl) refl
-    by c false is = rw (ne_eqb code c (λ e. apart c code is (sym e))) (noted.met c)
-
--- ---- the runs of codes, hour by hour
+-- ---- runs, hour by hour
 
 -- the lists of the first hours stand one behind the other
-pub record AreRuns (lists : ℕ → List ℕ) (n : ℕ) (codes before : List ℕ) : Type 0 where
+pub record AreRuns {X : Type 0} (lists : ℕ → List X) (n : ℕ) (all : List X) (before : List ℕ) : Type 0 where
   pub long : length before ≡ n + 1
-  pub end : slice_index before n ≡ length codes
+  pub end : slice_index before n ≡ length all
   pub rising : (k : ℕ) → k < n → slice_index before k ≤ slice_index before (k + 1)
-  pub within : (k : ℕ) → k < n → slice_index before (k + 1) ≤ length codes
-  pub run : (k : ℕ) → k < n → slice_range codes (slice_index before k) (slice_index before (k + 1)) ≡ lists k
+  pub within : (k : ℕ) → k < n → slice_index before (k + 1) ≤ length all
+  pub run : (k : ℕ) → k < n → slice_range all (slice_index before k) (slice_index before (k + 1)) ≡ lists k
 
-pub runs_none : (lists : ℕ → List ℕ) → AreRuns lists 0 [] (0 ∷ [])
+pub runs_none : {X : Type 0} (lists : ℕ → List X) → AreRuns lists 0 [] (0 ∷ [])
 runs_none lists = record {
   long = refl;
   end = refl;
@@ -153,28 +92,35 @@ runs_none lists = record {
 }
 
 -- a run stays where more is added
-run_stays : (codes more : List ℕ) (a b : ℕ) → a ≤ b → b ≤ length codes → slice_range (codes ++ more) a b ≡ slice_range codes a b
-run_stays codes more a b le within =
-    ap (take (b - a)) (drop-append-le a codes more (omega (arith, le, within)))
-    ∙ take-append-le (b - a) (drop a codes) more (let size = length-drop a codes in omega (arith, size, le, within))
+run_stays : {X : Type 0} (all more : List X) (a b : ℕ) → a ≤ b → b ≤ length all → slice_range (all ++ more) a b ≡ slice_range all a b
+run_stays all more a b le within =
+    ap (take (b - a)) (drop-append-le a all more (omega (arith, le, within)))
+    ∙ take-append-le (b - a) (drop a all) more (let size = length-drop a all in omega (arith, size, le, within))
+
+-- how long a run is, and what is where in it
+length-slice_range : {X : Type 0} (all : List X) (a b : ℕ) → a ≤ b → b ≤ length all → length (slice_range all a b) ≡ b - a
+length-slice_range all a b le within = length-take-le (b - a) (drop a all) (let size = length-drop a all in omega (arith, size, le, within))
+
+at_range : {X : Type 0} (all : List X) (a b k : ℕ) (d : X) → a + k < b → get_or (slice_range all a b) k d ≡ get_or all (a + k) d
+at_range all a b k d l = get_or-take (b - a) (drop a all) k d (omega (arith, l)) ∙ get_or-drop a all k d
 
 -- what is added is the last run
-run_added : (codes more : List ℕ) → slice_range (codes ++ more) (length codes) (length (codes ++ more)) ≡ more
-run_added codes more =
-    let size : length (codes ++ more) - length codes ≡ length more = (let all = length-append codes more in omega (arith, all)) in
-    (λ j. take (size j) (drop-append_seam codes more j)) ∙ take-length more
+run_added : {X : Type 0} (all more : List X) → slice_range (all ++ more) (length all) (length (all ++ more)) ≡ more
+run_added all more =
+    let size : length (all ++ more) - length all ≡ length more = (let sum = length-append all more in omega (arith, sum)) in
+    (λ j. take (size j) (drop-append_seam all more j)) ∙ take-length more
 
-module _ (lists : ℕ → List ℕ) (n : ℕ) (codes before : List ℕ) (runs : AreRuns lists n codes before) where
+module _ {X : Type 0} (lists : ℕ → List X) (n : ℕ) (all : List X) (before : List ℕ) (runs : AreRuns lists n all before) where
   now : List ℕ
-  now = before ++ length (codes ++ lists n) ∷ []
+  now = before ++ length (all ++ lists n) ∷ []
 
   kept : (k : ℕ) → k ≤ n → slice_index now k ≡ slice_index before k
   unfolding now
-  kept k le = get_or_append_left before (length (codes ++ lists n) ∷ []) 0 k (let long = runs.long in omega (arith, long, le))
+  kept k le = get_or_append_left before (length (all ++ lists n) ∷ []) 0 k (let long = runs.long in omega (arith, long, le))
 
-  last : slice_index now (n + 1) ≡ length (codes ++ lists n)
+  last : slice_index now (n + 1) ≡ length (all ++ lists n)
   unfolding now
-  last = ap (slice_index now) (sym runs.long) ∙ get_or-append_seam before (length (codes ++ lists n)) [] 0
+  last = ap (slice_index now) (sym runs.long) ∙ get_or-append_seam before (length (all ++ lists n)) [] 0
 
   -- which case a place is
   each : (P : ℕ → Type 0) → ((k : ℕ) → k < n → P k) → P n → (k : ℕ) → k < n + 1 → P k
@@ -184,21 +130,31 @@ module _ (lists : ℕ → List ℕ) (n : ℕ) (codes before : List ℕ) (runs : 
       by true is = subst P (sym (alike k n is)) new
       by false is = let no = apart k n is in old k (omega (arith, l, no))
 
-  pub runs_more : AreRuns lists (n + 1) (codes ++ lists n) (before ++ length (codes ++ lists n) ∷ [])
+  pub runs_more : AreRuns lists (n + 1) (all ++ lists n) (before ++ length (all ++ lists n) ∷ [])
   unfolding now
   runs_more = record {
-    long = length-append before (length (codes ++ lists n) ∷ []) ∙ (let long = runs.long in omega (arith, long));
+    long = length-append before (length (all ++ lists n) ∷ []) ∙ (let long = runs.long in omega (arith, long));
     end = last;
     rising = each (λ k. slice_index now k ≤ slice_index now (k + 1))
         (λ k l. let a = kept k (omega (arith, l)) in let b = kept (k + 1) (omega (arith, l)) in let old = runs.rising k l in omega (arith, a, b, old))
-        (let a = kept n (omega arith) in let size = length-append codes (lists n) in let end = runs.end in let new = last in omega (arith, a, size, end, new));
-    within = each (λ k. slice_index now (k + 1) ≤ length (codes ++ lists n))
-        (λ k l. let b = kept (k + 1) (omega (arith, l)) in let old = runs.within k l in let size = length-append codes (lists n) in omega (arith, b, old, size))
+        (let a = kept n (omega arith) in let size = length-append all (lists n) in let end = runs.end in let new = last in omega (arith, a, size, end, new));
+    within = each (λ k. slice_index now (k + 1) ≤ length (all ++ lists n))
+        (λ k l. let b = kept (k + 1) (omega (arith, l)) in let old = runs.within k l in let size = length-append all (lists n) in omega (arith, b, old, size))
         (let new = last in omega (arith, new));
-    run = each (λ k. slice_range (codes ++ lists n) (slice_index now k) (slice_index now (k + 1)) ≡ lists k)
-        (λ k l. (λ j. slice_range (codes ++ lists n) (kept k (omega (arith, l)) j) (kept (k + 1) (omega (arith, l)) j)) ∙ run_stays codes (lists n) (slice_index before k) (slice_index before (k + 1)) (runs.rising k l) (runs.within k l) ∙ runs.run k l)
-        ((λ j. slice_range (codes ++ lists n) ((kept n (omega arith) ∙ runs.end) j) (last j)) ∙ run_added codes (lists n));
+    run = each (λ k. slice_range (all ++ lists n) (slice_index now k) (slice_index now (k + 1)) ≡ lists k)
+        (λ k l. (λ j. slice_range (all ++ lists n) (kept k (omega (arith, l)) j) (kept (k + 1) (omega (arith, l)) j)) ∙ run_stays all (lists n) (slice_index before k) (slice_index before (k + 1)) (runs.rising k l) (runs.within k l) ∙ runs.run k l)
+        ((λ j. slice_range (all ++ lists n) ((kept n (omega arith) ∙ runs.end) j) (last j)) ∙ run_added all (lists n));
   }
+
+-- two that have as many in each hour have as many so far
+pub one_long : {X Y : Type 0} (lists : ℕ → List X) (others : ℕ → List Y) (n : ℕ) (all : List X) (beside : List Y) (before : List ℕ) → AreRuns lists n all before → AreRuns others n beside before → length (lists n) ≡ length (others n)
+    → length (all ++ lists n) ≡ length (beside ++ others n)
+one_long lists others n all beside before runs runs' same =
+    let a = length-append all (lists n) in
+    let b = length-append beside (others n) in
+    let end = runs.end in
+    let end' = runs'.end in
+    omega (arith, a, b, end, end', same)
 
 -- ---- the codes of the rows of an hour
 
@@ -225,13 +181,25 @@ at_places {X} f rows (p ∷ places) within = by (slice_get rows p) refl (at_plac
 unfoldable pub hour_list : List ℕ → RowsByHour → ℕ → List ℕ
 hour_list skus b k = each_once (codes_at skus (slice_range b.order.items (slice_index b.before.items k) (slice_index b.before.items (k + 1))))
 
+-- those of the places that have a code
+abbrev pub places_with : List ℕ → ℕ → List ℕ → List ℕ
+places_with skus code places = filter (λ place. slice_index_or skus place 0 == code) places
+
+-- for each of these codes its places
+unfoldable pub hour_places : List ℕ → RowsByHour → ℕ → List (List ℕ)
+hour_places skus b k = map (λ code. places_with skus code (slice_range b.order.items (slice_index b.before.items k) (slice_index b.before.items (k + 1)))) (hour_list skus b k)
+
+pub places_long : (skus : List ℕ) (b : RowsByHour) (k : ℕ) → length (hour_places skus b k) ≡ length (hour_list skus b k)
+unfolding hour_places
+places_long skus b k = length-map (hour_list skus b k) (λ code. places_with skus code (slice_range b.order.items (slice_index b.before.items k) (slice_index b.before.items (k + 1))))
+
 -- the codes at the places of an hour are those of its rows
 codes_there : (hour : ℕ) (rows : List Charge) → codes_at (sku_codes rows) (places_of_hour hour rows) ≡ map (λ row. text_code (names_of rows) row.sku) (filter (starts_in hour) rows)
 codes_there hour rows =
     let code = λ (row : Charge). text_code (names_of rows) row.sku in
     at_places code rows (places_of_hour hour rows) (places_within hour rows) ∙ ap (map code) (rows_at_places hour rows)
 
-any_at : (test : ℕ → Bool) (skus places : List ℕ) → list_any test (codes_at skus places) ≡ list_any (λ place. test (slice_index_or skus place 0)) places
+pub any_at : (test : ℕ → Bool) (skus places : List ℕ) → list_any test (codes_at skus places) ≡ list_any (λ place. test (slice_index_or skus place 0)) places
 any_at test skus [] = refl
 any_at test skus (place ∷ places) = ap (λ b. test (slice_index_or skus place 0) || b) (any_at test skus places)
 
@@ -248,6 +216,12 @@ hour_is : (rows : List Charge) (b : RowsByHour) (k : ℕ) → AreByHour b rows �
 unfolding hour_list skus_of_hour
 hour_is rows b k by l =
     ap each_once (ap (codes_at (sku_codes rows)) (by.places k l) ∙ codes_there (slice_index (hours_of rows) k) rows)
+
+-- and so are their places
+places_are : (rows : List Charge) (b : RowsByHour) (k : ℕ) → AreByHour b rows → k < length (hours_of rows)
+    → hour_places (sku_codes rows) b k ≡ map (λ code. places_of_sku (slice_index (hours_of rows) k) code rows) (skus_of_hour (slice_index (hours_of rows) k) rows)
+unfolding hour_places places_of_sku
+places_are rows b k by l = λ j. map (λ code. places_with (sku_codes rows) code (by.places k l j)) (hour_is rows b k by l j)
 
 -- there are no more of them than places
 list_long : (skus : List ℕ) (b : RowsByHour) (k : ℕ) → HasRun b k → length (hour_list skus b k) + slice_index b.before.items k ≤ slice_index b.before.items (k + 1)
@@ -275,17 +249,55 @@ module _ (skus : List ℕ) (b : RowsByHour) (n : ℕ) (codes new places : List �
       let long = list_long skus b n run in
       omega (arith, size, long, few)
 
-pub made : (skus : List ℕ) (b : RowsByHour) (s : SkusByHour) (n : ℕ) (rows : List Charge) → AreRuns (hour_list skus b) n s.codes.items s.before.items → AreByHour b rows → skus ≡ sku_codes rows → n ≡ length b.hours.items → AreSkusByHour s rows
-made skus b s n rows runs by are all =
+pub made : (skus : List ℕ) (b : RowsByHour) (s : SkusByHour) (n : ℕ) (rows : List Charge) → AreRuns (hour_list skus b) n s.codes.items s.before.items → AreRuns (hour_places skus b) n s.places s.before.items → AreByHour b rows → skus ≡ sku_codes rows → n ≡ length b.hours.items → AreSkusByHour s rows
+made skus b s n rows runs places by are all =
     let inside : (k : ℕ) → k < length (hours_of rows) → k < n = (λ k l. let same = ap length by.hours in omega (arith, l, same, all)) in
     record {
       run = λ k l. record {
         there = let long = runs.long in let low = inside k l in omega (arith, long, low);
         rising = runs.rising k (inside k l);
         within = runs.within k (inside k l);
+        listed = places.within k (inside k l);
       };
       codes = λ k l. runs.run k (inside k l) ∙ ap (λ codes. hour_list codes b k) are ∙ hour_is rows b k by l;
+      places = λ k l. places.run k (inside k l) ∙ ap (λ codes. hour_places codes b k) are ∙ places_are rows b k by l;
     }
+
+-- the lists of an hour's places are put behind those of the hours before
+pub lists_added : (skus : List ℕ) (b : RowsByHour) (n : ℕ) (places : List ℕ) → places ≡ slice_range b.order.items (slice_index b.before.items n) (slice_index b.before.items (n + 1))
+    → map (λ code. places_with skus code places) (each_once (codes_at skus places)) ≡ hour_places skus b n
+unfolding hour_places hour_list
+lists_added skus b n places at = λ j. map (λ code. places_with skus code (at j)) (each_once (codes_at skus (at j)))
+
+-- ---- what is kept of an hour
+
+module _ (s : SkusByHour) (rows : List Charge) (k which : ℕ) (are : AreSkusByHour s rows) (l : k < length (hours_of rows)) (m : which < length (skus_of_hour (slice_index (hours_of rows) k) rows)) where
+  -- each of its codes is in its run
+  pub code_within : slice_index s.before.items k + which < slice_index s.before.items (k + 1)
+  code_within =
+      let run = are.run k l in
+      let size = ap length (are.codes k l) in
+      let long = length-slice_range s.codes.items (slice_index s.before.items k) (slice_index s.before.items (k + 1)) run.rising run.within in
+      omega (arith, size, long, m)
+
+  -- the list of a code has its places
+  pub places_there : (places : List ℕ) → slice_get s.places (slice_index s.before.items k + which) ≡ Some places
+      → places ≡ places_of_sku (slice_index (hours_of rows) k) (slice_index (skus_of_hour (slice_index (hours_of rows) k) rows) which) rows
+  places_there places is =
+      let hour = slice_index (hours_of rows) k in
+      let a = slice_index s.before.items k in
+      let b = slice_index s.before.items (k + 1) in
+      sym (get_or_from_slice_get s.places (a + which) places [] is)
+      ∙ sym (at_range s.places a b which [] code_within)
+      ∙ ap (λ lists. get_or lists which []) (are.places k l)
+      ∙ get_or-map (λ code. places_of_sku hour code rows) (skus_of_hour hour rows) which 0 [] m
+
+-- each place is that of a row
+pub sku_places_within : (hour code : ℕ) (rows : List Charge) → All (λ place. place < length rows) (places_of_sku hour code rows)
+unfolding places_of_sku
+sku_places_within hour code rows = All-filter (λ place. slice_index_or (sku_codes rows) place 0 == code) (λ place. place < length rows) (places_of_hour hour rows) (places_within hour rows)
+
+-- ---- rows by hour
 
 -- each hour has a run of places
 pub has_run : (b : RowsByHour) (rows : List Charge) (k : ℕ) → AreByHour b rows → k < length b.hours.items → HasRun b k

@@ -10,7 +10,7 @@ ghost use Rattle.fw_row_table.specs.Codes.{text_code};
 ghost use Rattle.fw_row_table.specs.Texts.{names_of};
 ghost use Rattle.fw_charge.specs.Codes.{category_code, class_code};
 ghost use Rattle.fw_columns.specs.ByHour.{AreByHour};
-ghost use Rattle.fw_columns.specs.BySku.{AreSkusByHour, skus_of_hour};
+ghost use Rattle.fw_columns.specs.BySku.{AreSkusByHour, places_of_sku, skus_of_hour};
 ghost use Rattle.fw_columns.specs.Codes.{tag_code, AgreeWithGroups};
 ghost use Rattle.fw_columns.specs.Hours.{hours_of, places_of_hour};
 
@@ -27,8 +27,8 @@ use std::sync::Arc;
 
 /// 1 to [`Columns::MOST_ROWS`] charge rows kept by column, each of their texts and each of their lists of tags once. A contract sees the list of the rows.
 ///
-/// Columns are never changed, so a [copy](Columns::copy) shares them, and the order of the rows by hour, the SKUs of each hour and the length of the rows in
-/// bytes are found once.
+/// Columns are never changed, so a [copy](Columns::copy) shares them, and the order of the rows by hour, the SKUs of each hour with the places of their rows,
+/// and the length of the rows in bytes are found once.
 #[derive(Drop)]
 pub struct Columns {
     shared: Arc<Kept>,
@@ -106,7 +106,7 @@ impl Columns {
         &self.shared.by_hour
     }
 
-    /// The SKUs by hour.
+    /// The SKUs by hour, and the places of their rows.
     fn by_sku(&self) -> &SkusByHour
         ensures { AreSkusByHour result.now self.now }
     {
@@ -228,13 +228,25 @@ impl Columns {
         self.by_hour().places_in(number)
     }
 
-    /// The codes of the SKUs of the rows whose periods start in an hour, each once, in the order in which it first occurs among these rows. The hour is
-    /// that at the place `number` of the [hours](Columns::hours).
+    /// The codes of the SKUs of the rows whose periods start in an hour, each once, in the order in which it first occurs among these rows. Where one of them
+    /// has no SKU, 0 is among the codes. The hour is that at the place `number` of the [hours](Columns::hours).
     pub fn skus_in(&self, number: usize) -> &[u32]
         requires { number < length (hours_of self.now) }
         ensures { result.now ≡ skus_of_hour (slice_index (hours_of self.now) number) self.now }
     {
         self.by_sku().codes_in(number)
+    }
+
+    /// The places, counted from 0, of the rows of an hour that have a SKU, in rising order. The hour is that at the place `number` of the
+    /// [hours](Columns::hours), and the SKU's code that at the place `which` of the [codes](Columns::skus_in) of the hour. At code 0 they are of the rows that
+    /// have no SKU.
+    pub fn places_of_sku(&self, number: usize, which: usize) -> &[u16]
+        requires hour { number < length (hours_of self.now) }
+        requires sku { which < length (skus_of_hour (slice_index (hours_of self.now) number) self.now) }
+        ensures places { result.now ≡ places_of_sku (slice_index (hours_of self.now) number) (slice_index (skus_of_hour (slice_index (hours_of self.now) number) self.now) which) self.now }
+        ensures within { All (λ place. place < length self.now) result.now }
+    {
+        self.by_sku().places_of(number, which)
     }
 
     /// The code of each row's category, as `Category::code` returns it.

@@ -1,9 +1,8 @@
-use Rattle.std.proofs.Common.{◌≡◌, ◌++◌, take}
-use Rattle.fw_columns.specs.BySku.{each_once}
-use Rattle.fw_columns.proofs.SkuFacts.{AreNoted, codes_at}
+use Rattle.std.proofs.Common.{map, take}
+use Rattle.std.specs.Prelude.{vec_items}
+use Rattle.fw_columns.proofs.MetFacts.{AreMet}
 use Rattle.fw_columns.proofs.by_sku.Met.add_codes.Given as goal
 
--- the codes of the places so far are listed, each once, and noted
+-- the codes of the places so far are listed and noted, each with its places
 abbrev pub invariant-loop-place : goal.invariant-loop-place
-invariant-loop-place l =
-    (l.codes.items ≡ l.initial.codes.items ++ each_once (codes_at l.skus (take l.place-index l.places))) × AreNoted l.self.last.items l.hour (each_once (codes_at l.skus (take l.place-index l.places)))
+invariant-loop-place l = AreMet l.skus l.initial.codes.items (take l.place-index l.places) l.codes.items l.self.last.items (map vec_items l.self.lists.items)
