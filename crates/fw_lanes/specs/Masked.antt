@@ -1,7 +1,20 @@
--- Sums under a mask, and by code.
-use Rattle.std.specs.Prelude.{◌≡◌, ℕ, ◌<◌, ◌==◌, ℤ, pos, ◌+ℤ◌, Bool, false, ◌&&◌, ◌||◌, List, [], ◌∷◌, length, slice_index_or, if◌then◌else◌}
+-- Masks, and sums under a mask and by code.
+use Rattle.std.specs.Prelude.{◌≡◌, ℕ, ◌<◌, ◌==◌, nat_lt, int_le, int_lt, ℤ, pos, ◌+ℤ◌, Bool, false, ◌&&◌, ◌||◌, List, [], ◌∷◌, length, slice_index_or, if◌then◌else◌}
+use Rattle.std.specs.Int.{bit_at}
 use Rattle.std.specs.List.{list_any}
 use Rattle.std.specs.Simd.Lanes.{zip2}
+
+-- the most places of a mask
+abbrev pub most_places : ℕ
+most_places = 65536
+
+-- whether a value is at least a bound and less than another
+abbrev pub is_between : ℤ → ℤ → ℤ → Bool
+is_between low high value = int_le low value && int_lt value high
+
+-- whether a number is in a set of numbers below 64: those whose bit is 1 in a word
+abbrev pub is_in_set : ℕ → ℕ → Bool
+is_in_set set number = nat_lt number 64 && (bit_at set number == 1)
 
 -- the value where the mask is true, 0 elsewhere
 abbrev pub kept_of : ℤ → Bool → ℤ

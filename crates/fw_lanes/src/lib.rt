@@ -7,7 +7,11 @@
 #![tactic(auto)]
 
 mod by_code;
+mod laws;
+mod mask;
 mod sums;
 
 pub use by_code::{add_by_code, code_count, mark_by_code, marks_by_code, sums_by_code};
+pub use laws::limits_agree;
+pub use mask::{Mask, and_with, count, mask_eq_u8, mask_eq_u32, mask_in_u8, mask_range};
 pub use sums::masked_sum;
