@@ -94,7 +94,8 @@ pub fn mask_eq_u32(values: &[u32], value: u32, mask: &mut Mask)
 {
     let places = mask.places.as_mut_slice();
     for at in 0..values.len() {
-        places[at] = values[at] == value;
+        let own = values[at];
+        places[at] = own == value;
     }
 }
 
