@@ -90,14 +90,13 @@ pub fn sums_by_code(
     Ok(sums)
 }
 
-// The count, raised above a code.
-fn raised(count: usize, code: u32) -> usize
-    ensures above_count { count ≤ result }
-    ensures above_code { code < result }
-    ensures least { (n : ℕ) → count ≤ n → code < n → result ≤ n }
+// The greater of two codes.
+#[inline(always)]
+fn greater(greatest: u32, code: u32) -> u32
+    ensures above_both { (greatest ≤ result) × (code ≤ result) }
+    ensures least { (n : ℕ) → greatest < n → code < n → result < n }
 {
-    let next = code as usize + 1;
-    if count < next { next } else { count }
+    if greatest < code { code } else { greatest }
 }
 
 /// The least number that is above all codes: 1 more than the greatest code, or 0 where there is none.
@@ -105,9 +104,12 @@ pub fn code_count(codes: &[u32]) -> usize
     ensures above { All (λ code. code < result) codes.now }
     ensures least { (count : ℕ) → All (λ code. code < count) codes.now → result ≤ count }
 {
-    let mut count = 0;
+    let mut greatest = 0;
     for code in codes {
-        count = raised(count, *code);
+        greatest = greater(greatest, *code);
     }
-    count
+    if codes.is_empty() {
+        return 0;
+    }
+    greatest as usize + 1
 }
