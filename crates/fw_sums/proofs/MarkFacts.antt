@@ -1,5 +1,5 @@
 -- Lemmas on marked hours.
-use Rattle.std.proofs.Common.{◌≡◌, ◌≢◌, ◌∙◌, ℕ, zero, suc, ◌+◌, ◌-◌, ◌*◌, ◌/◌, ◌<◌, ◌≤◌, ◌^◌, ◌==◌, ◌&&◌, nat_le, nat_lt, cond, Bool, true, false, List, [], ◌∷◌, ◌++◌, length, map, drop, take, get_or, replicate, sym, ap, refl, subst, arith, ⊎_elim, true≢false, append-nil}
+use Rattle.std.proofs.Common.{◌≡◌, ◌≢◌, ◌∙◌, ℕ, zero, suc, ◌+◌, ◌-◌, ◌*◌, ◌/◌, ◌<◌, ◌≤◌, ◌^◌, ◌==◌, ◌&&◌, nat_le, nat_lt, cond, ℤ, pos, Bool, true, false, List, [], ◌∷◌, ◌++◌, length, map, drop, take, get_or, replicate, sym, ap, refl, subst, arith, ⊎_elim, true≢false, append-nil}
 use Rattle.std.proofs.lemmas.Bool.{and_parts, cases_order, leb-true, leb-false, le-leb, lt-leb, lt-ltb, le-ltb, ltb-true, ltb-false}
 use Rattle.std.proofs.lemmas.Bool.Decides.{nat_tests}
 use Rattle.std.proofs.lemmas.List.{drop_more, get_or-replicate, get_or_past, length-replicate}
@@ -8,6 +8,7 @@ use Rattle.std.proofs.lemmas.List.FromFn.{get_or-map-range_with_len, length-map-
 use Rattle.std.specs.List.{list_all, list_any, range_with_len}
 use Rattle.std.specs.List.Sorted.{IsPermutation}
 use Rattle.fw_charge.specs.Charge.{Charge, hour_of}
+use Rattle.fw_lanes.specs.Masked.{is_between}
 use Rattle.fw_cover.proofs.Sorting.{two_ways}
 use Rattle.fw_cover.specs.Eligible.{is_of_hour}
 use Rattle.fw_terms.specs.Commitment.{CommitmentValue}
@@ -80,6 +81,12 @@ every_between marks from first end s all starts ends = two_ways (nat_le from (s 
     let before : s / 3600 < from = leb-false _ _ early in
     let off : nat_le first s ≡ false = lt-leb _ _ (omega (arith, starts, before)) in
     rw off (sym (marked_before marks from (s / 3600) before)))
+
+-- so the rows of marked hours are found by their seconds
+pub mask_between : (low high : ℤ) (marks : List Bool) (from : ℕ) (rows : List Charge) → ((s : ℕ) → is_between low high (pos s) ≡ is_marked marks from (hour_of s))
+    → map (is_between low high) (map (λ (row : Charge). pos row.start) rows) ≡ map (λ (row : Charge). is_marked marks from (hour_of row.start)) rows
+mask_between low high marks from [] same = refl
+mask_between low high marks from (row ∷ rows) same = let rest = mask_between low high marks from rows same in λ j. same row.start j ∷ rest j
 
 -- the marks behind the first are of the later hours
 pub marked_later : (mark : Bool) (marks : List Bool) (from hour : ℕ) → hour ≢ from → is_marked (mark ∷ marks) from hour ≡ is_marked marks (from + 1) hour
