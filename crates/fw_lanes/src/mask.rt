@@ -55,6 +55,13 @@ impl Mask {
         self.places.as_slice()
     }
 
+    /// Sets all places alike.
+    pub fn fill(&mut self, is_set: bool)
+        ensures { self.new ≡ replicate (length self.old) is_set }
+    {
+        self.places.as_mut_slice().fill(is_set);
+    }
+
     /// Sets one place, which has to be there.
     pub fn set(&mut self, place: usize, is_set: bool)
         requires { place < length self.old }

@@ -5,7 +5,7 @@ use Rattle.std.proofs.lemmas.Bool.Decides.{nat_tests}
 use Rattle.std.proofs.lemmas.List.{drop_more, get_or-replicate, get_or_past, length-replicate}
 use Rattle.std.proofs.lemmas.List.Elements.{filter_more}
 use Rattle.std.proofs.lemmas.List.FromFn.{get_or-map-range_with_len, length-map-range_with_len, map-range_with_len_more}
-use Rattle.std.specs.List.{list_all, list_any, range_with_len}
+use Rattle.std.specs.List.{AllByRecursion, list_all, list_any, range_with_len}
 use Rattle.std.specs.List.Sorted.{IsPermutation}
 use Rattle.fw_charge.specs.Charge.{Charge, hour_of}
 use Rattle.fw_lanes.specs.Masked.{is_between}
@@ -14,6 +14,7 @@ use Rattle.fw_cover.specs.Eligible.{is_of_hour}
 use Rattle.fw_terms.specs.Commitment.{CommitmentValue}
 use Rattle.fw_amortise.specs.Lines.{rows_in}
 use Rattle.fw_sums.specs.Hours.{AreTouched, is_marked, is_touched, rows_marked}
+use Rattle.fw_sums.specs.Wholes.{IsBetween}
 use Rattle.fw_sums.proofs.FilterFacts.{either_passes}
 use Rattle.fw_sums.proofs.UntouchedFacts.{neither}
 
@@ -87,6 +88,18 @@ pub mask_between : (low high : ℤ) (marks : List Bool) (from : ℕ) (rows : Lis
     → map (is_between low high) (map (λ (row : Charge). pos row.start) rows) ≡ map (λ (row : Charge). is_marked marks from (hour_of row.start)) rows
 mask_between low high marks from [] same = refl
 mask_between low high marks from (row ∷ rows) same = let rest = mask_between low high marks from rows same in λ j. same row.start j ∷ rest j
+
+-- where every hour is marked and the rows are all of these hours, each is of a marked one
+pub all_marked : (marks : List Bool) (from : ℕ) (rows : List Charge) → list_all (λ (mark : Bool). mark) marks ≡ true → AllByRecursion (IsBetween from (from + length marks)) rows
+    → replicate (length rows) true ≡ map (λ (row : Charge). is_marked marks from (hour_of row.start)) rows
+all_marked marks from [] every between = refl
+all_marked marks from (row ∷ rows) every between =
+    let since = between.0.since in
+    let before = between.0.before in
+    let k = hour_of row.start - from in
+    let here : is_marked marks from (hour_of row.start) ≡ true = marked_at marks from (hour_of row.start) k (omega (arith, since)) ∙ every_marked marks k every (omega (arith, since, before)) in
+    let rest = all_marked marks from rows every between.1 in
+    λ j. sym here j ∷ rest j
 
 -- the marks behind the first are of the later hours
 pub marked_later : (mark : Bool) (marks : List Bool) (from hour : ℕ) → hour ≢ from → is_marked (mark ∷ marks) from hour ≡ is_marked marks (from + 1) hour

@@ -1,11 +1,14 @@
 //! Marked hours: a mark for each of some hours in turn, and the rows of those that are marked.
-ghost use Rattle.std.specs.Prelude.{◌≡◌, ◌+◌, ◌<◌, ◌^◌, ℕ, length, map, nat_abs, pos, replicate, true, IfOk, IfSome};
+ghost use Rattle.std.specs.Prelude.{◌≡◌, ◌+◌, ◌<◌, ◌^◌, ℕ, length, map, nat_abs, pos, replicate, true, All, IfOk, IfSome};
+ghost use Rattle.std.specs.Bool.{OnTrue};
 ghost use Rattle.std.specs.List.{list_all, list_any};
 ghost use Rattle.fw_charge.specs.Charge.{hour_of};
 ghost use Rattle.fw_lanes.specs.Masked.{is_between};
 ghost use Rattle.fw_sums.specs.Hours.{IsMarkedPlace, is_marked};
+ghost use Rattle.fw_sums.specs.Wholes.{IsBetween};
 
 use crate::hours::second_of;
+use crate::wholes::hours_between;
 use fw_charge::{SECONDS_PER_HOUR, hour_of};
 use fw_columns::Columns;
 use fw_lanes::{Mask, mask_range};
@@ -50,16 +53,40 @@ pub(crate) fn mask_of(
 {
     let mut mask = Mask::new(alloc, segment.len())?;
     match every_second(from, marks) {
-        Some((first, end)) => mask_range(segment.starts(), first, end, &mut mask),
+        Some((first, end)) => mask_between(segment, from, marks, (first, end), &mut mask),
         None => mask_by_hour(segment.starts(), from, marks, &mut mask),
     }
     Ok(mask)
 }
 
+// Sets each place to whether its row is of a marked hour, where each hour is marked, by the first second of these and the one behind their last. Where all
+// rows of the segment are of these hours, no row is looked at.
+fn mask_between(segment: &Columns, from: u64, marks: &[bool], seconds: (i64, i64), mask: &mut Mask)
+    requires same { length mask.old ≡ length segment.now }
+    requires every { list_all (λ mark. mark) marks.now ≡ true }
+    requires between { (s : ℕ) → is_between seconds.0 seconds.1 (pos s) ≡ is_marked marks.now from (hour_of s) }
+    ensures { mask.new ≡ map (λ row. is_marked marks.now from (hour_of row.start)) segment.now }
+{
+    if are_within(segment, from, marks.len() as u64) {
+        mask.fill(true);
+        return;
+    }
+    mask_range(segment.starts(), seconds.0, seconds.1, mask);
+}
+
+// Whether the rows of a segment are all of so many hours from this one on.
+fn are_within(segment: &Columns, from: u64, hours: u64) -> bool
+    ensures { OnTrue result (All (IsBetween from (from + hours)) segment.now) }
+{
+    let (least, behind) = hours_between(segment);
+    from <= least && behind.saturating_sub(from) <= hours
+}
+
 // The first second of the hours of the marks and the one behind their last, where each of them is marked; `None` where one isn't, or where they are past
 // what a second of a row can be.
 fn every_second(from: u64, marks: &[bool]) -> Option<(i64, i64)>
-    ensures { IfSome result (λ r. (s : ℕ) → is_between r.0 r.1 (pos s) ≡ is_marked marks.now from (hour_of s)) }
+    ensures every { IfSome result (λ r. list_all (λ mark. mark) marks.now ≡ true) }
+    ensures between { IfSome result (λ r. (s : ℕ) → is_between r.0 r.1 (pos s) ≡ is_marked marks.now from (hour_of s)) }
 {
     if !are_all(marks) {
         return None;

@@ -4,8 +4,8 @@ use Rattle.std.specs.Int.{w64}
 use Rattle.fw_sums.proofs.MarkFacts.{every_between}
 use Rattle.fw_sums.proofs.marks.every_second.Goals as goal
 
-pub returns : goal.returns
-returns c s =
+pub returns-clause-between : goal.returns-clause-between
+returns-clause-between c s =
     let end_fits : c.in_ok-end.end < 2 ^ 63 = omega arith in
     let end_is : c.in_ok-end.end ≡ c.in_ok-first.first + c.in_ok-len.len = c.in_ok-end.ensures.1 in
     let first_fits : c.in_ok-first.first < 2 ^ 63 = omega (arith, end_fits, end_is) in
