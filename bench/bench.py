@@ -21,6 +21,7 @@ import re
 import shlex
 import shutil
 import signal
+import statistics
 import subprocess
 import sys
 import tempfile
@@ -132,6 +133,16 @@ class Program(Turns):
     def processor_seconds(self):
         """The least of all turns, None where it can't be measured."""
         return min((turn.processor_seconds for turn in self.turns if turn.is_clocked), default=None)
+
+    @property
+    def middle(self):
+        """The median of all turns by the clock."""
+        return statistics.median(turn.seconds for turn in self.turns)
+
+    @property
+    def processor_middle(self):
+        """The median of all turns, where it can be measured."""
+        return statistics.median(turn.processor_seconds for turn in self.turns if turn.is_clocked)
 
     @property
     def peak(self):
@@ -305,15 +316,16 @@ def goals(programs):
     done = {it.name: it for it in programs if it.turns and not it.fault}
     focusd, rust = done.get(FOCUSD), done.get(RUST)
     if focusd and rust and focusd.processor_seconds and rust.processor_seconds:
-        ratio = focusd.processor_seconds / rust.processor_seconds
-        yield judged("Processor time, times the plain Rust program", ratio, GOAL_TIMES, BAR_TIMES, "")
+        what, ratio = "Processor time, times the plain Rust program", focusd.processor_seconds / rust.processor_seconds
+        yield judged(what, ratio, GOAL_TIMES, BAR_TIMES, "")
+        yield judged(f"{what}, by medians", focusd.processor_middle / rust.processor_middle, GOAL_TIMES, BAR_TIMES, "")
     if focusd and focusd.bytes_a_row is not None:
         yield judged("Memory, bytes a row kept, the script aside", focusd.bytes_a_row, GOAL_BYTES, BAR_BYTES, "")
     for name, program in done.items():
         if rust and name.startswith(f"{FOCUSD} --workers"):
-            ratio = program.seconds / rust.seconds
-            note = f" (the goal is for four workers on four processors; here are {os.cpu_count()})"
-            yield judged(f"{name}, by the clock, times the plain Rust program", ratio, GOAL_WALL, None, note)
+            what, note = f"{name}, by the clock, times the plain Rust program", f" (the goal is for four workers on four processors; here are {os.cpu_count()})"
+            yield judged(what, program.seconds / rust.seconds, GOAL_WALL, None, note)
+            yield judged(f"{what}, by medians", program.middle / rust.middle, GOAL_WALL, None, note)
 
 
 def judged(what, value, goal, bar, note):

@@ -3,14 +3,16 @@
 
     python3 bench/growth.py --date 2026-01-31 > result.md
 
-Each figure is a difference of whole runs of focusd, so that reading is left out: the first report of a run, and one of 40 or 200 more, which find what
-the first one has kept. The cases:
+Each figure is a difference of whole runs of focusd, so that reading is left out: the first report of a run, and one of so many more, which find what
+the first one has kept: 200 without commitments, 40 under some, and less where each takes long. The cases:
 
 1. A report over 1,000,000 rows and no commitment, beside one pass of a plain C loop over the four columns that it needs.
 2. More rows an hour, more commitments, more hours, from one line to the next.
-3. More groups: 10 to 100,000 values of the tag that is asked for.
-4. More SKUs for each commitment: 4 to 256.
-5. Rows that nothing has in common: each with a tags text of its own, each with a SKU of its own, all of them in one hour.
+3. The same rows in more hours: 720, 7,200 and 26,304, the most that a report takes, without commitments and under 256, the most that there can be.
+4. More groups: 10 to 100,000 values of the tag that is asked for; and 100,000 of them over fewer and over more rows.
+5. More SKUs for each commitment: 1 to 256.
+6. Rows that nothing has in common: each with a tags text of its own, each with a SKU of its own, all of them in one hour. Each case at 100,000 rows
+   and at 400,000.
 
 A pair is a row and a commitment that may cover it: one of its SKUs, in its hour. Times are given beside rows and pairs together, as a report may take
 time as these times a logarithm. Needs a C compiler (cc) for the first case. Progress goes to standard error.
@@ -18,6 +20,7 @@ Exit status: 0 measured, 1 a program failed, 2 a wrong command line.
 """
 import argparse
 import datetime
+import functools
 import os
 import random
 import resource
@@ -32,8 +35,10 @@ START = datetime.datetime(2024, 1, 1)
 HEADER = ("BilledCost,EffectiveCost,BillingCurrency,ChargeCategory,ChargePeriodStart,ChargePeriodEnd,"
           "ConsumedQuantity,ConsumedUnit,SkuId,Tags")
 MOST_ROWS = 4096
-# How many reports behind the first: more where each takes a few milliseconds alone.
-COVERED, UNCOVERED = 40, 200
+# How many reports behind the first: more where each takes a few milliseconds alone, less where each takes long.
+COVERED, UNCOVERED, LONG = 40, 200, 10
+# From so many groups on each has its rows in turn and not by chance, so that none is missing.
+MANY_GROUPS, GROUP_STEP = 10_000, 7_919
 
 PASS = r"""
 #include <stdint.h>
@@ -60,6 +65,7 @@ int main(int argc, char **argv) {
 """
 
 
+@functools.cache
 def stamp(hour):
     return (START + datetime.timedelta(hours=hour)).strftime("%Y-%m-%dT%H:%M")
 
@@ -67,10 +73,12 @@ def stamp(hour):
 class Case:
     """Rows of some hours under some commitments, and what is asked of them."""
 
-    def __init__(self, name, rows, hours, commitments=0, groups=12, skus=8, skus_each=2, own_texts=False):
+    def __init__(self, name, rows, hours, commitments=0, groups=12, skus=8, skus_each=2, own_texts=False, more=None):
         self.name, self.rows, self.hours = name, rows, hours
         self.commitments, self.groups, self.skus, self.skus_each = commitments, groups, skus, skus_each
         self.own_texts = own_texts
+        # how many reports are asked for behind the first
+        self.more = more or (COVERED if commitments else UNCOVERED)
         # how many commitments name each SKU
         self.names = [0] * skus
         for number in range(commitments):
@@ -89,7 +97,8 @@ class Case:
         sku = place % self.skus if self.skus == self.rows else numbers.randrange(self.skus)
         self.pairs += self.names[sku]
         own = f',""row"":""{place}""' if self.own_texts else ""
-        tags = f'"{{""team"":""team-{numbers.randrange(self.groups)}""{own}}}"'
+        group = place * GROUP_STEP % self.groups if self.groups >= MANY_GROUPS else numbers.randrange(self.groups)
+        tags = f'"{{""team"":""team-{group}""{own}}}"'
         return f"{cost},{cost},USD,Usage,{stamp(hour)}:00Z,{stamp(hour + 1)}:00Z,{need},Hours,vm-{sku},{tags}"
 
     def posts(self, seed=7):
@@ -155,6 +164,12 @@ def plain_pass(rows, scratch):
     return float(subprocess.run([binary, str(rows)], stdout=subprocess.PIPE, check=True).stdout)
 
 
+def rows_that(what, hours=200, own=(), **fields):
+    """Two cases of rows that are hard to sum, few and many; `own` names what there is as many of as rows."""
+    for rows in (100_000, 400_000):
+        yield Case(what, rows, hours, 16, **{name: rows for name in own}, **fields)
+
+
 TABLES = [
     (
         "rows an hour, commitments, hours",
@@ -163,16 +178,24 @@ TABLES = [
             for rows, count, hours in ((250, 5, 186), (500, 5, 186), (1000, 5, 186), (1000, 10, 186), (1000, 20, 186), (1000, 20, 372), (1000, 20, 744))
         ],
     ),
-    ("groups", [Case(f"{groups:,}", 400_000, 400, groups=groups) for groups in (10, 100, 1_000, 10_000, 100_000)]),
-    ("SKUs for each of 16 commitments", [Case(f"{each}", 200_000, 200, 16, skus=1_024, skus_each=each) for each in (4, 16, 64, 256)]),
     (
-        "200,000 rows that",
+        "commitments, hours over the same rows",
+        [Case(f"{count}, {hours:,}", 400_000, hours, count, more=LONG if count else None) for count in (0, 256) for hours in (720, 7_200, 26_304)],
+    ),
+    (
+        "groups",
+        [Case(f"{groups:,}", 400_000, 400, groups=groups, more=LONG if groups >= MANY_GROUPS else None) for groups in (10, 100, 1_000, 10_000, 100_000)]
+        + [Case("100,000", rows, 400, groups=100_000, more=LONG) for rows in (200_000, 800_000)],
+    ),
+    ("SKUs for each of 16 commitments", [Case(f"{each}", 200_000, 200, 16, skus=1_024, skus_each=each) for each in (1, 4, 16, 64, 256)]),
+    (
+        "rows that",
         [
-            Case("have 8 SKUs and 12 tags texts, in 200 hours", 200_000, 200, 16),
-            Case("have each a tags text of its own", 200_000, 200, 16, own_texts=True),
-            Case("have each a SKU of its own", 200_000, 200, 16, skus=200_000),
-            Case("are all in one hour", 200_000, 1, 16),
-            Case("are all in one hour, each with a SKU, a tags text and a group of its own", 200_000, 1, 16, groups=200_000, skus=200_000, own_texts=True),
+            *rows_that("have 8 SKUs and 12 tags texts, in 200 hours"),
+            *rows_that("have each a tags text of its own", own_texts=True),
+            *rows_that("have each a SKU of its own", own=["skus"]),
+            *rows_that("are all in one hour", hours=1),
+            *rows_that("are all in one hour, each with a SKU, a tags text and a group of its own", hours=1, own=["skus", "groups"], own_texts=True, more=LONG),
         ],
     ),
 ]
@@ -206,7 +229,7 @@ def main():
             for case in cases:
                 say(f"{title}: {case.name}")
                 entries = list(case.contracts()) + list(case.posts())
-                first, more = of_reports(options.program, entries, case.report(), COVERED if case.commitments else UNCOVERED, scratch, options.turns)
+                first, more = of_reports(options.program, entries, case.report(), case.more, scratch, options.turns)
                 size = case.rows + case.pairs
                 print(f"| {case.name} | {case.rows:,} | {case.pairs:,} | {first:.3f} | {more:.4f} | {first / size * 1e9:.0f} | {more / size * 1e9:.0f} |", flush=True)
     finally:

@@ -15,9 +15,14 @@ measures focusd with each of these numbers of workers, each time by the clock an
     python3 bench/reports.py --first
 
 sends the policy again before each report. focusd then keeps nothing from one report to the next, so each report is what the first one after an
-entry is, and what several workers share.
+entry is, and what several workers share. With `--workers 1 4` it says whether four workers are at least 3 times as fast as one.
 
-The plain Rust program (peers/reports) keeps its rows clustered by hour. Needs cargo, and on Debian 12
+    python3 bench/reports.py --after-post
+
+posts one more row before each report, in an hour of its range, so each report is the first one after a post. The plain Rust program then clusters
+its rows anew for each, and focusd is to be no slower than its clustering and report together. What the post itself takes is in both figures.
+
+The plain Rust program (peers/reports) keeps its rows clustered by hour until rows or commitments come. Needs cargo, and on Debian 12
 librust-csv-dev, librust-serde-json-dev and librust-toml-dev. Exit status: 0 measured, 1 a program failed or the answers differ, 2 a wrong
 command line or a machine on which nothing can be measured.
 """
@@ -29,14 +34,16 @@ import shlex
 import statistics
 import sys
 
-from bench import FOCUSD, HERE, ROOT, RUST, Stopped, build_rust, load, machine, measure, say, whole_number
+from bench import FOCUSD, HERE, ROOT, RUST, Stopped, build_rust, load, machine, measure, say, verdict, whole_number
 
 MOST_ROWS = 4_096
 # Pairs of reports in the two runs: without commitments a report takes a few milliseconds, of which it takes many to measure.
 FEW, MANY, MANY_COVERED = 1, 201, 41
-# Pairs where nothing is kept from one report to the next.
-FIRST = 21
+# Pairs under commitments where nothing is kept from one report to the next.
+FIRST_COVERED = 21
 GOAL, BAR = 3, 10
+# How many times as fast as one worker four are to be, and what the first report after a post is to take at most.
+GOAL_FASTER, GOAL_AFTER_POST = 3, 1
 HEADER = (
     "BilledCost,EffectiveCost,BillingCurrency,ChargeCategory,ChargePeriodStart,ChargePeriodEnd,"
     "ConsumedQuantity,ConsumedUnit,SkuId,SubAccountId,Tags"
@@ -67,23 +74,51 @@ def commitments(count, hours, numbers):
         yield "commit", lines
 
 
-def posts(rows, hours, numbers):
-    def row(number):
-        hour = number * hours // rows
-        cost = f"{numbers.randrange(5)}.{numbers.randrange(10**9):09}"
-        category = "Tax" if numbers.random() < 0.05 else "Usage"
-        quantity = f"{numbers.randrange(8)}.{numbers.randrange(1000):03}"
-        tags = f'{{""team"":""team-{numbers.randrange(50)}"",""env"":""e{numbers.randrange(4)}""}}'
-        return (
-            f"{cost},{cost},USD,{category},{instant(hour)},{instant(hour + 1)},"
-            f'{quantity},Hours,sku-{numbers.randrange(30)},account-{numbers.randrange(20)},"{tags}"'
-        )
+def row(hour, numbers):
+    cost = f"{numbers.randrange(5)}.{numbers.randrange(10**9):09}"
+    category = "Tax" if numbers.random() < 0.05 else "Usage"
+    quantity = f"{numbers.randrange(8)}.{numbers.randrange(1000):03}"
+    tags = f'{{""team"":""team-{numbers.randrange(50)}"",""env"":""e{numbers.randrange(4)}""}}'
+    return (
+        f"{cost},{cost},USD,{category},{instant(hour)},{instant(hour + 1)},"
+        f'{quantity},Hours,sku-{numbers.randrange(30)},account-{numbers.randrange(20)},"{tags}"'
+    )
 
+
+def posts(rows, hours, numbers):
     for first in range(0, rows, MOST_ROWS):
-        yield "post", [HEADER, *map(row, range(first, min(first + MOST_ROWS, rows)))]
+        yield "post", [HEADER, *(row(number * hours // rows, numbers) for number in range(first, min(first + MOST_ROWS, rows)))]
 
 
 POLICY = ("policy", ['key = "team"', "[[rule]]", 'from = "team-0"', "proportional = true", "[[rule]]", 'from = "team-1"', "to = { team-2 = 3, shared = 1 }"])
+
+
+def many_pairs(count, options):
+    """How many pairs of reports the longer run has."""
+    if not count:
+        return MANY
+    return FIRST_COVERED if options.first or options.after_post else MANY_COVERED
+
+
+def sent_before(options, numbers):
+    """The entries that are sent before a report."""
+    if options.first:
+        yield POLICY
+    if options.after_post:
+        # The hours that both reports have.
+        yield "post", [HEADER, row(numbers.randrange(options.hours // 4, options.hours // 2), numbers)]
+
+
+def commands(options, count, pairs):
+    """The lines of each entry, with its kind, and of each report, with None."""
+    numbers = random.Random(options.seed)
+    yield from commitments(count, options.hours, numbers)
+    yield from posts(options.rows, options.hours, numbers)
+    yield POLICY
+    reports = f"report team {instant(0)} {instant(options.hours)}", f"report env {instant(options.hours // 4)} {instant(options.hours // 2)}"
+    for report in reports * pairs:
+        yield from sent_before(options, numbers)
+        yield None, [report]
 
 
 def write_script(path, options, count, pairs):
@@ -91,17 +126,13 @@ def write_script(path, options, count, pairs):
     if os.path.exists(path):
         return
     say(f"making {os.path.basename(path)}")
-    numbers = random.Random(options.seed)
+    number = 0
     with open(path + ".part", "w", encoding="utf-8") as file:
-        entries = [*commitments(count, options.hours, numbers)], posts(options.rows, options.hours, numbers), [POLICY]
-        for number, (kind, lines) in enumerate((it for part in entries for it in part), 1):
-            file.write(f"{kind} bench {number} {len(lines)}\n" + "\n".join(lines) + "\n")
-        for _ in range(pairs):
-            for report in (f"report team {instant(0)} {instant(options.hours)}\n", f"report env {instant(options.hours // 4)} {instant(options.hours // 2)}\n"):
-                if options.first:
-                    number += 1
-                    file.write(f"policy bench {number} {len(POLICY[1])}\n" + "\n".join(POLICY[1]) + "\n")
-                file.write(report)
+        for kind, lines in commands(options, count, pairs):
+            if kind:
+                number += 1
+                file.write(f"{kind} bench {number} {len(lines)}\n")
+            file.write("\n".join(lines) + "\n")
     os.replace(path + ".part", path)
 
 
@@ -139,13 +170,38 @@ def print_workers(measured, options):
         turns = ", ".join(f"{it * 1000:.1f}" for it in program.clock)
         faster = measured[0].middle_by_clock / program.middle_by_clock
         print(f"| {program.name} | {turns} | {program.middle_by_clock * 1000:.1f} | {faster:.2f} | {program.middle * 1000:.1f} |")
+    middles = dict(zip(options.workers, (it.middle_by_clock for it in measured)))
+    if options.first and {1, 4} <= set(middles):
+        print(f"\nThe goal, four workers at least {GOAL_FASTER} times as fast as one, is {judged(middles[1] >= GOAL_FASTER * middles[4])}.")
+
+
+def print_programs(measured, options):
+    """Prints what a report takes of the processor in each program, how many times plain Rust that is, and whether the goal is met."""
+    rust = next((it.middle for it in measured if it.name == RUST), None)
+    print(f"| program | milliseconds a report, {options.turns} turns | median | times plain Rust |\n|---|---|---|---|")
+    for program in measured:
+        turns = ", ".join(f"{it * 1000:.1f}" for it in program.seconds)
+        times = f"{program.middle / rust:.2f}" if rust else ""
+        print(f"| {program.name} | {turns} | {program.middle * 1000:.1f} | {times} |")
+    if not rust:
+        return
+    ours = measured[0].middle / rust
+    if options.after_post:
+        print(f"\nThe goal, the first report after a post no slower than plain Rust's clustering and report together, is {judged(ours <= GOAL_AFTER_POST)}.")
+    else:
+        print(f"\nThe goal, at most {GOAL} times plain Rust, is {judged(ours <= GOAL)}; the bar of {BAR} times is {judged(ours <= BAR)}.")
+
+
+def judged(is_met):
+    return f"**{verdict(is_met)}**"
 
 
 def compare(programs, count, options):
     """Measures and prints one table; tells whether all answers are equal."""
-    paths, many = [], FIRST if options.first else MANY_COVERED if count else MANY
+    paths, many = [], many_pairs(count, options)
     for pairs in (FEW, many):
-        name = f"reports-{options.rows}-{options.hours}-{options.seed}-{count}-{pairs}{'-first' * options.first}.script"
+        kind = "-first" * options.first + "-after-post" * options.after_post
+        name = f"reports-{options.rows}-{options.hours}-{options.seed}-{count}-{pairs}{kind}.script"
         paths.append(os.path.join(options.scratch, name))
         write_script(paths[-1], options, count, pairs)
     measured = [Program(*it) for it in programs]
@@ -153,19 +209,8 @@ def compare(programs, count, options):
         say(f"{count} commitments, turn {turn + 1} of {options.turns}")
         for program in measured:
             program.take_turn(paths, 2 * (many - FEW), options)
-    rust = next((it.middle for it in measured if it.name == RUST), None)
     print(f"\n{options.rows:,} rows over {options.hours} hours, {count} commitments:\n")
-    if options.workers:
-        print_workers(measured, options)
-        return len(set.union(*(it.answers for it in measured))) == 1
-    print(f"| program | milliseconds a report, {options.turns} turns | median | times plain Rust |\n|---|---|---|---|")
-    for program in measured:
-        turns = ", ".join(f"{it * 1000:.1f}" for it in program.seconds)
-        times = f"{program.middle / rust:.1f}" if rust else ""
-        print(f"| {program.name} | {turns} | {program.middle * 1000:.1f} | {times} |")
-    if rust:
-        ours = measured[0].middle / rust
-        print(f"\nThe goal, at most {GOAL} times plain Rust, is {'**met**' if ours <= GOAL else '**missed**'}; the bar of {BAR} times is {'**met**' if ours <= BAR else '**missed**'}.")
+    (print_workers if options.workers else print_programs)(measured, options)
     return len(set.union(*(it.answers for it in measured))) == 1
 
 
@@ -200,7 +245,9 @@ def main():
     parser.add_argument("--hours", type=whole_number, default=720, help="default: 720")
     parser.add_argument("--commitments", type=int, nargs="+", default=[0, 40], help="default: 0 40")
     parser.add_argument("--workers", type=whole_number, nargs="+", default=[], help="numbers of workers to compare by the clock (default: none, and plain Rust beside one)")
-    parser.add_argument("--first", action="store_true", help="let each report be the first one after an entry")
+    before = parser.add_mutually_exclusive_group()
+    before.add_argument("--first", action="store_true", help="let each report be the first one after an entry")
+    before.add_argument("--after-post", action="store_true", help="let each report be the first one after a post of one row")
     parser.add_argument("--turns", type=whole_number, default=3, help="default: 3")
     parser.add_argument("--seed", type=int, default=7, help="default: 7")
     parser.add_argument("--limit", type=whole_number, default=600, help="seconds for one run (default: 600)")

@@ -64,9 +64,9 @@ def main():
     states = [line for line in lines if line[0] == "state"]
     rows, size = int(states[0][1]), int(states[0][2])
     print(f"\nA state of {rows:,} rows, {size:,} bytes:")
-    for name, at, goal in (("encode", 3, 400), ("decode", 4, 200)):
+    for name, at, goal, bar in (("encode", 3, 800, 400), ("decode", 4, 400, 200)):
         speed = size / 1e6 / (min(int(line[at]) for line in states) / 1e9)
-        print(f"\n{name}: {speed:,.0f} MB/s (goal {goal}: {'met' if speed >= goal else 'missed'})")
+        print(f"\n{name}: {speed:,.0f} MB/s (goal {goal}: {'met' if speed >= goal else 'missed'}; bar {bar}: {'met' if speed >= bar else 'missed'})")
     return 0
 
 

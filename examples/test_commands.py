@@ -879,8 +879,99 @@ class Dumps(unittest.TestCase):
             self.assertEqual((ran.returncode, ran.stderr), (1, b"focusd: F2 Write\n"))
 
 
+class Bodies(unittest.TestCase):
+    """Bodies made byte by byte, as FORMATS has them, of the entries of README's script. Earlier programs wrote the rows one by one."""
+
+    RANGE = ("2024-01-01T00:00Z", "2024-01-01T03:00Z")
+    # The hour at which it begins, counted from 1970.
+    FIRST = 473_352
+    # Cost, quantity and team of each row of the post, the amounts in nanos.
+    ROWS = ((100_000_000, 10**9, "web"), (50_000_000, 5 * 10**8, "data"))
+
+    @classmethod
+    def setUpClass(cls):
+        blocks = (HERE.parent / "README.md").read_text(encoding="utf-8").split("\n```\n")
+        at = next(number for number, block in enumerate(blocks) if block.startswith("commit billing 1 "))
+        cls.script, answers = blocks[at] + "\n", blocks[at + 2] + "\n"
+        accepted, cls.answers = answers[: answers.index("bytes ")], answers[answers.index("bytes ") :]
+        assert accepted == "accepted 1\naccepted 2\naccepted 3\n", accepted
+        cls.report = cls.answers[cls.answers.index("Group,") : cls.answers.index("state ")]
+        cls.lines = warehouse_of(cls.script.encode()).lines(*cls.RANGE)
+
+    @staticmethod
+    def text(it):
+        return struct.pack("<I", len(it.encode())) + it.encode()
+
+    def in_turn(self, rows):
+        """A segment whose rows stand one by one."""
+        times = struct.pack("<QQ", self.FIRST * 3600, (self.FIRST + 1) * 3600)
+        texts = b"\1" + self.text("Hours") + b"\1" + self.text("vm") + b"\0"
+        segment = struct.pack("<BI", 1, len(rows))
+        for cost, quantity, team in rows:
+            segment += struct.pack("<qqBB", cost, cost, 1, 0) + times + bytes(3) + struct.pack("<Bq", 1, quantity)
+            segment += texts + struct.pack("<I", 1) + self.text("team") + self.text(team)
+        return segment
+
+    def by_column(self, rows):
+        """A segment whose rows stand by column."""
+        count = len(rows)
+        names = list(dict.fromkeys(name for row in rows for name in ("Hours", "vm", "team", row[2])))
+        place = {name: number for number, name in enumerate(names, 1)}
+        costs = b"".join(struct.pack("<q", cost) for cost, _, _ in rows)
+        times = [struct.pack("<Q", hour * 3600) * count for hour in (self.FIRST, self.FIRST + 1)]
+        quantities = bytes([1] * count) + b"".join(struct.pack("<q", quantity) for _, quantity, _ in rows)
+        texts = [struct.pack("<I", at) * count for at in (place["Hours"], place["vm"], 0)]
+        tags = b"".join(struct.pack("<III", 1, place["team"], place[team]) for _, _, team in rows)
+        columns = [costs, costs, bytes([1] * count), bytes(count), *times, bytes(4 * count), bytes(2 * count), quantities, *texts, tags]
+        return struct.pack("<BII", 2, count, len(names)) + b"".join(map(self.text, names)) + b"".join(columns)
+
+    def commitment(self):
+        tags = struct.pack("<I", 1) + self.text("team") + self.text("platform")
+        term = struct.pack("<IIq", self.FIRST, 3, 2 * 10**9)
+        skus = self.text("Hours") + struct.pack("<I", 1) + self.text("vm")
+        return self.text("cd-1") + b"\1\0" + tags + term + skus + struct.pack("<IQq", 1, self.FIRST * 3600, 10)
+
+    def policy(self):
+        targets = struct.pack("<I", 2) + self.text("data") + struct.pack("<Q", 1) + self.text("web") + struct.pack("<Q", 3)
+        return self.text("team") + struct.pack("<I", 1) + self.text("platform") + b"\1" + targets
+
+    def side(self, generation, *segments):
+        """A side of this generation whose body has the entries of README's script, with the post's rows in these segments, and whose log is empty."""
+        kinds = b"\2" + self.commitment(), b"\1" + struct.pack("<I", len(self.ROWS)), b"\3" + self.policy()
+        heads = b"".join(self.text("billing") + struct.pack("<Q", number) + kind for number, kind in enumerate(kinds, 1))
+        body = self.text("USD") + struct.pack("<Q", len(kinds)) + heads + struct.pack("<I", len(segments)) + b"".join(segments)
+        return b"\1FWHOUSE1" + struct.pack("<QQ", generation, len(body)) + body + b"\0"
+
+    def says_what_readme_says(self, folder):
+        """README's script, sent again, and the commands for people."""
+        low, high = self.RANGE
+        script = f"{self.script}lines {low} {high}\n".encode()
+        self.assertEqual(focusd("run", "--dir", folder, given=script), (0, "already 3\n" * 3 + self.answers + self.lines, ""))
+        words = ("--dir", folder, "--from", low, "--to", high)
+        self.assertEqual(focusd("report", *words, "--tag", "team", "--format", "csv"), (0, self.report, ""))
+        self.assertEqual(focusd("lines", *words), (0, self.lines.split("\n", 1)[1], ""))
+
+    def test_each_layout_has_the_same_reports_and_lines(self):
+        first, second = self.ROWS[:1], self.ROWS[1:]
+        for name, segments in (
+            ("one by one", [self.in_turn(self.ROWS)]),
+            ("one by one, each in a segment of its own", [self.in_turn(first), self.in_turn(second)]),
+            ("the first one by one, the second by column", [self.in_turn(first), self.by_column(second)]),
+            ("by column", [self.by_column(self.ROWS)]),
+        ):
+            with self.subTest(name), tempfile.TemporaryDirectory() as folder:
+                left, right = pathlib.Path(folder) / "left", pathlib.Path(folder) / "right"
+                left.write_bytes(self.side(1, *segments))
+                right.write_bytes(b"")
+                self.says_what_readme_says(folder)
+                self.assertEqual((left.read_bytes(), right.read_bytes()), (self.side(1, *segments), b""))
+                self.assertEqual(focusd("checkpoint", "--dir", folder), (0, "checkpointed\n", ""))
+                self.assertEqual(right.read_bytes(), self.side(2, self.by_column(self.ROWS)))
+                self.says_what_readme_says(folder)
+
+
 class Workers(unittest.TestCase):
-    """A script of several MiB, whose posts workers read while it comes."""
+    """Scripts of several MiB: workers read their posts while they come, and share the hours and segments of a report."""
 
     HEAD = b"BilledCost,EffectiveCost,BillingCurrency,ChargeCategory,ChargePeriodStart,ChargePeriodEnd,Tags\n"
     REPORT = b"report team 2024-01-01T00:00Z 2024-02-01T00:00Z\n"
@@ -906,6 +997,67 @@ class Workers(unittest.TestCase):
             for workers in ("1", "2", "3", "4", "64"):
                 with self.subTest(end=end, workers=workers):
                     self.assertEqual(focusd("run", "--workers", workers, given=script + end), (0, right + answer, ""))
+
+    # One post more than a checkpoint joins to a segment of 65,536 rows.
+    POSTS = 17
+    HOURS = 600
+    CONTRACTS = b"""commit contracts 1 11
+id = "cd-1"
+category = "Usage"
+start = "2024-01-03T00:00Z"
+hours = 400
+capacity = "50"
+unit = "Hours"
+skus = ["vm-2", "vm-3"]
+tags = { team = "team-7" }
+[[purchase]]
+at = "2024-01-03T00:00Z"
+billed = "1234.567890123"
+policy contracts 2 7
+key = "team"
+[[rule]]
+from = "team-7"
+proportional = true
+[[rule]]
+from = "team-3"
+to = { team-4 = 3, shared = 1 }
+"""
+
+    @staticmethod
+    def instant(hour):
+        return f"2024-01-{hour // 24 + 1:02}T{hour % 24:02}:00Z"
+
+    def charges(self, number):
+        """A post of 4,096 rows over all hours. Its teams, SKUs and costs aren't those of the post before it."""
+        lines = ["BilledCost,EffectiveCost,BillingCurrency,ChargeCategory,ChargePeriodStart,ChargePeriodEnd,ConsumedQuantity,ConsumedUnit,SkuId,Tags"]
+        for row in range(4096):
+            hour = (row * 7 + number * 131) % self.HOURS
+            cost = f"{row % 7}.{(row + 1) * number:09}"
+            use = f"{row % 5}.{row % 1000:03},Hours,vm-{(row // 3 + number) % 11}"
+            tags = f'"{{""team"":""team-{number % 9 + row % 4}"",""env"":""env-{row % 3}""}}"'
+            lines.append(f"{cost},{cost},USD,Usage,{self.instant(hour)},{self.instant(hour + 1)},{use},{tags}")
+        return f"post importer {number} {len(lines)}\n" + "\n".join(lines) + "\n"
+
+    def test_a_checkpoint_that_joins_segments_changes_no_answer(self):
+        entries = self.CONTRACTS + "".join(map(self.charges, range(1, self.POSTS + 1))).encode()
+        kept = warehouse_of(entries)
+        accepted = "".join(f"accepted {number}\n" for number in range(1, self.POSTS + 3))
+        whole, part, day = ((self.instant(low), self.instant(high)) for low, high in ((0, self.HOURS), (90, 333), (100, 124)))
+        asked = [("report", "team", *whole), ("report", "team", *part), ("report", "env", *part), ("lines", *day)]
+        known = {words: getattr(kept, words[0])(*words[1:]) for words in asked}
+        # What is asked again is answered by what was kept of the first answers.
+        questions = "".join(" ".join(words) + "\n" for words in asked * 3).encode()
+        right = "".join(known[words] for words in asked * 3)
+        both, right_both = questions + b"checkpoint\n" + questions, right + "checkpointed\n" + right
+        for workers in ("1", "2", "64"):
+            words = ("run", "--workers", workers)
+            with self.subTest(workers=workers), tempfile.TemporaryDirectory() as folder:
+                self.assertEqual(focusd(*words, given=entries + both), (0, accepted + right_both, ""))
+                self.assertEqual(focusd(*words, "--dir", folder, "--create", given=entries + questions), (0, accepted + right, ""))
+                # Opened from the log, and then from the body that the checkpoint wrote: two segments, the first by column and of 65,536 rows.
+                self.assertEqual(focusd(*words, "--dir", folder, given=both), (0, right_both, ""))
+                self.assertEqual((pathlib.Path(folder) / "right").read_bytes().count(struct.pack("<IBI", 2, 2, 65_536)), 1)
+                self.assertEqual(focusd(*words, "--dir", folder, given=questions), (0, right, ""))
 
 
 if __name__ == "__main__":

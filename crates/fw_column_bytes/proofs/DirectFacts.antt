@@ -6,29 +6,10 @@ use Rattle.std.proofs.lemmas.Simd.{map-map}
 use Rattle.fw_charge.specs.Charge.{Charge}
 use Rattle.fw_columns.specs.PartsView.{AreParts}
 use Rattle.fw_columns.specs.declared.parts.Parts.{Parts}
-use Rattle.fw_column_bytes.specs.Direct.{AreColumnsOf, whole_view}
+use Rattle.fw_column_bytes.specs.Direct.{AreColumnsOf, AreReadIn, whole_view}
 use Rattle.fw_column_bytes.specs.Fits.{FitParts}
 use Rattle.fw_column_bytes.specs.Spelling.{flag, layout}
 use Rattle.fw_column_bytes.specs.declared.direct.WholeRead.{WholeRead}
-
--- parts whose columns are those that were read, but for how names, first seconds and flags are kept
-pub record AreReadIn (p : Parts) (w : WholeRead) : Type 0 where
-  pub names : p.names ≡ map string_bytes w.front.names.items
-  pub tags : p.tags ≡ w.body.tags
-  pub billed : p.billed.items ≡ w.body.amounts.billed.items
-  pub effective : p.effective.items ≡ w.body.amounts.effective.items
-  pub categories : p.categories.items ≡ w.body.amounts.categories.items
-  pub classes : p.classes.items ≡ w.body.amounts.classes.items
-  pub starts : map nat_abs p.starts.items ≡ w.body.periods.starts.items
-  pub ends : p.ends.items ≡ w.body.periods.ends.items
-  pub discounts : p.discounts.items ≡ w.body.discounts.ids.items
-  pub kinds : p.kinds.items ≡ w.body.discounts.kinds.items
-  pub statuses : p.statuses.items ≡ w.body.discounts.statuses.items
-  pub has_quantity : map flag p.has_quantity.items ≡ w.body.quantities.are_there.items
-  pub quantities : p.quantities.items ≡ w.body.quantities.counts.items
-  pub units : p.units.items ≡ w.body.texts.units.items
-  pub skus : p.skus.items ≡ w.body.texts.skus.items
-  pub sub_accounts : p.sub_accounts.items ≡ w.body.texts.sub_accounts.items
 
 pub columns_match : (p : Parts) (w : WholeRead) (rows : List Charge) → FitParts (whole_view w) → AreReadIn p w → AreParts p rows → AreColumnsOf (whole_view w) rows
 columns_match p w rows fit read k =

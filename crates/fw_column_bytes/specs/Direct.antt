@@ -1,7 +1,8 @@
 -- Rows whose columns are taken over as they stand. The private functions of the crate cite it.
-use Rattle.std.specs.Prelude.{◌≡◌, List, All, length, map, is_some}
+use Rattle.std.specs.Prelude.{◌≡◌, List, All, length, map, nat_abs, is_some, string_bytes}
 use Rattle.fw_charge.specs.Charge.{Charge, IsCharge}
 use Rattle.fw_charge.specs.Codes.{category_code, class_code}
+use Rattle.fw_columns.specs.declared.parts.Parts as taken
 use Rattle.fw_row_table.specs.Codes.{text_code}
 use Rattle.fw_row_table.specs.Lists.{lists_of}
 use Rattle.fw_row_table.specs.Names.{Text}
@@ -10,6 +11,7 @@ use Rattle.fw_row_table.specs.Texts.{names_of}
 use Rattle.fw_column_bytes.specs.PartsView.{front_view, amounts_view, periods_view, discounts_view, quantities_view, texts_view}
 use Rattle.fw_column_bytes.specs.Reading.{Body, Parts}
 use Rattle.fw_column_bytes.specs.Spelling.{flag, layout}
+use Rattle.fw_column_bytes.specs.declared.direct.Rewritten.{Rewritten}
 use Rattle.fw_column_bytes.specs.declared.direct.WholeBody.{WholeBody}
 use Rattle.fw_column_bytes.specs.declared.direct.WholeRead.{WholeRead}
 
@@ -42,3 +44,28 @@ fields_of_rows names rows = (
 pub record AreColumnsOf (p : Parts) (rows : List Charge) : Type 0 where
   pub charges : All IsCharge rows
   pub fields : p ≡ fields_of_rows (names_of rows) rows
+
+-- names, first seconds and flags as rows keep them, of what was read
+pub record IsRewritten (w : WholeRead) (k : Rewritten) : Type 0 where
+  pub names : k.names ≡ map string_bytes w.front.names.items
+  pub starts : map nat_abs k.starts.items ≡ w.body.periods.starts.items
+  pub has_quantity : map flag k.has_quantity.items ≡ w.body.quantities.are_there.items
+
+-- parts whose columns are those that were read, but for how names, first seconds and flags are kept
+pub record AreReadIn (p : taken.Parts) (w : WholeRead) : Type 0 where
+  pub names : p.names ≡ map string_bytes w.front.names.items
+  pub tags : p.tags ≡ w.body.tags
+  pub billed : p.billed.items ≡ w.body.amounts.billed.items
+  pub effective : p.effective.items ≡ w.body.amounts.effective.items
+  pub categories : p.categories.items ≡ w.body.amounts.categories.items
+  pub classes : p.classes.items ≡ w.body.amounts.classes.items
+  pub starts : map nat_abs p.starts.items ≡ w.body.periods.starts.items
+  pub ends : p.ends.items ≡ w.body.periods.ends.items
+  pub discounts : p.discounts.items ≡ w.body.discounts.ids.items
+  pub kinds : p.kinds.items ≡ w.body.discounts.kinds.items
+  pub statuses : p.statuses.items ≡ w.body.discounts.statuses.items
+  pub has_quantity : map flag p.has_quantity.items ≡ w.body.quantities.are_there.items
+  pub quantities : p.quantities.items ≡ w.body.quantities.counts.items
+  pub units : p.units.items ≡ w.body.texts.units.items
+  pub skus : p.skus.items ≡ w.body.texts.skus.items
+  pub sub_accounts : p.sub_accounts.items ≡ w.body.texts.sub_accounts.items

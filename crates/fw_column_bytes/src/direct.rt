@@ -1,7 +1,7 @@
 //! The reader of rows whose columns are taken over as they stand, without a row made.
 ghost use Rattle.std.specs.Prelude.{◌≡◌, ◌≤◌, Ok, map, nat_abs, string_bytes, IfErr, IfOk, IfSome};
 ghost use Rattle.fw_bytes.specs.Reading.{Fails, Gives, times};
-ghost use Rattle.fw_column_bytes.specs.Direct.{AreColumnsOf, whole_body_view, whole_view};
+ghost use Rattle.fw_column_bytes.specs.Direct.{AreColumnsOf, AreReadIn, IsRewritten, whole_body_view, whole_view};
 ghost use Rattle.fw_column_bytes.specs.Fits.{FitParts};
 ghost use Rattle.fw_column_bytes.specs.Reading.{body_at, columns_at, parts_at, place_at, tag_places_at};
 ghost use Rattle.fw_column_bytes.specs.Spelling.{flag};
@@ -156,46 +156,74 @@ fn signed_of(alloc: Global, column: &[u64]) -> Result<Option<Vec<i64>>, AllocErr
     Ok(Some(signed))
 }
 
-/// The columns of the rows that were read. `None` where no rows have these.
-fn columns_with(alloc: Global, whole: WholeRead) -> Result<Option<Columns>, AllocError>
-    requires { FitParts (whole_view whole) }
-    ensures { IfOk result (λ made. IfSome made (λ rows. AreColumnsOf (whole_view whole) rows)) }
+/// What rows keep in another way than the bytes.
+#[derive(Drop)]
+pub struct Rewritten {
+    pub names: Names,
+    pub starts: Vec<i64>,
+    pub has_quantity: Vec<bool>,
+}
+
+/// Names, first seconds and flags as rows keep them. `None` where no rows have these.
+fn rewrite(alloc: Global, whole: &WholeRead) -> Result<Option<Rewritten>, AllocError>
+    ensures { IfOk result (λ made. IfSome made (λ kept. IsRewritten whole.now kept)) }
 {
-    let front = whole.front;
+    let Some(names) = Names::of_texts(alloc, whole.front.names.as_slice())? else {
+        return Ok(None);
+    };
+    let Some(starts) = signed_of(alloc, whole.body.periods.starts.as_slice())? else {
+        return Ok(None);
+    };
+    let Some(has_quantity) = flags_of(alloc, whole.body.quantities.are_there.as_slice())? else {
+        return Ok(None);
+    };
+    Ok(Some(Rewritten {
+        names,
+        starts,
+        has_quantity,
+    }))
+}
+
+/// The columns that were read, and what rows keep in another way.
+fn parts_with(whole: WholeRead, kept: Rewritten) -> Parts
+    requires { IsRewritten whole kept }
+    ensures { AreReadIn result whole }
+{
     let body = whole.body;
     let amounts = body.amounts;
     let periods = body.periods;
     let discounts = body.discounts;
     let quantities = body.quantities;
     let texts = body.texts;
-    let Some(names) = Names::of_texts(alloc, front.names.as_slice())? else {
-        return Ok(None);
-    };
-    let Some(starts) = signed_of(alloc, periods.starts.as_slice())? else {
-        return Ok(None);
-    };
-    let Some(has_quantity) = flags_of(alloc, quantities.are_there.as_slice())? else {
-        return Ok(None);
-    };
-    let parts = Parts {
-        names,
+    Parts {
+        names: kept.names,
         tags: body.tags,
         billed: amounts.billed,
         effective: amounts.effective,
         categories: amounts.categories,
         classes: amounts.classes,
-        starts,
+        starts: kept.starts,
         ends: periods.ends,
         discounts: discounts.ids,
         kinds: discounts.kinds,
         statuses: discounts.statuses,
         quantities: quantities.counts,
-        has_quantity,
+        has_quantity: kept.has_quantity,
         units: texts.units,
         skus: texts.skus,
         sub_accounts: texts.sub_accounts,
+    }
+}
+
+/// The columns of the rows that were read. `None` where no rows have these.
+fn columns_with(alloc: Global, whole: WholeRead) -> Result<Option<Columns>, AllocError>
+    requires { FitParts (whole_view whole) }
+    ensures { IfOk result (λ made. IfSome made (λ rows. AreColumnsOf (whole_view whole) rows)) }
+{
+    let Some(kept) = rewrite(alloc, &whole)? else {
+        return Ok(None);
     };
-    let columns = Columns::of_parts(alloc, parts)?;
+    let columns = Columns::of_parts(alloc, parts_with(whole, kept))?;
     Ok(columns)
 }
 

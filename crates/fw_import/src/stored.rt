@@ -2,6 +2,7 @@
 use fw_charge::MOST_POST_ROWS;
 use fw_columns::{Columns, ColumnsBuilder};
 use fw_entry::Command;
+use fw_persistent::Sequence;
 use fw_snapshot::{Content, State};
 use std::alloc::{AllocError, Global};
 
@@ -36,26 +37,50 @@ fn rows_between(
     from: usize,
     to: usize,
 ) -> Result<Option<Columns>, AllocError> {
-    let segments = state.segments();
     let mut rows = ColumnsBuilder::new(alloc);
+    if !push_between(&mut rows, state.segments(), from, to)? {
+        return Ok(None);
+    }
+    if rows.len() == 0 {
+        return Ok(None);
+    }
+    Ok(Some(rows.finish()?))
+}
+
+// Adds the rows of segments from a place up to another; false where they become more than a post has.
+fn push_between(
+    rows: &mut ColumnsBuilder,
+    segments: &Sequence<Columns>,
+    from: usize,
+    to: usize,
+) -> Result<bool, AllocError> {
     let mut start: usize = 0;
     for place in 0..segments.len() {
         let columns = segments.get(place);
         let end = start.saturating_add(columns.len());
         if start < to && from < end {
             let first = from.saturating_sub(start);
-            let last = to.saturating_sub(start).min(columns.len());
-            for row in first..last {
-                if rows.len() >= MOST_POST_ROWS {
-                    return Ok(None);
-                }
-                rows.push_row(&columns.row(row)?)?;
+            if !push_some(rows, columns, first, to.saturating_sub(start))? {
+                return Ok(false);
             }
         }
         start = end;
     }
-    if rows.len() == 0 {
-        return Ok(None);
+    Ok(true)
+}
+
+// Adds the rows of a segment from a place up to another, or to its end; false where they become more than a post has.
+fn push_some(
+    rows: &mut ColumnsBuilder,
+    columns: &Columns,
+    first: usize,
+    to: usize,
+) -> Result<bool, AllocError> {
+    for place in first..to.min(columns.len()) {
+        if rows.len() >= MOST_POST_ROWS {
+            return Ok(false);
+        }
+        rows.push_row(&columns.row(place)?)?;
     }
-    Ok(Some(rows.finish()?))
+    Ok(true)
 }

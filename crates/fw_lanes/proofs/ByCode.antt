@@ -1,10 +1,12 @@
 -- Sums and marks by code, one place further.
-use Rattle.std.proofs.Common.{◌≡◌, ◌≢◌, ◌∙◌, ℕ, zero, suc, ◌+◌, ◌*◌, ◌^◌, ◌<◌, ◌≤◌, ◌==◌, ◌&&◌, ◌||◌, ℤ, pos, ◌+ℤ◌, nat_abs, Bool, true, false, List, [], ◌∷◌, length, take, get_or, replicate, set, sym, ap, refl, arith, ⊎_elim}
+use Rattle.std.proofs.Common.{◌≡◌, ◌≢◌, ◌∙◌, ℕ, zero, suc, ◌+◌, ◌*◌, ◌^◌, ◌<◌, ◌≤◌, ◌==◌, ◌&&◌, ◌||◌, ℤ, pos, ◌+ℤ◌, nat_abs, Bool, true, false, List, [], ◌∷◌, length, map, take, get_or, replicate, set, sym, ap, refl, subst, All, arith, ⊎_elim}
 use Rattle.std.proofs.lemmas.Bool.{cases_eq}
 use Rattle.std.proofs.lemmas.Bool.Decides.{nat_tests}
 use Rattle.std.proofs.lemmas.Int.{ints}
-use Rattle.std.proofs.lemmas.List.{length-replicate, get_or-replicate, length-set, get_or-set_same, get_or-set_other}
-use Rattle.fw_lanes.specs.Masked.{AddsByCode, AreMarksByCode, AreSumsByCode, MarksByCode, is_at_code, kept_of, mask_of_code, masked_sum_of}
+use Rattle.std.proofs.lemmas.List.{length-map, length-replicate, get_or-replicate, length-set, map-set, get_or-set_same, get_or-set_other, get_or_default}
+use Rattle.std.proofs.Math.ListN.{get_or-map}
+use Rattle.fw_lanes.specs.Masked.{AddsByCode, AddsRows, AreMarksByCode, AreRowSums, AreSumsByCode, HasRoom, MarksByCode, billed_of, effective_of, is_at_code, kept_of, marks_of, mask_of_code, masked_sum_of}
+use Rattle.fw_lanes.specs.declared.by_code.CodeSum.{CodeSum}
 
 -- the mask of a code at a place
 abbrev at_code : ℕ → List ℕ → List Bool → ℕ → Bool
@@ -128,6 +130,64 @@ marked_next codes mask old marks i in_codes in_mask within so_far =
           (cases_eq code place));
     }
 
+-- ---- a table of sums
+
+-- what no row comes to
+abbrev pub nothing : CodeSum
+nothing = record { billed = pos 0; effective = pos 0; is_marked = false }
+
+-- no sum of a column is further from what it was than so many values can take it
+abbrev AreNear : (CodeSum → ℤ) → List CodeSum → List CodeSum → ℕ → Type 0
+AreNear cost old sums i = (code : ℕ) → code < length old → nat_abs (get_or (map cost sums) code (pos 0)) ≤ nat_abs (get_or (map cost old) code (pos 0)) + i * 2 ^ 63
+
+pub room_billed : (old sums : List CodeSum) (i place : ℕ) → place < length old → i ≤ 65536 → All HasRoom old → AreNear (λ s. s.billed) old sums i → nat_abs (get_or sums place nothing).billed ≤ 2 ^ 126 + 2 ^ 80
+room_billed old sums i place within few room near =
+    let own : nat_abs (get_or old place nothing).billed < 2 ^ 126 = (room place nothing within).billed in
+    let here : nat_abs (get_or sums place nothing).billed ≤ nat_abs (get_or old place nothing).billed + i * 2 ^ 63 =
+    rw (get_or-map (λ (s : CodeSum). s.billed) sums place nothing, get_or-map (λ (s : CodeSum). s.billed) old place nothing) at (near place within) in
+    omega (arith, own, here, few)
+
+pub room_effective : (old sums : List CodeSum) (i place : ℕ) → place < length old → i ≤ 65536 → All HasRoom old → AreNear (λ s. s.effective) old sums i → nat_abs (get_or sums place nothing).effective ≤ 2 ^ 126 + 2 ^ 80
+room_effective old sums i place within few room near =
+    let own : nat_abs (get_or old place nothing).effective < 2 ^ 126 = (room place nothing within).effective in
+    let here : nat_abs (get_or sums place nothing).effective ≤ nat_abs (get_or old place nothing).effective + i * 2 ^ 63 =
+    rw (get_or-map (λ (s : CodeSum). s.effective) sums place nothing, get_or-map (λ (s : CodeSum). s.effective) old place nothing) at (near place within) in
+    omega (arith, own, here, few)
+
+-- a row is added at its code, to the sums of one kind of cost
+cost_next : (cost : CodeSum → ℤ) (values : List ℤ) (codes : List ℕ) (mask : List Bool) (old sums : List CodeSum) (i : ℕ) (new : CodeSum) → i < length values → i < length codes → i < length mask → get_or codes i 0 < length old
+    → cost nothing ≡ pos 0 → cost new ≡ cost (get_or sums (get_or codes i 0) nothing) +ℤ kept_of (get_or values i (pos 0)) (get_or mask i false)
+    → AddsByCode (take i values) (take i codes) (take i mask) (map cost old) (map cost sums) → AddsByCode (take (i + 1) values) (take (i + 1) codes) (take (i + 1) mask) (map cost old) (map cost (set sums (get_or codes i 0) new))
+cost_next cost values codes mask old sums i new in_values in_codes in_mask within none is so_far =
+    let place = get_or codes i 0 in
+    let there : get_or (map cost sums) place (pos 0) ≡ cost (get_or sums place nothing) = ap (get_or (map cost sums) place) (sym none) ∙ get_or-map cost sums place nothing in
+    subst (AddsByCode (take (i + 1) values) (take (i + 1) codes) (take (i + 1) mask) (map cost old)) (sym (map-set cost sums place new))
+    (added_next values codes mask (map cost old) (map cost sums) i (cost new) in_values in_codes in_mask (rw (length-map old cost) within) (is ∙ ap (λ z. z +ℤ kept_of (get_or values i (pos 0)) (get_or mask i false)) (sym there)) so_far)
+
+pub row_next : (billed effective : List ℤ) (codes : List ℕ) (mask : List Bool) (old sums : List CodeSum) (i : ℕ) (new : CodeSum) → i < length billed → i < length effective → i < length codes → i < length mask → get_or codes i 0 < length old
+    → new.billed ≡ (get_or sums (get_or codes i 0) nothing).billed +ℤ kept_of (get_or billed i (pos 0)) (get_or mask i false)
+    → new.effective ≡ (get_or sums (get_or codes i 0) nothing).effective +ℤ kept_of (get_or effective i (pos 0)) (get_or mask i false)
+    → new.is_marked ≡ ((get_or sums (get_or codes i 0) nothing).is_marked || get_or mask i false)
+    → AddsRows (take i billed) (take i effective) (take i codes) (take i mask) old sums
+    → AddsRows (take (i + 1) billed) (take (i + 1) effective) (take (i + 1) codes) (take (i + 1) mask) old (set sums (get_or codes i 0) new)
+row_next billed effective codes mask old sums i new in_billed in_effective in_codes in_mask within is_billed is_effective is_marked so_far =
+    let place = get_or codes i 0 in
+    let mark : (get_or (marks_of sums) place false || get_or mask i false) ≡ new.is_marked = ap (λ b. b || get_or mask i false) (get_or-map (λ (s : CodeSum). s.is_marked) sums place nothing) ∙ sym is_marked in
+    record {
+      billed_added = cost_next (λ s. s.billed) billed codes mask old sums i new in_billed in_codes in_mask within refl is_billed so_far.billed_added;
+      effective_added = cost_next (λ s. s.effective) effective codes mask old sums i new in_effective in_codes in_mask within refl is_effective so_far.effective_added;
+      marked = subst (MarksByCode (take (i + 1) codes) (take (i + 1) mask) (marks_of old)) (ap (set (marks_of sums) place) mark ∙ sym (map-set (λ (s : CodeSum). s.is_marked) sums place new))
+          (marked_next codes mask (marks_of old) (marks_of sums) i in_codes in_mask (rw (length-map old (λ (s : CodeSum). s.is_marked)) within) so_far.marked);
+    }
+
+-- no sum has grown by more than the value
+pub cost_near : (cost : CodeSum → ℤ) (old sums : List CodeSum) (i place : ℕ) (new : CodeSum) → length sums ≡ length old → cost nothing ≡ pos 0 → nat_abs (cost new) ≤ nat_abs (cost (get_or sums place nothing)) + 2 ^ 63 → place < length old
+    → AreNear cost old sums i → AreNear cost old (set sums place new) (i + 1)
+cost_near cost old sums i place new long none grows within near =
+    let there : get_or (map cost sums) place (pos 0) ≡ cost (get_or sums place nothing) = ap (get_or (map cost sums) place) (sym none) ∙ get_or-map cost sums place nothing in
+    subst (λ l. (code : ℕ) → code < length old → nat_abs (get_or l code (pos 0)) ≤ nat_abs (get_or (map cost old) code (pos 0)) + (i + 1) * 2 ^ 63) (sym (map-set cost sums place new))
+    (near_next (λ code. nat_abs (get_or (map cost old) code (pos 0))) (map cost sums) i place (length old) (cost new) (length-map sums cost ∙ long) (rw there grows) within near)
+
 zero_plus : (z : ℤ) → pos 0 +ℤ z ≡ z
 zero_plus z = omega (arith, ints)
 
@@ -146,3 +206,28 @@ marks_from_none codes mask count marks adds = record {
   many = adds.same_length ∙ length-replicate count false;
   each = λ code below. adds.each code (rw (length-replicate count false) below) ∙ ap (λ b. b || is_at_code code codes mask) (get_or-replicate count code false false below);
 }
+
+column_of_same : {X : Type 0} (f : CodeSum → X) (count : ℕ) → map f (replicate count nothing) ≡ replicate count (f nothing)
+column_of_same f zero = refl
+column_of_same f (suc count) = ap (λ l. f nothing ∷ l) (column_of_same f count)
+
+-- so of a table
+pub rows_from_none : (billed effective : List ℤ) (codes : List ℕ) (mask : List Bool) (count : ℕ) (sums : List CodeSum) → length sums ≡ count → AddsRows billed effective codes mask (replicate count nothing) sums
+    → AreRowSums billed effective codes mask count sums
+rows_from_none billed effective codes mask count sums long adds = record {
+  many = long;
+  billed_sums = sums_from_none billed codes mask count (billed_of sums) (rw (column_of_same (λ (s : CodeSum). s.billed) count) at adds.billed_added);
+  effective_sums = sums_from_none effective codes mask count (effective_of sums) (rw (column_of_same (λ (s : CodeSum). s.effective) count) at adds.effective_added);
+  marks = marks_from_none codes mask count (marks_of sums) (rw (column_of_same (λ (s : CodeSum). s.is_marked) count) at adds.marked);
+}
+
+-- no sum is larger than the values can make it
+pub small_from_none : (cost : CodeSum → ℤ) (count : ℕ) (sums : List CodeSum) → cost nothing ≡ pos 0 → length sums ≡ count
+    → ((code : ℕ) → code < length (replicate count nothing) → nat_abs (get_or (map cost sums) code (pos 0)) ≤ nat_abs (get_or (map cost (replicate count nothing)) code (pos 0)) + 2 ^ 79)
+    → All (λ sum. nat_abs sum ≤ 2 ^ 79) (map cost sums)
+small_from_none cost count sums none long near = λ k d below.
+    let within : k < count = (let h = below in omega (arith, h, length-map sums cost, long)) in
+    let from : get_or (map cost (replicate count nothing)) k (pos 0) ≡ pos 0 =
+    ap (get_or (map cost (replicate count nothing)) k) (sym none) ∙ get_or-map cost (replicate count nothing) k nothing ∙ ap cost (get_or-replicate count k nothing nothing within) ∙ none in
+    let here : nat_abs (get_or (map cost sums) k (pos 0)) ≤ nat_abs (pos 0) + 2 ^ 79 = rw from at (near k (rw (length-replicate count nothing) within)) in
+    rw (get_or_default (map cost sums) k d (pos 0) below) here

@@ -1,7 +1,21 @@
--- Sums under a mask, and by code.
-use Rattle.std.specs.Prelude.{◌≡◌, ℕ, ◌<◌, ◌==◌, ℤ, pos, ◌+ℤ◌, Bool, false, ◌&&◌, ◌||◌, List, [], ◌∷◌, length, slice_index_or, if◌then◌else◌}
+-- Masks, and sums under a mask and by code.
+use Rattle.std.specs.Prelude.{◌≡◌, ℕ, ◌<◌, ◌^◌, ◌==◌, nat_lt, int_le, int_lt, ℤ, pos, ◌+ℤ◌, Bool, false, ◌&&◌, ◌||◌, List, [], ◌∷◌, length, map, nat_abs, slice_index_or, if◌then◌else◌}
+use Rattle.std.specs.Int.{bit_at}
 use Rattle.std.specs.List.{list_any}
 use Rattle.std.specs.Simd.Lanes.{zip2}
+use Rattle.fw_lanes.specs.declared.by_code.CodeSum.{CodeSum}
+
+-- the most places of a mask
+abbrev pub most_places : ℕ
+most_places = 65536
+
+-- whether a value is at least a bound and less than another
+abbrev pub is_between : ℤ → ℤ → ℤ → Bool
+is_between low high value = int_le low value && int_lt value high
+
+-- whether a number is in a set of numbers below 64: those whose bit is 1 in a word
+abbrev pub is_in_set : ℕ → ℕ → Bool
+is_in_set set number = nat_lt number 64 && (bit_at set number == 1)
 
 -- the value where the mask is true, 0 elsewhere
 abbrev pub kept_of : ℤ → Bool → ℤ
@@ -40,3 +54,31 @@ pub record AreSumsByCode (values : List ℤ) (codes : List ℕ) (mask : List Boo
 pub record AreMarksByCode (codes : List ℕ) (mask : List Bool) (count : ℕ) (marks : List Bool) : Type 0 where
   pub many : length marks ≡ count
   pub each : (code : ℕ) → code < count → slice_index_or marks code false ≡ is_at_code code codes mask
+
+-- the columns of a table of sums
+abbrev pub billed_of : List CodeSum → List ℤ
+billed_of sums = map (λ s. s.billed) sums
+
+abbrev pub effective_of : List CodeSum → List ℤ
+effective_of sums = map (λ s. s.effective) sums
+
+abbrev pub marks_of : List CodeSum → List Bool
+marks_of sums = map (λ s. s.is_marked) sums
+
+-- the sums can grow by those of the rows of a mask
+pub record HasRoom (sum : CodeSum) : Type 0 where
+  pub billed : nat_abs sum.billed < 2 ^ 126
+  pub effective : nat_abs sum.effective < 2 ^ 126
+
+-- to the sums of each code the costs of its rows were added at which the mask is true, and their codes were marked
+pub record AddsRows (billed effective : List ℤ) (codes : List ℕ) (mask : List Bool) (old new : List CodeSum) : Type 0 where
+  pub billed_added : AddsByCode billed codes mask (billed_of old) (billed_of new)
+  pub effective_added : AddsByCode effective codes mask (effective_of old) (effective_of new)
+  pub marked : MarksByCode codes mask (marks_of old) (marks_of new)
+
+-- the sums of the rows at which the mask is true, for each of the codes below a count, and which codes have such rows
+pub record AreRowSums (billed effective : List ℤ) (codes : List ℕ) (mask : List Bool) (count : ℕ) (sums : List CodeSum) : Type 0 where
+  pub many : length sums ≡ count
+  pub billed_sums : AreSumsByCode billed codes mask count (billed_of sums)
+  pub effective_sums : AreSumsByCode effective codes mask count (effective_of sums)
+  pub marks : AreMarksByCode codes mask count (marks_of sums)

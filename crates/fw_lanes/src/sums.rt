@@ -4,6 +4,7 @@ ghost use Rattle.std.specs.Simd.Lanes.{sum_l, Each1};
 ghost use Rattle.fw_lanes.specs.Halves.{lane_of, AreHalvesOf};
 ghost use Rattle.fw_lanes.specs.Masked.{kept_of, masked_sum_of};
 
+use crate::mask::Mask;
 use std::simd::prelude::*;
 
 // The value where the mask is true, 0 elsewhere.
@@ -112,12 +113,12 @@ fn unbiased(low: u64, high: u64, count: u64) -> i128
     whole as i128 - (u128::from(count) * 0x8000_0000_0000_0000) as i128
 }
 
-/// The exact sum of the values at whose places the mask is true, for at most 65,536 values of any size.
-pub fn masked_sum(values: &[i64], mask: &[bool]) -> i128
-    requires same { length values.now ≡ length mask.now }
-    requires few { length values.now ≤ 65536 }
+/// The exact sum of the values at whose places the mask is true. There are as many values, of any size, as places.
+pub fn masked_sum(values: &[i64], mask: &Mask) -> i128
+    requires { length values.now ≡ length mask.now }
     ensures { result ≡ masked_sum_of values.now mask.now }
 {
+    let mask = mask.as_slice();
     let blocks = values.len() / 8;
     let (mut low, mut high) = block_halves(values, mask, blocks);
     for at in 8 * blocks..values.len() {

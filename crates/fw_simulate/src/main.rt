@@ -31,7 +31,8 @@ mod contents;
 mod print;
 mod script;
 
-use fw_group::run_events;
+use fw_group::{EventAnswer, run_events};
+use fw_recover::StoreFault;
 use print::print_answer;
 use script::{Fault, Script, push, read_event, read_script};
 use std::alloc::Global;
@@ -56,40 +57,68 @@ fn run_scripts(rt: &HostRuntime) -> Result<(), Fault> {
     let alloc = rt.alloc();
     let text = io::read_to_string(alloc, rt.stdin())?;
     let mut output = BufWriter::with_capacity(alloc, OUTPUT_BUFFER, rt.stdout())?;
-    let mut script = None;
-    for line in text.lines() {
-        script = take_line(alloc, &mut output, script, line)?;
-    }
+    run_lines(alloc, &mut output, text.as_str())?;
     output.flush()?;
     Ok(())
 }
 
-// Takes a line of a script, and answers the script that goes on behind it.
+// Runs the scripts of a text, and writes their answers.
+fn run_lines<W: Write>(alloc: Global, output: &mut W, text: &str) -> Result<(), Fault> {
+    let mut script = None;
+    for line in text.lines() {
+        take_line(alloc, output, &mut script, line)?;
+    }
+    Ok(())
+}
+
+// Takes a line, which goes on with the script that was begun, if one was.
 fn take_line<W: Write>(
     alloc: Global,
     output: &mut W,
-    script: Option<Script>,
+    script: &mut Option<Script>,
     line: &str,
-) -> Result<Option<Script>, Fault> {
+) -> Result<(), Fault> {
     let words: Vec<&str> = line.split(' ').collect(alloc)?;
-    match (script, words.as_slice()) {
-        (None, ["run", words @ ..]) => Ok(Some(read_script(alloc, words)?)),
-        (Some(script), ["end"]) => {
-            run_script(alloc, output, script)?;
-            Ok(None)
-        }
-        (Some(script), words) => {
-            let mut script = script;
-            push(&mut script.events, read_event(alloc, words)?)?;
-            Ok(Some(script))
-        }
-        (None, _) => Err(Fault::Script),
+    match words.as_slice() {
+        ["run", words @ ..] if script.is_none() => begin(alloc, script, words),
+        ["end"] => match script.take() {
+            Some(script) => run_script(alloc, output, script),
+            None => Err(Fault::Script),
+        },
+        words => match script {
+            Some(script) => add_event(alloc, script, words),
+            None => Err(Fault::Script),
+        },
     }
+}
+
+// Begins a script, by the words behind `run`.
+fn begin(alloc: Global, script: &mut Option<Script>, words: &[&str]) -> Result<(), Fault> {
+    *script = Some(read_script(alloc, words)?);
+    Ok(())
+}
+
+// Adds the event of a line's words to a script.
+fn add_event(alloc: Global, script: &mut Script, words: &[&str]) -> Result<(), Fault> {
+    push(&mut script.events, read_event(alloc, words)?)?;
+    Ok(())
 }
 
 // Runs a script over a new warehouse.
 fn run_script<W: Write>(alloc: Global, output: &mut W, script: Script) -> Result<(), Fault> {
+    let (importers, analysts) = (script.importers, script.analysts);
     let (house, created) = script.setup.house(alloc);
+    print_created(alloc, output, created)?;
+    let (_, answers, refused) = run_events(alloc, house, importers, analysts, script.events);
+    print_answers(alloc, output, answers.as_slice(), refused.is_some())
+}
+
+// Writes whether a warehouse was made.
+fn print_created<W: Write>(
+    alloc: Global,
+    output: &mut W,
+    created: Result<(), StoreFault>,
+) -> Result<(), Fault> {
     match created {
         Ok(()) => output.write_all(b"created\n")?,
         Err(fault) => {
@@ -97,12 +126,20 @@ fn run_script<W: Write>(alloc: Global, output: &mut W, script: Script) -> Result
             output.write_all(line.as_bytes())?;
         }
     }
-    let (importers, analysts) = (script.importers, script.analysts);
-    let (_, answers, refused) = run_events(alloc, house, importers, analysts, script.events);
-    for answer in answers.iter() {
+    Ok(())
+}
+
+// Writes what the events of a script answered, and whether memory ran out.
+fn print_answers<W: Write>(
+    alloc: Global,
+    output: &mut W,
+    answers: &[EventAnswer],
+    is_refused: bool,
+) -> Result<(), Fault> {
+    for answer in answers {
         print_answer(alloc, output, answer)?;
     }
-    if refused.is_some() {
+    if is_refused {
         output.write_all(b"no memory\n")?;
     }
     output.write_all(b"end\n")?;

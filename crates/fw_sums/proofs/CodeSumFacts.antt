@@ -17,14 +17,14 @@ use Rattle.fw_columns.specs.Codes.{tag_code}
 use Rattle.fw_row_table.specs.Names.{Text}
 use Rattle.fw_row_table.specs.Texts.{names_of}
 use Rattle.fw_cover.proofs.Sorting.{two_ways}
-use Rattle.fw_lanes.specs.Masked.{is_at_code, mask_of_code, masked_sum_of}
+use Rattle.fw_lanes.specs.Masked.{billed_of, effective_of, is_at_code, marks_of, mask_of_code, masked_sum_of}
+use Rattle.fw_lanes.specs.declared.by_code.CodeSum.{CodeSum}
 use Rattle.fw_money.specs.Amount.{most_nanos}
 use Rattle.fw_sums.specs.CodeSums.{AreCodeSums, code_cost, code_text, codes_of}
 use Rattle.fw_sums.specs.Costs.{Cost, groups_of, lines_in, sum_in}
 use Rattle.fw_sums.specs.Hours.{row_cost}
 use Rattle.fw_sums.specs.Sums.{AddsLine, AreAmounts, AreSmall, AreSums, Counts, HasRoom, sums_at, sums_of}
 use Rattle.fw_sums.specs.declared.groups.Groups.{Groups}
-use Rattle.fw_sums.specs.declared.summing.CodeSums.{CodeSums}
 use Rattle.fw_sums.proofs.FilterFacts.{either_passes}
 use Rattle.fw_sums.proofs.CodeFacts.{IsCoded, rows_coded}
 use Rattle.fw_sums.proofs.MovedFacts.{sums_of-IsPermutation}
@@ -190,9 +190,9 @@ sums_more key rows p k costs g =
     sums_of-IsPermutation _ _ g moved
     ∙ ap (λ l. sums_of l g) (ap (λ l. costs ++ l) (map-append (row_cost key) (under p f k rows) (having p f k rows)) ∙ sym (append_assoc costs (brought_below key rows p k) (map (row_cost key) (having p f k rows))))
 
-pub code_counted : (key : Text) (rows : List Charge) (p : Charge → Bool) (mask : List Bool) (sums : CodeSums) (costs : List Cost) (old new : Groups) (k : ℕ) → mask ≡ map p rows → AreCodeSums key rows mask sums → k < length sums.marks.items
+pub code_counted : (key : Text) (rows : List Charge) (p : Charge → Bool) (mask : List Bool) (sums : List CodeSum) (costs : List Cost) (old new : Groups) (k : ℕ) → mask ≡ map p rows → AreCodeSums key rows mask sums → k < length sums
     → AreSums old (costs ++ brought_below key rows p k)
-    → MatchBool (get_or sums.marks.items k false) (AddsLine old new (code_cost (names_of rows) sums k)) (new ≡ old)
+    → MatchBool (get_or (marks_of sums) k false) (AddsLine old new (code_cost (names_of rows) sums k)) (new ≡ old)
     → AreSums new (costs ++ brought_below key rows p (k + 1))
 code_counted key rows p mask sums costs old new k is are within counted step =
     record { sums = λ g. go (having p f k rows) refl g ∙ sym (sums_more key rows p k costs g) }
@@ -203,33 +203,33 @@ code_counted key rows p mask sums costs old new k is are within counted step =
     so_far : List Cost
     so_far = costs ++ brought_below key rows p k
 
-    marked : get_or sums.marks.items k false ≡ nat_lt 0 (length (having p f k rows))
-    marked = are.marks.each k within ∙ ap (is_at_code k (codes_of key rows)) is ∙ mark_at p f k rows
+    marked : get_or (marks_of sums) k false ≡ nat_lt 0 (length (having p f k rows))
+    marked = are.are.marks.each k within ∙ ap (is_at_code k (codes_of key rows)) is ∙ mark_at p f k rows
 
-    billed : total (λ c. c.billed) (map (row_cost key) (having p f k rows)) ≡ get_or sums.billed.items k (pos 0)
-    billed = sym (are.billed.each k within ∙ ap (λ m. masked_sum_of (map (λ (c : Charge). c.billed) rows) (mask_of_code k (codes_of key rows) m)) is ∙ sum_at p f key (λ c. c.billed) k rows)
+    billed : total (λ c. c.billed) (map (row_cost key) (having p f k rows)) ≡ get_or (billed_of sums) k (pos 0)
+    billed = sym (are.are.billed_sums.each k within ∙ ap (λ m. masked_sum_of (map (λ (c : Charge). c.billed) rows) (mask_of_code k (codes_of key rows) m)) is ∙ sum_at p f key (λ c. c.billed) k rows)
 
-    effective : total (λ c. c.effective) (map (row_cost key) (having p f k rows)) ≡ get_or sums.effective.items k (pos 0)
-    effective = sym (are.effective.each k within ∙ ap (λ m. masked_sum_of (map (λ (c : Charge). c.effective) rows) (mask_of_code k (codes_of key rows) m)) is ∙ sum_at p f key (λ c. c.effective) k rows)
+    effective : total (λ c. c.effective) (map (row_cost key) (having p f k rows)) ≡ get_or (effective_of sums) k (pos 0)
+    effective = sym (are.are.effective_sums.each k within ∙ ap (λ m. masked_sum_of (map (λ (c : Charge). c.effective) rows) (mask_of_code k (codes_of key rows) m)) is ∙ sum_at p f key (λ c. c.effective) k rows)
 
     of : AreOf (code_text (names_of rows) k) (map (row_cost key) (having p f k rows))
     of = at_of key (names_of rows) p k rows (rows_coded key rows)
 
     go : (here : List Charge) → having p f k rows ≡ here → (g : Text) → sums_at new g ≡ sums_of (so_far ++ map (row_cost key) (having p f k rows)) g
     go [] e g =
-        let unmarked : get_or sums.marks.items k false ≡ false = marked ∙ ap (λ l. nat_lt 0 (length l)) e in
+        let unmarked : get_or (marks_of sums) k false ≡ false = marked ∙ ap (λ l. nat_lt 0 (length l)) e in
         let stays : new ≡ old = MatchBool-at_false (AddsLine old new (code_cost (names_of rows) sums k)) (new ≡ old) unmarked step in
         ap (λ x. sums_at x g) stays ∙ counted.sums g ∙ ap (λ l. sums_of l g) (sym (append-nil so_far) ∙ ap (λ l. so_far ++ map (row_cost key) l) (sym e))
     go (r ∷ rest) e g =
         let positive : nat_lt 0 (suc (length rest)) ≡ true = grind (arith, nat_tests) in
-        let set : get_or sums.marks.items k false ≡ true = marked ∙ ap (λ l. nat_lt 0 (length l)) e ∙ positive in
+        let set : get_or (marks_of sums) k false ≡ true = marked ∙ ap (λ l. nat_lt 0 (length l)) e ∙ positive in
         let adds : AddsLine old new (code_cost (names_of rows) sums k) = MatchBool-at_true (AddsLine old new (code_cost (names_of rows) sums k)) (new ≡ old) set step in
         (AreSums-more old new so_far (code_cost (names_of rows) sums k) counted adds).sums g
         ∙ sym (ap (λ l. sums_of (so_far ++ map (row_cost key) l) g) e
         ∙ as_one so_far (row_cost key r) (map (row_cost key) rest) (code_cost (names_of rows) sums k) g
         (subst (λ l. AreOf (code_text (names_of rows) k) (map (row_cost key) l)) e of)
-        (subst (λ l. total (λ c. c.billed) (map (row_cost key) l) ≡ get_or sums.billed.items k (pos 0)) e billed)
-        (subst (λ l. total (λ c. c.effective) (map (row_cost key) l) ≡ get_or sums.effective.items k (pos 0)) e effective))
+        (subst (λ l. total (λ c. c.billed) (map (row_cost key) l) ≡ get_or (billed_of sums) k (pos 0)) e billed)
+        (subst (λ l. total (λ c. c.effective) (map (row_cost key) l) ≡ get_or (effective_of sums) k (pos 0)) e effective))
 
 -- the number of lines stays
 pub lines_kept : (b : Bool) (old new : Groups) (cost : Cost) → MatchBool b (AddsLine old new cost) (new ≡ old) → new.lines ≡ old.lines

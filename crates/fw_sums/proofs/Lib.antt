@@ -5,6 +5,7 @@ pub mod SortedFacts
 pub mod HourFacts
 pub mod SegmentFacts
 pub mod MarkFacts
+pub mod TouchedFacts
 pub mod CodeFacts
 pub mod CodeSumFacts
 pub mod SameFacts

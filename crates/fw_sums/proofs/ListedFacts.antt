@@ -260,27 +260,31 @@ all_listed listed segments number hour rows codes here are none =
     (All-weaker (λ code. is_marked_code listed number code ≡ false) (λ code. not (is_marked_code listed number code) ≡ true) (λ code e. ap not e) codes (none_all (λ code. is_marked_code listed number code) codes none))
     ∙ ap (row_places number) (all_kept (places_of_hour hour rows))
 
--- just one code of these isn't marked
-pub only_one : (listed : Listed) (segment : ℕ) (codes : List ℕ) (which : ℕ) → which < length codes → ((k : ℕ) → k < which → is_marked_code listed segment (slice_index codes k) ≡ true) → is_marked_code listed segment (slice_index codes which) ≡ false
-    → list_any (λ code. not (is_marked_code listed segment code)) (drop (which + 1) codes) ≡ false → IsOnly listed segment codes which
-only_one listed segment codes which inside before mine rest = record { there = inside; each = λ k l. by k l (k == which) refl (nat_lt k which) refl }
-  where
-    late : (k : ℕ) → k < length codes → which < k → is_marked_code listed segment (slice_index codes k) ≡ true
-    late k l over =
-        let size = length-drop (which + 1) codes in
-        let same : which + 1 + (k - (which + 1)) ≡ k = omega (arith, over) in
-        let here : get_or (drop (which + 1) codes) (k - (which + 1)) 0 ≡ slice_index codes k = get_or-drop (which + 1) codes (k - (which + 1)) 0 ∙ ap (slice_index codes) same in
-        let no = none_all (λ code. not (is_marked_code listed segment code)) (drop (which + 1) codes) rest (k - (which + 1)) 0 (omega (arith, l, over, size)) in
-        marked_so (is_marked_code listed segment (slice_index codes k)) (ap (λ code. not (is_marked_code listed segment code)) (sym here) ∙ no)
-      where
-        marked_so : (b : Bool) → not b ≡ false → b ≡ true
-        marked_so true e = refl
-        marked_so false e = sym e
+-- which of the first codes isn't marked: none, or just this one
+pub IsOnlyBefore : Listed → ℕ → List ℕ → ℕ → Option ℕ → Type 0
+IsOnlyBefore listed segment codes n None = (k : ℕ) → k < n → is_marked_code listed segment (slice_index codes k) ≡ true
+IsOnlyBefore listed segment codes n (Some which) = (which < n) × ((k : ℕ) → k < n → is_marked_code listed segment (slice_index codes k) ≡ not (k == which))
 
-    by : (k : ℕ) → k < length codes → (b : Bool) → (k == which) ≡ b → (early : Bool) → nat_lt k which ≡ early → is_marked_code listed segment (slice_index codes k) ≡ not b
-    by k l true is early e = ap (λ n. is_marked_code listed segment (slice_index codes n)) (alike k which is) ∙ mine
-    by k l false is true e = before k (lower k which e)
-    by k l false is false e = late k l (let other = apart k which is in let low = no_lower k which e in omega (arith, other, low))
+-- a code more that is marked
+pub marked_more : (listed : Listed) (segment : ℕ) (codes : List ℕ) (n : ℕ) (only : Option ℕ) → IsOnlyBefore listed segment codes n only → is_marked_code listed segment (slice_index codes n) ≡ true → IsOnlyBefore listed segment codes (n + 1) only
+unfolding IsOnlyBefore
+marked_more listed segment codes n None before is = below_more _ n before is
+marked_more listed segment codes n (Some which) before is =
+    let below = before.0 in (omega (arith, below), below_more _ n before.1 (is ∙ ap not (sym (ne_eqb n which (λ e. omega (arith, e, below))))))
+
+-- the first that isn't
+pub unmarked_first : (listed : Listed) (segment : ℕ) (codes : List ℕ) (n : ℕ) → IsOnlyBefore listed segment codes n None → is_marked_code listed segment (slice_index codes n) ≡ false → IsOnlyBefore listed segment codes (n + 1) (Some n)
+unfolding IsOnlyBefore
+unmarked_first listed segment codes n before is = (
+  omega arith,
+  below_more _ n (λ k l. before k l ∙ ap not (sym (ne_eqb k n (λ e. omega (arith, e, l))))) (is ∙ ap not (sym (eq-eqb n n refl))),
+)
+
+-- of all codes
+pub only_so : (listed : Listed) (segment : ℕ) (codes : List ℕ) (n which : ℕ) → length codes ≤ n → n ≤ length codes → IsOnlyBefore listed segment codes n (Some which) → IsOnly listed segment codes which
+unfolding IsOnlyBefore
+only_so listed segment codes n which least most are =
+    let below = are.0 in record { there = omega (arith, below, most); each = λ k l. are.1 k (omega (arith, l, least)) }
 
 -- where one is, its rows are
 pub one_listed : (listed : Listed) (segments : List (List Charge)) (number hour : ℕ) (rows : List Charge) (codes : List ℕ) (which : ℕ) → get_or segments number [] ≡ rows → codes ≡ skus_of_hour hour rows → IsOnly listed number codes which

@@ -1,18 +1,20 @@
 -- Lemmas on marked hours.
-use Rattle.std.proofs.Common.{◌≡◌, ◌≢◌, ◌∙◌, ℕ, zero, suc, ◌+◌, ◌-◌, ◌*◌, ◌/◌, ◌<◌, ◌≤◌, ◌^◌, ◌==◌, ◌&&◌, nat_le, nat_lt, cond, Bool, true, false, List, [], ◌∷◌, ◌++◌, length, map, drop, take, get_or, replicate, sym, ap, refl, subst, arith, ⊎_elim, true≢false, append-nil}
+use Rattle.std.proofs.Common.{◌≡◌, ◌≢◌, ◌∙◌, ℕ, zero, suc, ◌+◌, ◌-◌, ◌*◌, ◌/◌, ◌<◌, ◌≤◌, ◌^◌, ◌==◌, ◌&&◌, nat_le, nat_lt, cond, ℤ, pos, Bool, true, false, List, [], ◌∷◌, ◌++◌, length, map, drop, take, get_or, replicate, sym, ap, refl, subst, arith, ⊎_elim, true≢false, append-nil}
 use Rattle.std.proofs.lemmas.Bool.{and_parts, cases_order, leb-true, leb-false, le-leb, lt-leb, lt-ltb, le-ltb, ltb-true, ltb-false}
 use Rattle.std.proofs.lemmas.Bool.Decides.{nat_tests}
 use Rattle.std.proofs.lemmas.List.{drop_more, get_or-replicate, get_or_past, length-replicate}
 use Rattle.std.proofs.lemmas.List.Elements.{filter_more}
 use Rattle.std.proofs.lemmas.List.FromFn.{get_or-map-range_with_len, length-map-range_with_len, map-range_with_len_more}
-use Rattle.std.specs.List.{list_all, list_any, range_with_len}
+use Rattle.std.specs.List.{AllByRecursion, list_all, list_any, range_with_len}
 use Rattle.std.specs.List.Sorted.{IsPermutation}
 use Rattle.fw_charge.specs.Charge.{Charge, hour_of}
+use Rattle.fw_lanes.specs.Masked.{is_between}
 use Rattle.fw_cover.proofs.Sorting.{two_ways}
 use Rattle.fw_cover.specs.Eligible.{is_of_hour}
 use Rattle.fw_terms.specs.Commitment.{CommitmentValue}
 use Rattle.fw_amortise.specs.Lines.{rows_in}
 use Rattle.fw_sums.specs.Hours.{AreTouched, is_marked, is_touched, rows_marked}
+use Rattle.fw_sums.specs.Wholes.{IsBetween}
 use Rattle.fw_sums.proofs.FilterFacts.{either_passes}
 use Rattle.fw_sums.proofs.UntouchedFacts.{neither}
 
@@ -80,6 +82,24 @@ every_between marks from first end s all starts ends = two_ways (nat_le from (s 
     let before : s / 3600 < from = leb-false _ _ early in
     let off : nat_le first s ≡ false = lt-leb _ _ (omega (arith, starts, before)) in
     rw off (sym (marked_before marks from (s / 3600) before)))
+
+-- so the rows of marked hours are found by their seconds
+pub mask_between : (low high : ℤ) (marks : List Bool) (from : ℕ) (rows : List Charge) → ((s : ℕ) → is_between low high (pos s) ≡ is_marked marks from (hour_of s))
+    → map (is_between low high) (map (λ (row : Charge). pos row.start) rows) ≡ map (λ (row : Charge). is_marked marks from (hour_of row.start)) rows
+mask_between low high marks from [] same = refl
+mask_between low high marks from (row ∷ rows) same = let rest = mask_between low high marks from rows same in λ j. same row.start j ∷ rest j
+
+-- where every hour is marked and the rows are all of these hours, each is of a marked one
+pub all_marked : (marks : List Bool) (from : ℕ) (rows : List Charge) → list_all (λ (mark : Bool). mark) marks ≡ true → AllByRecursion (IsBetween from (from + length marks)) rows
+    → replicate (length rows) true ≡ map (λ (row : Charge). is_marked marks from (hour_of row.start)) rows
+all_marked marks from [] every between = refl
+all_marked marks from (row ∷ rows) every between =
+    let since = between.0.since in
+    let before = between.0.before in
+    let k = hour_of row.start - from in
+    let here : is_marked marks from (hour_of row.start) ≡ true = marked_at marks from (hour_of row.start) k (omega (arith, since)) ∙ every_marked marks k every (omega (arith, since, before)) in
+    let rest = all_marked marks from rows every between.1 in
+    λ j. sym here j ∷ rest j
 
 -- the marks behind the first are of the later hours
 pub marked_later : (mark : Bool) (marks : List Bool) (from hour : ℕ) → hour ≢ from → is_marked (mark ∷ marks) from hour ≡ is_marked marks (from + 1) hour
@@ -181,30 +201,6 @@ touched_long cs from hours marks are = ap length are.each ∙ length-map-range_w
 
 pub touched_at : (cs : List CommitmentValue) (from hours : ℕ) (marks : List Bool) (k : ℕ) → AreTouched cs from hours marks → k < hours → get_or marks k false ≡ is_touched cs (from + k)
 touched_at cs from hours marks k are below = ap (λ l. get_or l k false) are.each ∙ get_or-map-range_with_len (is_touched cs) from hours k (from + k) false below refl
-
--- no hour yet
-pub touched_none : (cs : List CommitmentValue) (from : ℕ) → AreTouched cs from 0 []
-touched_none cs from = record { each = refl; early = λ k h. absurd (true≢false (sym h)) }
-
--- one more hour
-pub touched_more : (cs : List CommitmentValue) (from n : ℕ) (marks : List Bool) (mark : Bool) → AreTouched cs from n marks → mark ≡ is_touched cs (from + n) → (mark ≡ true → from + n < 2 ^ 32)
-    → AreTouched cs from (n + 1) (marks ++ mark ∷ [])
-touched_more cs from n marks mark are is early = record {
-  each = (λ j. are.each j ++ is j ∷ []) ∙ sym (map-range_with_len_more (is_touched cs) from n (from + n) refl);
-  early = λ k h.
-      let long = touched_long cs from n marks are in
-      let within : from + (0 + k) < 2 ^ 32 = by marks 0 (omega (arith, long)) (λ j g. let e : from + j < 2 ^ 32 = are.early j g in omega (arith, e)) k h in
-      omega (arith, within);
-}
-  where
-    by : (ms : List Bool) (at : ℕ) → n ≡ at + length ms → ((k : ℕ) → get_or ms k false ≡ true → from + (at + k) < 2 ^ 32)
-        → (k : ℕ) → get_or (ms ++ mark ∷ []) k false ≡ true → from + (at + k) < 2 ^ 32
-    by [] at end before zero h = let last : from + n < 2 ^ 32 = early h in omega (arith, last, end)
-    by [] at end before (suc k) h = absurd (true≢false (sym h))
-    by (m ∷ ms) at end before zero h = before 0 h
-    by (m ∷ ms) at end before (suc k) h =
-        let rest : from + ((at + 1) + k) < 2 ^ 32 = by ms (at + 1) (omega arith) (λ j g. let b : from + (at + suc j) < 2 ^ 32 = before (suc j) g in omega (arith, b)) k h in
-        omega (arith, rest)
 
 -- where every hour is marked, those from a place on
 pub every_at : (n i : ℕ) → i < n → drop i (replicate n true) ≡ true ∷ drop (i + 1) (replicate n true)

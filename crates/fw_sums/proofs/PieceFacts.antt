@@ -36,18 +36,21 @@ pub piece_more : (pieces : List (List Cost)) (i : ℕ) → i < length pieces →
 piece_more pieces i below =
     ap in_turn (take_more pieces i [] below) ∙ flat_map-append (λ (costs : List Cost). costs) (take i pieces) (get_or pieces i [] ∷ []) ∙ ap (λ l. in_turn (take i pieces) ++ l) (append-nil (get_or pieces i []))
 
--- what is brought by the number of a piece
-pub of_numbers : {X : Type 0} (brings : X → List Cost) (xs : List X) (parts : List (Result Groups AllocError)) → AllZip (λ x part. PartCounts (brings x) part) xs parts → AllZip PartCounts (map brings xs) parts
-of_numbers brings [] [] all = tt
-of_numbers brings [] (p ∷ parts) all = absurd all
-of_numbers brings (x ∷ xs) [] all = absurd all
-of_numbers brings (x ∷ xs) (p ∷ parts) all = (all.0, of_numbers brings xs parts all.1)
+-- what is brought by each of so many numbers from one on
+by_number : (brings : ℕ → List Cost) (from n : ℕ) (parts : List (Result Groups AllocError)) → length parts ≡ n → ((k : ℕ) (p : Result Groups AllocError) → k < n → PartCounts (brings (from + k)) (get_or parts k p))
+    → AllZip PartCounts (map brings (range_with_len from n)) parts
+by_number brings from zero [] long each = tt
+by_number brings from zero (p ∷ parts) long each = absurd (omega (arith, long))
+by_number brings from (suc n) [] long each = absurd (omega (arith, long))
+by_number brings from (suc n) (p ∷ parts) long each = (
+  subst (λ k. PartCounts (brings k) p) {x = from + 0} (omega arith) (each 0 p (omega arith)),
+  by_number brings (from + 1) n parts (omega (arith, long)) (λ k q l. subst (λ i. PartCounts (brings i) (get_or parts k q)) {x = from + suc k} (omega arith) (each (suc k) q (omega (arith, l)))),
+)
 
--- so of the pieces with the numbers from 0 on
-pub collected : (brings : ℕ → List Cost) (n : ℕ) (numbers : List ℕ) (found parts : List (Result Groups AllocError)) → numbers ≡ range_with_len 0 n → AllZip (λ w part. PartCounts (brings w) part) numbers found → parts ≡ found
+-- so of the numbers from 0 on
+pub collected : (brings : ℕ → List Cost) (n : ℕ) (found parts : List (Result Groups AllocError)) → parts ≡ found → length parts ≡ n → ((k : ℕ) (p : Result Groups AllocError) → k < n → PartCounts (brings k) (get_or found k p))
     → AllZip PartCounts (map brings (range_with_len 0 n)) parts
-collected brings n numbers found parts are all same =
-    subst (AllZip PartCounts (map brings (range_with_len 0 n))) (sym same) (of_numbers brings (range_with_len 0 n) found (subst (λ l. AllZip (λ w part. PartCounts (brings w) part) l found) are all))
+collected brings n found parts same long each = by_number brings 0 n parts long (λ k p l. subst (λ i. PartCounts (brings i) (get_or parts k p)) {x = k} (omega arith) (rw same (each k p l)))
 
 -- ---- a list that is cut into pieces
 

@@ -103,6 +103,12 @@ abbrev pub IsMarkedPlace : ℕ → ℕ → List Bool → Option ℕ → Type 0
 IsMarkedPlace hour from marks None = is_marked marks from hour ≡ false
 IsMarkedPlace hour from marks (Some k) = (k < length marks) × (hour ≡ from + k) × (is_marked marks from hour ≡ true)
 
+-- hours that pass a test were marked, among those of marks of which the first is of this hour, and no others; they can be the hours of lines
+pub record AddsMarks (test : ℕ → Bool) (from : ℕ) (old new : List Bool) : Type 0 where
+  pub same_length : length new ≡ length old
+  pub each : (k : ℕ) → k < length old → slice_index_or new k false ≡ (slice_index_or old k false || test (from + k))
+  pub early : (k : ℕ) → slice_index_or new k false ≡ true → slice_index_or old k false ≡ false → from + k < 2 ^ 32
+
 -- of so many hours from this one on those are marked in which some commitment has a line, and these can be the hours of lines
 pub record AreTouched (cs : List CommitmentValue) (from hours : ℕ) (marks : List Bool) : Type 0 where
   pub each : marks ≡ map (is_touched cs) (range_with_len from hours)

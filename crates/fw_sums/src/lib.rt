@@ -18,13 +18,15 @@ mod segments;
 mod summing;
 mod total;
 mod totals;
+mod touched;
 mod wholes;
 mod workers;
 
 pub use covers::Covers;
 pub use hours::{HourPlace, is_touched, rows_by_hour};
-pub use marks::{every_hour, touched_hours};
+pub use marks::every_hour;
 pub use query::{MOST_HOURS, Query};
 pub use segments::rows_at;
 pub use total::Total;
 pub use totals::{totals_alone, totals_keeping};
+pub use touched::touched_hours;

@@ -156,16 +156,16 @@ impl Listed {
     fn only_listed(&self, segment: usize, codes: &[u32]) -> Option<usize>
         ensures { IfSome result (IsOnly self.now segment codes.now) }
     {
+        let mut only = None;
         for which in 0..codes.len() {
             if !self.is_marked(segment, codes[which] as usize) {
-                let rest = &codes[which + 1..];
-                if self.may_list_any(segment, rest) {
+                if only.is_some() {
                     return None;
                 }
-                return Some(which);
+                only = Some(which);
             }
         }
-        None
+        only
     }
 
     // Adds those of a segment's rows at these places that may have a SKU that a commitment lists.

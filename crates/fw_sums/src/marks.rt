@@ -1,12 +1,17 @@
 //! Marked hours: a mark for each of some hours in turn, and the rows of those that are marked.
-ghost use Rattle.std.specs.Prelude.{◌≡◌, ◌+◌, ◌<◌, ◌^◌, ◌&&◌, ℕ, length, map, nat_abs, nat_le, nat_lt, replicate, true, IfOk, IfSome};
+ghost use Rattle.std.specs.Prelude.{◌≡◌, ◌+◌, ◌<◌, ◌^◌, ℕ, length, map, nat_abs, pos, replicate, true, All, IfOk, IfSome};
+ghost use Rattle.std.specs.Bool.{OnTrue};
 ghost use Rattle.std.specs.List.{list_all, list_any};
 ghost use Rattle.fw_charge.specs.Charge.{hour_of};
-ghost use Rattle.fw_sums.specs.Hours.{AreTouched, IsMarkedPlace, is_marked};
+ghost use Rattle.fw_lanes.specs.Masked.{is_between};
+ghost use Rattle.fw_sums.specs.Hours.{IsMarkedPlace, is_marked};
+ghost use Rattle.fw_sums.specs.Wholes.{IsBetween};
 
-use crate::hours::{is_touched, second_of};
+use crate::hours::second_of;
+use crate::wholes::hours_between;
 use fw_charge::{SECONDS_PER_HOUR, hour_of};
-use fw_terms::Commitment;
+use fw_columns::Columns;
+use fw_lanes::{Mask, mask_range};
 use std::alloc::{AllocError, Global};
 
 /// The marks of so many hours, all of them marked. The one error is that memory ran out.
@@ -14,24 +19,6 @@ pub fn every_hour(alloc: Global, hours: usize) -> Result<Vec<bool>, AllocError>
     ensures { IfOk result (λ marks. marks.items ≡ replicate hours true) }
 {
     Ok(vec![in alloc; true; hours]?)
-}
-
-/// The marks of the hours in which some commitment has a line, among so many hours from `from` on, counted from 1970. The one error is that
-/// memory ran out.
-pub fn touched_hours(
-    alloc: Global,
-    commitments: &[Commitment],
-    from: u64,
-    hours: usize,
-) -> Result<Vec<bool>, AllocError>
-    requires { from + hours < 2 ^ 64 }
-    ensures { IfOk result (λ marks. AreTouched commitments.now from hours marks.items) }
-{
-    let mut marks = Vec::new(alloc);
-    for place in 0..hours {
-        marks.push(is_touched(commitments, from + place as u64))?;
-    }
-    Ok(marks)
 }
 
 // The place of an hour among the hours of the marks, of which this one is the first, where it is marked.
@@ -55,25 +42,51 @@ fn is_marked(second: u64, from: u64, marks: &[bool]) -> bool
     place_of_hour(hour_of(second), from, marks).is_some()
 }
 
-// For each of these seconds whether it is of a marked hour.
+// For each row of a segment whether it is of a marked hour.
 pub(crate) fn mask_of(
     alloc: Global,
-    seconds: &[i64],
+    segment: &Columns,
     from: u64,
     marks: &[bool],
-) -> Result<Vec<bool>, AllocError>
-    ensures { IfOk result (λ mask. mask.items ≡ map (λ s. is_marked marks.now from (hour_of (nat_abs s))) seconds.now) }
+) -> Result<Mask, AllocError>
+    ensures { IfOk result (λ mask. mask ≡ map (λ row. is_marked marks.now from (hour_of row.start)) segment.now) }
 {
+    let mut mask = Mask::new(alloc, segment.len())?;
     match every_second(from, marks) {
-        Some((first, end)) => mask_between(alloc, seconds, first, end),
-        None => mask_by_hour(alloc, seconds, from, marks),
+        Some((first, end)) => mask_between(segment, from, marks, (first, end), &mut mask),
+        None => mask_by_hour(segment.starts(), from, marks, &mut mask),
     }
+    Ok(mask)
+}
+
+// Sets each place to whether its row is of a marked hour, where each hour is marked, by the first second of these and the one behind their last. Where all
+// rows of the segment are of these hours, no row is looked at.
+fn mask_between(segment: &Columns, from: u64, marks: &[bool], seconds: (i64, i64), mask: &mut Mask)
+    requires same { length mask.old ≡ length segment.now }
+    requires every { list_all (λ mark. mark) marks.now ≡ true }
+    requires between { (s : ℕ) → is_between seconds.0 seconds.1 (pos s) ≡ is_marked marks.now from (hour_of s) }
+    ensures { mask.new ≡ map (λ row. is_marked marks.now from (hour_of row.start)) segment.now }
+{
+    if are_within(segment, from, marks.len() as u64) {
+        mask.fill(true);
+        return;
+    }
+    mask_range(segment.starts(), seconds.0, seconds.1, mask);
+}
+
+// Whether the rows of a segment are all of so many hours from this one on.
+fn are_within(segment: &Columns, from: u64, hours: u64) -> bool
+    ensures { OnTrue result (All (IsBetween from (from + hours)) segment.now) }
+{
+    let (least, behind) = hours_between(segment);
+    from <= least && behind.saturating_sub(from) <= hours
 }
 
 // The first second of the hours of the marks and the one behind their last, where each of them is marked; `None` where one isn't, or where they are past
-// what can be counted.
-fn every_second(from: u64, marks: &[bool]) -> Option<(u64, u64)>
-    ensures { IfSome result (λ r. (s : ℕ) → (nat_le r.0 s && nat_lt s r.1) ≡ is_marked marks.now from (hour_of s)) }
+// what a second of a row can be.
+fn every_second(from: u64, marks: &[bool]) -> Option<(i64, i64)>
+    ensures every { IfSome result (λ r. list_all (λ mark. mark) marks.now ≡ true) }
+    ensures between { IfSome result (λ r. (s : ℕ) → is_between r.0 r.1 (pos s) ≡ is_marked marks.now from (hour_of s)) }
 {
     if !are_all(marks) {
         return None;
@@ -81,7 +94,10 @@ fn every_second(from: u64, marks: &[bool]) -> Option<(u64, u64)>
     let first = from.checked_mul(SECONDS_PER_HOUR)?;
     let len = (marks.len() as u64).checked_mul(SECONDS_PER_HOUR)?;
     let end = first.checked_add(len)?;
-    Some((first, end))
+    if end > 0x7fff_ffff_ffff_ffff {
+        return None;
+    }
+    Some((first as i64, end as i64))
 }
 
 // Whether each of the marks is true.
@@ -91,45 +107,14 @@ fn are_all(marks: &[bool]) -> bool
     marks.iter().all(|mark| *mark)
 }
 
-// For each of these seconds whether it is from the first on and before the end.
-fn mask_between(
-    alloc: Global,
-    seconds: &[i64],
-    first: u64,
-    end: u64,
-) -> Result<Vec<bool>, AllocError>
-    ensures { IfOk result (λ mask. mask.items ≡ map (λ s. nat_le first (nat_abs s) && nat_lt (nat_abs s) end) seconds.now) }
-{
-    let mut mask = vec![in alloc; false; seconds.len()]?;
-    mark_between(seconds, first, end, &mut mask);
-    Ok(mask)
-}
-
-// Marks those of these seconds that are from the first on and before the end, and no others. No step branches on a second.
-fn mark_between(seconds: &[i64], first: u64, end: u64, mask: &mut [bool])
+// Sets each place to whether its second is of a marked hour, which is looked up for each.
+fn mask_by_hour(seconds: &[i64], from: u64, marks: &[bool], mask: &mut Mask)
     requires { length mask.old ≡ length seconds.now }
-    ensures { mask.new ≡ map (λ s. nat_le first (nat_abs s) && nat_lt (nat_abs s) end) seconds.now }
+    ensures { mask.new ≡ map (λ s. is_marked marks.now from (hour_of (nat_abs s))) seconds.now }
 {
     for place in 0..seconds.len() {
-        let second = second_of(seconds, place);
-        mask[place] = (first <= second) & (second < end);
+        mask.set(place, is_marked(second_of(seconds, place), from, marks));
     }
-}
-
-// For each of these seconds whether it is of a marked hour, which is looked up for each.
-fn mask_by_hour(
-    alloc: Global,
-    seconds: &[i64],
-    from: u64,
-    marks: &[bool],
-) -> Result<Vec<bool>, AllocError>
-    ensures { IfOk result (λ mask. mask.items ≡ map (λ s. is_marked marks.now from (hour_of (nat_abs s))) seconds.now) }
-{
-    let mut mask = Vec::with_capacity(alloc, seconds.len())?;
-    for place in 0..seconds.len() {
-        mask.push(is_marked(second_of(seconds, place), from, marks))?;
-    }
-    Ok(mask)
 }
 
 // Whether some mark of a mask is true.

@@ -8,13 +8,15 @@ use crate::covers::{HourSum, HourSums};
 use crate::groups::Groups;
 use crate::hours::{HourPlace, rows_by_hour};
 use crate::listed::Listed;
-use crate::marks::{has_mark, touched_hours};
+use crate::marks::has_mark;
+use crate::touched::touched_hours;
 use fw_columns::Columns;
 use fw_cover::Roster;
 use fw_terms::Commitment;
+use fw_workers::in_threads;
 use std::alloc::{AllocError, Global};
 use std::sync::atomic::{AtomicUsize, Ordering};
-use std::thread::{Threads, map_indices};
+use std::thread::Threads;
 
 // So many hours are found at once, before what was found is kept: what they come to is in memory together.
 const HOURS_AT_ONCE: usize = 1_024;
@@ -137,7 +139,7 @@ impl OpenHours {
     {
         let end = first.saturating_add(HOURS_AT_ONCE).min(self.by_hour.len());
         let next = AtomicUsize::new(first);
-        map_indices(
+        in_threads(
             rt,
             alloc,
             workers as usize,

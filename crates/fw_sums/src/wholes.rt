@@ -37,7 +37,7 @@ pub(crate) struct Wholes {
 }
 
 // The hour that the rows of a segment are from on, and the one that they are before.
-fn hours_between(segment: &Columns) -> (u64, u64)
+pub(crate) fn hours_between(segment: &Columns) -> (u64, u64)
     ensures { All (IsBetween result.0 result.1) segment.now }
 {
     let hours = segment.hours();

@@ -8,7 +8,7 @@ ghost use Rattle.fw_sums.specs.Sums.{Counts};
 
 use crate::groups::Groups;
 use fw_columns::Columns;
-use rayon::prelude::*;
+use fw_workers::in_threads;
 use std::alloc::{AllocError, Global};
 use std::thread::Threads;
 
@@ -86,17 +86,16 @@ impl Groups {
         requires { 0 < workers }
         ensures { PartCounts (map (row_cost key.now) (rows_marked marks.now from (all_rows (lent segments.now)))) result }
     {
-        let workers = workers as usize;
+        let workers = (workers as usize).min(segments.len()).max(1);
         let size = segments.len().div_ceil(workers);
-        let parts: Vec<Result<Groups, AllocError>> = (0..workers)
-            .into_par_iter()
-            .with_min_len(1)
-            .map(
-                |worker: usize| -> Result<Groups, AllocError>
-                    ensures { PartCounts (map (row_cost key.entry.now) (rows_marked marks.entry.now from (all_rows (lent (take size (drop (size * worker) segments.entry.now)))))) result }
-                { Groups::of_piece(alloc, key, piece(segments, size, worker), from, marks) },
-            )
-            .collect(rt, alloc)?;
+        let parts = in_threads(
+            rt,
+            alloc,
+            workers,
+            &|worker: usize| -> Result<Groups, AllocError>
+                ensures { PartCounts (map (row_cost key.entry.now) (rows_marked marks.entry.now from (all_rows (lent (take size (drop (size * worker) segments.entry.now)))))) result }
+            { Groups::of_piece(alloc, key, piece(segments, size, worker), from, marks) },
+        )?;
         Groups::of_parts(alloc, parts.as_slice())
     }
 }

@@ -14,6 +14,8 @@ mod cover;
 #[cfg(test)]
 mod given;
 #[cfg(test)]
+mod lanes;
+#[cfg(test)]
 mod query;
 #[cfg(test)]
 mod shares;

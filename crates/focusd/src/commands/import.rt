@@ -175,7 +175,7 @@ fn import_named<V: Volume>(
     }
 }
 
-// Imports the parts of a file in order.
+// Imports a file.
 fn import_file<R: Read + Drop, V: Volume>(
     rt: &HostRuntime,
     store: &mut Store<V>,
@@ -184,46 +184,115 @@ fn import_file<R: Read + Drop, V: Volume>(
     name: &str,
     reader: R,
 ) -> Result<bool, Fault> {
-    let alloc = rt.alloc();
-    let mut cutter = match Cutter::open(alloc, reader) {
-        Ok(cutter) => cutter,
-        Err(fault) => return cut_refused(rt, name, 1, fault),
+    match Cutter::open(rt.alloc(), reader) {
+        Ok(mut cutter) => import_parts(rt, store, standing, progress, name, &mut cutter),
+        Err(fault) => cut_refused(rt, name, 1, fault),
+    }
+}
+
+// Where the next part of a file stands.
+#[derive(Drop)]
+struct Place {
+    line: u64,
+    record: u64,
+}
+
+// What became of a part.
+enum Imported {
+    // More parts follow it.
+    Part,
+    // It is the last one.
+    Last,
+    // It was refused, which was said.
+    Refused,
+}
+
+// Imports the parts of a file in order; false where it was refused, which was said.
+fn import_parts<R: Read, V: Volume>(
+    rt: &HostRuntime,
+    store: &mut Store<V>,
+    standing: &mut Standing<'_>,
+    progress: &mut Progress,
+    name: &str,
+    cutter: &mut Cutter<R>,
+) -> Result<bool, Fault> {
+    let mut place = Place {
+        line: line_feeds(cutter.header()).saturating_add(1),
+        record: 1,
     };
-    let mut line = line_feeds(cutter.header()).saturating_add(1);
-    let mut record: u64 = 1;
     progress.took(rt, 0, cutter.header().len());
     for _ in 0..u64::MAX {
-        let part = match cutter.next_part(alloc) {
-            Ok(part) => part,
-            Err(fault) => return cut_refused(rt, name, line, fault),
-        };
-        match import_part(alloc, store, standing.origin, standing.number, &part.text) {
-            Ok(taken) => {
-                match taken.outcome {
-                    Outcome::Added => standing.added = standing.added.saturating_add(taken.rows),
-                    Outcome::Same => standing.same = standing.same.saturating_add(taken.rows),
-                }
-                record = record.saturating_add(taken.rows);
-                standing.number = standing.number.saturating_add(1);
-                progress.took(rt, taken.rows, body_of(&part).len());
-            }
-            // What follows the last record, as a line feed, is no post.
-            Err(ImportFault::Rows(RowFault::NoRows)) if record > 1 => {}
-            Err(fault) => {
-                progress.end(rt);
-                explain(rt, name, &part, line, record, standing, fault)?;
-                return Ok(false);
-            }
-        }
-        line = line.saturating_add(line_feeds(body_of(&part)));
-        if store.log_len() > store.body_len() {
-            store.checkpoint(alloc)?;
-        }
-        if part.is_last {
-            return Ok(true);
+        match import_next(rt, store, standing, progress, name, cutter, &mut place)? {
+            Imported::Part => {}
+            Imported::Last => return Ok(true),
+            Imported::Refused => return Ok(false),
         }
     }
     Ok(true)
+}
+
+// Imports the next part of a file.
+fn import_next<R: Read, V: Volume>(
+    rt: &HostRuntime,
+    store: &mut Store<V>,
+    standing: &mut Standing<'_>,
+    progress: &mut Progress,
+    name: &str,
+    cutter: &mut Cutter<R>,
+    place: &mut Place,
+) -> Result<Imported, Fault> {
+    match cutter.next_part(rt.alloc()) {
+        Ok(part) => import_cut(rt, store, standing, progress, name, &part, place),
+        Err(fault) => {
+            let _said = cut_refused(rt, name, place.line, fault)?;
+            Ok(Imported::Refused)
+        }
+    }
+}
+
+// Imports a part of a file.
+fn import_cut<V: Volume>(
+    rt: &HostRuntime,
+    store: &mut Store<V>,
+    standing: &mut Standing<'_>,
+    progress: &mut Progress,
+    name: &str,
+    part: &Part,
+    place: &mut Place,
+) -> Result<Imported, Fault> {
+    match import_part(
+        rt.alloc(),
+        store,
+        standing.origin,
+        standing.number,
+        &part.text,
+    ) {
+        Ok(taken) => {
+            match taken.outcome {
+                Outcome::Added => standing.added = standing.added.saturating_add(taken.rows),
+                Outcome::Same => standing.same = standing.same.saturating_add(taken.rows),
+            }
+            place.record = place.record.saturating_add(taken.rows);
+            standing.number = standing.number.saturating_add(1);
+            progress.took(rt, taken.rows, body_of(part).len());
+        }
+        // What follows the last record, as a line feed, is no post.
+        Err(ImportFault::Rows(RowFault::NoRows)) if place.record > 1 => {}
+        Err(fault) => {
+            progress.end(rt);
+            explain(rt, name, part, place.line, place.record, standing, fault)?;
+            return Ok(Imported::Refused);
+        }
+    }
+    place.line = place.line.saturating_add(line_feeds(body_of(part)));
+    if store.log_len() > store.body_len() {
+        store.checkpoint(rt.alloc())?;
+    }
+    Ok(if part.is_last {
+        Imported::Last
+    } else {
+        Imported::Part
+    })
 }
 
 // The bytes of a part behind its header.

@@ -1,5 +1,4 @@
-use Rattle.std.proofs.Common.{◌<◌, ◌≤◌, arith, get_or, length, take}
-use Rattle.std.proofs.lemmas.List.{take_all}
+use Rattle.std.proofs.Common.{◌<◌, ◌+◌, arith, get_or, take}
 use Rattle.std.proofs.lemmas.List.Elements.{All-more, All-weaker}
 use Rattle.fw_lanes.proofs.by_code.code_count.Goals as goal
 
@@ -8,14 +7,11 @@ loop-code-preserved c =
     let i = c.loop-code.code-index in
     let codes = c.args.codes.now in
     let kept = c.loop-code.invariant in
-    let here : get_or codes i 0 < c.raised-count.result = c.raised-count.ensures.above_code in
+    let more = c.greater-greatest.ensures.above_both.0 in
+    let own = c.greater-greatest.ensures.above_both.1 in
+    let here : get_or codes i 0 < c.greater-greatest.result + 1 = omega (arith, own) in
     record {
-      above = All-more (λ code. code < c.raised-count.result) codes i 0 c.loop-code-test.true
-          (All-weaker (λ code. code < c.loop-code.count) (λ code. code < c.raised-count.result) (λ code below. let more = c.raised-count.ensures.above_count in omega (arith, below, more)) (take i codes) kept.above) here;
-      least = λ n all. c.raised-count.ensures.least n (kept.least n all) (all i 0 c.loop-code-test.true);
+      above = All-more (λ code. code < c.greater-greatest.result + 1) codes i 0 c.loop-code-test.true
+          (All-weaker (λ code. code < c.loop-code.greatest + 1) (λ code. code < c.greater-greatest.result + 1) (λ code below. omega (arith, below, more)) (take i codes) kept.above) here;
+      least = λ n some all. c.greater-greatest.ensures.least n (kept.least n some all) (all i 0 c.loop-code-test.true);
     }
-
-pub returns-clause-above : goal.returns-clause-above
-returns-clause-above c =
-    let end : length c.args.codes.now ≤ c.loop-code.code-index = (let test = c.loop-code-test.false in omega (arith, test)) in
-    rw (take_all c.loop-code.code-index c.args.codes.now end) at c.loop-code.invariant.above

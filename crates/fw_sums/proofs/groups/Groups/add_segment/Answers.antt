@@ -1,9 +1,9 @@
-use Rattle.std.proofs.Common.{◌≡◌, ◌∙◌, ◌++◌, [], Bool, List, MatchBool, ap, append-nil, arith, false, get_or, length, map, nat_abs, pos, refl, subst, sym}
+use Rattle.std.proofs.Common.{◌≡◌, ◌∙◌, ◌++◌, [], Bool, List, MatchBool, ap, append-nil, arith, false, get_or, length, map, refl, subst, sym}
 use Rattle.std.specs.List.{list_any}
-use Rattle.std.proofs.lemmas.Simd.{map-map}
 use Rattle.fw_charge.specs.Charge.{Charge, hour_of}
 use Rattle.fw_row_table.specs.Texts.{names_of}
-use Rattle.fw_sums.specs.CodeSums.{code_cost}
+use Rattle.fw_lanes.specs.Masked.{marks_of}
+use Rattle.fw_sums.specs.CodeSums.{AreCodeSums, code_cost}
 use Rattle.fw_sums.specs.Hours.{is_marked, row_cost, rows_marked}
 use Rattle.fw_sums.specs.Sums.{AddsLine, Counts}
 use Rattle.fw_sums.proofs.CodeSumFacts.{code_counted, code_room, codes_counted, lines_kept, no_code_yet}
@@ -14,8 +14,7 @@ pub returns-then-not-has_mark : goal.returns-then-not-has_mark
 returns-then-not-has_mark c = λ costs counts.
     let rows = c.args.segment.now in
     let mask : c.as_slice.result.now ≡ map (λ (row : Charge). is_marked c.args.marks.now c.args.from (hour_of row.start)) rows =
-    c.as_slice.ensures.value ∙ c.in_ok-mask.ensures ∙ ap (map (λ s. is_marked c.args.marks.now c.args.from (hour_of (nat_abs s)))) c.starts.ensures
-    ∙ map-map (λ s. is_marked c.args.marks.now c.args.from (hour_of (nat_abs s))) (λ (row : Charge). pos row.start) rows in
+    c.as_slice.ensures.places ∙ c.in_ok-mask.ensures in
     let none : list_any (λ (mark : Bool). mark) c.as_slice.result.now ≡ false = sym c.has_mark.ensures ∙ c.if-not-has_mark.true in
     let nothing : rows_marked c.args.marks.now c.args.from rows ≡ [] = none_marked c.args.marks.now c.args.from rows (ap (list_any (λ (mark : Bool). mark)) (sym mask) ∙ none) in
     let same : costs ++ map (row_cost c.args.key.now) (rows_marked c.args.marks.now c.args.from rows) ≡ costs = ap (λ (l : List Charge). costs ++ map (row_cost c.args.key.now) l) nothing ∙ append-nil costs in
@@ -33,20 +32,19 @@ add_code-requires-clause-room c =
 pub loop-code-preserved : goal.loop-code-preserved
 loop-code-preserved c =
     let rows = c.args.segment.now in
-    let mask : c.as_slice-2.result.now ≡ map (λ (row : Charge). is_marked c.args.marks.now c.args.from (hour_of row.start)) rows =
-    c.as_slice-2.ensures.value ∙ c.in_ok-mask.ensures ∙ ap (map (λ s. is_marked c.args.marks.now c.args.from (hour_of (nat_abs s)))) c.starts.ensures
-    ∙ map-map (λ s. is_marked c.args.marks.now c.args.from (hour_of (nat_abs s))) (λ (row : Charge). pos row.start) rows in
-    let cost = code_cost (names_of rows) c.in_ok-sums.sums c.loop-code.code in
-    let step : MatchBool (get_or c.in_ok-sums.sums.marks.items c.loop-code.code false) (AddsLine c.loop-code.self c.add_code.new.self cost) (c.add_code.new.self ≡ c.loop-code.self) = rw c.names.ensures at c.in_ok-add_code.ensures in
+    let sums = c.as_slice-sums.result.now in
+    let are : AreCodeSums c.args.key.now rows c.in_ok-mask.mask sums = subst (AreCodeSums c.args.key.now rows c.in_ok-mask.mask) (sym c.as_slice-sums.ensures.value) c.in_ok-sums.ensures in
+    let cost = code_cost (names_of rows) sums c.loop-code.code in
+    let step : MatchBool (get_or (marks_of sums) c.loop-code.code false) (AddsLine c.loop-code.self c.add_code.new.self cost) (c.add_code.new.self ≡ c.loop-code.self) = rw c.names.ensures at c.in_ok-add_code.ensures in
     record {
       counted = λ costs counts.
-          code_counted c.args.key.now rows (λ row. is_marked c.args.marks.now c.args.from (hour_of row.start)) c.as_slice-2.result.now c.in_ok-sums.sums costs c.loop-code.self c.add_code.new.self c.loop-code.code mask
-          c.in_ok-sums.ensures (omega arith) (c.loop-code.invariant.counted costs counts) step;
-      lines = lines_kept (get_or c.in_ok-sums.sums.marks.items c.loop-code.code false) c.loop-code.self c.add_code.new.self cost step ∙ c.loop-code.invariant.lines;
+          code_counted c.args.key.now rows (λ row. is_marked c.args.marks.now c.args.from (hour_of row.start)) c.in_ok-mask.mask sums costs c.loop-code.self c.add_code.new.self c.loop-code.code c.in_ok-mask.ensures are (omega arith) (c.loop-code.invariant.counted costs counts) step;
+      lines = lines_kept (get_or (marks_of sums) c.loop-code.code false) c.loop-code.self c.add_code.new.self cost step ∙ c.loop-code.invariant.lines;
     }
 
 pub returns : goal.returns
 returns c = λ costs counts.
-    let end : c.loop-code.code ≡ length c.in_ok-sums.sums.marks.items = omega arith in
+    let end : c.loop-code.code ≡ length c.as_slice-sums.result.now = omega arith in
+    let same : length c.as_slice-sums.result.now ≡ length c.in_ok-sums.sums.items = ap length c.as_slice-sums.ensures.value in
     codes_counted c.args.key.now c.args.segment.now (λ row. is_marked c.args.marks.now c.args.from (hour_of row.start)) costs c.loop-code.self _ c.loop-code.code c.args.self.now.lines
-    (rw end c.in_ok-sums.ensures.within) c.in_ok-sums.ensures.amounts (λ g. refl) (omega arith) counts.small (c.loop-code.invariant.counted costs counts)
+    (rw (end, same) c.in_ok-sums.ensures.within) c.in_ok-sums.ensures.amounts (λ g. refl) (omega arith) counts.small (c.loop-code.invariant.counted costs counts)

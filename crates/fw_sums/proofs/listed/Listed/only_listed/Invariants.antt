@@ -1,7 +1,6 @@
-use Rattle.std.proofs.Common.{◌≡◌, ◌<◌, ℕ, slice_index, true}
-use Rattle.fw_sums.specs.Listed.{is_marked_code}
+use Rattle.fw_sums.proofs.ListedFacts.{IsOnlyBefore}
 use Rattle.fw_sums.proofs.listed.Listed.only_listed.Given as goal
 
--- the codes so far are marked
+-- the codes so far are marked but one, or all of them
 abbrev pub invariant-loop-which : goal.invariant-loop-which
-invariant-loop-which l = (k : ℕ) → k < l.which → is_marked_code l.self l.segment (slice_index l.codes k) ≡ true
+invariant-loop-which l = IsOnlyBefore l.self l.segment l.codes l.which l.only
