@@ -1,18 +1,18 @@
 -- Rows that no commitment applies to may be left out of what commitments bring to an hour.
-use Rattle.std.proofs.Common.{◌≡◌, ◌∙◌, ⊎_elim, ℕ, zero, suc, ◌+◌, ◌-◌, ◌<◌, ◌≤◌, All, Bool, true, false, cond, not, nat_lt, Bor, List, [], ◌∷◌, ◌++◌, length, get_or, map, filter, drop, take, Option, Some, None, arith, refl, sym, ap, subst, append-nil, append_assoc}
+use Rattle.std.proofs.Common.{◌≡◌, ◌∙◌, ⊎_elim, below_more, is_some, rules, IfSome, ℕ, zero, suc, ◌+◌, ◌<◌, ◌≤◌, All, Bool, true, false, cond, not, nat_lt, List, [], ◌∷◌, ◌++◌, length, get_or, map, filter, take, Option, Some, None, arith, refl, sym, ap, subst, append-nil, append_assoc}
 use Rattle.std.specs.Prelude.{◌==◌, ◌||◌, slice_get, slice_index, slice_index_or}
 use Rattle.std.specs.List.{cons_option, enumerate_from, filter_map, flat_map, list_any}
 use Rattle.std.specs.Str.{bytes_eq}
 use Rattle.std.proofs.Math.ListN.{get_or-append}
 use Rattle.std.proofs.lemmas.Bool.{cases_lt, eq-eqb, le-ltb, lt-ltb, ltb-true, ne_eqb}
 use Rattle.std.proofs.lemmas.Grind.{flat_map-append}
-use Rattle.std.proofs.lemmas.List.{get_or-drop, get_or_at, get_or_past, length-append, length-drop, map-append, take_more}
+use Rattle.std.proofs.lemmas.List.{get_or_at, get_or_past, length-append, map-append, take_more}
 use Rattle.std.proofs.lemmas.List.Elements.{All-append, All-cons, All-from_get_or, All-head, All-nil, All-tail, All-weaker, filter-append, filter_map-append}
 use Rattle.std.proofs.lemmas.List.Folds.{list_any_none}
 use Rattle.fw_charge.specs.Charge.{Charge}
 use Rattle.fw_columns.specs.BySku.{places_of_sku, sku_codes, skus_of_hour}
 use Rattle.fw_columns.specs.Hours.{hours_of, places_of_hour}
-use Rattle.fw_columns.proofs.HourFacts.{alike, apart, kept_alike, lower, no_lower, places_within}
+use Rattle.fw_columns.proofs.HourFacts.{alike, kept_alike, places_within}
 use Rattle.fw_columns.proofs.SkuFacts.{any_sku}
 use Rattle.fw_terms.specs.Commitment.{CommitmentValue}
 use Rattle.fw_cover.specs.Hour.{hour_cover, left_of, quantity_of}
@@ -29,7 +29,7 @@ use Rattle.fw_row_table.proofs.NameFacts.{place-missing}
 use Rattle.fw_sums.specs.Corrections.{correction_of, corrections}
 use Rattle.fw_sums.specs.Costs.{costs_of}
 use Rattle.fw_sums.specs.Covers.{AreOwnSums}
-use Rattle.fw_sums.specs.Hours.{HasRow, IsThere, lent, row_at, row_places, row_places_at, row_places_there, rows_at, rows_there}
+use Rattle.fw_sums.specs.Hours.{HasRow, IsThere, row_at, row_places, row_places_at, row_places_there, rows_at, rows_there}
 use Rattle.fw_sums.specs.Listed.{AreListed, IsOnly, is_marked_code, is_unlisted, may_be_listed}
 use Rattle.fw_sums.specs.Sums.{Counts}
 use Rattle.fw_sums.specs.declared.groups.Groups.{Groups}
@@ -38,7 +38,7 @@ use Rattle.fw_sums.specs.declared.hours.RowPlace.{RowPlace}
 use Rattle.fw_sums.specs.declared.listed.Listed.{Listed}
 use Rattle.fw_sums.proofs.CodeFacts.{name_there}
 use Rattle.fw_sums.proofs.CorrectionFacts.{corrections_by, none_lost}
-use Rattle.fw_sums.proofs.HourFacts.{rows_of_hour_places, segment_there}
+use Rattle.fw_sums.proofs.HourFacts.{rows_of_hour_places}
 use Rattle.fw_sums.proofs.UntouchedFacts.{both_true, not_false}
 
 -- ---- one such row corrects nothing, and the others are corrected as without it
@@ -265,6 +265,11 @@ pub IsOnlyBefore : Listed → ℕ → List ℕ → ℕ → Option ℕ → Type 0
 IsOnlyBefore listed segment codes n None = (k : ℕ) → k < n → is_marked_code listed segment (slice_index codes k) ≡ true
 IsOnlyBefore listed segment codes n (Some which) = (which < n) × ((k : ℕ) → k < n → is_marked_code listed segment (slice_index codes k) ≡ not (k == which))
 
+-- of no codes
+pub only_none : (listed : Listed) (segment : ℕ) (codes : List ℕ) → IsOnlyBefore listed segment codes 0 None
+unfolding IsOnlyBefore
+only_none listed segment codes = λ k l. absurd (omega (arith, l))
+
 -- a code more that is marked
 pub marked_more : (listed : Listed) (segment : ℕ) (codes : List ℕ) (n : ℕ) (only : Option ℕ) → IsOnlyBefore listed segment codes n only → is_marked_code listed segment (slice_index codes n) ≡ true → IsOnlyBefore listed segment codes (n + 1) only
 unfolding IsOnlyBefore
@@ -273,17 +278,20 @@ marked_more listed segment codes n (Some which) before is =
     let below = before.0 in (omega (arith, below), below_more _ n before.1 (is ∙ ap not (sym (ne_eqb n which (λ e. omega (arith, e, below))))))
 
 -- the first that isn't
-pub unmarked_first : (listed : Listed) (segment : ℕ) (codes : List ℕ) (n : ℕ) → IsOnlyBefore listed segment codes n None → is_marked_code listed segment (slice_index codes n) ≡ false → IsOnlyBefore listed segment codes (n + 1) (Some n)
+pub unmarked_first : (listed : Listed) (segment : ℕ) (codes : List ℕ) (n : ℕ) (only : Option ℕ) → is_some only ≡ false → IsOnlyBefore listed segment codes n only → is_marked_code listed segment (slice_index codes n) ≡ false
+    → IsOnlyBefore listed segment codes (n + 1) (Some n)
 unfolding IsOnlyBefore
-unmarked_first listed segment codes n before is = (
+unmarked_first listed segment codes n (Some which) none before is = absurd (cc)
+unmarked_first listed segment codes n None none before is = (
   omega arith,
   below_more _ n (λ k l. before k l ∙ ap not (sym (ne_eqb k n (λ e. omega (arith, e, l))))) (is ∙ ap not (sym (eq-eqb n n refl))),
 )
 
 -- of all codes
-pub only_so : (listed : Listed) (segment : ℕ) (codes : List ℕ) (n which : ℕ) → length codes ≤ n → n ≤ length codes → IsOnlyBefore listed segment codes n (Some which) → IsOnly listed segment codes which
+pub only_so : (listed : Listed) (segment : ℕ) (codes : List ℕ) (n : ℕ) (only : Option ℕ) → length codes ≤ n → n ≤ length codes → IsOnlyBefore listed segment codes n only → IfSome only (IsOnly listed segment codes)
 unfolding IsOnlyBefore
-only_so listed segment codes n which least most are =
+only_so listed segment codes n None least most are = search rules
+only_so listed segment codes n (Some which) least most are =
     let below = are.0 in record { there = omega (arith, below, most); each = λ k l. are.1 k (omega (arith, l, least)) }
 
 -- where one is, its rows are

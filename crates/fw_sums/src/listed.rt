@@ -75,11 +75,7 @@ fn unlisted_codes(
 }
 
 // Adds rows of a segment.
-fn push_places(
-    listed: &mut Vec<RowPlace>,
-    segment: u32,
-    places: &[u16],
-) -> Result<(), AllocError>
+fn push_places(listed: &mut Vec<RowPlace>, segment: u32, places: &[u16]) -> Result<(), AllocError>
     ensures { OnOk result (listed.new.items ≡ listed.old.items ++ row_places segment places.now) }
 {
     for place in places {

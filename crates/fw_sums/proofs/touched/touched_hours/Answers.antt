@@ -1,4 +1,4 @@
-use Rattle.std.proofs.Common.{rules, ◌≡◌, ◌∙◌, ◌+◌, ◌<◌, ◌++◌, List, ap, arith, drop, false, length, replicate, subst, sym, take, Bool}
+use Rattle.std.proofs.Common.{rules, ◌≡◌, ◌∙◌, ◌+◌, ◌++◌, List, ap, arith, drop, false, length, replicate, subst, sym, take, Bool}
 use Rattle.std.proofs.Math.Seq.{take-length}
 use Rattle.std.proofs.lemmas.List.{take-append-le, take_all}
 use Rattle.fw_sums.specs.Hours.{AddsMarks, has_line, is_touched}

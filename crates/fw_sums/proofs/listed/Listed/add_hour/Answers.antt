@@ -1,4 +1,4 @@
-use Rattle.std.proofs.Common.{◌≡◌, ◌∙◌, ◌++◌, [], List, append-nil, ap, arith, filter, length, sym}
+use Rattle.std.proofs.Common.{◌∙◌, [], append-nil, ap, arith, filter, length, sym}
 use Rattle.std.specs.Prelude.{slice_index}
 use Rattle.fw_columns.specs.Hours.{hours_of}
 use Rattle.fw_sums.specs.Hours.{row_places}
