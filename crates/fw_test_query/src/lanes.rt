@@ -296,6 +296,34 @@ fn are_sums(alloc: Global, len: usize, case: &Case) -> Result<bool, AllocError>
     Ok(are_by_code(sums.as_slice(), &case.by_code))
 }
 
+/// Numbers of amounts of 10^17, and their sums.
+const FULL: [(usize, i128); 6] = [
+    (0, 0),
+    (1, 100_000_000_000_000_000),
+    (7, 700_000_000_000_000_000),
+    (8, 800_000_000_000_000_000),
+    (9, 900_000_000_000_000_000),
+    (65_536, 6_553_600_000_000_000_000_000),
+];
+
+/// Whether so many amounts of 10^17 have this sum under a mask that is true throughout.
+fn is_full_sum(alloc: Global, len: usize, sum: i128) -> Result<bool, AllocError>
+    requires { len ≤ 65536 }
+{
+    let amounts = vec![in alloc; 100_000_000_000_000_000; len]?;
+    let mut mask = Mask::new(alloc, len)?;
+    mask.fill(true);
+    Ok(masked_sum(amounts.as_slice(), &mask) == sum)
+}
+
+fn are_full_sums(alloc: Global) -> Result<bool, AllocError> {
+    let mut right = true;
+    for (len, sum) in &FULL {
+        right &= is_full_sum(alloc, (*len).min(65_536), *sum)?;
+    }
+    Ok(right)
+}
+
 fn all_hold(alloc: Global) -> Result<bool, AllocError> {
     let mut right = true;
     for case in &CASES {
@@ -308,4 +336,9 @@ fn all_hold(alloc: Global) -> Result<bool, AllocError> {
 #[test]
 fn masks_and_their_sums(rt: HostRuntime) -> Result<(), Fail> {
     check(&rt, all_hold(rt.alloc()))
+}
+
+#[test]
+fn the_most_amounts_under_one_mask(rt: HostRuntime) -> Result<(), Fail> {
+    check(&rt, are_full_sums(rt.alloc()))
 }
