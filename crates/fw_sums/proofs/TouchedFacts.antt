@@ -2,6 +2,7 @@
 use Rattle.std.proofs.Common.{◌≡◌, ◌∙◌, ℕ, zero, suc, ◌+◌, ◌<◌, Bool, true, false, List, [], ◌∷◌, length, map, get_or, replicate, take, refl, sym, ap, arith}
 use Rattle.std.specs.Prelude.{◌||◌}
 use Rattle.std.specs.List.{list_any, range_with_len}
+use Rattle.std.proofs.Math.Bool.{or-false, or_assoc}
 use Rattle.std.proofs.lemmas.List.{length-replicate}
 use Rattle.std.proofs.lemmas.List.Folds.{list_any_more}
 use Rattle.fw_terms.specs.Commitment.{CommitmentValue}
@@ -16,19 +17,11 @@ adds_alike test other from old new adds alike = record {
   early = adds.early;
 }
 
-pub or_false : (b : Bool) → b ≡ (b || false)
-or_false true = refl
-or_false false = refl
-
-pub or_assoc : (a b c : Bool) → ((a || b) || c) ≡ (a || (b || c))
-or_assoc true b c = refl
-or_assoc false b c = refl
-
 -- nothing is marked yet
 pub adds_none : (test : ℕ → Bool) (from : ℕ) (marks : List Bool) → ((h : ℕ) → test h ≡ false) → AddsMarks test from marks marks
 adds_none test from marks none = record {
   same_length = refl;
-  each = λ k within. rw (none (from + k)) (or_false (get_or marks k false));
+  each = λ k within. rw (none (from + k)) (sym (or-false (get_or marks k false)));
   early = λ k yes no. absurd (cc);
 }
 

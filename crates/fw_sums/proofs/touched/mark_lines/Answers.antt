@@ -1,12 +1,13 @@
 use Rattle.std.proofs.Common.{◌≡◌, ◌∙◌, ℕ, ◌+◌, ◌<◌, ◌==◌, Bool, ap, arith, length, get_or, sym, take}
 use Rattle.std.specs.Prelude.{◌&&◌, ◌||◌, nat_le, nat_lt}
 use Rattle.std.specs.List.{list_any}
+use Rattle.std.proofs.Math.Bool.{or-false, or_assoc}
 use Rattle.std.proofs.lemmas.List.{take_all}
 use Rattle.std.proofs.lemmas.List.Folds.{list_any_more}
 use Rattle.fw_charge.specs.Charge.{hour_of}
 use Rattle.fw_cover.specs.Applies.{is_in_term}
 use Rattle.fw_terms.specs.Commitment.{PurchaseValue}
-use Rattle.fw_sums.proofs.TouchedFacts.{adds_alike, adds_more, or_assoc, or_false}
+use Rattle.fw_sums.proofs.TouchedFacts.{adds_alike, adds_more}
 use Rattle.fw_sums.proofs.touched.mark_lines.Goals as goal
 
 -- whether a purchase was made in an hour
@@ -20,7 +21,7 @@ loop-purchase-init c =
     let start : c.from-start.result ≡ c.args.commitment.now.start = c.from-start.ensures ∙ c.start.ensures.value in
     let hours : c.from.result ≡ c.args.commitment.now.hours = c.from.ensures ∙ c.hours.ensures.value in
     adds_alike _ _ from c.args.marks.now c.mark_hours.new.marks c.mark_hours.ensures
-    (λ k within. (λ j. nat_le (start j) (from + k) && nat_lt (from + k) (start j + hours j)) ∙ or_false (is_in_term c.args.commitment.now (from + k)))
+    (λ k within. (λ j. nat_le (start j) (from + k) && nat_lt (from + k) (start j + hours j)) ∙ sym (or-false (is_in_term c.args.commitment.now (from + k))))
 
 pub loop-purchase-preserved : goal.loop-purchase-preserved
 loop-purchase-preserved c =
