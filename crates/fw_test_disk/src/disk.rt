@@ -1,7 +1,8 @@
 //! Volumes in memory: what a stop leaves of them, and which of their calls a plan fails.
 use crate::calls::{Answer, Call, DONE, FAILS, Round, TOO_LARGE, are_answered, prints};
+use crate::ended::{check, check_all};
 use fw_disk::*;
-use std::alloc::Global;
+use std::alloc::{AllocError, Global};
 use std::test::Fail;
 
 /// A byte that none of the tables writes.
@@ -137,9 +138,7 @@ const STOPS: &[Case] = &[
 
 #[test]
 fn a_stop_leaves_its_choice(rt: HostRuntime) -> Result<(), Fail> {
-    let wrong = first_wrong(rt.alloc(), STOPS)?;
-    assert!(rt; wrong.is_none(), "case {wrong:?}");
-    Ok(())
+    check_all(&rt, first_wrong(rt.alloc(), STOPS))
 }
 
 /// A gate of one byte, synced as 0, then opened by a 1 that no sync follows.
@@ -167,9 +166,7 @@ const GATES: &[Case] = &[
 
 #[test]
 fn a_gate_is_shut_or_open_or_torn(rt: HostRuntime) -> Result<(), Fail> {
-    let wrong = first_wrong(rt.alloc(), GATES)?;
-    assert!(rt; wrong.is_none(), "case {wrong:?}");
-    Ok(())
+    check_all(&rt, first_wrong(rt.alloc(), GATES))
 }
 
 /// Writes of up to 4 bytes in a file of at most 3.
@@ -195,9 +192,7 @@ const LIMITS: &[Case] = &[(Plan::Limited(3), Choice::New, LIMITED, NO_CALL, NO_C
 
 #[test]
 fn a_write_ends_at_the_limit_or_is_too_large(rt: HostRuntime) -> Result<(), Fail> {
-    let wrong = first_wrong(rt.alloc(), LIMITS)?;
-    assert!(rt; wrong.is_none(), "case {wrong:?}");
-    Ok(())
+    check_all(&rt, first_wrong(rt.alloc(), LIMITS))
 }
 
 /// A write, a sync, a read, a write that is no call of a plan since it is too large, and a sync.
@@ -301,9 +296,7 @@ const PLANS: &[Case] = &[
 
 #[test]
 fn a_plan_fails_its_calls(rt: HostRuntime) -> Result<(), Fail> {
-    let wrong = first_wrong(rt.alloc(), PLANS)?;
-    assert!(rt; wrong.is_none(), "case {wrong:?}");
-    Ok(())
+    check_all(&rt, first_wrong(rt.alloc(), PLANS))
 }
 
 const WRITTEN: &[Call] = &[Call::WriteSynced(Side::Left, &[5])];
@@ -360,9 +353,7 @@ const FAILED: &[Case] = &[
 
 #[test]
 fn a_failed_call_reaches_the_volume_below_or_not(rt: HostRuntime) -> Result<(), Fail> {
-    let wrong = first_wrong(rt.alloc(), FAILED)?;
-    assert!(rt; wrong.is_none(), "case {wrong:?}");
-    Ok(())
+    check_all(&rt, first_wrong(rt.alloc(), FAILED))
 }
 
 /// What is written to Right and not synced stays pending through a read and a sync of Left, and through a sync that fails.
@@ -416,9 +407,7 @@ const SIDES: &[Case] = &[
 
 #[test]
 fn a_side_stays_pending_through_calls_on_the_other(rt: HostRuntime) -> Result<(), Fail> {
-    let wrong = first_wrong(rt.alloc(), SIDES)?;
-    assert!(rt; wrong.is_none(), "case {wrong:?}");
-    Ok(())
+    check_all(&rt, first_wrong(rt.alloc(), SIDES))
 }
 
 const SYNCS: &[Call] = &[Call::Sync(Side::Left); 6];
@@ -481,16 +470,19 @@ const SERIES: &[Case] = &[
 
 #[test]
 fn a_series_fails_the_call_after_each_number(rt: HostRuntime) -> Result<(), Fail> {
-    let wrong = first_wrong(rt.alloc(), SERIES)?;
-    assert!(rt; wrong.is_none(), "case {wrong:?}");
-    Ok(())
+    check_all(&rt, first_wrong(rt.alloc(), SERIES))
+}
+
+/// Whether both faults print as sentences.
+fn are_sentences(alloc: Global) -> Result<bool, AllocError> {
+    let text = "the write would end past the limit";
+    Ok(
+        prints(alloc, VolumeFault::Io, "the device failed")?
+            && prints(alloc, VolumeFault::TooLarge, text)?,
+    )
 }
 
 #[test]
 fn faults_read_as_sentences(rt: HostRuntime) -> Result<(), Fail> {
-    let io = prints(rt.alloc(), VolumeFault::Io, "the device failed")?;
-    let text = "the write would end past the limit";
-    let too_large = prints(rt.alloc(), VolumeFault::TooLarge, text)?;
-    assert!(rt; io && too_large);
-    Ok(())
+    check(&rt, are_sentences(rt.alloc()))
 }

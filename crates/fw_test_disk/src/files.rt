@@ -1,5 +1,6 @@
 //! Volumes of real files. Each test makes a folder of its own below the working folder, and removes it.
 use crate::calls::{Call, DONE, FAILS, Round, TOO_LARGE, are_answered, fill, prints};
+use crate::ended::{check, check_all};
 use fw_disk::*;
 use fw_journal::{Log, LogFault, replay};
 use std::alloc::{AllocError, Global};
@@ -75,9 +76,7 @@ fn are_kept(rt: &HostRuntime) -> Result<bool, FolderFault> {
 
 #[test]
 fn files_are_made_and_keep_their_bytes(rt: HostRuntime) -> Result<(), Fail> {
-    let are_kept = are_kept(&rt)?;
-    assert!(rt; are_kept);
-    Ok(())
+    check(&rt, are_kept(&rt))
 }
 
 /// Writes a log of one payload.
@@ -126,9 +125,7 @@ fn is_logged(rt: &HostRuntime) -> Result<bool, FolderFault> {
 
 #[test]
 fn a_log_is_there_after_the_folder_is_opened_again(rt: HostRuntime) -> Result<(), Fail> {
-    let is_logged = is_logged(&rt)?;
-    assert!(rt; is_logged);
-    Ok(())
+    check(&rt, is_logged(&rt))
 }
 
 /// Whether a folder is in use while its volume is open.
@@ -151,9 +148,7 @@ fn is_in_use_once(rt: &HostRuntime) -> Result<bool, FolderFault> {
 
 #[test]
 fn an_open_folder_is_in_use(rt: HostRuntime) -> Result<(), Fail> {
-    let is_in_use = is_in_use_once(&rt)?;
-    assert!(rt; is_in_use);
-    Ok(())
+    check(&rt, is_in_use_once(&rt))
 }
 
 const THREE_BYTES: Round = (
@@ -195,9 +190,7 @@ fn is_short_read(rt: &HostRuntime) -> Result<bool, FolderFault> {
 
 #[test]
 fn a_read_that_comes_short_fails(rt: HostRuntime) -> Result<(), Fail> {
-    let is_right = is_short_read(&rt)?;
-    assert!(rt; is_right);
-    Ok(())
+    check(&rt, is_short_read(&rt))
 }
 
 /// Makes a file of this length, which takes no room on the disk.
@@ -244,9 +237,7 @@ fn is_limited(rt: &HostRuntime) -> Result<bool, FolderFault> {
 
 #[test]
 fn a_file_past_the_limit_is_refused(rt: HostRuntime) -> Result<(), Fail> {
-    let is_limited = is_limited(&rt)?;
-    assert!(rt; is_limited);
-    Ok(())
+    check(&rt, is_limited(&rt))
 }
 
 /// Whether a folder is refused by a call of the system.
@@ -289,9 +280,7 @@ fn are_others_refused(rt: &HostRuntime) -> Result<bool, FolderFault> {
 
 #[test]
 fn what_is_no_folder_and_no_file_is_refused(rt: HostRuntime) -> Result<(), Fail> {
-    let are_refused = are_others_refused(&rt)?;
-    assert!(rt; are_refused);
-    Ok(())
+    check(&rt, are_others_refused(&rt))
 }
 
 /// The faults of a folder that are no system's, and what they print.
@@ -313,7 +302,5 @@ fn wrong_sentence(alloc: Global) -> Result<Option<usize>, AllocError> {
 
 #[test]
 fn folder_faults_read_as_sentences(rt: HostRuntime) -> Result<(), Fail> {
-    let wrong = wrong_sentence(rt.alloc())?;
-    assert!(rt; wrong.is_none(), "case {wrong:?}");
-    Ok(())
+    check_all(&rt, wrong_sentence(rt.alloc()))
 }

@@ -5,6 +5,7 @@ ghost use Rattle.fw_journal.specs.Log.{IsReady};
 ghost use Rattle.fw_disk.specs.declared.volume.Side.TheVariants.{Left};
 
 use crate::calls::fill;
+use crate::ended::{check, check_all};
 use fw_disk::{Choice, FaultVolume, MemVolume, Mode, Side, Stoppable, Volume};
 use fw_journal::*;
 use std::alloc::Global;
@@ -58,9 +59,7 @@ fn does_the_limit_bound(alloc: Global) -> Result<bool, LogFault> {
 
 #[test]
 fn the_limit_bounds_a_payload(rt: HostRuntime) -> Result<(), Fail> {
-    let are_bounded = does_the_limit_bound(rt.alloc())?;
-    assert!(rt; are_bounded);
-    Ok(())
+    check(&rt, does_the_limit_bound(rt.alloc()))
 }
 
 /// What stands in the left file, the first gate, and where the frames break.
@@ -121,9 +120,7 @@ fn first_unbroken(alloc: Global) -> Result<Option<usize>, LogFault> {
 
 #[test]
 fn each_break_has_its_place(rt: HostRuntime) -> Result<(), Fail> {
-    let wrong = first_unbroken(rt.alloc())?;
-    assert!(rt; wrong.is_none(), "case {wrong:?}");
-    Ok(())
+    check_all(&rt, first_unbroken(rt.alloc()))
 }
 
 /// Whether an empty log ends at 44, and the left file at 77 after the payload was added.
@@ -158,9 +155,7 @@ fn both(first: Result<bool, LogFault>, second: Result<bool, LogFault>) -> Result
 
 #[test]
 fn a_frame_has_its_bytes(rt: HostRuntime) -> Result<(), Fail> {
-    let is_framed = is_framed(rt.alloc())?;
-    assert!(rt; is_framed);
-    Ok(())
+    check(&rt, is_framed(rt.alloc()))
 }
 
 /// Whether a payload and a next gate are these.
@@ -224,9 +219,7 @@ fn are_frames_read(alloc: Global) -> Result<bool, LogFault> {
 
 #[test]
 fn a_frame_is_read_before_the_next_gate(rt: HostRuntime) -> Result<(), Fail> {
-    let are_read = are_frames_read(rt.alloc())?;
-    assert!(rt; are_read);
-    Ok(())
+    check(&rt, are_frames_read(rt.alloc()))
 }
 
 /// Whether a log has these payloads.
@@ -299,9 +292,7 @@ fn are_replayed(alloc: Global) -> Result<bool, LogFault> {
 // Without a fault or a crash, the old payloads and then the new one.
 #[test]
 fn what_is_appended_is_replayed(rt: HostRuntime) -> Result<(), Fail> {
-    let are_replayed = are_replayed(rt.alloc())?;
-    assert!(rt; are_replayed);
-    Ok(())
+    check(&rt, are_replayed(rt.alloc()))
 }
 
 /// The calls until an empty log is open: a write, a sync, and the read of its gate.
@@ -353,9 +344,7 @@ fn are_told(alloc: Global) -> Result<bool, LogFault> {
 
 #[test]
 fn a_failed_device_is_told(rt: HostRuntime) -> Result<(), Fail> {
-    let are_told = are_told(rt.alloc())?;
-    assert!(rt; are_told);
-    Ok(())
+    check(&rt, are_told(rt.alloc()))
 }
 
 /// Whether an append is acknowledged.
@@ -428,7 +417,5 @@ fn wrong_stop(alloc: Global) -> Result<Option<usize>, LogFault> {
 
 #[test]
 fn a_stop_leaves_a_payload_or_not(rt: HostRuntime) -> Result<(), Fail> {
-    let wrong = wrong_stop(rt.alloc())?;
-    assert!(rt; wrong.is_none(), "row {wrong:?}");
-    Ok(())
+    check_all(&rt, wrong_stop(rt.alloc()))
 }

@@ -8,6 +8,8 @@ mod calls;
 #[cfg(test)]
 mod disk;
 #[cfg(test)]
+mod ended;
+#[cfg(test)]
 mod files;
 #[cfg(test)]
 mod journal;
