@@ -1,2 +1,3 @@
+mod KnownFacts
 mod FillFacts
 mod ViewFacts

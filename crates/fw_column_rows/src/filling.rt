@@ -11,43 +11,38 @@ ghost use Rattle.fw_charge.specs.Charge.{most_post_rows};
 use crate::known::KnownTexts;
 use crate::view::view_of;
 use fw_charge::{Currency, Tags};
-use fw_columns::{ColumnsBuilder, Names, RowView};
-use fw_rows::{Cells, Column, KnownTags, PeriodReaders, RecordFault, Refusal, RowSink};
+use fw_columns::{ColumnsBuilder, RowView};
+use fw_rows::{Cells, Column, PeriodReaders, RecordFault, Refusal, RowSink};
 use std::alloc::{AllocError, Global};
 
-/// The columns of the rows so far, and what was read for them: the texts of tags, and the last period; and the tags that are known of texts.
+/// The columns of the rows so far, and what was read for them: the texts of tags, and the last period.
 #[derive(Drop)]
 pub(crate) struct Filling {
     columns: ColumnsBuilder,
-    /// The texts of tags, each once, also those of earlier texts of charges.
-    texts: Names,
-    /// How many bytes the texts have.
-    bytes: usize,
+    /// The texts of tags, each once, also those of earlier texts of charges, and the tags that are known of them.
+    known: KnownTexts,
     /// For each text of tags 1 more than the place of the first row that has it, or 0 where none has it yet.
     places: Vec<u32>,
     /// The code that the next row's text of tags may have: rows of one hour mostly come in the order of those of the hour before.
     next_text: u32,
     periods: PeriodReaders,
-    known: KnownTags,
 }
 
 impl Filling {
     /// No rows yet.
     pub(crate) fn new(alloc: Global, known: KnownTexts) -> Result<Filling, AllocError>
         ensures rows { IfOk result (λ f. f.columns ≡ []) }
-        ensures tags { IfOk result (λ f. AreTagsOf f.texts f.places.items f.columns) }
-        ensures few { IfOk result (λ f. length f.texts ≤ most_texts) }
+        ensures tags { IfOk result (λ f. AreTagsOf f.known f.places.items f.columns) }
+        ensures few { IfOk result (λ f. length f.known ≤ most_texts) }
     {
         let known = known.trimmed(alloc);
-        let places = vec![in alloc; 0; known.texts.len()]?;
+        let places = vec![in alloc; 0; known.len()]?;
         Ok(Filling {
             columns: ColumnsBuilder::new(alloc),
-            texts: known.texts,
-            bytes: known.bytes,
+            known,
             places,
             next_text: 0,
             periods: PeriodReaders::new(),
-            known: known.tags,
         })
     }
 
@@ -55,50 +50,45 @@ impl Filling {
     pub(crate) fn into_parts(self) -> (ColumnsBuilder, KnownTexts)
         ensures { result.0 ≡ self.columns }
     {
-        let known = KnownTexts {
-            texts: self.texts,
-            bytes: self.bytes,
-            tags: self.known,
-        };
-        (self.columns, known)
+        (self.columns, self.known)
     }
 
     /// The code of a text of tags, which is known from then on.
     fn text_code(&mut self, text: &str) -> Result<u32, AllocError>
-        requires tags { AreTagsOf self.old.texts self.old.places.items self.old.columns }
-        requires room { length self.old.texts < most_texts + most_post_rows }
-        ensures tags { OnOk result (AreTagsOf self.new.texts self.new.places.items self.new.columns) }
+        requires tags { AreTagsOf self.old.known self.old.places.items self.old.columns }
+        requires room { length self.old.known < most_texts + most_post_rows }
+        ensures tags { OnOk result (AreTagsOf self.new.known self.new.places.items self.new.columns) }
         ensures rows { self.new.columns ≡ self.old.columns }
-        ensures few { OnOk result (length self.new.texts ≤ length self.old.texts + 1) }
+        ensures few { OnOk result (length self.new.known ≤ length self.old.known + 1) }
         ensures within { IfOk result (λ code. code < length self.new.places.items) }
-        ensures text { IfOk result (λ code. slice_index_or self.new.texts code [] ≡ text.now) }
+        ensures text { IfOk result (λ code. slice_index_or self.new.known code [] ≡ text.now) }
     {
-        let code = self.texts.code_near(Some(self.next_text), text)?;
+        let code = self.known.code_near(self.next_text, text)?;
         self.next_text = code.saturating_add(1);
         if code as usize >= self.places.len() {
             self.places.push(0)?;
-            self.bytes = self.bytes.saturating_add(text.len());
         }
         Ok(code)
     }
 
     /// Adds the row with these values of a record and with its tags, if tags and lengths break no rule. The tags are read where nothing is known of their text.
     fn add_view(&mut self, row: &RowView<'_>, cells: &Cells<'_>) -> Result<(), Refusal>
-        requires tags { AreTagsOf self.old.texts self.old.places.items self.old.columns }
-        requires few { length self.old.texts ≤ most_texts + length self.old.columns }
+        requires tags { AreTagsOf self.old.known self.old.places.items self.old.columns }
+        requires few { length self.old.known ≤ most_texts + length self.old.columns }
         requires room { length self.old.columns < most_post_rows }
         requires stands { ViewStands (texts_of cells.now) row.now }
         ensures row { let at = texts_of cells.now in JudgedWithin (length_rules at) (λ _. AddsView at row.now self.old.columns self.new.columns) result }
-        ensures tags { OnOk result (AreTagsOf self.new.texts self.new.places.items self.new.columns) }
-        ensures few { OnOk result (length self.new.texts ≤ most_texts + length self.new.columns) }
+        ensures tags { OnOk result (AreTagsOf self.new.known self.new.places.items self.new.columns) }
+        ensures few { OnOk result (length self.new.known ≤ most_texts + length self.new.columns) }
     {
-        let code = self.text_code(cells.text(Column::Tags))? as usize;
-        match self.places[code].checked_sub(1) {
+        let code = self.text_code(cells.text(Column::Tags))?;
+        let text = code as usize;
+        match self.places[text].checked_sub(1) {
             Some(place) => add_known(&mut self.columns, row, cells, place as usize),
             None => {
                 let alloc = *self.places.allocator();
-                self.places[code] = self.columns.len() as u32 + 1;
-                add_new(alloc, &mut self.columns, &mut self.known, row, cells)
+                self.places[text] = self.columns.len() as u32 + 1;
+                add_new(alloc, &mut self.columns, &mut self.known, code, row, cells)
             }
         }
     }
@@ -123,28 +113,30 @@ fn add_known(
     Ok(())
 }
 
-/// Adds the row with these values of a record, and with the tags that its text states, if tags and lengths break no rule. The tags are known of
-/// their text from then on.
+/// Adds the row with these values of a record, and with the tags that its text states, which has a code, if tags and lengths break no rule. The tags are
+/// known of their text from then on.
 fn add_new(
     alloc: Global,
     columns: &mut ColumnsBuilder,
-    known: &mut KnownTags,
+    known: &mut KnownTexts,
+    code: u32,
     row: &RowView<'_>,
     cells: &Cells<'_>,
 ) -> Result<(), Refusal>
     requires room { length columns.old < most_post_rows }
     requires stands { ViewStands (texts_of cells.now) row.now }
+    requires within { code < length known.old }
+    requires text { slice_index_or known.old code [] ≡ texts_of cells.now column.Tags }
     ensures row { let at = texts_of cells.now in JudgedWithin (length_rules at) (λ _. AddsView at row.now columns.old columns.new) result }
     ensures tags { OnOk result (HasTagsOf (texts_of cells.now column.Tags) (length columns.old) columns.new) }
+    ensures texts { known.new ≡ known.old }
 {
-    let text = cells.text(Column::Tags);
-    if let Some(tags) = known.get(text) {
-        add_with(columns, row, cells, tags)?;
-        return Ok(());
+    if let Some(tags) = known.tags(code) {
+        return add_with(columns, row, cells, tags);
     }
     let tags = cells.short_tags(alloc)?;
     columns.push(row, &tags)?;
-    known.note(text, tags)?;
+    known.note(code, tags);
     Ok(())
 }
 
@@ -170,7 +162,7 @@ fn add_with(
 }
 
 impl RowSink for Filling {
-    ghost is_ready = { λ f. AreTagsOf f.texts f.places.items f.columns × (length f.texts ≤ most_texts + length f.columns) };
+    ghost is_ready = { λ f. AreTagsOf f.known f.places.items f.columns × (length f.known ≤ most_texts + length f.columns) };
 
     ghost rows = { λ f. f.columns };
 

@@ -1,3 +1,4 @@
+pub mod Hashed
 pub mod Packed
 pub mod Names
 pub mod Texts

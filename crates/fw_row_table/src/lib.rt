@@ -4,6 +4,7 @@
 #![tactic(auto)]
 
 mod codes;
+mod hashed;
 mod lending;
 mod lengths;
 mod lists;

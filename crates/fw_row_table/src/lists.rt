@@ -1,6 +1,7 @@
 //! Lists of places that are numbered.
 ghost use Rattle.std.specs.Prelude.{◌≡◌, ◌^◌, ◌<◌, ◌≤◌, ◌+◌, ◌++◌, [], Some, length, map, slice_get, vec_items, IfNone, IfOk, IfSome, OnOk};
 
+use crate::hashed::Hashed;
 use crate::packed::Packed;
 use indexmap::IndexSet;
 use std::alloc::{AllocError, Global};
@@ -16,8 +17,8 @@ use std::marker::Model;
 pub struct Lists {
     /// The first of the lists, packed.
     packed: Packed<u32>,
-    /// The lists behind them.
-    lists: IndexSet<Vec<u32>>,
+    /// The lists behind them, each with its hash.
+    lists: IndexSet<Hashed<Vec<u32>>>,
 }
 
 impl Model for Lists {
@@ -58,24 +59,25 @@ impl Lists {
         ensures place { IfOk result (λ code. code ≡ place_of self.new list.now) }
         ensures few { length self.new ≤ length self.old + 1 }
     {
-        match self.known(list) {
+        let hashed = Hashed::new(list);
+        match self.known(&hashed) {
             Some(code) => Ok(code),
             None => {
                 let place = self.len();
                 let kept = Vec::from_slice(*self.lists.allocator(), list)?;
-                self.lists.insert(kept)?;
+                self.lists.insert(hashed.with(kept))?;
                 Ok(place as u32)
             }
         }
     }
 
     // The code of a list that is there.
-    fn known(&self, list: &[u32]) -> Option<u32>
-        ensures place { IfSome result (λ code. code ≡ place_of self.now list.now) }
+    fn known(&self, list: &Hashed<&[u32]>) -> Option<u32>
+        ensures place { IfSome result (λ code. code ≡ place_of self.now list.now.now) }
         ensures within { IfSome result (λ code. code < length self.now) }
-        ensures new { IfNone result (place_of self.now list.now ≡ length self.now) }
+        ensures new { IfNone result (place_of self.now list.now.now ≡ length self.now) }
     {
-        if let Some(place) = self.packed.position(list) {
+        if let Some(place) = self.packed.position(list.value()) {
             return Some(place as u32);
         }
         match self.lists.get_index_of(list) {
@@ -112,18 +114,22 @@ impl Lists {
         if place < count {
             self.packed.list(place)
         } else {
-            self.lists.as_slice()[place - count].as_slice()
+            self.lists.as_slice()[place - count].value().as_slice()
         }
     }
 }
 
 // Packed lists and further ones, packed.
-fn pack(alloc: Global, packed: &Packed<u32>, lists: &[Vec<u32>]) -> Result<Packed<u32>, AllocError>
+fn pack(
+    alloc: Global,
+    packed: &Packed<u32>,
+    lists: &[Hashed<Vec<u32>>],
+) -> Result<Packed<u32>, AllocError>
     ensures { IfOk result (λ all. all ≡ packed.now ++ map vec_items lists.now) }
 {
     let mut all = packed.copy(alloc)?;
     for list in lists {
-        all = all.with(list.as_slice())?;
+        all = all.with(list.value().as_slice())?;
     }
     all.shrink();
     Ok(all)

@@ -1,6 +1,7 @@
 //! Texts that are numbered.
 ghost use Rattle.std.specs.Prelude.{◌≡◌, ◌^◌, ◌<◌, ◌≤◌, ◌+◌, ◌++◌, [], Some, length, map, slice_get, string_bytes, All, IfNone, IfOk, IfSome, IsTrue, IsUtf8, OnOk, OnErr};
 
+use crate::hashed::Hashed;
 use crate::packed::Packed;
 use indexmap::IndexSet;
 use std::alloc::{AllocError, Global};
@@ -16,8 +17,8 @@ use std::marker::Model;
 pub struct Names {
     /// The first of the texts, packed.
     packed: Packed<u8>,
-    /// The texts behind them.
-    texts: IndexSet<String>,
+    /// The texts behind them, each with its hash.
+    texts: IndexSet<Hashed<String>>,
 }
 
 impl Model for Names {
@@ -62,12 +63,13 @@ impl Names {
         ensures few { length self.new ≤ length self.old + 1 }
         ensures refused { OnErr result (self.new ≡ self.old) }
     {
-        match self.known(text) {
+        let hashed = Hashed::new(text);
+        match self.known(&hashed) {
             Some(code) => Ok(code),
             None => {
                 let place = self.len();
                 let kept = String::from_str(*self.texts.allocator(), text)?;
-                self.texts.insert(kept)?;
+                self.texts.insert(hashed.with(kept))?;
                 Ok(place as u32)
             }
         }
@@ -144,19 +146,19 @@ impl Names {
         ensures within { result ≤ 2 ^ 30 }
     {
         let count = self.len();
-        match self.known(text) {
+        match self.known(&Hashed::new(text)) {
             Some(code) => code,
             None => count as u32,
         }
     }
 
     // The code of a text that is there.
-    fn known(&self, text: &str) -> Option<u32>
-        ensures place { IfSome result (λ code. code ≡ place_of self.now text.now) }
+    fn known(&self, text: &Hashed<&str>) -> Option<u32>
+        ensures place { IfSome result (λ code. code ≡ place_of self.now text.now.now) }
         ensures within { IfSome result (λ code. code < length self.now) }
-        ensures new { IfNone result (place_of self.now text.now ≡ length self.now) }
+        ensures new { IfNone result (place_of self.now text.now.now ≡ length self.now) }
     {
-        if let Some(place) = self.packed.position(text.as_bytes()) {
+        if let Some(place) = self.packed.position(text.value().as_bytes()) {
             return Some(place as u32);
         }
         match self.texts.get_index_of(text) {
@@ -175,7 +177,7 @@ impl Names {
         if place < count {
             packed_text(&self.packed, place)
         } else {
-            self.texts.as_slice()[place - count].as_str()
+            self.texts.as_slice()[place - count].value().as_str()
         }
     }
 }
@@ -191,14 +193,18 @@ fn packed_text(packed: &Packed<u8>, place: usize) -> &str
 }
 
 // Packed texts and further ones, packed.
-fn pack(alloc: Global, packed: &Packed<u8>, texts: &[String]) -> Result<Packed<u8>, AllocError>
+fn pack(
+    alloc: Global,
+    packed: &Packed<u8>,
+    texts: &[Hashed<String>],
+) -> Result<Packed<u8>, AllocError>
     requires { All IsUtf8 packed.now }
     ensures texts { IfOk result (λ all. all ≡ packed.now ++ map string_bytes texts.now) }
     ensures text { IfOk result (λ all. All IsUtf8 all) }
 {
     let mut all = packed.copy(alloc)?;
     for text in texts {
-        all = all.with(text.as_str().as_bytes())?;
+        all = all.with(text.value().as_str().as_bytes())?;
     }
     all.shrink();
     Ok(all)

@@ -1,4 +1,4 @@
-use Rattle.std.proofs.Common.{◌∙◌, string_bytes, subst, sym}
+use Rattle.std.proofs.Common.{◌∙◌, string_bytes, subst, sym, ap}
 use Rattle.std.specs.Prelude.{All, IsUtf8}
 use Rattle.std.proofs.lemmas.List.{append-nil}
 use Rattle.std.proofs.lemmas.List.Elements.{All-push}
@@ -17,7 +17,7 @@ loop-text-preserved c =
     record {
       lists =
           one_more string_bytes c.args.packed.now c.args.texts.now c.loop-text.text-index c.text-item.result c.as_bytes.result.now _ _ c.loop-text-test.true c.text-item.is
-          (c.as_bytes.ensures.value ∙ c.as_str.ensures.value) so_far.lists c.in_ok-all-2.ensures;
+          (c.as_bytes.ensures.value ∙ (c.as_str.ensures.value ∙ ap string_bytes c.value.ensures)) so_far.lists c.in_ok-all-2.ensures;
       text = subst (All IsUtf8) (sym c.in_ok-all-2.ensures) (All-push IsUtf8 c.loop-text.all c.as_bytes.result.now so_far.text c.as_bytes.ensures.utf8);
     }
 

@@ -13,7 +13,7 @@ use Rattle.fw_column_rows.proofs.filling.Filling.add_view.Goals as goal
 pub add_known-requires-clause-known : goal.add_known-requires-clause-known
 add_known-requires-clause-known c =
     let found = c.in_ok-code.ensures in
-    let code = c.in_ok-code.field-0 in
+    let code = c.in_ok-code.code in
     let places = c.text_code.new.self.places.items in
     let here : c.index.result.now ≡ get_or places code 0 = get_or_read places code _ found.within c.index.ensures 0 in
     let is : get_or places code 0 ≡ c.in-Some.place + 1 = omega (arith, here, c.in-Some.ensures) in
@@ -22,7 +22,7 @@ add_known-requires-clause-known c =
 
 pub returns-in-Some-clause-tags : goal.returns-in-Some-clause-tags
 returns-in-Some-clause-tags c =
-    let names = c.text_code.new.self.texts in
+    let names = c.text_code.new.self.known in
     let places = c.text_code.new.self.places.items in
     let rows = c.text_code.new.self.columns in
     let at = texts_of c.args.cells.now in
@@ -30,11 +30,14 @@ returns-in-Some-clause-tags c =
     judged_ok (length_rules at) (λ _. AddsView at c.args.row.now rows c.add_known.new.columns) c.add_known.result c.add_known.ensures
     (λ _ added. subst OfRows (sym added.3) (tags_kept names places rows (charge_with c.args.row.now added.1) c.in_ok-code.ensures.tags))
 
+pub add_new-requires-clause-text : goal.add_new-requires-clause-text
+add_new-requires-clause-text c = c.in_ok-code.ensures.text ∙ c.text.ensures
+
 pub returns-in-None-clause-tags : goal.returns-in-None-clause-tags
 returns-in-None-clause-tags c =
     let found = c.in_ok-code.ensures in
-    let code = c.in_ok-code.field-0 in
-    let names = c.text_code.new.self.texts in
+    let code = c.in_ok-code.code in
+    let names = c.text_code.new.self.known in
     let places = c.text_code.new.self.places.items in
     let rows = c.text_code.new.self.columns in
     let at = texts_of c.args.cells.now in
@@ -46,4 +49,5 @@ returns-in-None-clause-tags c =
     let x = charge_with c.args.row.now added.1 in
     let OfText : Text → Type 0 = λ t. HasTagsOf t (length rows) (rows ++ x ∷ []) in
     let first = subst OfText (sym (found.text ∙ c.text.ensures)) (subst Last added.3 has) in
-    subst OfPlace (sym c.len.ensures.count) (subst OfRows (sym added.3) (tags_set names places rows code x found.within found.tags first)))
+    let OfNames : List Text → Type 0 = λ ns. AreTagsOf ns (set places code (c.len.result + 1)) c.add_new.new.columns in
+    subst OfNames (sym c.add_new.ensures.texts) (subst OfPlace (sym c.len.ensures.count) (subst OfRows (sym added.3) (tags_set names places rows code x found.within found.tags first))))
