@@ -1,6 +1,7 @@
 //! Rows, tags and currencies, made, copied and shown.
 ghost use Rattle.std.specs.Prelude.{◌≡◌, ◌∷◌, [], codes, IfOk};
 
+use crate::ended::{check, none_wrong};
 use crate::lines::row_line;
 use fw_charge::{
     Category, Currency, Discount, DiscountKind, DiscountStatus, Row, RowFields, Tag, Tags,
@@ -38,18 +39,17 @@ fn are_the_two(tags: &Tags) -> bool {
         && tags.group("owner") == ""
 }
 
-/// Whether tags and a copy of them are the two.
+/// Whether tags and a copy of them are the two, and no tags are none.
 fn tags_are_looked_up(alloc: Global) -> Result<bool, AllocError> {
     let tags = Box::new(alloc, two_tags(alloc)?)?;
     let copy = Box::new(alloc, tags.copy(alloc)?)?;
-    Ok(are_the_two(&tags) && are_the_two(&copy))
+    let none = Tags::empty(alloc);
+    Ok(are_the_two(&tags) && are_the_two(&copy) && none.as_slice().is_empty())
 }
 
 #[test]
 fn groups(rt: HostRuntime) -> Result<(), Fail> {
-    let found = tags_are_looked_up(rt.alloc())?;
-    assert!(rt; found && Tags::empty(rt.alloc()).as_slice().is_empty());
-    Ok(())
+    check(&rt, tags_are_looked_up(rt.alloc()))
 }
 
 /// A row of all fields but an account.
@@ -83,9 +83,7 @@ fn rows_are_shown(alloc: Global) -> Result<bool, AllocError> {
 
 #[test]
 fn row_of_fields(rt: HostRuntime) -> Result<(), Fail> {
-    let shown = rows_are_shown(rt.alloc())?;
-    assert!(rt; shown);
-    Ok(())
+    check(&rt, rows_are_shown(rt.alloc()))
 }
 
 const CODES: &[(&str, bool)] = &[
@@ -109,6 +107,5 @@ fn first_wrong_code() -> Option<&'static str> {
 
 #[test]
 fn currencies(rt: HostRuntime) {
-    let wrong = first_wrong_code();
-    assert!(rt; wrong.is_none(), "{wrong:?}");
+    none_wrong(&rt, first_wrong_code());
 }

@@ -1,4 +1,5 @@
 //! Texts and the commitments that they read as. What is refused, and why, is shown by a case of `examples/cases`.
+use crate::ended::check_all;
 use crate::lines::commitment_line;
 use fw_commitment::{CommitmentFault, read_commitment};
 use std::alloc::Global;
@@ -67,7 +68,5 @@ fn first_misread(alloc: Global) -> Result<Option<&'static str>, CommitmentFault>
 
 #[test]
 fn texts_read_as_commitments(rt: HostRuntime) -> Result<(), Fail> {
-    let wrong = first_misread(rt.alloc())?;
-    assert!(rt; wrong.is_none(), "{wrong:?}");
-    Ok(())
+    check_all(&rt, first_misread(rt.alloc()))
 }

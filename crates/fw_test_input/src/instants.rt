@@ -1,4 +1,5 @@
 //! Texts and the seconds that they stand for.
+use crate::ended::none_wrong;
 use fw_instants::second_of;
 
 const CASES: &[(&str, Option<u64>)] = &[
@@ -24,6 +25,5 @@ fn first_misread() -> Option<&'static str> {
 
 #[test]
 fn seconds(rt: HostRuntime) {
-    let wrong = first_misread();
-    assert!(rt; wrong.is_none(), "{wrong:?}");
+    none_wrong(&rt, first_misread());
 }

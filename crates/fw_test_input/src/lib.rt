@@ -8,6 +8,8 @@ mod charge;
 #[cfg(test)]
 mod commitment;
 #[cfg(test)]
+mod ended;
+#[cfg(test)]
 mod instants;
 #[cfg(test)]
 mod lines;

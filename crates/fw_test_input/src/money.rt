@@ -1,4 +1,5 @@
 //! Number texts and what they read as. The expected values were computed with exact fractions by another program.
+use crate::ended::{check_all, none_wrong};
 use fw_money::{MoneyFault, parse, text};
 use std::alloc::{AllocError, Global};
 use std::test::Fail;
@@ -98,14 +99,12 @@ fn first_other_fault() -> Option<&'static str> {
 
 #[test]
 fn texts_read_as_amounts(rt: HostRuntime) {
-    let wrong = first_misread();
-    assert!(rt; wrong.is_none(), "{wrong:?}");
+    none_wrong(&rt, first_misread());
 }
 
 #[test]
 fn other_texts_have_their_faults(rt: HostRuntime) {
-    let wrong = first_other_fault();
-    assert!(rt; wrong.is_none(), "{wrong:?}");
+    none_wrong(&rt, first_other_fault());
 }
 
 /// The first amount that is written otherwise.
@@ -120,7 +119,5 @@ fn first_miswritten(alloc: Global) -> Result<Option<i128>, AllocError> {
 
 #[test]
 fn amounts_are_written(rt: HostRuntime) -> Result<(), Fail> {
-    let wrong = first_miswritten(rt.alloc())?;
-    assert!(rt; wrong.is_none(), "{wrong:?}");
-    Ok(())
+    check_all(&rt, first_miswritten(rt.alloc()))
 }

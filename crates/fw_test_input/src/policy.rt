@@ -1,4 +1,5 @@
 //! Texts and the policies that they read as. What is refused, and why, is shown by a case of `examples/cases`.
+use crate::ended::check_all;
 use crate::lines::policy_line;
 use fw_policy::{PolicyFault, read_policy};
 use std::alloc::Global;
@@ -36,7 +37,5 @@ fn first_misread(alloc: Global) -> Result<Option<&'static str>, PolicyFault> {
 
 #[test]
 fn texts_read_as_policies(rt: HostRuntime) -> Result<(), Fail> {
-    let wrong = first_misread(rt.alloc())?;
-    assert!(rt; wrong.is_none(), "{wrong:?}");
-    Ok(())
+    check_all(&rt, first_misread(rt.alloc()))
 }

@@ -1,7 +1,8 @@
 //! Texts and the rows that they read as. What is refused, and why, is shown by the cases of `examples/cases`.
+use crate::ended::check_all;
 use crate::lines::row_line;
 use fw_rows::{Currency, Row, RowFault, read_rows};
-use std::alloc::Global;
+use std::alloc::{AllocError, Global};
 use std::test::Fail;
 
 /// Columns in an order of their own, some of which aren't read; quotes, a line break, two kinds of line end.
@@ -39,13 +40,20 @@ fn dollars(alloc: Global, text: &str) -> Result<Vec<Row>, RowFault> {
     }
 }
 
-/// The lines of the rows of a text.
-fn lines(alloc: Global, text: &str) -> Result<String, RowFault> {
-    let mut lines = String::new(alloc);
-    for row in &dollars(alloc, text)? {
+/// Adds the lines of rows to a text.
+fn push_lines(alloc: Global, lines: &mut String, rows: &[Row]) -> Result<(), AllocError> {
+    for row in rows {
         lines.push_str(&row_line(alloc, row)?)?;
         lines.push_str("\n")?;
     }
+    Ok(())
+}
+
+/// The lines of the rows of a text.
+fn lines(alloc: Global, text: &str) -> Result<String, RowFault> {
+    let rows = dollars(alloc, text)?;
+    let mut lines = String::new(alloc);
+    push_lines(alloc, &mut lines, &rows)?;
     Ok(lines)
 }
 
@@ -62,7 +70,5 @@ fn first_misread(alloc: Global) -> Result<Option<String>, RowFault> {
 
 #[test]
 fn texts_read_as_rows(rt: HostRuntime) -> Result<(), Fail> {
-    let wrong = first_misread(rt.alloc())?;
-    assert!(rt; wrong.is_none(), "{wrong:?}");
-    Ok(())
+    check_all(&rt, first_misread(rt.alloc()))
 }

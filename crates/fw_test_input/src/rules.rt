@@ -3,6 +3,7 @@ ghost use Rattle.std.specs.Prelude.{◌<◌, ◌∷◌, [], MatchOption};
 ghost use Rattle.fw_rules.specs.Table.{FirstBroken, NoneBroken};
 ghost use Rattle.fw_test_input.specs.declared.rules.SpanFault.TheVariants.{Backwards, Late};
 
+use crate::ended::none_wrong;
 use fw_rules::{Ruled, first_is_one, first_or_none};
 
 #[derive(Clone, Copy, Debug, Drop, PartialEq, Eq)]
@@ -62,6 +63,5 @@ fn first_wrong_span() -> Option<usize> {
 
 #[test]
 fn faults_of_spans(rt: HostRuntime) {
-    let wrong = first_wrong_span();
-    assert!(rt; wrong.is_none(), "{wrong:?}");
+    none_wrong(&rt, first_wrong_span());
 }

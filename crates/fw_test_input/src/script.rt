@@ -1,4 +1,5 @@
 //! Scripts and the commands that they hold. Hour 473,352 since 1970 begins at 2024-01-01T00:00Z.
+use crate::ended::none_wrong;
 use fw_script::*;
 
 type Case = (&'static str, &'static [u8], &'static [Command<'static>]);
@@ -273,14 +274,12 @@ const SEQUENCES: &[(&[u8], Option<u64>)] = &[
 
 #[test]
 fn reads_whole_scripts(rt: HostRuntime) {
-    let wrong = first_misread(SCRIPTS);
-    assert!(rt; wrong.is_none(), "{wrong:?}");
+    none_wrong(&rt, first_misread(SCRIPTS));
 }
 
 #[test]
 fn reads_lines(rt: HostRuntime) {
-    let wrong = first_misread(LINES);
-    assert!(rt; wrong.is_none(), "{wrong:?}");
+    none_wrong(&rt, first_misread(LINES));
 }
 
 // The place of the first word that reads as another number, or as none.
@@ -295,6 +294,5 @@ fn first_misread_number() -> Option<usize> {
 
 #[test]
 fn reads_sequence_numbers(rt: HostRuntime) {
-    let wrong = first_misread_number();
-    assert!(rt; wrong.is_none(), "{wrong:?}");
+    none_wrong(&rt, first_misread_number());
 }

@@ -1,4 +1,5 @@
 //! The expected tags are those of Python's `json`, with the keys in the order of their UTF-8 bytes.
+use crate::ended::check_all;
 use crate::lines::tags_line;
 use fw_tags::{TagFault, read_tags};
 use std::alloc::{AllocError, Global};
@@ -70,18 +71,18 @@ fn push_letters(text: &mut String, letter: char, count: usize) -> Result<(), All
     Ok(())
 }
 
-/// An object of `count` members with short names, and a last one whose name and value have these lengths.
-fn object(alloc: Global, count: u32, key: usize, value: usize) -> Result<String, TagFault> {
-    let mut text = String::from_str(alloc, "{")?;
+/// Writes an object of `count` members with short names, and a last one whose name and value have these lengths.
+fn write_object(text: &mut String, count: u32, key: usize, value: usize) -> Result<(), TagFault> {
+    text.push_str("{")?;
     for number in 0..count {
         write!(text, "\"{number}\":\"\",")?;
     }
     text.push_str("\"")?;
-    push_letters(&mut text, 'k', key)?;
+    push_letters(text, 'k', key)?;
     text.push_str("\":\"")?;
-    push_letters(&mut text, 'v', value)?;
+    push_letters(text, 'v', value)?;
     text.push_str("\"}")?;
-    Ok(text)
+    Ok(())
 }
 
 /// The place of the first text that reads as other tags.
@@ -106,21 +107,18 @@ fn first_taken(alloc: Global) -> Result<Option<usize>, TagFault> {
 
 #[test]
 fn objects_read_as_tags(rt: HostRuntime) -> Result<(), Fail> {
-    let wrong = first_misread(rt.alloc())?;
-    assert!(rt; wrong.is_none(), "{wrong:?}");
-    Ok(())
+    check_all(&rt, first_misread(rt.alloc()))
 }
 
 #[test]
 fn other_texts_are_no_tags(rt: HostRuntime) -> Result<(), Fail> {
-    let taken = first_taken(rt.alloc())?;
-    assert!(rt; taken.is_none(), "{taken:?}");
-    Ok(())
+    check_all(&rt, first_taken(rt.alloc()))
 }
 
 /// Whether an object of these sizes is too long, and nothing else.
 fn is_too_long(alloc: Global, count: u32, key: usize, value: usize) -> Result<bool, TagFault> {
-    let text = object(alloc, count, key, value)?;
+    let mut text = String::new(alloc);
+    write_object(&mut text, count, key, value)?;
     match refusal(alloc, &text)? {
         None => Ok(false),
         Some(TagFault::TooLong) => Ok(true),
@@ -140,7 +138,5 @@ fn first_wrong_size(alloc: Global) -> Result<Option<usize>, TagFault> {
 
 #[test]
 fn sizes_have_limits(rt: HostRuntime) -> Result<(), Fail> {
-    let wrong = first_wrong_size(rt.alloc())?;
-    assert!(rt; wrong.is_none(), "{wrong:?}");
-    Ok(())
+    check_all(&rt, first_wrong_size(rt.alloc()))
 }

@@ -1,4 +1,5 @@
 //! A document, kind by kind.
+use crate::ended::check;
 use fw_toml::{Table, TableFault, Value, integers, member, named_texts, table_of, tables, texts};
 use std::alloc::{AllocError, Global};
 use std::test::Fail;
@@ -81,9 +82,7 @@ fn reads_lists(alloc: Global) -> Result<bool, AllocError> {
 
 #[test]
 fn lists_of_a_kind(rt: HostRuntime) -> Result<(), Fail> {
-    let read = reads_lists(rt.alloc())?;
-    assert!(rt; read);
-    Ok(())
+    check(&rt, reads_lists(rt.alloc()))
 }
 
 /// Whether each of the others is no document.
@@ -98,7 +97,5 @@ fn refuses_others(alloc: Global) -> Result<bool, AllocError> {
 
 #[test]
 fn no_document(rt: HostRuntime) -> Result<(), Fail> {
-    let refused = refuses_others(rt.alloc())?;
-    assert!(rt; refused);
-    Ok(())
+    check(&rt, refuses_others(rt.alloc()))
 }
