@@ -180,8 +180,6 @@ impl Checker {
     ) -> Result<(), RowFault>
         ensures { OnOk result (self.old.faults ≤ self.new.faults) }
     {
-        let mut text = Vec::new(alloc);
-        text.extend_from_slice(bytes)?;
         let first = first_record(alloc, bytes)?;
         count_text(
             alloc,
@@ -189,22 +187,68 @@ impl Checker {
             text_in(header, &first, Column::BillingCurrency),
             1,
         )?;
+        let mut text = Vec::new(alloc);
+        text.extend_from_slice(bytes)?;
+        self.check_turns(alloc, head, header, &mut text)
+    }
+
+    // Checks the record of a text, which is made another one with each fault that is made harmless.
+    fn check_turns(
+        &mut self,
+        alloc: Global,
+        head: &[u8],
+        header: &ByteRecord,
+        text: &mut Vec<u8>,
+    ) -> Result<(), RowFault>
+        ensures { OnOk result (self.old.faults ≤ self.new.faults) }
+    {
         for turn in 0..MOST_FAULTS {
-            let record = first_record(alloc, &text)?;
-            let Some(fault) = self.first_fault(alloc, head, &text, turn == 0)? else {
+            let Some(fault) = self.first_fault(alloc, head, text, turn == 0)? else {
                 return Ok(());
             };
             if turn == 0 {
                 self.bad_records = self.bad_records.saturating_add(1);
             }
-            let column = column_of(header, &record, fault);
-            self.note(alloc, header, &record, fault, column)?;
-            let Some(column) = column else {
+            if !self.is_made_harmless(alloc, header, text, fault)? {
                 return Ok(());
-            };
-            text = repaired(alloc, header, &record, column, &self.currency)?;
+            }
         }
         Ok(())
+    }
+
+    // Counts a fault of the record of a text, and makes it harmless there, where it is of one column.
+    fn is_made_harmless(
+        &mut self,
+        alloc: Global,
+        header: &ByteRecord,
+        text: &mut Vec<u8>,
+        fault: RecordFault,
+    ) -> Result<bool, RowFault>
+        ensures { OnOk result (self.old.faults ≤ self.new.faults) }
+    {
+        let record = first_record(alloc, text)?;
+        match self.note_column(alloc, header, &record, fault)? {
+            Some(column) => {
+                *text = repaired(alloc, header, &record, column, &self.currency)?;
+                Ok(true)
+            }
+            None => Ok(false),
+        }
+    }
+
+    // Counts a fault of a record. The answer is the column in which it is.
+    fn note_column(
+        &mut self,
+        alloc: Global,
+        header: &ByteRecord,
+        fields: &ByteRecord,
+        fault: RecordFault,
+    ) -> Result<Option<Column>, AllocError>
+        ensures { OnOk result (self.old.faults ≤ self.new.faults) }
+    {
+        let column = column_of(header, fields, fault);
+        self.note(alloc, header, fields, fault, column)?;
+        Ok(column)
     }
 
     // The first fault of a record. A record without one is counted, if it is to be.
@@ -221,15 +265,25 @@ impl Checker {
         text.extend_from_slice(head)?;
         text.extend_from_slice(bytes)?;
         match read_rows(alloc, &text, self.currency) {
-            Ok(rows) => {
-                if counts {
-                    self.statistics.add_all(alloc, rows.as_slice())?;
-                }
-                Ok(None)
-            }
+            Ok(rows) => self.pass_rows(alloc, rows.as_slice(), counts),
             Err(RowFault::Record { fault, .. }) => Ok(Some(fault)),
             Err(fault) => Err(fault),
         }
+    }
+
+    // Finds no fault in rows, which are counted, if they are to be.
+    fn pass_rows(
+        &mut self,
+        alloc: Global,
+        rows: &[Row],
+        counts: bool,
+    ) -> Result<Option<RecordFault>, RowFault>
+        ensures { self.new.faults ≡ self.old.faults }
+    {
+        if counts {
+            self.statistics.add_all(alloc, rows)?;
+        }
+        Ok(None)
     }
 
     // Counts a fault of the record that is checked, and keeps its place if it is one of the first.
@@ -241,7 +295,8 @@ impl Checker {
         fault: RecordFault,
         column: Option<Column>,
     ) -> Result<(), AllocError>
-        ensures { OnOk result ((expected value : List ℕ) × (checked self.new ≡ with_fault (fault_name fault) (column_text column) expected
+        ensures stays { OnOk result (self.old.faults ≤ self.new.faults) }
+        ensures counted { OnOk result ((expected value : List ℕ) × (checked self.new ≡ with_fault (fault_name fault) (column_text column) expected
             (record { line = kept (self.old.lines + 1); number = self.old.records; value = value }) (checked self.old))) }
     {
         let value = shown_value(alloc, value_at(header, fields, column))?;

@@ -37,18 +37,30 @@ pub(crate) fn repaired(
     column: Column,
     currency: &Currency,
 ) -> Result<Vec<u8>, AllocError> {
-    let place = column.place_in(header);
     let mut text = Vec::new(alloc);
+    put_repaired(&mut text, header, record, column, currency)?;
+    Ok(text)
+}
+
+// Writes that text.
+fn put_repaired(
+    text: &mut Vec<u8>,
+    header: &ByteRecord,
+    record: &ByteRecord,
+    column: Column,
+    currency: &Currency,
+) -> Result<(), AllocError> {
+    let place = column.place_in(header);
     for at in 0..record.len() {
         let value = if Some(at) == place {
             harmless(header, record, column, currency)
         } else {
             record.get(at).unwrap_or(b"")
         };
-        put_field(&mut text, at, value)?;
+        put_field(text, at, value)?;
     }
     text.push(b'\n')?;
-    Ok(text)
+    Ok(())
 }
 
 // Writes a field in quotes, behind a comma where it isn't the first.

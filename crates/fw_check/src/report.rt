@@ -3,9 +3,10 @@ ghost use Rattle.std.specs.Prelude.{◌≡◌, [], length, string_bytes, IfOk};
 ghost use Rattle.fw_check.specs.Answers.{IsAnswer, IsJsonAnswer, json_head, sums_text, summary_text};
 
 use crate::checker::Checker;
-use crate::findings::Finding;
+use crate::findings::{Finding, Place};
 use crate::statistics::Statistics;
 use fw_charge::Category;
+use indexmap::IndexMap;
 use std::alloc::{AllocError, Global};
 
 /// What was found in a text, for people.
@@ -40,10 +41,16 @@ fn findings_text(alloc: Global, name: &str, findings: &[Finding]) -> Result<Stri
     if findings.is_empty() {
         return Ok(text);
     }
-    for finding in findings {
-        put_finding(&mut text, name, finding)?;
-    }
+    put_findings(&mut text, name, findings)?;
     Ok(text)
+}
+
+// Writes groups of faults.
+fn put_findings(text: &mut String, name: &str, findings: &[Finding]) -> Result<(), AllocError> {
+    for finding in findings {
+        put_finding(text, name, finding)?;
+    }
+    Ok(())
 }
 
 // A group of faults, and its first places.
@@ -76,17 +83,31 @@ fn sums_text(alloc: Global, statistics: &Statistics) -> Result<String, AllocErro
 // The counts by category, currency and tag.
 fn counts_text(alloc: Global, statistics: &Statistics) -> Result<String, AllocError> {
     let mut text = String::new(alloc);
+    put_categories(&mut text, statistics)?;
+    put_counts(&mut text, "currency", &statistics.currencies)?;
+    put_counts(&mut text, "tag", &statistics.tags.keys)?;
+    Ok(text)
+}
+
+// Writes how many rows there are of each category.
+fn put_categories(text: &mut String, statistics: &Statistics) -> Result<(), AllocError> {
     for (category, count) in Category::ALL.iter().zip(statistics.categories.iter()) {
         let word = category.word();
         write!(text, "category {word} {count}\n")?;
     }
-    for (currency, count) in statistics.currencies.iter() {
-        write!(text, "currency {currency:?} {count}\n")?;
+    Ok(())
+}
+
+// Writes counts by text, each behind a word.
+fn put_counts(
+    text: &mut String,
+    word: &str,
+    counts: &IndexMap<String, u64>,
+) -> Result<(), AllocError> {
+    for (key, count) in counts.iter() {
+        write!(text, "{word} {key:?} {count}\n")?;
     }
-    for (key, count) in statistics.tags.keys.iter() {
-        write!(text, "tag {key:?} {count}\n")?;
-    }
-    Ok(text)
+    Ok(())
 }
 
 /// What was found in a text, as one line of JSON.
@@ -126,15 +147,21 @@ fn json_findings(alloc: Global, findings: &[Finding]) -> Result<String, AllocErr
     if findings.is_empty() {
         return Ok(text);
     }
+    put_json_findings(&mut text, findings)?;
+    Ok(text)
+}
+
+// Writes groups of faults as JSON objects.
+fn put_json_findings(text: &mut String, findings: &[Finding]) -> Result<(), AllocError> {
     let mut is_first = true;
     for finding in findings {
         if !is_first {
             text.push(',')?;
         }
         is_first = false;
-        put_json_finding(&mut text, finding)?;
+        put_json_finding(text, finding)?;
     }
-    Ok(text)
+    Ok(())
 }
 
 // A text as a JSON string.
@@ -165,8 +192,15 @@ fn put_json_finding(text: &mut String, finding: &Finding) -> Result<(), AllocErr
     put_json(text, finding.expected)?;
     let count = finding.count;
     write!(text, ",\"count\":{count},\"places\":[")?;
+    put_json_places(text, finding.places.as_slice())?;
+    text.push_str("]}")?;
+    Ok(())
+}
+
+// The first places of a group of faults as JSON objects.
+fn put_json_places(text: &mut String, places: &[Place]) -> Result<(), AllocError> {
     let mut is_first = true;
-    for place in finding.places.as_slice() {
+    for place in places {
         if !is_first {
             text.push(',')?;
         }
@@ -177,7 +211,6 @@ fn put_json_finding(text: &mut String, finding: &Finding) -> Result<(), AllocErr
         put_json(text, place.value.as_str())?;
         text.push('}')?;
     }
-    text.push_str("]}")?;
     Ok(())
 }
 
@@ -188,14 +221,36 @@ fn put_json_statistics(
     checker: &Checker,
 ) -> Result<(), AllocError> {
     let statistics = &checker.statistics;
+    put_json_sums(alloc, text, statistics)?;
+    text.push_str(",\"categories\":{")?;
+    put_json_categories(text, statistics)?;
+    text.push_str("},\"currencies\":{")?;
+    put_json_counts(text, &statistics.currencies)?;
+    text.push_str("},\"tags\":{")?;
+    put_json_counts(text, &statistics.tags.keys)?;
+    text.push('}')?;
+    Ok(())
+}
+
+// The sums over the rows without a fault, as members of a JSON object.
+fn put_json_sums(
+    alloc: Global,
+    text: &mut String,
+    statistics: &Statistics,
+) -> Result<(), AllocError> {
     let rows = statistics.rows;
     let hours = statistics.hours.len();
     let billed = fw_money::text(alloc, statistics.billed)?;
     let effective = fw_money::text(alloc, statistics.effective)?;
     write!(
         text,
-        "\"rows\":{rows},\"hours\":{hours},\"billed\":\"{billed}\",\"effective\":\"{effective}\",\"categories\":{{"
+        "\"rows\":{rows},\"hours\":{hours},\"billed\":\"{billed}\",\"effective\":\"{effective}\""
     )?;
+    Ok(())
+}
+
+// How many rows there are of each category, as members of a JSON object.
+fn put_json_categories(text: &mut String, statistics: &Statistics) -> Result<(), AllocError> {
     let mut is_first = true;
     for (category, count) in Category::ALL.iter().zip(statistics.categories.iter()) {
         if !is_first {
@@ -205,19 +260,13 @@ fn put_json_statistics(
         let word = category.word();
         write!(text, "\"{word}\":{count}")?;
     }
-    text.push_str("},\"currencies\":{")?;
+    Ok(())
+}
+
+// Counts by text as members of a JSON object.
+fn put_json_counts(text: &mut String, counts: &IndexMap<String, u64>) -> Result<(), AllocError> {
     let mut is_first = true;
-    for (currency, count) in statistics.currencies.iter() {
-        if !is_first {
-            text.push(',')?;
-        }
-        is_first = false;
-        put_json(text, currency.as_str())?;
-        write!(text, ":{count}")?;
-    }
-    text.push_str("},\"tags\":{")?;
-    let mut is_first = true;
-    for (key, count) in statistics.tags.keys.iter() {
+    for (key, count) in counts.iter() {
         if !is_first {
             text.push(',')?;
         }
@@ -225,6 +274,5 @@ fn put_json_statistics(
         put_json(text, key.as_str())?;
         write!(text, ":{count}")?;
     }
-    text.push('}')?;
     Ok(())
 }

@@ -1,5 +1,5 @@
 use Rattle.std.proofs.Common.{◌≤◌}
-use Rattle.fw_check.proofs.checker.Checker.check_record.Given as goal
+use Rattle.fw_check.proofs.checker.Checker.check_turns.Given as goal
 
 -- what was counted stays
 abbrev pub invariant-loop-turn : goal.invariant-loop-turn
