@@ -1,5 +1,7 @@
 -- Facts on the tags that are known of texts.
-use Rattle.std.proofs.Common.{◌≡◌, ◌≢◌, ℕ, zero, suc, ◌+◌, ◌<◌, ◌++◌, Bool, true, false, List, [], ◌∷◌, length, get_or, set, Option, Some, None, Ok, refl, sym, ap, subst, ◌∙◌, arith, length-append, ⊎_elim}
+use Rattle.std.proofs.Common.{◌≡◌, ◌≢◌, ℕ, zero, suc, ◌<◌, ◌++◌, Bool, true, false, List, [], ◌∷◌, length, get_or, set, Option, Some, None, Ok, refl, sym, subst, ◌∙◌, arith, length-append, ⊎_elim, Bor}
+use Rattle.std.specs.Prelude.{IfSome}
+use Rattle.std.specs.Option.{option_copied}
 use Rattle.std.specs.List.{list_any}
 use Rattle.std.specs.Str.{bytes_eq}
 use Rattle.std.proofs.lemmas.Bool.{cases_eq}
@@ -52,3 +54,9 @@ one_noted texts known code tags are within there stated = record {
       (λ (other : k ≢ code). are.each k found (sym (get_or-set_other known code k (Some tags) None other) ∙ is))
       (cases_eq k code);
 }
+
+-- tags that are found are stated
+pub found_stated : (texts : List Text) (known : Known) (code : ℕ) (found : Option (List TagText)) (tags : Option (Bor (List TagText))) → AreStated texts known → get_or known code None ≡ found
+    → option_copied tags ≡ found → IfSome tags (λ ts. TagsAnswer (get_or texts code []) (Ok ts.now))
+found_stated texts known code found None are at is = tt
+found_stated texts known code found (Some ts) are at is = (are.each code ts.now (at ∙ sym is)).1

@@ -101,8 +101,9 @@ impl KnownTexts {
         requires stated { TagsAnswer (slice_index_or self.old code []) (Ok tags) }
         ensures { self.new ≡ self.old }
     {
-        if let Some(known) = self.tags.as_mut_slice().get_mut(code as usize) {
-            *known = Some(tags);
+        let place = code as usize;
+        if place < self.tags.len() {
+            self.tags[place] = Some(tags);
         }
     }
 }

@@ -14,7 +14,7 @@ use Rattle.fw_column_rows.proofs.filling.add_new.Goals as goal
 pub returns-in_err-tags-clause-row : goal.returns-in_err-tags-clause-row
 unfolding NoneBroken
 returns-in_err-tags-clause-row c =
-    let p = err_from_is_err_and c.from_residual-in_err-tags.result c.from_residual-in_err-tags.ensures.1 in
+    let p = err_from_is_err_and c.from_residual.result c.from_residual.ensures.1 in
     rw (p.1, p.2) (within-back {A = List TagText} {B = Unit {0}} [] (length_rules (texts_of c.args.cells.now)) (λ _. ⊥) (λ _. ⊥) c.in_err-tags.field-0.0 tt c.in_err-tags.ensures)
 
 pub push-requires-clause-valid : goal.push-requires-clause-valid
