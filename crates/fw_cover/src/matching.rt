@@ -64,13 +64,27 @@ fn no_pairs(alloc: Global, ranks: usize) -> Result<Vec<Vec<Pair>>, AllocError>
     Ok(lists)
 }
 
+/// A list of pairs begins with room for so many, in about the memory of 15 rows.
+const FIRST_PAIRS: usize = 128;
+
+/// Adds a pair to a list.
+fn push_pair(list: &mut Vec<Pair>, pair: Pair) -> Result<(), AllocError>
+    ensures { OnOk result (list.new.items ≡ list.old.items ++ pair ∷ []) }
+{
+    if list.is_empty() {
+        list.reserve(FIRST_PAIRS)?;
+    }
+    list.push(pair)?;
+    Ok(())
+}
+
 /// Adds a pair to the list of its commitment.
 fn push_at(lists: &mut Vec<Vec<Pair>>, rank: usize, pair: Pair) -> Result<(), AllocError>
     requires { rank < vec_len lists.old }
     ensures pairs { OnOk result ((all : List RankedPair) → map (λ l. l.items) lists.old.items ≡ by_rank (vec_len lists.old) all → map (λ l. l.items) lists.new.items ≡ by_rank (vec_len lists.old) (all ++ record { rank = rank; pair = pair } ∷ [])) }
     ensures many { vec_len lists.new ≡ vec_len lists.old }
 {
-    lists[rank].push(pair)?;
+    push_pair(&mut lists[rank], pair)?;
     Ok(())
 }
 
