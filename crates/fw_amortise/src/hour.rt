@@ -233,7 +233,8 @@ pub fn own_lines<'a>(
     requires cover { IsHourCover roster.now.commitments (map (λ r. r.now) rows.now) hour cover.now }
     ensures { IfOk result (λ lines. AreOwnLines roster.now.commitments (map (λ r. r.now) rows.now) hour lines.items) }
 {
-    let mut own = Vec::new(alloc);
+    let expected = cover.taken.len().saturating_add(roster.order().len());
+    let mut own = Vec::with_capacity(alloc, expected)?;
     push_purchases(&mut own, roster.commitments(), hour)?;
     push_shared(alloc, &mut own, roster, rows, cover, hour)?;
     Ok(own)

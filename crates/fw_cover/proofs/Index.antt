@@ -24,7 +24,7 @@ use Rattle.fw_terms.specs.Commitment.{CommitmentValue, TermsValue, RateValue, Is
 use Rattle.fw_terms.specs.Commitment.TermsValue.{usage, spend}
 use Rattle.fw_cover.specs.Applies.{Listing, listings, fits, applied, is_open}
 use Rattle.fw_cover.specs.Order.{in_order, pair_for}
-use Rattle.fw_cover.specs.Offers.{OfferValue, offer_for, offers_by, offers_of, offer_before, index_of, offered, offered_in, pair_by, pairs_with, offer_of, standing_to, table_of}
+use Rattle.fw_cover.specs.Offers.{OfferValue, offer_for, offers_by, offers_of, offer_before, index_of, offered, offered_in, pair_by, pairs_with, row_offers, offer_of, standing_to, table_of}
 use Rattle.fw_cover.specs.declared.offers.Offer.{Offer}
 use Rattle.fw_cover.specs.declared.pair.Pair.{Pair}
 use Rattle.fw_cover.proofs.Sorting.{two_ways, in_order_stable}
@@ -130,11 +130,20 @@ with_sku hour table row sku open_row has = let F : List ℕ → List RankedPair 
     let e : pairs_with hour table row ≡ option_map_or F row.1.sku [] = rw open_row refl in
     e ∙ ap (λ s. option_map_or F s []) has
 
-pub with_some : (hour : ℕ) (table : List (List OfferValue)) (row : ℕ × Charge) (sku : List ℕ) → is_open hour row.1 ≡ true → row.1.sku ≡ Some sku → pairs_with hour table row ≡ filter_map (pair_by hour row) (offered_in sku table)
+with_some : (hour : ℕ) (table : List (List OfferValue)) (row : ℕ × Charge) (sku : List ℕ) → is_open hour row.1 ≡ true → row.1.sku ≡ Some sku → pairs_with hour table row ≡ filter_map (pair_by hour row) (offered_in sku table)
 with_some hour table row sku open_row has = with_sku hour table row (Some sku) open_row has
 
-pub with_no_sku : (hour : ℕ) (table : List (List OfferValue)) (row : ℕ × Charge) → is_open hour row.1 ≡ true → row.1.sku ≡ None → pairs_with hour table row ≡ []
+with_no_sku : (hour : ℕ) (table : List (List OfferValue)) (row : ℕ × Charge) → is_open hour row.1 ≡ true → row.1.sku ≡ None → pairs_with hour table row ≡ []
 with_no_sku hour table row open_row has = with_sku hour table row None open_row has
+
+moved : (hour : ℕ) (table : List (List OfferValue)) (row : ℕ × Charge) (sku : Option (List ℕ))
+    → option_map_or (λ sku. filter_map (pair_by hour row) (offered_in sku table)) sku [] ≡ filter_map (pair_by hour row) (option_map_or (λ sku. offered_in sku table) sku [])
+moved hour table row None = refl
+moved hour table row (Some sku) = refl
+
+-- a row that commitments may cover has those that the offers of its SKU make with it
+pub with_offers : (hour : ℕ) (table : List (List OfferValue)) (row : ℕ × Charge) → is_open hour row.1 ≡ true → pairs_with hour table row ≡ filter_map (pair_by hour row) (row_offers table row.1)
+with_offers hour table row open_row = with_sku hour table row row.1.sku open_row refl ∙ moved hour table row row.1.sku
 
 -- they are its pairs
 by_sku : (n hour : ℕ) (row : ℕ × Charge) (cs : List (ℕ × CommitmentValue)) (sku : Option (List ℕ)) → 0 < n → row.1.sku ≡ sku → is_open hour row.1 ≡ true → All (λ c. IsCommitment c.1.1) (enumerate_from 0 cs)

@@ -1,24 +1,20 @@
 -- Which SKUs a roster lists, and that no commitment applies to a row of another one.
-use Rattle.std.proofs.Common.{◌≡◌, ◌∙◌, ℕ, ◌+◌, ◌==◌, Bool, true, false, not, ◌&&◌, ◌||◌, List, [], ◌∷◌, length, get_or, map, filter, find, All, Option, Some, None, Vec, is_some, option_map, option_and_then, refl, sym, ap, arith}
-use Rattle.std.specs.declared.alloc.Global.{Global}
+use Rattle.std.proofs.Common.{◌≡◌, ◌∙◌, ℕ, ◌+◌, ◌==◌, Bool, true, false, not, ◌&&◌, ◌||◌, List, [], ◌∷◌, length, get_or, map, filter, find, All, Option, Some, None, is_some, option_map, option_and_then, refl, sym, ap, arith}
 use Rattle.std.specs.List.{enumerate_from, flat_map, list_any}
 use Rattle.std.specs.Option.{option_map_or}
 use Rattle.std.specs.Str.{bytes_eq}
 use Rattle.std.proofs.lemmas.Bool.{ne_eqb}
-use Rattle.std.proofs.lemmas.List.{length-map}
 use Rattle.std.proofs.lemmas.List.Folds.{list_any-append, list_any_at}
 use Rattle.fw_charge.specs.Charge.{Charge}
 use Rattle.fw_terms.specs.Commitment.{CommitmentValue}
 use Rattle.fw_cover.specs.Applies.{Listing, applied, fits, is_open, listings, rate_for}
-use Rattle.fw_cover.specs.Offers.{index_of, offer_for, offer_of, offered, offered_in, offers_by, offers_of, table_view}
+use Rattle.fw_cover.specs.Offers.{index_of, offer_for, offers_by, offers_of}
 use Rattle.fw_cover.specs.Order.{commitment_before, commitments_in_order, in_order, insert_by}
-use Rattle.fw_cover.specs.RosterView.{HasHour, IsRoster, RosterValue, lists_row, lists_sku, roster_order, runs_between}
+use Rattle.fw_cover.specs.RosterView.{HasHour, RosterValue, lists_row, lists_sku, offers_in, roster_order, runs_between}
 use Rattle.fw_cover.specs.Untouched.{IsUntouched}
-use Rattle.fw_cover.specs.declared.offers.Offer.{Offer}
 use Rattle.fw_cover.proofs.Index.{offered_in_order}
 use Rattle.fw_cover.proofs.RosterFacts.{applies_to_none, not_in_term}
 use Rattle.fw_cover.proofs.Sorting.{two_ways}
-use Rattle.fw_cover.proofs.Tables.{offered_table}
 
 -- ---- whether an element passes a test, in lists that are made of others
 exchanged : (a b c : Bool) → (a || (b || c)) ≡ (b || (a || c))
@@ -52,7 +48,7 @@ any_kept p (x ∷ xs) = two_ways (p x)
     (λ holds. let some : (length (x ∷ filter p xs) == 0) ≡ false = ne_eqb (length (x ∷ filter p xs)) 0 (λ e. omega (arith, e)) in rw (holds, some) refl)
     (λ fails. rw fails (any_kept p xs))
 
--- ---- the offers of a SKU in a roster's table
+-- ---- the offers of a SKU in a roster
 any_listed : (sku : List ℕ) (c : ℕ × (ℕ × CommitmentValue)) (ls : List Listing) → list_any (λ o. bytes_eq o.sku sku) (map (offer_for c) ls) ≡ is_some (option_map (λ l. l.rate) (find (λ l. bytes_eq l.sku sku) ls))
 any_listed sku c [] = refl
 any_listed sku c (l ∷ ls) = two_ways (bytes_eq l.sku sku)
@@ -73,15 +69,11 @@ any_running r p =
     ∙ any_enumerated (λ c. runs_between r.from r.to c && p c) 0 r.commitments
 
 -- there are some exactly where the roster lists the SKU
-pub listed_by_table : (r : RosterValue) (places ks : List ℕ) (table : List (Vec Offer Global)) (sku : List ℕ) (offers : List Offer) → IsRoster r places ks table → map offer_of offers ≡ offered_in sku (table_view table)
-    → not (length offers == 0) ≡ lists_sku r sku
-unfolding index_of lists_sku
-listed_by_table r places ks table sku offers is found =
+pub listed_by_offers : (r : RosterValue) (sku : List ℕ) → not (length (offers_in r sku) == 0) ≡ lists_sku r sku
+unfolding offers_in index_of lists_sku
+listed_by_offers r sku =
     let cs : List (ℕ × CommitmentValue) = roster_order r in
-    let all : map offer_of offers ≡ offered sku (offers_of cs) =
-    found ∙ ap (offered_in sku) is.table_is ∙ offered_table (length table) (index_of cs) sku is.some ∙ offered_in_order sku (offers_of cs) in
-    let many : length offers ≡ length (offered sku (offers_of cs)) = sym (length-map offers offer_of) ∙ ap length all in
-    ap (λ n. not (n == 0)) many ∙ any_kept (λ o. bytes_eq o.sku sku) (offers_of cs) ∙ any_offered sku 0 cs ∙ any_running r (λ c. is_some (rate_for c.terms sku))
+    ap (λ l. not (length l == 0)) (offered_in_order sku (offers_of cs)) ∙ any_kept (λ o. bytes_eq o.sku sku) (offers_of cs) ∙ any_offered sku 0 cs ∙ any_running r (λ c. is_some (rate_for c.terms sku))
 
 -- ---- a row of a SKU that isn't listed
 none_passes : {X : Type 0} (p : X → Bool) (xs : List X) → list_any p xs ≡ false → All (λ x. p x ≡ false) xs

@@ -1,23 +1,27 @@
 -- What a roster gives for its hours: the commitments that it leaves out don't run in them, so they have no pairs and take nothing.
-use Rattle.std.proofs.Common.{◌≡◌, ◌∙◌, ℕ, ◌+◌, ◌==◌, Bool, true, false, cond, nat_lt, nat_le, List, [], ◌∷◌, ◌++◌, All, None, Some, filter, get_or, length, map, slice_get, ap, refl, arith, ◌<◌, Vec}
+use Rattle.std.proofs.Common.{◌≡◌, ◌∙◌, ℕ, ◌+◌, ◌==◌, Bool, true, false, cond, nat_lt, nat_le, List, [], ◌∷◌, ◌++◌, All, None, Option, Some, filter, get_or, length, map, slice_get, ap, refl, sym, arith, ◌<◌, Vec}
 use Rattle.std.specs.declared.alloc.Global.{Global}
 use Rattle.std.specs.List.{enumerate_from, filter_map, flat_map}
+use Rattle.std.specs.Option.{option_map_or}
+use Rattle.std.specs.Str.{bytes_eq}
 use Rattle.std.proofs.lemmas.Bool.{lt-ltb, ltb-true, leb-true}
-use Rattle.std.proofs.lemmas.List.Elements.{All-filter, All-map}
+use Rattle.std.proofs.lemmas.List.Elements.{All-filter, All-map, All-nil}
 use Rattle.std.proofs.lemmas.List.{length-map}
 use Rattle.fw_charge.specs.Charge.{Charge}
 use Rattle.fw_terms.specs.Commitment.{CommitmentValue, IsCommitment}
 use Rattle.fw_cover.specs.Applies.{applied, fits, is_in_term, is_open, listings}
 use Rattle.fw_cover.specs.Hour.{hour_cover, takes_of}
-use Rattle.fw_cover.specs.Offers.{OfferValue, index_of, offer_before, offer_for, offers_by, offers_of, pairs_with, table_view}
+use Rattle.fw_cover.specs.Offers.{OfferValue, index_of, list_for, offer_before, offer_for, offered_in, offers_by, offers_of, pairs_with, row_offers, table_view}
 use Rattle.fw_cover.specs.Order.{commitments_in_order, has_lower_rate, in_order, pair_for, pairs_of, pairs_of_commitment}
 use Rattle.fw_cover.specs.Ranked.{ranked_before}
-use Rattle.fw_cover.specs.RosterView.{HasHour, IsRoster, RosterValue, roster_order, runs_between}
+use Rattle.fw_cover.specs.RosterView.{HasHour, IsRoster, RosterValue, offers_in, offers_of_row, roster_order, runs_between}
 use Rattle.fw_cover.specs.declared.offers.Offer.{Offer}
+use Rattle.fw_cover.specs.declared.pair.Pair.{Pair}
 use Rattle.fw_cover.proofs.ByCommitment.{pairs_in_turn}
 use Rattle.fw_cover.proofs.Grouping.{PlacesApart, grouped_by, order_places_apart}
 use Rattle.fw_cover.proofs.Index.{pairs_by_row_table}
-use Rattle.fw_cover.proofs.Tables.{all_in_table}
+use Rattle.fw_cover.proofs.Lists.{all_at}
+use Rattle.fw_cover.proofs.Tables.{all_in_table, offered_table}
 use Rattle.fw_cover.proofs.Sorting.{two_ways}
 use Rattle.fw_cover.proofs.Within.{all_enumerate, all_flat_map, all_in_order, commitments_in_order_places, ordered_valid}
 
@@ -98,7 +102,7 @@ roster_valid r valid = all_enumerate (λ c. IsCommitment c.1.1) (roster_order r)
     (All-filter (λ c. runs_between r.from r.to c.1) (λ c. IsCommitment c.1) (commitments_in_order r.commitments) (ordered_valid r.commitments valid))
 
 -- the offers of its table are of these commitments
-pub roster_ranks : (r : RosterValue) (places ks : List ℕ) (table : List (Vec Offer Global)) → IsRoster r places ks table → All (All (λ o. o.standing.0 < length places)) (table_view table)
+roster_ranks : (r : RosterValue) (places ks : List ℕ) (table : List (Vec Offer Global)) → IsRoster r places ks table → All (All (λ o. o.standing.0 < length places)) (table_view table)
 unfolding index_of
 roster_ranks r places ks table is =
     let cs : List (ℕ × CommitmentValue) = roster_order r in
@@ -108,13 +112,48 @@ roster_ranks r places ks table is =
     rw is.table_is (all_in_table (length table) IsOf (index_of cs) (all_in_order offer_before IsOf (offers_of cs) (all_flat_map IsOf offers_by (enumerate_from 0 cs)
     (λ k d lt. All-map IsOf (offer_for (get_or (enumerate_from 0 cs) k d)) (listings (get_or (enumerate_from 0 cs) k d).1.1.terms) (λ j e l. placed k d lt)))))
 
+-- ---- what it lists
+-- the offers of a SKU in its table are those of the roster
+pub offers_are : (r : RosterValue) (places ks : List ℕ) (table : List (Vec Offer Global)) (sku : List ℕ) → IsRoster r places ks table → offered_in sku (table_view table) ≡ offers_in r sku
+unfolding offers_in
+offers_are r places ks table sku is = ap (offered_in sku) is.table_is ∙ offered_table (length table) (index_of (roster_order r)) sku is.some
+
+-- so of the SKUs of rows
+row_offers_are : (r : RosterValue) (places ks : List ℕ) (table : List (Vec Offer Global)) (rows : List Charge) → IsRoster r places ks table → map (row_offers (table_view table)) rows ≡ map (offers_of_row r) rows
+row_offers_are r places ks table rows is = λ j. map (λ (row : Charge). option_map_or (λ sku. offers_are r places ks table sku is j) row.sku []) rows
+
+-- the offers of rows are of these commitments
+row_ranks : (n : ℕ) (table : List (List OfferValue)) (rows : List Charge) → All (All (λ o. o.standing.0 < n)) table → All (All (λ o. o.standing.0 < n)) (map (row_offers table) rows)
+row_ranks n table rows ranks = All-map (All IsOf) (row_offers table) rows (λ k d lt. one (get_or rows k d).sku)
+  where
+    IsOf : OfferValue → Type 0
+    IsOf o = o.standing.0 < n
+
+    one : (sku : Option (List ℕ)) → All IsOf (option_map_or (λ sku. offered_in sku table) sku [])
+    one None = All-nil IsOf
+    one (Some sku) = All-filter (λ o. bytes_eq o.sku sku) IsOf (get_or table (list_for (length table) sku) []) (all_at IsOf table (list_for (length table) sku) ranks)
+
 -- ---- what it gives of an hour
-pub pairs_are : (r : RosterValue) (places ks : List ℕ) (table : List (Vec Offer Global)) (rows : List Charge) (hour : ℕ) → IsRoster r places ks table → HasHour r hour
+pairs_are : (r : RosterValue) (places ks : List ℕ) (table : List (Vec Offer Global)) (rows : List Charge) (hour : ℕ) → IsRoster r places ks table → HasHour r hour
     → map (λ q. q.pair) (in_order ranked_before (flat_map (pairs_with hour (table_view table)) (enumerate_from 0 rows))) ≡ pairs_of r.commitments rows hour
 pairs_are r places ks table rows hour is has =
     ap (λ i. map (λ q. q.pair) (in_order ranked_before (flat_map (pairs_with hour i) (enumerate_from 0 rows)))) is.table_is
     ∙ (ap (λ l. map (λ q. q.pair) (in_order ranked_before l)) (pairs_by_row_table (length table) hour (enumerate_from 0 rows) (roster_order r) is.some (roster_valid r is.valid))
     ∙ (pairs_in_turn (roster_order r) rows hour ∙ roster_pairs r rows hour has))
+
+-- so by the offers of the rows
+pub pairs_found : (r : RosterValue) (places ks : List ℕ) (table : List (Vec Offer Global)) (rows : List Charge) (hour : ℕ) (offers : List (List OfferValue)) (pairs : List Pair) → IsRoster r places ks table → HasHour r hour
+    → offers ≡ map (offers_of_row r) rows
+    → ((table : List (List OfferValue)) → offers ≡ map (row_offers table) rows → All (All (λ o. o.standing.0 < length places)) table → pairs ≡ map (λ q. q.pair) (in_order ranked_before (flat_map (pairs_with hour table) (enumerate_from 0 rows))))
+    → pairs ≡ pairs_of r.commitments rows hour
+pairs_found r places ks table rows hour offers pairs is has given found =
+    found (table_view table) (given ∙ sym (row_offers_are r places ks table rows is)) (roster_ranks r places ks table is) ∙ pairs_are r places ks table rows hour is has
+
+-- and the offers are of the commitments in its order
+pub offers_ranked : (r : RosterValue) (places ks : List ℕ) (table : List (Vec Offer Global)) (rows : List Charge) (offers : List (List OfferValue)) → IsRoster r places ks table → offers ≡ map (offers_of_row r) rows
+    → All (All (λ o. o.standing.0 < length places)) offers
+offers_ranked r places ks table rows offers is given =
+    rw (given ∙ sym (row_offers_are r places ks table rows is)) (row_ranks (length places) (table_view table) rows (roster_ranks r places ks table is))
 
 -- what was taken stands commitment by commitment in the roster's order
 pub roster_grouped : (r : RosterValue) (rows : List Charge) (hour : ℕ) → HasHour r hour → hour_cover r.commitments rows hour ≡ flat_map (λ c. takes_of c.0 (hour_cover r.commitments rows hour)) (roster_order r)

@@ -14,6 +14,7 @@ use Rattle.fw_cover.specs.Applies.{Listing, listings, fits, is_open}
 use Rattle.fw_cover.specs.Order.{in_order}
 use Rattle.fw_cover.specs.PlacedView.{placed_of}
 use Rattle.fw_cover.specs.declared.offers.Offer.{Offer}
+use Rattle.fw_cover.specs.declared.offers.SkuOffers.{SkuOffers}
 use Rattle.fw_cover.specs.Ranked.{RankedPair}
 
 -- a SKU, its rate, and the commitment that lists it, beside its places in the order and in the list
@@ -67,6 +68,14 @@ table_view table = map (λ list. map offer_of list.items) table
 -- the offers of a SKU in its list
 abbrev pub offered_in : List ℕ → List (List OfferValue) → List OfferValue
 offered_in sku table = offered sku (slice_index_or table (list_for (length table) sku) [])
+
+-- what is found of a SKU
+abbrev pub sku_offers : SkuOffers → List OfferValue
+sku_offers s = map offer_of s.offers.now
+
+-- the offers of a row's SKU; none where it has no SKU
+abbrev pub row_offers : List (List OfferValue) → Charge → List OfferValue
+row_offers table row = option_map_or (λ sku. offered_in sku table) row.sku []
 
 -- how an offer's SKU stands to one in the order of bytes
 abbrev pub standing_to : List ℕ → Offer → Ordering

@@ -1,5 +1,5 @@
 -- A roster as a value: commitments, and the hours in which they are asked.
-use Rattle.std.specs.Prelude.{◌≡◌, ◌<◌, ◌≤◌, ◌+◌, ◌&&◌, ℕ, Bool, false, List, All, Vec, filter, is_some, length, map, nat_lt}
+use Rattle.std.specs.Prelude.{◌≡◌, ◌<◌, ◌≤◌, ◌+◌, ◌&&◌, ℕ, Bool, false, List, [], All, Vec, filter, is_some, length, map, nat_lt}
 use Rattle.std.specs.declared.alloc.Global.{Global}
 use Rattle.std.specs.List.{list_any}
 use Rattle.std.specs.List.Sorted.{IsSortedBy}
@@ -9,7 +9,7 @@ use Rattle.fw_terms.specs.Commitment.{CommitmentValue, IsCommitment}
 use Rattle.fw_cover.specs.Applies.{rate_for}
 use Rattle.fw_cover.specs.Hour.{capacities_of}
 use Rattle.fw_cover.specs.Order.{commitments_in_order}
-use Rattle.fw_cover.specs.Offers.{offer_before, index_of, table_of, table_view}
+use Rattle.fw_cover.specs.Offers.{OfferValue, offer_before, index_of, offered, table_of, table_view}
 use Rattle.fw_cover.specs.declared.offers.Offer.{Offer}
 
 -- commitments, and the hours from `from` up to, and not including, `to`
@@ -38,6 +38,14 @@ lists_row r row = option_map_or (lists_sku r) row.sku false
 -- the commitments that run in one of the roster's hours, in their order, each beside its place in the list of all
 unfoldable pub roster_order : RosterValue → List (ℕ × CommitmentValue)
 roster_order r = filter (λ c. runs_between r.from r.to c.1) (commitments_in_order r.commitments)
+
+-- what the commitments that run in one of the roster's hours list of a SKU: each its place in their order, and its rate
+unfoldable pub offers_in : RosterValue → List ℕ → List OfferValue
+offers_in r sku = offered sku (index_of (roster_order r))
+
+-- what they list of the SKU of a row; nothing where it has none
+abbrev pub offers_of_row : RosterValue → Charge → List OfferValue
+offers_of_row r row = option_map_or (offers_in r) row.sku []
 
 -- what a roster's fields keep: the commitments keep their limits, the places are those of the ones that run in the hours, ks are the
 -- capacities of all, and the table has what those that run list

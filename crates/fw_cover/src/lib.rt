@@ -36,6 +36,7 @@ pub use laws::{
     untouched_rows_change_nothing,
 };
 pub use lending::{lend, references};
+pub use offers::SkuOffers;
 pub use order::{in_order, is_in_term};
 pub use part::in_proportion;
 pub use roster::Roster;

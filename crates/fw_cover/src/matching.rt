@@ -1,16 +1,15 @@
 //! The pairs of an hour: which commitments apply to which rows, and in which order.
 ghost use Rattle.std.specs.Prelude.{◌≡◌, ◌<◌, ◌++◌, ◌∷◌, [], List, All, OnOk, IfOk, length, map, unwrap_or, vec_len};
 ghost use Rattle.std.specs.List.{cons_option, filter_map, flat_map, enumerate_from};
-ghost use Rattle.std.specs.List.Sorted.{IsSortedBy};
 ghost use Rattle.std.specs.Ordering.{nat_cmp};
 ghost use Rattle.fw_terms.specs.TermsView.{terms_view};
 ghost use Rattle.fw_cover.specs.Applies.{allows, has_unit, is_text, fits, is_open};
-ghost use Rattle.fw_cover.specs.Offers.{offer_of, offer_before, pair_by, pairs_with, table_view};
+ghost use Rattle.fw_cover.specs.Offers.{OfferValue, offer_of, pair_by, pairs_with, row_offers, sku_offers};
 ghost use Rattle.fw_cover.specs.Order.{has_lower_rate, in_order};
 ghost use Rattle.fw_cover.specs.Ranked.{RankedPair, by_rank, ranked_before};
 
 use crate::eligible::is_eligible;
-use crate::offers::{Offer, offered};
+use crate::offers::{Offer, SkuOffers};
 use crate::order::is_in_term;
 use crate::pair::Pair;
 use fw_row_table::LentRow;
@@ -65,13 +64,27 @@ fn no_pairs(alloc: Global, ranks: usize) -> Result<Vec<Vec<Pair>>, AllocError>
     Ok(lists)
 }
 
+/// A list of pairs begins with room for so many, in about the memory of 15 rows.
+const FIRST_PAIRS: usize = 128;
+
+/// Adds a pair to a list.
+fn push_pair(list: &mut Vec<Pair>, pair: Pair) -> Result<(), AllocError>
+    ensures { OnOk result (list.new.items ≡ list.old.items ++ pair ∷ []) }
+{
+    if list.is_empty() {
+        list.reserve(FIRST_PAIRS)?;
+    }
+    list.push(pair)?;
+    Ok(())
+}
+
 /// Adds a pair to the list of its commitment.
 fn push_at(lists: &mut Vec<Vec<Pair>>, rank: usize, pair: Pair) -> Result<(), AllocError>
     requires { rank < vec_len lists.old }
     ensures pairs { OnOk result ((all : List RankedPair) → map (λ l. l.items) lists.old.items ≡ by_rank (vec_len lists.old) all → map (λ l. l.items) lists.new.items ≡ by_rank (vec_len lists.old) (all ++ record { rank = rank; pair = pair } ∷ [])) }
     ensures many { vec_len lists.new ≡ vec_len lists.old }
 {
-    lists[rank].push(pair)?;
+    push_pair(&mut lists[rank], pair)?;
     Ok(())
 }
 
@@ -124,45 +137,40 @@ fn add_pairs(
     Ok(())
 }
 
-/// Adds the pairs of a row.
+/// Adds the pairs of a row, given the offers of its SKU.
 fn add_row(
     lists: &mut Vec<Vec<Pair>>,
-    table: &[Vec<Offer>],
+    offers: &SkuOffers<'_, '_>,
     hour: u32,
     at: usize,
     row: &LentRow<'_>,
 ) -> Result<(), AllocError>
-    requires some { 0 < length table.now }
-    requires sorted { All (IsSortedBy offer_before) (table_view table.now) }
-    requires ranks { All (All (λ o. o.standing.0 < vec_len lists.old)) (table_view table.now) }
-    ensures pairs { OnOk result ((all : List RankedPair) → map (λ l. l.items) lists.old.items ≡ by_rank (vec_len lists.old) all → map (λ l. l.items) lists.new.items ≡ by_rank (vec_len lists.old) (all ++ pairs_with hour (table_view table.now) (at, row.now))) }
+    requires { All (λ o. o.standing.0 < vec_len lists.old) (sku_offers offers.now) }
+    ensures pairs { OnOk result ((table : List (List OfferValue)) → sku_offers offers.now ≡ row_offers table row.now → (all : List RankedPair) → map (λ l. l.items) lists.old.items ≡ by_rank (vec_len lists.old) all → map (λ l. l.items) lists.new.items ≡ by_rank (vec_len lists.old) (all ++ pairs_with hour table (at, row.now))) }
     ensures many { vec_len lists.new ≡ vec_len lists.old }
 {
     if !is_open(row, hour) {
         return Ok(());
     }
-    match row.sku() {
-        Some(sku) => add_pairs(lists, offered(table, sku), hour, at, row),
-        None => Ok(()),
-    }
+    add_pairs(lists, offers.offers, hour, at, row)?;
+    Ok(())
 }
 
-/// The pairs of the rows, those of each commitment of the order in a list of their own, in the order of the rows.
+/// The pairs of the rows, those of each commitment of the order in a list of their own, in the order of the rows. The offers are those of each row's SKU.
 fn pairs_by_rank(
     alloc: Global,
-    table: &[Vec<Offer>],
     ranks: usize,
     rows: &[&LentRow<'_>],
+    offers: &[SkuOffers<'_, '_>],
     hour: u32,
 ) -> Result<Vec<Vec<Pair>>, AllocError>
-    requires some { 0 < length table.now }
-    requires sorted { All (IsSortedBy offer_before) (table_view table.now) }
-    requires ranks { All (All (λ o. o.standing.0 < ranks)) (table_view table.now) }
-    ensures { IfOk result (λ v. map (λ l. l.items) v.items ≡ by_rank ranks (flat_map (pairs_with hour (table_view table.now)) (enumerate_from 0 (map (λ r. r.now) rows.now)))) }
+    requires one_each { length offers.now ≡ length rows.now }
+    requires ranks { All (All (λ o. o.standing.0 < ranks)) (map sku_offers offers.now) }
+    ensures { IfOk result (λ v. (table : List (List OfferValue)) → map sku_offers offers.now ≡ map (row_offers table) (map (λ r. r.now) rows.now) → map (λ l. l.items) v.items ≡ by_rank ranks (flat_map (pairs_with hour table) (enumerate_from 0 (map (λ r. r.now) rows.now)))) }
 {
     let mut lists = no_pairs(alloc, ranks)?;
     for (at, row) in rows.iter().enumerate() {
-        add_row(&mut lists, table, hour, at, row)?;
+        add_row(&mut lists, &offers[at], hour, at, row)?;
     }
     Ok(lists)
 }
@@ -197,19 +205,20 @@ fn joined(alloc: Global, lists: &[Vec<Pair>], expected: usize) -> Result<Vec<Pai
     Ok(pairs)
 }
 
-/// The pairs of an hour in their order. None of them is compared with one of another commitment: each finds the list of its own.
+/// The pairs of an hour in their order, given the offers of each row's SKU. None of them is compared with one of another commitment: each finds the list of
+/// its own.
 pub(crate) fn pairs_in_order(
     alloc: Global,
-    table: &[Vec<Offer>],
     ranks: usize,
     rows: &[&LentRow<'_>],
+    offers: &[SkuOffers<'_, '_>],
     hour: u32,
 ) -> Result<Vec<Pair>, AllocError>
-    requires some { 0 < length table.now }
-    requires sorted { All (IsSortedBy offer_before) (table_view table.now) }
-    requires ranks { All (All (λ o. o.standing.0 < ranks)) (table_view table.now) }
-    ensures { IfOk result (λ v. v.items ≡ map (λ q. q.pair) (in_order ranked_before (flat_map (pairs_with hour (table_view table.now)) (enumerate_from 0 (map (λ r. r.now) rows.now))))) }
+    requires one_each { length offers.now ≡ length rows.now }
+    requires ranks { All (All (λ o. o.standing.0 < ranks)) (map sku_offers offers.now) }
+    ensures { IfOk result (λ v. (table : List (List OfferValue)) → map sku_offers offers.now ≡ map (row_offers table) (map (λ r. r.now) rows.now) → All (All (λ o. o.standing.0 < ranks)) table → v.items ≡ map (λ q. q.pair) (in_order ranked_before (flat_map (pairs_with hour table) (enumerate_from 0 (map (λ r. r.now) rows.now))))) }
 {
-    let lists = pairs_by_rank(alloc, table, ranks, rows, hour)?;
-    joined(alloc, &lists, rows.len())
+    let lists = pairs_by_rank(alloc, ranks, rows, offers, hour)?;
+    let pairs = joined(alloc, &lists, rows.len())?;
+    Ok(pairs)
 }

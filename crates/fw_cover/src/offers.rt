@@ -1,5 +1,5 @@
 //! The SKUs that commitments list, in a table in which a row finds the commitments that list its own.
-ghost use Rattle.std.specs.Prelude.{◌≡◌, ◌++◌, ◌∷◌, [], ◌≤◌, ◌<◌, List, All, length, map, string_bytes, vec_len, OnOk, IfOk};
+ghost use Rattle.std.specs.Prelude.{◌≡◌, ◌==◌, ◌++◌, ◌∷◌, [], ◌≤◌, ◌<◌, List, All, length, map, string_bytes, vec_len, OnOk, IfOk};
 ghost use Rattle.std.specs.Ordering.{nat_cmp};
 ghost use Rattle.std.specs.Cmp.Lexicographic.{slice_cmp};
 ghost use Rattle.std.specs.List.{prefix_len};
@@ -7,7 +7,7 @@ ghost use Rattle.std.specs.List.Sorted.{IsSortedBy};
 ghost use Rattle.std.specs.Str.{bytes_eq};
 ghost use Rattle.fw_terms.specs.TermsView.{terms_view};
 ghost use Rattle.fw_cover.specs.Applies.{listings};
-ghost use Rattle.fw_cover.specs.Offers.{OfferValue, offer_of, offer_for, offers_by, offers_of, offer_before, index_of, list_for, offered, offered_in, table_of, table_view, text_number};
+ghost use Rattle.fw_cover.specs.Offers.{OfferValue, offer_of, offer_for, offers_by, offers_of, offer_before, index_of, list_for, offered, offered_in, sku_offers, table_of, table_view, text_number};
 ghost use Rattle.fw_cover.specs.PlacedView.{placed_of};
 
 use crate::order::Placed;
@@ -21,6 +21,28 @@ pub(crate) struct Offer<'a> {
     pub(crate) rate: Option<u32>,
     pub(crate) rank: usize,
     pub(crate) placed: Placed<'a>,
+}
+
+/// What the commitments of a roster list of a SKU, found once for many rows ([`Roster::offers`](crate::Roster::offers)).
+#[derive(Clone, Copy, Debug)]
+pub struct SkuOffers<'r, 'a> {
+    pub(crate) offers: &'r [Offer<'a>],
+}
+
+impl<'r, 'a> SkuOffers<'r, 'a> {
+    /// Nothing: what they list where a row has no SKU.
+    pub fn none() -> SkuOffers<'r, 'a>
+        ensures { sku_offers result ≡ [] }
+    {
+        SkuOffers { offers: &[] }
+    }
+
+    /// Whether they don't list the SKU.
+    pub fn is_empty(&self) -> bool
+        ensures { result ≡ (length (sku_offers self.now) == 0) }
+    {
+        self.offers.is_empty()
+    }
 }
 
 /// Adds the SKUs of a commitment to a quantity.

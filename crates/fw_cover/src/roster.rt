@@ -1,14 +1,15 @@
 //! Commitments made ready to cover hour after hour.
 ghost use Rattle.std.specs.Prelude.{◌≡◌, map, IfOk};
 ghost use Rattle.fw_cover.specs.HourCovers.{IsHourCover};
+ghost use Rattle.fw_cover.specs.Offers.{sku_offers};
 ghost use Rattle.fw_cover.specs.PlacedView.{placed_of};
-ghost use Rattle.fw_cover.specs.RosterView.{HasHour, lists_sku, roster_order, runs_between};
+ghost use Rattle.fw_cover.specs.RosterView.{HasHour, lists_sku, offers_in, offers_of_row, roster_order, runs_between};
 
 use crate::covering::cover_pairs;
 use crate::hour::HourCover;
 use crate::matching::pairs_in_order;
 use crate::numbers::{billed_costs, capacities, quantities};
-use crate::offers::{Offer, offered, table};
+use crate::offers::{Offer, SkuOffers, offered, table};
 use crate::order::{Placed, ordered, places};
 use fw_row_table::LentRow;
 use fw_terms::Commitment;
@@ -106,8 +107,42 @@ impl<'a> Roster<'a> {
     pub fn lists_sku(&self, sku: &str) -> bool
         ensures { result ≡ lists_sku self.now sku.now }
     {
-        let offers = offered(&self.table, sku);
+        let offers = self.offers(sku);
         !offers.is_empty()
+    }
+
+    /// What the commitments that run in one of the roster's hours list of a SKU: looked up once, for [`Roster::cover_offered`] of many rows.
+    pub fn offers(&self, sku: &str) -> SkuOffers<'_, 'a>
+        ensures { sku_offers result ≡ offers_in self.now sku.now }
+    {
+        SkuOffers {
+            offers: offered(&self.table, sku),
+        }
+    }
+
+    /// What they list of a row's SKU; nothing where it has none.
+    pub fn offers_of_row(&self, row: &LentRow<'_>) -> SkuOffers<'_, 'a>
+        ensures { sku_offers result ≡ offers_of_row self.now row.now }
+    {
+        match row.sku() {
+            Some(sku) => self.offers(sku),
+            None => SkuOffers::none(),
+        }
+    }
+
+    /// What they list of each row's SKU.
+    fn offers_of_rows(
+        &self,
+        alloc: Global,
+        rows: &[&LentRow<'_>],
+    ) -> Result<Vec<SkuOffers<'_, 'a>>, AllocError>
+        ensures { IfOk result (λ v. map sku_offers v.items ≡ map (offers_of_row self.now) (map (λ r. r.now) rows.now)) }
+    {
+        let mut offers = Vec::with_capacity(alloc, rows.len())?;
+        for row in rows {
+            offers.push(self.offers_of_row(row))?;
+        }
+        Ok(offers)
     }
 
     /// What the commitments cover of the rows of one of the roster's hours; rows of other hours are passed over. The places are those in the
@@ -121,7 +156,23 @@ impl<'a> Roster<'a> {
         requires { HasHour self.now hour }
         ensures { IfOk result (IsHourCover self.now.commitments (map (λ r. r.now) rows.now) hour) }
     {
-        let pairs = pairs_in_order(alloc, &self.table, self.order.len(), rows, hour)?;
+        let offers = self.offers_of_rows(alloc, rows)?;
+        self.cover_offered(alloc, rows, &offers, hour)
+    }
+
+    /// The same, given what the commitments list of each row's SKU.
+    pub fn cover_offered(
+        &self,
+        alloc: Global,
+        rows: &[&LentRow<'_>],
+        offers: &[SkuOffers<'_, '_>],
+        hour: u32,
+    ) -> Result<HourCover, AllocError>
+        requires hour { HasHour self.now hour }
+        requires offers { map sku_offers offers.now ≡ map (offers_of_row self.now) (map (λ r. r.now) rows.now) }
+        ensures { IfOk result (IsHourCover self.now.commitments (map (λ r. r.now) rows.now) hour) }
+    {
+        let pairs = pairs_in_order(alloc, self.order.len(), rows, offers, hour)?;
         let billed = billed_costs(alloc, rows)?;
         let quantities = quantities(alloc, rows)?;
         cover_pairs(alloc, &pairs, &billed, &quantities, &self.capacities)

@@ -188,15 +188,20 @@ pub number_there : (segments : List (Bor (List Charge))) (places : List HourPlac
 number_there segments places i d s below all is =
     rw (segment_there segments places i d s below all is) at (all i d below).number
 
+-- the rows of the segment of a row, as references lend it
+pub row_segment_there : (segments : List (Bor (List Charge))) (places : List RowPlace) (i : ℕ) (d : RowPlace) (s : Bor (List Charge)) → i < length places → All (HasRow (lent segments)) places → s ≡ get_or segments (get_or places i d).segment s
+    → get_or (lent segments) (get_or places i d).segment [] ≡ s.now
+row_segment_there segments places i d s below all is =
+    let here : (get_or places i d).segment < length (lent segments) = (all i d below).segment in
+    let inside : (get_or places i d).segment < length segments = rw (← length-map segments (λ (x : Bor (List Charge)). x.now)) here in
+    get_or_from_slice_get (lent segments) (get_or places i d).segment s.now [] (lent_there segments (get_or places i d).segment s inside is)
+
 -- one more row, as references lend the segments
 pub lent-more : (segments : List (Bor (List Charge))) (places : List RowPlace) (i : ℕ) (d : RowPlace) (s : Bor (List Charge)) (row : Charge) → i < length places → All (HasRow (lent segments)) places
     → s ≡ get_or segments (get_or places i d).segment s → slice_get s.now (get_or places i d).place ≡ Some row
     → filter_map (row_at (lent segments)) (take (i + 1) places) ≡ filter_map (row_at (lent segments)) (take i places) ++ row ∷ []
 lent-more segments places i d s row below all is there =
-    let here : (get_or places i d).segment < length (lent segments) = (all i d below).segment in
-    let inside : (get_or places i d).segment < length segments = rw (← length-map segments (λ (x : Bor (List Charge)). x.now)) here in
-    let at : get_or (lent segments) (get_or places i d).segment [] ≡ s.now =
-    get_or_from_slice_get (lent segments) (get_or places i d).segment s.now [] (lent_there segments (get_or places i d).segment s inside is) in
+    let at = row_segment_there segments places i d s below all is in
     let found : row_at (lent segments) (get_or places i d) ≡ Some row = ap (λ rows. slice_get rows (get_or places i d).place) at ∙ there in
     ap (filter_map (row_at (lent segments))) (take_more places i d below)
     ∙ filter_map-append (row_at (lent segments)) (take i places) (get_or places i d ∷ [])

@@ -1,14 +1,16 @@
 -- Rows that no commitment applies to may be left out of what commitments bring to an hour.
-use Rattle.std.proofs.Common.{◌≡◌, ◌∙◌, ⊎_elim, below_more, is_some, rules, IfSome, ℕ, zero, suc, ◌+◌, ◌<◌, ◌≤◌, All, Bool, true, false, cond, not, nat_lt, List, [], ◌∷◌, ◌++◌, length, get_or, map, filter, take, Option, Some, None, arith, refl, sym, ap, subst, append-nil, append_assoc}
+use Rattle.std.proofs.Common.{◌≡◌, ◌∙◌, ⊎_elim, below_more, is_some, rules, IfSome, ℕ, zero, suc, ◌+◌, ◌<◌, ◌≤◌, All, Bool, Bor, true, false, cond, not, nat_lt, List, [], ◌∷◌, ◌++◌, length, get_or, map, filter, take, Option, Some, None, arith, refl, sym, ap, subst, append-nil, append_assoc}
 use Rattle.std.specs.Prelude.{◌==◌, ◌||◌, slice_get, slice_index, slice_index_or}
 use Rattle.std.specs.List.{cons_option, enumerate_from, filter_map, flat_map, list_any}
+use Rattle.std.specs.Option.{option_map_or}
 use Rattle.std.specs.Str.{bytes_eq}
 use Rattle.std.proofs.Math.ListN.{get_or-append}
-use Rattle.std.proofs.lemmas.Bool.{cases_lt, eq-eqb, le-ltb, lt-ltb, ltb-true, ne_eqb}
+use Rattle.std.proofs.lemmas.Bool.{cases_lt, eq-eqb, le-ltb, lt-ltb, ne_eqb}
 use Rattle.std.proofs.lemmas.Grind.{flat_map-append}
 use Rattle.std.proofs.lemmas.List.{get_or_at, get_or_past, length-append, map-append, take_more}
 use Rattle.std.proofs.lemmas.List.Elements.{All-append, All-cons, All-from_get_or, All-head, All-nil, All-tail, All-weaker, filter-append, filter_map-append}
 use Rattle.std.proofs.lemmas.List.Folds.{list_any_none}
+use Rattle.std.proofs.lemmas.Option.{slice_get_cases}
 use Rattle.fw_charge.specs.Charge.{Charge}
 use Rattle.fw_columns.specs.BySku.{places_of_sku, sku_codes, skus_of_hour}
 use Rattle.fw_columns.specs.Hours.{hours_of, places_of_hour}
@@ -16,9 +18,11 @@ use Rattle.fw_columns.proofs.HourFacts.{alike, kept_alike, places_within}
 use Rattle.fw_columns.proofs.SkuFacts.{any_sku}
 use Rattle.fw_terms.specs.Commitment.{CommitmentValue}
 use Rattle.fw_cover.specs.Hour.{hour_cover, left_of, quantity_of}
-use Rattle.fw_cover.specs.RosterView.{HasHour, RosterValue, lists_row, lists_sku}
+use Rattle.fw_cover.specs.Offers.{sku_offers}
+use Rattle.fw_cover.specs.RosterView.{HasHour, RosterValue, lists_row, lists_sku, offers_in, offers_of_row}
 use Rattle.fw_cover.specs.Untouched.{IsUntouched, place_past}
-use Rattle.fw_cover.proofs.Listed.{unlisted_untouched}
+use Rattle.fw_cover.specs.declared.offers.SkuOffers.{SkuOffers}
+use Rattle.fw_cover.proofs.Listed.{listed_by_offers, unlisted_untouched}
 use Rattle.fw_cover.proofs.Sorting.{two_ways}
 use Rattle.fw_cover.proofs.Untouched.{left_past, left_whole}
 use Rattle.fw_amortise.proofs.Untouched.{own_past}
@@ -29,8 +33,8 @@ use Rattle.fw_row_table.proofs.NameFacts.{place-missing}
 use Rattle.fw_sums.specs.Corrections.{correction_of, corrections}
 use Rattle.fw_sums.specs.Costs.{costs_of}
 use Rattle.fw_sums.specs.Covers.{AreOwnSums}
-use Rattle.fw_sums.specs.Hours.{HasRow, IsThere, row_at, row_places, row_places_at, row_places_there, rows_at, rows_there}
-use Rattle.fw_sums.specs.Listed.{AreListed, IsOnly, is_marked_code, is_unlisted, may_be_listed}
+use Rattle.fw_sums.specs.Hours.{HasRow, IsThere, lent, row_at, row_places, row_places_at, row_places_there, rows_at, rows_there}
+use Rattle.fw_sums.specs.Listed.{AreListed, AreOffersOf, IsOnly, found_at, is_marked_code, is_nothing, may_be_listed}
 use Rattle.fw_sums.specs.Sums.{Counts}
 use Rattle.fw_sums.specs.declared.groups.Groups.{Groups}
 use Rattle.fw_sums.specs.declared.hours.HourPlace.{HourPlace}
@@ -38,8 +42,7 @@ use Rattle.fw_sums.specs.declared.hours.RowPlace.{RowPlace}
 use Rattle.fw_sums.specs.declared.listed.Listed.{Listed}
 use Rattle.fw_sums.proofs.CodeFacts.{name_there}
 use Rattle.fw_sums.proofs.CorrectionFacts.{corrections_by, none_lost}
-use Rattle.fw_sums.proofs.HourFacts.{rows_of_hour_places}
-use Rattle.fw_sums.proofs.UntouchedFacts.{both_true, not_false}
+use Rattle.fw_sums.proofs.HourFacts.{lent-more, row_segment_there, rows_of_hour_places}
 
 -- ---- one such row corrects nothing, and the others are corrected as without it
 
@@ -327,40 +330,61 @@ each_pushed P d past xs x each last k = ⊎_elim
     (cases_lt (length xs) k))
     (cases_lt k (length xs))
 
--- a row whose SKU has such a code is one that no commitment applies to
-sku_place : (r : RosterValue) (names : List Text) (sku : Text) (place : ℕ) → place ≡ place_of names sku → is_unlisted r names (suc place) ≡ true → lists_sku r sku ≡ false
-unfolding is_unlisted place_of
-sku_place r names sku place at out =
-    let both = both_true (nat_lt place (length names)) (not (lists_sku r (get_or names place []))) out in
-    let within : place < length names = ltb-true place (length names) both.0 in
+-- what was found of the code of a row's SKU is what the commitments list of the SKU
+sku_place : (r : RosterValue) (names : List Text) (sku : Text) (place : ℕ) (found : SkuOffers) → place ≡ place_of names sku → AreOffersOf r names (suc place) found → sku_offers found ≡ offers_in r sku
+unfolding AreOffersOf place_of
+sku_place r names sku place found at are =
     two_ways (list_any (bytes_eq sku) names)
-    (λ among. let there : get_or names place [] ≡ sku = rw at (name_there names sku among) in rw there at (not_false (lists_sku r (get_or names place [])) both.1))
-    (λ missing. let end : place_of names sku ≡ length names = place-missing (bytes_eq sku) names missing in absurd (omega (arith, at, end, within)))
+    (λ among. let there : get_or names place [] ≡ sku = rw at (name_there names sku among) in are.1 ∙ ap (offers_in r) there)
+    (λ missing.
+    let end : place_of names sku ≡ length names = place-missing (bytes_eq sku) names missing in
+    let within : place < length names = are.0 in
+    absurd (omega (arith, at, end, within)))
 
-sku_code : (r : RosterValue) (names : List Text) (sku : Option Text) → is_unlisted r names (text_code names sku) ≡ true → (row : Charge) → row.sku ≡ sku → lists_row r row ≡ false
-unfolding text_code
-sku_code r names None out row is = rw is refl
-sku_code r names (Some sku) out row is =
+sku_code : (r : RosterValue) (names : List Text) (sku : Option Text) (found : SkuOffers) → AreOffersOf r names (text_code names sku) found → (row : Charge) → row.sku ≡ sku → sku_offers found ≡ offers_of_row r row
+unfolding text_code AreOffersOf
+sku_code r names None found are row is = rw is are
+sku_code r names (Some sku) found are row is =
     let next : 1 + place_of names sku ≡ suc (place_of names sku) = omega arith in
-    rw is (sku_place r names sku (place_of names sku) refl (rw next at out))
+    rw is (sku_place r names sku (place_of names sku) found refl (rw next at are))
 
 code_at : (names : List Text) (rows : List Charge) (k : ℕ) (row : Charge) → slice_get rows k ≡ Some row → get_or (map (λ row. text_code names row.sku) rows) k 0 ≡ text_code names row.sku
 code_at names [] k row is = absurd (let e : None ≡ Some row = is in cc)
 code_at names (x ∷ rows) zero row is = let same : x ≡ row = cc in ap (λ row. text_code names row.sku) same
 code_at names (x ∷ rows) (suc k) row is = code_at names rows k row is
 
--- so is the row at a place that isn't kept
+-- so of the row at a place
+pub place_found : (segments : List (List Charge)) (r : RosterValue) (listed : Listed) → AreListed segments r listed → (p : RowPlace) (row : Charge) → row_at segments p ≡ Some row
+    → IfSome (found_at listed p.segment (get_or (sku_codes (get_or segments p.segment [])) p.place 0)) (λ found. sku_offers found ≡ offers_of_row r row)
+unfolding AreListed
+place_found segments r listed are p row is =
+    let rows : List Charge = get_or segments p.segment [] in
+    let code : ℕ = get_or (sku_codes rows) p.place 0 in
+    by (names_of rows) code (found_at listed p.segment code) (code_at (names_of rows) rows p.place row is) (are p.segment code)
+  where
+    by : (names : List Text) (code : ℕ) (found : Option SkuOffers) → code ≡ text_code names row.sku → IfSome found (AreOffersOf r names code) → IfSome found (λ found. sku_offers found ≡ offers_of_row r row)
+    by names code None same h = search rules
+    by names code (Some found) same h = sku_code r names row.sku found (subst (λ code. AreOffersOf r names code found) same h) row refl
+
+-- where none lists it, none lists the row's SKU
+unlisted_row : (r : RosterValue) (row : Charge) → (length (offers_of_row r row) == 0) ≡ true → lists_row r row ≡ false
+unlisted_row r row none = by row.sku none
+  where
+    by : (sku : Option Text) → (length (option_map_or (offers_in r) sku []) == 0) ≡ true → option_map_or (lists_sku r) sku false ≡ false
+    by None e = refl
+    by (Some sku) e = sym (listed_by_offers r sku) ∙ ap not e
+
+-- and no commitment applies to the row at a place that isn't kept
 place_untouched : (segments : List (List Charge)) (r : RosterValue) (listed : Listed) (hour : ℕ) → AreListed segments r listed → HasHour r hour → (p : RowPlace) (row : Charge) → may_be_listed listed segments p ≡ false → row_at segments p ≡ Some row
     → IsUntouched r.commitments hour row
-unfolding AreListed
 place_untouched segments r listed hour are has p row out is =
-    let rows : List Charge = get_or segments p.segment [] in
-    let names : List Text = names_of rows in
-    let code : ℕ = get_or (sku_codes rows) p.place 0 in
-    let marked : is_marked_code listed p.segment code ≡ true = not_not (is_marked_code listed p.segment code) out in
-    let known : is_unlisted r names (text_code names row.sku) ≡ true = rw (code_at names rows p.place row is) at (are p.segment code marked) in
-    unlisted_untouched r row hour has (sku_code r names row.sku known row refl)
+    let code : ℕ = get_or (sku_codes (get_or segments p.segment [])) p.place 0 in
+    unlisted_untouched r row hour has (by (found_at listed p.segment code) (not_not (is_marked_code listed p.segment code) out) (place_found segments r listed are p row is))
   where
+    by : (found : Option SkuOffers) → is_nothing found ≡ true → IfSome found (λ found. sku_offers found ≡ offers_of_row r row) → lists_row r row ≡ false
+    by None marked h = absurd (cc)
+    by (Some found) marked h = unlisted_row r row (rw h at marked)
+
     not_not : (b : Bool) → not b ≡ false → b ≡ true
     not_not true e = refl
     not_not false e = sym e
@@ -369,3 +393,20 @@ pub without_unlisted : (segments : List (List Charge)) (r : RosterValue) (listed
     → AreOwnSums r.commitments (filter_map (row_at segments) (filter (may_be_listed listed segments) places)) key hour sums → AreOwnSums r.commitments (filter_map (row_at segments) places) key hour sums
 without_unlisted segments r listed places key hour sums are has own =
     without_untouched (row_at segments) (may_be_listed listed segments) r.commitments key hour sums (place_untouched segments r listed hour are has) places own
+
+-- ---- what is listed of one more row
+
+pub offers_more : (segments : List (Bor (List Charge))) (r : RosterValue) (places : List RowPlace) (i : ℕ) (d : RowPlace) (s : Bor (List Charge)) (offers : SkuOffers) → i < length places → All (HasRow (lent segments)) places
+    → s ≡ get_or segments (get_or places i d).segment s → ((row : Charge) → slice_get s.now (get_or places i d).place ≡ Some row → sku_offers offers ≡ offers_of_row r row)
+    → map (offers_of_row r) (filter_map (row_at (lent segments)) (take (i + 1) places)) ≡ map (offers_of_row r) (filter_map (row_at (lent segments)) (take i places)) ++ sku_offers offers ∷ []
+offers_more segments r places i d s offers below all is of =
+    let p : RowPlace = get_or places i d in
+    let inside : p.place < length s.now = subst (λ rows. p.place < length rows) (row_segment_there segments places i d s below all is) (all i d below).place in
+    ⊎_elim
+    (λ there.
+    let row : Charge = there.0 in
+    let more = lent-more segments places i d s row below all is there.2 in
+    ap (map (offers_of_row r)) more ∙ map-append (offers_of_row r) (filter_map (row_at (lent segments)) (take i places)) (row ∷ [])
+    ∙ ap (λ o. map (offers_of_row r) (filter_map (row_at (lent segments)) (take i places)) ++ o ∷ []) (sym (of row there.2)))
+    (λ past. let behind = past.0 in absurd (omega (arith, behind, inside)))
+    (slice_get_cases s.now (get_or places i d).place).1

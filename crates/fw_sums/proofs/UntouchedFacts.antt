@@ -114,11 +114,11 @@ no_purchases cs hour h = flat_map_none (purchase_lines_of hour) cs
 -- ---- what is left of a row of which nothing was taken is the row
 
 -- the parts of a test
-pub both_true : (a b : Bool) → (a && b) ≡ true → (a ≡ true) × (b ≡ true)
+both_true : (a b : Bool) → (a && b) ≡ true → (a ≡ true) × (b ≡ true)
 both_true true b h = (refl, h)
 both_true false b h = absurd (cc)
 
-pub not_false : (b : Bool) → not b ≡ true → b ≡ false
+not_false : (b : Bool) → not b ≡ true → b ≡ false
 not_false false h = refl
 not_false true h = absurd (cc)
 

@@ -85,12 +85,12 @@ impl Groups {
 
     // The sums of the lines of hours in turn from this one on, given those of their rows. Where no commitment has a line in an hour, its lines bring
     // what its rows do; so only the rows of other hours, of which nothing is kept, are sorted by hour.
-    pub(crate) fn of_hours<'a>(
+    pub(crate) fn of_hours<'r, 'a>(
         mut rows: Groups,
         key: &str,
         segments: &[&'a Columns],
-        roster: &Roster<'a>,
-        listed: &Listed,
+        roster: &'r Roster<'a>,
+        listed: &Listed<'r, 'a>,
         kept: &mut HourSums,
         hours: &OpenHours,
         from: u64,
@@ -119,12 +119,12 @@ impl Groups {
 
     // Counts the lines of the hours, where their rows are counted; those of the open hours are at these places. The first place of either list
     // is of this hour.
-    fn add_hours<'a>(
+    fn add_hours<'r, 'a>(
         &mut self,
         key: &str,
         segments: &[&'a Columns],
-        roster: &Roster<'a>,
-        listed: &Listed,
+        roster: &'r Roster<'a>,
+        listed: &Listed<'r, 'a>,
         kept: &mut HourSums,
         by_hour: &[Vec<HourPlace>],
         touched: &[bool],
@@ -161,12 +161,12 @@ impl Groups {
 
     // Counts the lines of an hour whose rows are counted, and are at these places where nothing is kept of the hour. What the commitments bring to it
     // is taken from what is kept, or found and kept.
-    fn add_hour<'a>(
+    fn add_hour<'r, 'a>(
         &mut self,
         key: &str,
         segments: &[&'a Columns],
-        roster: &Roster<'a>,
-        listed: &Listed,
+        roster: &'r Roster<'a>,
+        listed: &Listed<'r, 'a>,
         kept: &mut HourSums,
         places: &[HourPlace],
         hour: u32,
@@ -192,12 +192,12 @@ impl Groups {
 
     // What commitments bring to an hour whose rows are at these places: their own lines, and what corrects the rows that they took of. A row whose SKU none
     // of them lists isn't lent.
-    pub(crate) fn of_commitments<'a>(
+    pub(crate) fn of_commitments<'r, 'a>(
         alloc: Global,
         key: &str,
         segments: &[&'a Columns],
-        roster: &Roster<'a>,
-        listed: &Listed,
+        roster: &'r Roster<'a>,
+        listed: &Listed<'r, 'a>,
         places: &[HourPlace],
         hour: u32,
     ) -> Result<Groups, AllocError>
@@ -206,11 +206,14 @@ impl Groups {
         requires there { All (IsThere (lent segments.now)) places.now }
         ensures { IfOk result (AreOwnSums roster.now.commitments (rows_at (lent segments.now) places.now) key.now hour) }
     {
-        let listed = listed.places(alloc, segments, places)?;
-        let rows = rows_lent(alloc, segments, listed.as_slice())?;
+        let at = listed.places(alloc, segments, places)?;
+        let at = at.as_slice();
+        let offers = listed.offers_at(alloc, segments, roster, at)?;
+        let rows = rows_lent(alloc, segments, at)?;
         let each = references(alloc, rows.as_slice())?;
-        let cover = roster.cover(alloc, each.as_slice(), hour)?;
-        let own = own_lines(alloc, roster, each.as_slice(), &cover, hour)?;
+        let each = each.as_slice();
+        let cover = roster.cover_offered(alloc, each, offers.as_slice(), hour)?;
+        let own = own_lines(alloc, roster, each, &cover, hour)?;
         let mut sums = Groups::new(alloc);
         sums.add_lines(key, own.as_slice())?;
         sums.correct_rows(key, rows.as_slice(), cover.row_left.as_slice())?;

@@ -63,13 +63,13 @@ impl OpenHours {
     }
 
     // What commitments bring to the hour at a place, where it is open. Where memory is short nothing is found.
-    fn find<'a>(
+    fn find<'r, 'a>(
         &self,
         alloc: Global,
         key: &str,
         segments: &[&'a Columns],
-        roster: &Roster<'a>,
-        listed: &Listed,
+        roster: &'r Roster<'a>,
+        listed: &Listed<'r, 'a>,
         from: u64,
         place: usize,
     ) -> Option<HourSum>
@@ -94,13 +94,13 @@ impl OpenHours {
     // The same of each hour that this worker takes: the next one before the end that no worker took yet, again and again. The workers begin at most `HOURS_AT_ONCE` hours before the
     // end. Commitments aren't spread evenly over a
     // range, so some hours cost more than others; a worker that is done with one takes another, and none waits while there are hours left.
-    fn find_each<'a>(
+    fn find_each<'r, 'a>(
         &self,
         alloc: Global,
         key: &str,
         segments: &[&'a Columns],
-        roster: &Roster<'a>,
-        listed: &Listed,
+        roster: &'r Roster<'a>,
+        listed: &Listed<'r, 'a>,
         from: u64,
         next: &AtomicUsize,
         end: usize,
@@ -122,14 +122,14 @@ impl OpenHours {
     }
 
     // The same of at most `HOURS_AT_ONCE` hours from a place on, found by so many workers, each in a thread of its own.
-    fn find_by_workers<'a>(
+    fn find_by_workers<'r, 'a>(
         &self,
         rt: &(impl Threads + Sync),
         alloc: Global,
         key: &str,
         segments: &[&'a Columns],
-        roster: &Roster<'a>,
-        listed: &Listed,
+        roster: &'r Roster<'a>,
+        listed: &Listed<'r, 'a>,
         from: u64,
         first: usize,
         workers: u32,
@@ -152,14 +152,14 @@ impl OpenHours {
 
     // Keeps what commitments bring to the open hours, found by so many workers, while there is room. A single worker leaves that to whoever adds
     // the hours up.
-    pub(crate) fn keep_all<'a>(
+    pub(crate) fn keep_all<'r, 'a>(
         &self,
         rt: &(impl Threads + Sync),
         alloc: Global,
         key: &str,
         segments: &[&'a Columns],
-        roster: &Roster<'a>,
-        listed: &Listed,
+        roster: &'r Roster<'a>,
+        listed: &Listed<'r, 'a>,
         kept: &mut HourSums,
         from: u64,
         workers: u32,

@@ -133,11 +133,11 @@ fn open_hours(
 }
 
 // The totals, given the sums of the range's rows.
-fn totals_of<'a>(
+fn totals_of<'r, 'a>(
     segments: &[&'a Columns],
     rows: Groups,
-    roster: &Roster<'a>,
-    listed: &Listed,
+    roster: &'r Roster<'a>,
+    listed: &Listed<'r, 'a>,
     kept: &mut HourSums,
     hours: &OpenHours,
     query: &Query<'_>,

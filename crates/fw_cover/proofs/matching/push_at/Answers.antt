@@ -12,5 +12,5 @@ returns-clause-pairs c = λ all was.
     let there : c.index_mut.result.now.items ≡ get_or (map items c.args.lists.now.items) c.args.rank [] =
     ap items c.index_mut.ensures.value ∙ sym (get_or-map items c.args.lists.now.items c.args.rank c.index_mut.result.now [] below) in
     put_pair (vec_len c.args.lists.now) all (record { rank = c.args.rank; pair = c.args.pair }) (map items c.args.lists.now.items) _ c.requires was
-    (map-set items c.args.lists.now.items c.args.rank c.push.new.self
-    ∙ ap (set (map items c.args.lists.now.items) c.args.rank) (c.in_ok-push.ensures.items ∙ ap (λ l. l ++ c.args.pair ∷ []) there))
+    (map-set items c.args.lists.now.items c.args.rank c.push_pair.new.list
+    ∙ ap (set (map items c.args.lists.now.items) c.args.rank) (c.in_ok-push_pair.ensures ∙ ap (λ l. l ++ c.args.pair ∷ []) there))
