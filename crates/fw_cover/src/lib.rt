@@ -8,7 +8,8 @@
 //!
 //! The cost of an hour grows as the rows do, the commitments, and the pairs of a row and a commitment that lists its SKU. What the
 //! commitments list is put into a table by SKU once, where each row finds its own SKU; a [`Roster`] keeps the table for the hours that
-//! follow. The pairs of each commitment go into a list of their own, in the order of the rows, and only such a list is sorted, by rate.
+//! follow. Whoever knows which rows have one SKU looks it up once for all of them ([`Roster::offers`]) and hands in what was found
+//! ([`Roster::cover_offered`]). The pairs of each commitment go into a list of their own, in the order of the rows, and only such a list is sorted, by rate.
 //!
 //! What was taken stands commitment by commitment ([`takes_stand_by_commitment`]), a commitment takes what it can
 //! ([`commitments_take_what_they_can`]), and a row that no commitment applies to changes nothing ([`untouched_rows_change_nothing`]).

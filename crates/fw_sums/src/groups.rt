@@ -191,7 +191,7 @@ impl Groups {
     }
 
     // What commitments bring to an hour whose rows are at these places: their own lines, and what corrects the rows that they took of. A row whose SKU none
-    // of them lists isn't lent.
+    // of them lists isn't lent; what they list of the SKUs of the others was found before, by code.
     pub(crate) fn of_commitments<'r, 'a>(
         alloc: Global,
         key: &str,
