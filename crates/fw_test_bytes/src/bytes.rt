@@ -1,4 +1,5 @@
 //! Fields, written and read, and a row's tags.
+use crate::ended::check;
 use fw_bytes::{
     ReadError, i64_at, put_byte, put_i64, put_text, put_u32, put_u64, str_at, text_len, u32_at,
     u64_at,
@@ -39,13 +40,12 @@ fn put(out: &mut Vec<u8>, field: Field) -> Result<(), AllocError> {
     }
 }
 
-/// These fields, one after the other.
-fn written(alloc: Global) -> Result<Vec<u8>, AllocError> {
-    let mut out = Vec::new(alloc);
+/// Writes these fields, one after the other.
+fn put_each(out: &mut Vec<u8>) -> Result<(), AllocError> {
     for field in WRITTEN {
-        put(&mut out, *field)?;
+        put(out, *field)?;
     }
-    Ok(out)
+    Ok(())
 }
 
 /// The bytes of these fields.
@@ -54,17 +54,16 @@ const FIELDS: [u8; 28] = [
     0, 97, 98, 9,
 ];
 
-/// Whether the fields are written as their bytes.
+/// Whether the fields are written as their bytes, and a text of two letters has the length of its field.
 fn are_written(alloc: Global) -> Result<bool, AllocError> {
-    let out = written(alloc)?;
-    Ok(out.as_slice() == FIELDS.as_slice())
+    let mut out = Vec::new(alloc);
+    put_each(&mut out)?;
+    Ok(out.as_slice() == FIELDS.as_slice() && text_len("ab") == 6)
 }
 
 #[test]
 fn fields_are_written(rt: HostRuntime) -> Result<(), Fail> {
-    let are_written = are_written(rt.alloc())?;
-    assert!(rt; are_written && text_len("ab") == 6);
-    Ok(())
+    check(&rt, are_written(rt.alloc()))
 }
 
 #[test]
@@ -98,7 +97,5 @@ fn are_read(alloc: Global) -> Result<bool, ReadError> {
 
 #[test]
 fn tags_are_read(rt: HostRuntime) -> Result<(), Fail> {
-    let are_read = are_read(rt.alloc())?;
-    assert!(rt; are_read);
-    Ok(())
+    check(&rt, are_read(rt.alloc()))
 }

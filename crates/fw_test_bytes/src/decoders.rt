@@ -1,4 +1,5 @@
 //! What the decoders read, and the place of each fault.
+use crate::ended::check_all;
 use crate::vectors::{
     Change, DEAR, FAULTS, FULL, FULL_CHANGES, FULL_FRONTS, Front, POLICY, POLICY_CHANGES,
     POLICY_FRONTS, SPEND, SPEND_CHANGES, TAX, TAX_CHANGES, USAGE, USAGE_CHANGES, USAGE_FRONTS,
@@ -101,12 +102,18 @@ impl Spelled for Entry {
     }
 }
 
-/// The parts, one after the other.
-pub(crate) fn joined(alloc: Global, parts: &[&[u8]]) -> Result<Vec<u8>, AllocError> {
-    let mut bytes = Vec::new(alloc);
+/// Adds the parts, one after the other.
+fn join(bytes: &mut Vec<u8>, parts: &[&[u8]]) -> Result<(), AllocError> {
     for part in parts {
         bytes.extend_from_slice(part)?;
     }
+    Ok(())
+}
+
+/// The parts, one after the other.
+pub(crate) fn joined(alloc: Global, parts: &[&[u8]]) -> Result<Vec<u8>, AllocError> {
+    let mut bytes = Vec::new(alloc);
+    join(&mut bytes, parts)?;
     Ok(bytes)
 }
 
@@ -124,12 +131,18 @@ fn command_shown(alloc: Global, command: &Command) -> Result<String, AllocError>
     }
 }
 
-/// The rows of a post, as values print.
-fn rows_shown(alloc: Global, rows: &Columns) -> Result<String, AllocError> {
-    let mut all = Vec::new(alloc);
+/// Adds the rows of a post.
+fn push_rows(all: &mut Vec<Row>, rows: &Columns) -> Result<(), AllocError> {
     for place in 0..rows.len() {
         all.push(rows.row(place)?)?;
     }
+    Ok(())
+}
+
+/// The rows of a post, as values print.
+fn rows_shown(alloc: Global, rows: &Columns) -> Result<String, AllocError> {
+    let mut all = Vec::new(alloc);
+    push_rows(&mut all, rows)?;
     format!(in alloc; "Post({all:?})")
 }
 
@@ -227,9 +240,7 @@ fn wrong_value(alloc: Global) -> Result<Option<&'static str>, ReadError> {
 
 #[test]
 fn values_are_read_and_written(rt: HostRuntime) -> Result<(), Fail> {
-    let wrong = wrong_value(rt.alloc())?;
-    assert!(rt; wrong.is_none(), "{wrong:?}");
-    Ok(())
+    check_all(&rt, wrong_value(rt.alloc()))
 }
 
 /// The place of a decoder's fault in these bytes; `None` where it read a value. A fault before the bytes is at no place of a table.
@@ -318,9 +329,7 @@ fn wrong_change_of_all(alloc: Global) -> Result<Option<(usize, Change)>, AllocEr
 
 #[test]
 fn changes_have_their_faults(rt: HostRuntime) -> Result<(), Fail> {
-    let wrong = wrong_change_of_all(rt.alloc())?;
-    assert!(rt; wrong.is_none(), "{wrong:?}");
-    Ok(())
+    check_all(&rt, wrong_change_of_all(rt.alloc()))
 }
 
 /// The first front that has no fault or has it elsewhere.
@@ -357,9 +366,7 @@ fn wrong_front_of_all(alloc: Global) -> Result<Option<(usize, Front)>, AllocErro
 
 #[test]
 fn fronts_have_their_faults(rt: HostRuntime) -> Result<(), Fail> {
-    let wrong = wrong_front_of_all(rt.alloc())?;
-    assert!(rt; wrong.is_none(), "{wrong:?}");
-    Ok(())
+    check_all(&rt, wrong_front_of_all(rt.alloc()))
 }
 
 /// Whether the bytes that the parts make have their fault at this place, or none.
@@ -384,7 +391,5 @@ fn wrong_fault(alloc: Global) -> Result<Option<usize>, AllocError> {
 
 #[test]
 fn faults_have_their_places(rt: HostRuntime) -> Result<(), Fail> {
-    let wrong = wrong_fault(rt.alloc())?;
-    assert!(rt; wrong.is_none(), "{wrong:?}");
-    Ok(())
+    check_all(&rt, wrong_fault(rt.alloc()))
 }

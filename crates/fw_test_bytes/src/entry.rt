@@ -3,6 +3,7 @@ ghost use Rattle.std.specs.Prelude.{IfOk};
 ghost use Rattle.fw_entry.specs.Spelling.{HasRowCount};
 ghost use Rattle.fw_entry.specs.View.{command_view};
 
+use crate::ended::{check_all, none_wrong};
 use fw_charge::{Category, Row, RowFields, Tags};
 use fw_columns::Columns;
 use fw_entry::{Command, Entry, EntryFault, is_origin};
@@ -102,9 +103,7 @@ fn wrong_parts(alloc: Global) -> Result<Option<usize>, EntryFault> {
 
 #[test]
 fn parts_make_an_entry_or_none(rt: HostRuntime) -> Result<(), Fail> {
-    let wrong = wrong_parts(rt.alloc())?;
-    assert_eq!(rt; wrong, None);
-    Ok(())
+    check_all(&rt, wrong_parts(rt.alloc()))
 }
 
 const NAMES: [&[u8]; 7] = [b"a", b"Z", b"0", b"-", b"_", b".", &[b'x'; 64]];
@@ -130,6 +129,6 @@ fn first_that(texts: &[&[u8]], is: bool) -> Option<usize> {
 
 #[test]
 fn names_of_origins(rt: HostRuntime) {
-    let wrong = (first_that(&NAMES, false), first_that(&NO_NAMES, true));
-    assert_eq!(rt; wrong, (None, None));
+    none_wrong(&rt, first_that(&NAMES, false));
+    none_wrong(&rt, first_that(&NO_NAMES, true));
 }

@@ -9,6 +9,8 @@ mod bytes;
 #[cfg(test)]
 mod decoders;
 #[cfg(test)]
+mod ended;
+#[cfg(test)]
 mod entry;
 #[cfg(test)]
 mod persistent;

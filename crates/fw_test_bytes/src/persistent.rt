@@ -1,4 +1,5 @@
 //! Sequences and counters, added to and read back.
+use crate::ended::{check, check_all};
 use fw_persistent::{Counters, Sequence};
 use std::alloc::{AllocError, Global};
 use std::sync::Arc;
@@ -41,9 +42,7 @@ fn first_wrong_length(alloc: Global) -> Result<Option<u32>, AllocError> {
 
 #[test]
 fn each_item_is_at_its_place(rt: HostRuntime) -> Result<(), Fail> {
-    let wrong = first_wrong_length(rt.alloc())?;
-    assert!(rt; wrong.is_none(), "{wrong:?}");
-    Ok(())
+    check_all(&rt, first_wrong_length(rt.alloc()))
 }
 
 /// Whether a sequence stays as it was beside one that was made of it.
@@ -61,9 +60,7 @@ fn old_stays(alloc: Global) -> Result<bool, AllocError> {
 
 #[test]
 fn a_push_leaves_the_sequence_as_it_was(rt: HostRuntime) -> Result<(), Fail> {
-    let stayed = old_stays(rt.alloc())?;
-    assert!(rt; stayed);
-    Ok(())
+    check(&rt, old_stays(rt.alloc()))
 }
 
 /// Takes what threads may share.
@@ -93,38 +90,39 @@ fn counted(alloc: Global, texts: &[&str]) -> Result<Counters, AllocError> {
 /// Texts, and how often each is among those counted below.
 const COUNTS: &[(&str, u64)] = &[("a", 3), ("ab", 1), ("b", 1), ("c", 1), ("", 1), ("aa", 0)];
 
+/// The first text of which counters have another count.
+fn first_of_another_count(counters: &Counters) -> Option<&'static str> {
+    for (text, count) in COUNTS {
+        if counters.count(text) != *count {
+            return Some(text);
+        }
+    }
+    None
+}
+
 /// The first text with another count.
 fn first_miscounted(alloc: Global) -> Result<Option<&'static str>, AllocError> {
     let counters = Box::new(alloc, counted(alloc, &["b", "a", "c", "a", "", "ab", "a"])?)?;
-    for (text, count) in COUNTS {
-        if counters.count(text) != *count {
-            return Ok(Some(text));
-        }
-    }
-    Ok(None)
+    Ok(first_of_another_count(&counters))
 }
 
 #[test]
 fn each_text_has_its_count(rt: HostRuntime) -> Result<(), Fail> {
-    let wrong = first_miscounted(rt.alloc())?;
-    assert!(rt; wrong.is_none(), "{wrong:?}");
-    Ok(())
+    check_all(&rt, first_miscounted(rt.alloc()))
 }
 
-/// How often the old counters have `c`, the new ones have it, and a copy of these has `b`.
-fn old_and_new(alloc: Global) -> Result<(u64, u64, u64), AllocError> {
+/// Whether the new counters have `c` once and the old ones don't, and a copy of the new ones has `b` once.
+fn old_ones_stay(alloc: Global) -> Result<bool, AllocError> {
     let old = Box::new(alloc, counted(alloc, &["b", "a"])?)?;
     let text = shared(alloc, "c")?;
     let new = Box::new(alloc, old.raised(alloc, &text)?)?;
     let copy = Box::new(alloc, new.copy()?)?;
-    Ok((old.count("c"), new.count("c"), copy.count("b")))
+    Ok(old.count("c") == 0 && new.count("c") == 1 && copy.count("b") == 1)
 }
 
 #[test]
 fn raised_counters_leave_the_old_ones(rt: HostRuntime) -> Result<(), Fail> {
-    let counts = old_and_new(rt.alloc())?;
-    assert!(rt; counts == (0, 1, 1), "{counts:?}");
-    Ok(())
+    check(&rt, old_ones_stay(rt.alloc()))
 }
 
 /// Whether counters lend a text that equals this one.
@@ -145,18 +143,21 @@ fn shares_its_texts(alloc: Global) -> Result<bool, AllocError> {
 
 #[test]
 fn texts_are_shared(rt: HostRuntime) -> Result<(), Fail> {
-    let shared = shares_its_texts(rt.alloc())?;
-    assert!(rt; shared);
+    check(&rt, shares_its_texts(rt.alloc()))
+}
+
+/// Adds the text of a number.
+fn push_number(alloc: Global, texts: &mut Vec<Arc<String>>, number: u8) -> Result<(), AllocError> {
+    texts.push(Arc::new(alloc, format!(in alloc; "{number:03}")?)?)?;
     Ok(())
 }
 
-/// The texts of the numbers below 255, which rise.
-fn rising(alloc: Global) -> Result<Vec<Arc<String>>, AllocError> {
-    let mut texts = Vec::new(alloc);
+/// Adds the texts of the numbers below 255, which rise.
+fn push_rising(alloc: Global, texts: &mut Vec<Arc<String>>) -> Result<(), AllocError> {
     for number in 0..255 {
-        texts.push(Arc::new(alloc, format!(in alloc; "{number:03}")?)?)?;
+        push_number(alloc, texts, number)?;
     }
-    Ok(texts)
+    Ok(())
 }
 
 /// How many of the texts have three owners.
@@ -192,19 +193,33 @@ fn way(
 }
 
 /// The longest way down to one of the texts.
-fn longest_way(alloc: Global) -> Result<usize, AllocError> {
-    let texts = Box::new(alloc, rising(alloc)?)?;
-    let counters = Box::new(alloc, counted_once(alloc, texts.as_slice())?)?;
+fn longest_way(
+    alloc: Global,
+    counters: &Counters,
+    texts: &[Arc<String>],
+) -> Result<usize, AllocError> {
     let mut longest = 0;
-    for text in texts.as_slice() {
-        longest = longest.max(way(alloc, &counters, texts.as_slice(), text)?);
+    for text in texts {
+        longest = longest.max(way(alloc, counters, texts, text)?);
     }
     Ok(longest)
 }
 
+/// The longest way where it isn't 8.
+fn wrong_way(alloc: Global, texts: &mut Vec<Arc<String>>) -> Result<Option<usize>, AllocError> {
+    push_rising(alloc, texts)?;
+    let counters = Box::new(alloc, counted_once(alloc, texts)?)?;
+    let longest = longest_way(alloc, &counters, texts)?;
+    Ok(if longest == 8 { None } else { Some(longest) })
+}
+
+/// The longest way among the counted texts where it isn't 8.
+fn wrong_longest_way(alloc: Global) -> Result<Option<usize>, AllocError> {
+    let mut texts = Vec::new(alloc);
+    wrong_way(alloc, &mut texts)
+}
+
 #[test]
 fn rising_texts_make_no_high_tree(rt: HostRuntime) -> Result<(), Fail> {
-    let longest = longest_way(rt.alloc())?;
-    assert!(rt; longest == 8, "{longest}");
-    Ok(())
+    check_all(&rt, wrong_longest_way(rt.alloc()))
 }

@@ -1,5 +1,6 @@
 //! Entries, groups, segments and states: bytes by hand, read and written.
 use crate::decoders::joined;
+use crate::ended::{check, check_all};
 use crate::vectors::TAX;
 use fw_entry_bytes::Form;
 use fw_segment::{
@@ -185,26 +186,35 @@ fn faulty_fronts(alloc: Global, what: What, bytes: &[u8]) -> Result<usize, Alloc
     Ok(count)
 }
 
-/// How many changes of one byte, each to each other value, are noticed: the changed bytes are read and written again as they are, or they are
-/// refused with a fault within them. Each should be.
+/// Whether changed bytes are read and written again as they are, or refused with a fault within them.
+fn is_noticed(alloc: Global, what: What, changed: &[u8]) -> Result<bool, AllocError> {
+    match again(alloc, what, changed) {
+        Ok(written) => Ok(written.as_slice() == changed),
+        Err(DecodeFault::Corrupt { at }) => Ok(at <= changed.len()),
+        Err(DecodeFault::NoMemory) => Err(AllocError),
+    }
+}
+
+/// Whether it is noticed that the byte at a place is another.
+fn is_change_noticed(
+    alloc: Global,
+    what: What,
+    bytes: &[u8],
+    place: usize,
+    byte: u8,
+) -> Result<bool, AllocError> {
+    let front = bytes.get(..place).unwrap_or(bytes);
+    let rest = bytes.get(place.saturating_add(1)..).unwrap_or(&[]);
+    let changed = joined(alloc, &[front, &[byte], rest])?;
+    is_noticed(alloc, what, &changed)
+}
+
+/// How many changes of one byte, each to each other value, are noticed. Each should be.
 fn noticed_changes(alloc: Global, what: What, bytes: &[u8]) -> Result<usize, AllocError> {
     let mut count = 0_usize;
-    for place in 0..bytes.len() {
+    for (place, byte) in bytes.iter().enumerate() {
         for other in 1..=255_u8 {
-            let changed = joined(
-                alloc,
-                &[
-                    &bytes[..place],
-                    &[bytes[place] ^ other],
-                    &bytes[place + 1..],
-                ],
-            )?;
-            let is_noticed = match again(alloc, what, &changed) {
-                Ok(written) => written.as_slice() == changed.as_slice(),
-                Err(DecodeFault::Corrupt { at }) => at <= changed.len(),
-                Err(DecodeFault::NoMemory) => return Err(AllocError),
-            };
-            if is_noticed {
+            if is_change_noticed(alloc, what, bytes, place, *byte ^ other)? {
                 count = count.saturating_add(1);
             }
         }
@@ -224,9 +234,7 @@ fn first_written_otherwise(alloc: Global) -> Result<Option<usize>, AllocError> {
 
 #[test]
 fn spellings_by_hand(rt: HostRuntime) -> Result<(), Fail> {
-    let wrong = first_written_otherwise(rt.alloc())?;
-    assert!(rt; wrong.is_none(), "{wrong:?}");
-    Ok(())
+    check_all(&rt, first_written_otherwise(rt.alloc()))
 }
 
 /// The place of the first of the bytes of which some front is read.
@@ -241,12 +249,10 @@ fn first_with_a_read_front(alloc: Global) -> Result<Option<usize>, AllocError> {
 
 #[test]
 fn no_front_is_read(rt: HostRuntime) -> Result<(), Fail> {
-    let wrong = first_with_a_read_front(rt.alloc())?;
-    assert!(rt; wrong.is_none(), "{wrong:?}");
-    Ok(())
+    check_all(&rt, first_with_a_read_front(rt.alloc()))
 }
 
-/// The place of the first of the bytes of which some change is not noticed, and how many changes there are in all.
+/// The place of the first of the bytes of which some change is not noticed, and how many changes there are up to it.
 fn changes_of_all(alloc: Global) -> Result<(Option<usize>, usize), AllocError> {
     let mut all = 0_usize;
     for (place, (what, bytes)) in SPELLED.iter().enumerate() {
@@ -259,11 +265,19 @@ fn changes_of_all(alloc: Global) -> Result<(Option<usize>, usize), AllocError> {
     Ok((None, all))
 }
 
+/// The same where a change is not noticed, or there are not as many as there are.
+fn wrong_changes(alloc: Global) -> Result<Option<(Option<usize>, usize)>, AllocError> {
+    let found = changes_of_all(alloc)?;
+    Ok(if found == (None, 157_590) {
+        None
+    } else {
+        Some(found)
+    })
+}
+
 #[test]
 fn each_change_of_a_byte_is_noticed(rt: HostRuntime) -> Result<(), Fail> {
-    let noticed = changes_of_all(rt.alloc())?;
-    assert!(rt; noticed == (None, 157_590), "{noticed:?}");
-    Ok(())
+    check_all(&rt, wrong_changes(rt.alloc()))
 }
 
 /// Changes of a byte: its place, what it is then, and the place of the fault.
@@ -347,16 +361,12 @@ fn first_wrong_break(alloc: Global) -> Result<Option<usize>, AllocError> {
 
 #[test]
 fn changed_bytes_have_their_faults(rt: HostRuntime) -> Result<(), Fail> {
-    let wrong = first_wrong_change(rt.alloc())?;
-    assert!(rt; wrong.is_none(), "{wrong:?}");
-    Ok(())
+    check_all(&rt, first_wrong_change(rt.alloc()))
 }
 
 #[test]
 fn broken_bytes_have_their_faults(rt: HostRuntime) -> Result<(), Fail> {
-    let wrong = first_wrong_break(rt.alloc())?;
-    assert!(rt; wrong.is_none(), "{wrong:?}");
-    Ok(())
+    check_all(&rt, first_wrong_break(rt.alloc()))
 }
 
 /// The segments of two posts of one row each, part by part, in one segment or in two, row by row or by column; and the parts as they are written again: the
@@ -397,28 +407,26 @@ fn is_cut_kept(alloc: Global, cut: &[&[u8]], again: &[&[u8]]) -> Result<bool, Al
     is_written_as(alloc, What::State, &bytes, &written)
 }
 
-/// How many of the cuts of two posts of one row each are read, and written in the same segments.
-fn cuts_of_one_state(alloc: Global) -> Result<usize, AllocError> {
-    let mut count = 0_usize;
-    for (cut, again) in CUTS {
-        if is_cut_kept(alloc, cut, again)? {
-            count = count.saturating_add(1);
+/// The place of the first of the cuts of two posts of one row each that is not read, or not written in the same segments.
+fn wrong_cut(alloc: Global) -> Result<Option<usize>, AllocError> {
+    for (i, (cut, again)) in CUTS.iter().enumerate() {
+        if !is_cut_kept(alloc, cut, again)? {
+            return Ok(Some(i));
         }
     }
-    Ok(count)
+    Ok(None)
 }
 
 #[test]
 fn rows_are_cut_in_any_way(rt: HostRuntime) -> Result<(), Fail> {
-    let count = cuts_of_one_state(rt.alloc())?;
-    assert!(rt; count == CUTS.len(), "{count}");
-    Ok(())
+    check_all(&rt, wrong_cut(rt.alloc()))
 }
 
 /// Whether a state whose rows stand one by one is read, and written by column.
 #[test]
 fn rows_one_by_one_are_read(rt: HostRuntime) -> Result<(), Fail> {
-    let is_read = is_written_as(rt.alloc(), What::State, &STORED_ROWS, &STORED_RUN)?;
-    assert!(rt; is_read);
-    Ok(())
+    check(
+        &rt,
+        is_written_as(rt.alloc(), What::State, &STORED_ROWS, &STORED_RUN),
+    )
 }
