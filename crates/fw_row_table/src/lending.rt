@@ -301,6 +301,9 @@ impl<'a> LentTags<'a> {
     pub fn group(self, key: &str) -> &'a str
         ensures { result.now ≡ group_of key.now (tags_lent self.entry) }
     {
+        if let LentTags::Listed { names, list } = self {
+            return group_listed(names, list, key);
+        }
         let mut rest = self;
         while let Some((tag, after)) = rest.split_first() {
             if tag.key == key {
@@ -310,6 +313,18 @@ impl<'a> LentTags<'a> {
         }
         ""
     }
+}
+
+// The group under a key of tags that columns keep: the text under it, or the empty text. A text that is under another key isn't looked up.
+fn group_listed<'a>(names: &'a Names, list: &'a [u32], key: &str) -> &'a str
+    ensures { result.now ≡ group_of key.now (tags_of names.now list.now) }
+{
+    for tag in 0..list.len() / 2 {
+        if text_at(names, list[2 * tag]) == key {
+            return text_at(names, list[2 * tag + 1]);
+        }
+    }
+    ""
 }
 
 // The first of tags that are kept as they are, and those behind it.

@@ -33,5 +33,5 @@ loop-tag-preserved c =
 pub returns : goal.returns
 unfolding tags_split
 returns c =
-    let none : tags_lent c.loop-tag.rest ≡ [] = c.split_first.ensures ∙ ap tags_split c.in_default.is in
+    let none : tags_lent c.loop-tag.rest ≡ [] = c.split_first.ensures ∙ ap tags_split c.in_default-split_first.is in
     sym (group_nowhere c.args.key.now) ∙ (ap (group_of c.args.key.now) (sym none) ∙ c.loop-tag.invariant)
