@@ -1,4 +1,5 @@
 //! Groups of each size: what one takes, and what a stop leaves of it.
+use crate::ended::check_all;
 use crate::model::Model;
 use crate::steps::{CREATING, Place, Plan, Step, answers};
 use crate::stops::{Runs, sweep_choices};
@@ -6,6 +7,7 @@ use fw_disk::{Choice, Mode};
 use fw_group::EventAnswer;
 use fw_recover::StoreFault;
 use std::alloc::{AllocError, Global};
+use std::io::Print;
 use std::process::Abort;
 use std::test::Fail;
 
@@ -68,28 +70,39 @@ fn sweep_sizes(
     Ok((all, None))
 }
 
+/// Ends a test of runs of groups: no answer may be wrong, and there have to be enough runs.
+fn check_sizes<R: Abort + Print>(
+    rt: &R,
+    what: &str,
+    swept: Result<(u64, Option<(usize, Choice, u64, usize)>), StoreFault>,
+) -> Result<(), Fail> {
+    let (runs, wrong) = swept?;
+    assert!(rt; wrong.is_none() && runs >= 225, "{runs} {wrong:?}");
+    println!(rt; "{what}: {runs} runs of groups")?;
+    Ok(())
+}
+
 #[test]
 fn a_group_stands_whole_where_each_call_fails(rt: HostRuntime) -> Result<(), Fail> {
-    let (runs, wrong) = sweep_sizes(rt.alloc(), Plan::First(Mode::After))?;
-    assert!(rt; wrong.is_none() && runs >= 225, "{runs} {wrong:?}");
-    println!(rt; "each call fails: {runs} runs of groups")?;
-    Ok(())
+    check_sizes(
+        &rt,
+        "each call fails",
+        sweep_sizes(rt.alloc(), Plan::First(Mode::After)),
+    )
 }
 
 #[test]
 fn a_group_stands_whole_where_one_call_fails(rt: HostRuntime) -> Result<(), Fail> {
-    let (runs, wrong) = sweep_sizes(rt.alloc(), Plan::First(Mode::Once))?;
-    assert!(rt; wrong.is_none() && runs >= 225, "{runs} {wrong:?}");
-    println!(rt; "one call fails: {runs} runs of groups")?;
-    Ok(())
+    check_sizes(
+        &rt,
+        "one call fails",
+        sweep_sizes(rt.alloc(), Plan::First(Mode::Once)),
+    )
 }
 
 #[test]
 fn a_group_stands_whole_where_four_calls_fail(rt: HostRuntime) -> Result<(), Fail> {
-    let (runs, wrong) = sweep_sizes(rt.alloc(), Plan::Four)?;
-    assert!(rt; wrong.is_none() && runs >= 225, "{runs} {wrong:?}");
-    println!(rt; "four calls fail: {runs} runs of groups")?;
-    Ok(())
+    check_sizes(&rt, "four calls fail", sweep_sizes(rt.alloc(), Plan::Four))
 }
 
 /// The first answer to two groups of a size that isn't right.
@@ -115,13 +128,19 @@ fn quiet(importers: usize) -> Place {
     }
 }
 
+/// The first size with such an answer, and the answer's place.
+fn first_wrong_size(alloc: Global) -> Result<Option<(usize, usize)>, StoreFault> {
+    for count in 2..65 {
+        if let Some(at) = first_wrong(alloc, count)? {
+            return Ok(Some((count, at)));
+        }
+    }
+    Ok(None)
+}
+
 #[test]
 fn a_group_has_up_to_64_entries(rt: HostRuntime) -> Result<(), Fail> {
-    for count in 2..65 {
-        let wrong = first_wrong(rt.alloc(), count)?;
-        assert!(rt; wrong.is_none(), "{count}: {wrong:?}");
-    }
-    Ok(())
+    check_all(&rt, first_wrong_size(rt.alloc()))
 }
 
 /// Sixty-five importers post an entry each. Then a group is taken, another while that is in hand, and another after it.
@@ -148,9 +167,15 @@ fn took(answers: &[EventAnswer], place: usize) -> Option<usize> {
     }
 }
 
+/// How many were taken where it isn't 64, then none, then one.
+fn wrongly_taken(alloc: Global) -> Result<Option<[Option<usize>; 3]>, StoreFault> {
+    match taken(alloc)? {
+        [Some(64), Some(0), Some(1)] => Ok(None),
+        taken => Ok(Some(taken)),
+    }
+}
+
 #[test]
 fn the_65th_waits_for_the_next_group(rt: HostRuntime) -> Result<(), Fail> {
-    let taken = taken(rt.alloc())?;
-    assert_eq!(rt; taken, [Some(64), Some(0), Some(1)]);
-    Ok(())
+    check_all(&rt, wrongly_taken(rt.alloc()))
 }

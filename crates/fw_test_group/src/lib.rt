@@ -4,6 +4,8 @@
 #![tactic(auto)]
 
 #[cfg(test)]
+mod ended;
+#[cfg(test)]
 mod generations;
 #[cfg(test)]
 mod groups;

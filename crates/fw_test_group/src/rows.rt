@@ -1,11 +1,11 @@
 //! Runs in a new warehouse, and what each event answers.
+use crate::ended::print_wrong;
 use crate::steps::{CREATING, Place, Plan, Step, answers};
 use fw_disk::{Choice, Mode};
 use fw_group::{Answer, EventAnswer};
 use fw_recover::StoreFault;
 use fw_snapshot::Snapshot;
 use std::alloc::Global;
-use std::process::Abort;
 use std::test::Fail;
 
 /// What becomes of an entry, and how many entries its front has.
@@ -340,13 +340,7 @@ fn first_wrong_case(alloc: Global) -> Result<Option<(usize, usize)>, StoreFault>
     Ok(None)
 }
 
-// A volume in memory fails where memory runs out, and then answers differ.
 #[test]
 fn each_event_has_its_answer(rt: HostRuntime) -> Result<(), Fail> {
-    let wrong = first_wrong_case(rt.alloc())?;
-    if wrong.is_some() {
-        println!(rt; "case and row: {wrong:?}")?;
-        return Err(Fail::from(StoreFault::Device));
-    }
-    Ok(())
+    print_wrong(&rt, first_wrong_case(rt.alloc()))
 }

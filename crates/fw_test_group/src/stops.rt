@@ -1,10 +1,12 @@
 //! Runs in which the device fails at each of its calls in turn, and which stop and are opened again: each answer is right, and
 //! each list that is shown has the accepted entries, and at most the one group that was answered as unknown.
+use crate::ended::check_all;
 use crate::steps::{Plan, Step};
 use crate::sweep::{CHOICES, PLANS, sweep};
 use fw_disk::Choice;
 use fw_recover::StoreFault;
 use std::alloc::Global;
+use std::io::Print;
 use std::process::Abort;
 use std::test::Fail;
 
@@ -104,33 +106,59 @@ pub(crate) fn sweep_choices(alloc: Global, plan: Plan, steps: &[Step]) -> Result
     Ok((runs, None))
 }
 
+/// How many runs there were with each plan, and the first plan with which one is wrong or there are too few, and its runs.
+type PlanRuns = ([u64; 3], Option<(Plan, Runs)>);
+
+/// The runs with all plans. There have to be so many at least with each.
+fn sweep_plans(alloc: Global, steps: &[Step], least: u64) -> Result<PlanRuns, StoreFault> {
+    let mut counts = [0; 3];
+    for place in 0..3 {
+        let plan = PLANS[place];
+        let (runs, wrong) = sweep_choices(alloc, plan, steps)?;
+        if wrong.is_some() || runs < least {
+            return Ok((counts, Some((plan, (runs, wrong)))));
+        }
+        counts[place] = runs;
+    }
+    Ok((counts, None))
+}
+
+/// Ends a test of runs with all plans.
+fn check_plans<R: Abort + Print>(
+    rt: &R,
+    whose: &str,
+    swept: Result<PlanRuns, StoreFault>,
+) -> Result<(), Fail> {
+    let (counts, wrong) = swept?;
+    assert!(rt; wrong.is_none(), "{wrong:?}");
+    println!(rt; "{PLANS:?}: {counts:?} runs of {whose}")?;
+    Ok(())
+}
+
 // An entry is four calls of the device, and a checkpoint six.
 #[test]
 fn a_stop_leaves_what_one_importer_was_answered(rt: HostRuntime) -> Result<(), Fail> {
-    for plan in PLANS {
-        let (runs, wrong) = sweep_choices(rt.alloc(), plan, ONE)?;
-        assert!(rt; wrong.is_none(), "{plan:?} {wrong:?}");
-        assert!(rt; runs >= 75, "{plan:?} {runs}");
-        println!(rt; "{plan:?}: {runs} runs of one importer")?;
-    }
-    Ok(())
+    check_plans(&rt, "one importer", sweep_plans(rt.alloc(), ONE, 75))
 }
 
 #[test]
 fn a_stop_leaves_what_several_importers_were_answered(rt: HostRuntime) -> Result<(), Fail> {
-    for plan in PLANS {
-        let (runs, wrong) = sweep_choices(rt.alloc(), plan, SEVERAL)?;
-        assert!(rt; wrong.is_none(), "{plan:?} {wrong:?}");
-        assert!(rt; runs >= 125, "{plan:?} {runs}");
-        println!(rt; "{plan:?}: {runs} runs of several importers")?;
+    check_plans(
+        &rt,
+        "several importers",
+        sweep_plans(rt.alloc(), SEVERAL, 125),
+    )
+}
+
+/// The runs of the group of which none is accepted, where they aren't five, or one is wrong.
+fn wrong_runs(alloc: Global) -> Result<Option<Runs>, StoreFault> {
+    match sweep_choices(alloc, PLANS[0], NOTHING)? {
+        (5, None) => Ok(None),
+        runs => Ok(Some(runs)),
     }
-    Ok(())
 }
 
 #[test]
 fn a_group_of_which_none_is_accepted_is_not_written(rt: HostRuntime) -> Result<(), Fail> {
-    let (runs, wrong) = sweep_choices(rt.alloc(), PLANS[0], NOTHING)?;
-    assert!(rt; wrong.is_none(), "{wrong:?}");
-    assert_eq!(rt; runs, 5);
-    Ok(())
+    check_all(&rt, wrong_runs(rt.alloc()))
 }
