@@ -1,11 +1,11 @@
 //! Creating a warehouse, and checkpoints: what they leave in the files, byte for byte.
+use crate::ended::check;
 use crate::entries::entries_of;
 use fw_charge::Currency;
 use fw_disk::{Choice, FaultVolume, MemVolume, Mode, Side, Stoppable, Volume, write_synced};
 use fw_recover::*;
 use fw_snapshot::Verdict;
 use std::alloc::Global;
-use std::process::Abort;
 use std::test::Fail;
 
 /// A side of an empty warehouse in dollars, of this generation: a header, a body of 19 bytes, and a closed gate at 44.
@@ -49,54 +49,106 @@ fn has_file<V: Volume>(
     }
 }
 
+/// Whether the files of a volume have these bytes and no more.
+fn has_files(
+    alloc: Global,
+    volume: &mut MemVolume,
+    left: &[u8],
+    right: &[u8],
+) -> Result<bool, StoreFault> {
+    Ok(has_file(alloc, volume, Side::Left, left)? && has_file(alloc, volume, Side::Right, right)?)
+}
+
+/// Whether a volume has the files of a warehouse that was just created.
+fn is_new(alloc: Global, volume: MemVolume) -> Result<bool, StoreFault> {
+    let mut volume = volume;
+    has_files(alloc, &mut volume, &empty_side(1), &[])
+}
+
+/// Whether a store has an empty warehouse, whose body is 19 bytes, and no log.
+fn is_empty(store: &Store<MemVolume>) -> bool {
+    store.state().state().entries() == 0 && store.body_len() == 19 && store.log_len() == 0
+}
+
+/// Whether a warehouse is created in 45 bytes.
+fn is_created(alloc: Global) -> Result<bool, StoreFault> {
+    let store = created(alloc, 45)?;
+    let is_empty = is_empty(&store);
+    Ok(is_new(alloc, store.close())? && is_empty)
+}
+
 #[test]
 fn a_new_warehouse_is_45_bytes_of_left(rt: HostRuntime) -> Result<(), Fail> {
-    let alloc = rt.alloc();
+    check(&rt, is_created(rt.alloc()))
+}
+
+/// Whether 44 bytes are too few for a warehouse.
+fn lacks_room(alloc: Global) -> Result<bool, StoreFault> {
+    match created(alloc, 44) {
+        Ok(_) => Ok(false),
+        Err(StoreFault::NoMemory) => Err(StoreFault::NoMemory),
+        Err(fault) => Ok(fault == StoreFault::TooLarge),
+    }
+}
+
+/// Whether none is created where one stands, which stays.
+fn stays(alloc: Global) -> Result<bool, StoreFault> {
     let store = created(alloc, 45)?;
-    assert_eq!(rt; store.state().state().entries(), 0);
-    assert_eq!(rt; (store.body_len(), store.log_len()), (19, 0));
-    let mut volume = store.close();
-    assert!(rt; has_file(alloc, &mut volume, Side::Left, &empty_side(1))?);
-    assert_eq!(rt; volume.len(Side::Right), 0);
-    Ok(())
+    match create_on(alloc, store.close()) {
+        Ok(_) => Ok(false),
+        Err((volume, StoreFault::Exists)) => is_new(alloc, volume),
+        Err((_, fault)) => Err(fault),
+    }
+}
+
+fn is_created_with_room_and_once(alloc: Global) -> Result<bool, StoreFault> {
+    Ok(lacks_room(alloc)? && stays(alloc)?)
 }
 
 #[test]
 fn a_warehouse_is_created_where_there_is_room_and_none_stands(rt: HostRuntime) -> Result<(), Fail> {
-    let alloc = rt.alloc();
-    let no_room = created(alloc, 44).err();
-    if no_room == Some(StoreFault::NoMemory) {
-        return Err(Fail::from(StoreFault::NoMemory));
+    check(&rt, is_created_with_room_and_once(rt.alloc()))
+}
+
+/// Opens the warehouse of a volume.
+fn opened(alloc: Global, volume: MemVolume) -> Result<Store<MemVolume>, StoreFault> {
+    match Store::open(alloc, volume) {
+        Ok(store) => Ok(store),
+        Err((_, fault)) => Err(fault),
     }
-    assert_eq!(rt; no_room, Some(StoreFault::TooLarge));
-    let store = created(alloc, 45)?;
-    let Err((mut volume, fault)) = create_on(alloc, store.close()) else {
-        return Err(Fail::from(StoreFault::NoHouse));
-    };
-    assert_eq!(rt; fault, StoreFault::Exists);
-    assert!(rt; has_file(alloc, &mut volume, Side::Left, &empty_side(1))?);
-    Ok(())
+}
+
+/// The volume after a checkpoint. The store has to be that of an empty warehouse before.
+fn checkpointed(alloc: Global, store: Store<MemVolume>) -> Result<MemVolume, StoreFault> {
+    let mut store = store;
+    if !is_empty(&store) {
+        return Err(StoreFault::Exists);
+    }
+    let made = store.checkpoint(alloc);
+    let volume = store.close();
+    match made {
+        Ok(()) => Ok(volume),
+        Err(fault) => Err(fault),
+    }
+}
+
+/// Whether a checkpoint of an open warehouse makes Left of the third generation.
+fn makes_left(alloc: Global, volume: MemVolume) -> Result<bool, StoreFault> {
+    let mut volume = checkpointed(alloc, opened(alloc, volume)?)?;
+    has_files(alloc, &mut volume, &empty_side(3), &empty_side(2))
+}
+
+/// Whether a checkpoint makes Right, and one more makes Left again.
+fn makes_other_sides(alloc: Global) -> Result<bool, StoreFault> {
+    let mut volume = checkpointed(alloc, created(alloc, 45)?)?;
+    let made = has_files(alloc, &mut volume, &empty_side(1), &empty_side(2))?;
+    Ok(makes_left(alloc, volume)? && made)
 }
 
 // The second checkpoint makes Left again.
 #[test]
 fn a_checkpoint_makes_the_other_side(rt: HostRuntime) -> Result<(), Fail> {
-    let alloc = rt.alloc();
-    let mut store = created(alloc, 45)?;
-    store.checkpoint(alloc)?;
-    let mut volume = store.close();
-    assert!(rt; has_file(alloc, &mut volume, Side::Left, &empty_side(1))?);
-    assert!(rt; has_file(alloc, &mut volume, Side::Right, &empty_side(2))?);
-    let mut store = match Store::open(alloc, volume) {
-        Ok(store) => store,
-        Err((_, fault)) => return Err(Fail::from(fault)),
-    };
-    assert_eq!(rt; store.state().state().entries(), 0);
-    store.checkpoint(alloc)?;
-    let mut volume = store.close();
-    assert!(rt; has_file(alloc, &mut volume, Side::Left, &empty_side(3))?);
-    assert!(rt; has_file(alloc, &mut volume, Side::Right, &empty_side(2))?);
-    Ok(())
+    check(&rt, makes_other_sides(rt.alloc()))
 }
 
 /// A volume in memory with this Left.
@@ -111,20 +163,27 @@ fn with_left(alloc: Global, left: &[u8]) -> Result<MemVolume, StoreFault> {
     }
 }
 
+/// Whether a warehouse is created on a volume.
+fn creates(alloc: Global, volume: MemVolume) -> Result<bool, StoreFault> {
+    match create_on(alloc, volume) {
+        Ok(store) => is_new(alloc, store.close()),
+        Err((_, fault)) => Err(fault),
+    }
+}
+
+/// Whether a Left of one byte is no warehouse, and one is created over it.
+fn creates_over_one_byte(alloc: Global) -> Result<bool, StoreFault> {
+    match Store::open(alloc, with_left(alloc, &[1])?) {
+        Ok(_) => Ok(false),
+        Err((volume, StoreFault::NoHouse)) => creates(alloc, volume),
+        Err((_, fault)) => Err(fault),
+    }
+}
+
 // Such a file is left by a stop while Left is closed for the first time.
 #[test]
 fn a_left_of_one_byte_is_no_warehouse_and_is_created_over(rt: HostRuntime) -> Result<(), Fail> {
-    let alloc = rt.alloc();
-    let Err((volume, fault)) = Store::open(alloc, with_left(alloc, &[1])?) else {
-        return Err(Fail::from(StoreFault::Exists));
-    };
-    assert_eq!(rt; fault, StoreFault::NoHouse);
-    let mut volume = match create_on(alloc, volume) {
-        Ok(store) => store.close(),
-        Err((_, fault)) => return Err(Fail::from(fault)),
-    };
-    assert!(rt; has_file(alloc, &mut volume, Side::Left, &empty_side(1))?);
-    Ok(())
+    check(&rt, creates_over_one_byte(rt.alloc()))
 }
 
 /// Left of an empty warehouse whose generation is the greatest.
@@ -145,18 +204,17 @@ fn is_last(alloc: Global, store: &mut Store<MemVolume>) -> Result<bool, StoreFau
     Ok(verdicts.as_slice() == [Verdict::Accept].as_slice())
 }
 
+/// Whether a warehouse of the greatest generation is so, and has its entry in Left.
+fn ends_at_the_last(alloc: Global) -> Result<bool, StoreFault> {
+    let mut store = opened(alloc, with_left(alloc, &last_side())?)?;
+    let is_last = is_last(alloc, &mut store)?;
+    let volume = store.close();
+    Ok(is_last && volume.len(Side::Left) == 77 && volume.len(Side::Right) == 0)
+}
+
 #[test]
 fn the_last_generation_has_no_checkpoint(rt: HostRuntime) -> Result<(), Fail> {
-    let alloc = rt.alloc();
-    let mut store = match Store::open(alloc, with_left(alloc, &last_side())?) {
-        Ok(store) => store,
-        Err((_, fault)) => return Err(Fail::from(fault)),
-    };
-    let is_last = is_last(alloc, &mut store)?;
-    assert!(rt; is_last);
-    let mut volume = store.close();
-    assert_eq!(rt; (volume.len(Side::Left), volume.len(Side::Right)), (77, 0));
-    Ok(())
+    check(&rt, ends_at_the_last(rt.alloc()))
 }
 
 /// The checkpoints of a new warehouse: how many calls pass before each, how many it makes, and the generation before.
@@ -253,21 +311,29 @@ fn stop_within(alloc: Global, choice: Choice, round: &Round) -> Result<u64, Stor
     Ok(cases)
 }
 
-#[test]
-fn a_stop_within_a_checkpoint_leaves_a_side_in_use(rt: HostRuntime) -> Result<(), Fail> {
-    let choices = [
-        Choice::Old,
-        Choice::New,
-        Choice::Torn(0),
-        Choice::Torn(1),
-        Choice::Torn(7),
-    ];
+/// What a stop may leave of what wasn't synced.
+const CHOICES: [Choice; 5] = [
+    Choice::Old,
+    Choice::New,
+    Choice::Torn(0),
+    Choice::Torn(1),
+    Choice::Torn(7),
+];
+
+/// Stops the checkpoints of each round, with each choice: how many cases these are.
+fn stop_each(alloc: Global) -> Result<u64, StoreFault> {
     let mut cases = 0_u64;
-    for choice in choices {
+    for choice in CHOICES {
         for round in ROUNDS {
-            cases = cases.saturating_add(stop_within(rt.alloc(), choice, round)?);
+            cases = cases.saturating_add(stop_within(alloc, choice, round)?);
         }
     }
+    Ok(cases)
+}
+
+#[test]
+fn a_stop_within_a_checkpoint_leaves_a_side_in_use(rt: HostRuntime) -> Result<(), Fail> {
+    let cases = stop_each(rt.alloc())?;
     println!(rt; "{cases} stops within a checkpoint")?;
     Ok(())
 }

@@ -1,4 +1,5 @@
 //! Adding entries to a warehouse: what is written, what is answered, and what stands when it is opened again.
+use crate::ended::{check, check_all};
 use crate::entries::are_numbered;
 use fw_disk::{
     Choice, FaultVolume, MemVolume, Mode, Side, Stoppable, Volume, VolumeFault, write_synced,
@@ -139,9 +140,7 @@ fn is_written(alloc: Global) -> Result<bool, VolumeFault> {
 
 #[test]
 fn a_frame_is_written_byte_for_byte(rt: HostRuntime) -> Result<(), Fail> {
-    let is_written = is_written(rt.alloc())?;
-    assert!(rt; is_written);
-    Ok(())
+    check(&rt, is_written(rt.alloc()))
 }
 
 const NO_ROOM: Commits = &[
@@ -158,9 +157,7 @@ fn is_too_large(alloc: Global) -> Result<bool, VolumeFault> {
 
 #[test]
 fn a_frame_has_to_fit_to_the_byte(rt: HostRuntime) -> Result<(), Fail> {
-    let is_too_large = is_too_large(rt.alloc())?;
-    assert!(rt; is_too_large);
-    Ok(())
+    check(&rt, is_too_large(rt.alloc()))
 }
 
 const ACCEPTED: Commits = &[
@@ -231,9 +228,7 @@ fn wrong_row(alloc: Global) -> Result<Option<usize>, VolumeFault> {
 
 #[test]
 fn a_stop_leaves_the_entry_or_not(rt: HostRuntime) -> Result<(), Fail> {
-    let wrong = wrong_row(rt.alloc())?;
-    assert!(rt; wrong.is_none(), "row {wrong:?}");
-    Ok(())
+    check_all(&rt, wrong_row(rt.alloc()))
 }
 
 /// Whether the warehouse of a volume has these entries of the origin `a`.
@@ -254,6 +249,14 @@ fn are_accepted(verdicts: &[Verdict]) -> bool {
     true
 }
 
+/// Whether each of some entries is accepted.
+fn accepts(alloc: Global, store: &mut Store<MemVolume>, entries: &[Entry]) -> bool {
+    match store.run(alloc, entries) {
+        Ok(verdicts) => are_accepted(&verdicts),
+        Err(_) => false,
+    }
+}
+
 /// Adds entries ten by ten, with a checkpoint after each ten. Each entry has to be accepted.
 fn in_tens(
     alloc: Global,
@@ -261,10 +264,7 @@ fn in_tens(
     entries: &[Entry],
 ) -> Result<(), VolumeFault> {
     for ten in entries.chunks(10) {
-        let Ok(verdicts) = store.run(alloc, ten) else {
-            return Err(VolumeFault::Io);
-        };
-        if !are_accepted(&verdicts) || store.checkpoint(alloc).is_err() {
+        if !accepts(alloc, store, ten) || store.checkpoint(alloc).is_err() {
             return Err(VolumeFault::Io);
         }
     }
@@ -314,7 +314,5 @@ fn does_a_hundred_stand(alloc: Global) -> Result<bool, VolumeFault> {
 
 #[test]
 fn a_hundred_entries_stand_after_ten_checkpoints(rt: HostRuntime) -> Result<(), Fail> {
-    let stand = does_a_hundred_stand(rt.alloc())?;
-    assert!(rt; stand);
-    Ok(())
+    check(&rt, does_a_hundred_stand(rt.alloc()))
 }

@@ -3,6 +3,7 @@
 ghost use Rattle.std.specs.Prelude.{◌≤◌, length};
 ghost use Rattle.fw_segment.specs.Groups.{group, IsGroup};
 
+use crate::ended::check_all;
 use crate::entries::{are_numbered, entries_of};
 use fw_charge::Currency;
 use fw_disk::{Choice, MemVolume, Stoppable};
@@ -87,6 +88,23 @@ fn in_two_steps(
     }
 }
 
+/// Adds a group: the verdicts.
+fn added(
+    alloc: Global,
+    store: &mut Store<MemVolume>,
+    way: Way,
+    entries: &[Entry],
+    wanted: &Group,
+) -> Result<Vec<Verdict>, StoreFault>
+    requires group { IsGroup entries.now }
+    requires size { length (group entries.now) ≤ 8388608 }
+{
+    match way {
+        Way::AtOnce => store.commit_group(alloc, entries),
+        Way::Prepared => in_two_steps(alloc, store, entries, wanted),
+    }
+}
+
 /// Whether a group is answered so, and the warehouse is so then.
 fn is_answered(
     alloc: Global,
@@ -96,10 +114,7 @@ fn is_answered(
 ) -> Result<bool, StoreFault> {
     let (seqs, expected, count, log_len) = wanted;
     let entries = entries_of(alloc, seqs)?;
-    let verdicts = match way {
-        Way::AtOnce => store.commit_group(alloc, &entries)?,
-        Way::Prepared => in_two_steps(alloc, store, &entries, wanted)?,
-    };
+    let verdicts = added(alloc, store, way, &entries, wanted)?;
     Ok(
         verdicts.as_slice() == *expected
             && are_numbered(store.state().state(), *count)
@@ -154,7 +169,8 @@ fn are_answered(
 ) -> Result<bool, StoreFault> {
     let mut store = created(alloc, 4096)?;
     let wrong = first_wrong(alloc, &mut store, way, groups)?;
-    Ok(wrong.is_none() && opens_with(alloc, Box::into_inner(store).close(), entries)?)
+    let opens = opens_with(alloc, Box::into_inner(store).close(), entries)?;
+    Ok(wrong.is_none() && opens)
 }
 
 /// The first way of adding, and number of entries, for which that isn't so.
@@ -171,9 +187,7 @@ fn wrong_groups(alloc: Global) -> Result<Option<(Way, usize)>, StoreFault> {
 
 #[test]
 fn a_group_adds_its_accepted_entries(rt: HostRuntime) -> Result<(), Fail> {
-    let wrong = wrong_groups(rt.alloc())?;
-    assert!(rt; wrong.is_none(), "{wrong:?}");
-    Ok(())
+    check_all(&rt, wrong_groups(rt.alloc()))
 }
 
 /// Whether a group of two is taken on a volume of this limit. Where it isn't, nothing has changed.
@@ -200,7 +214,5 @@ fn wrong_limit(alloc: Global) -> Result<Option<u64>, StoreFault> {
 
 #[test]
 fn a_group_has_to_fit_to_the_byte(rt: HostRuntime) -> Result<(), Fail> {
-    let wrong = wrong_limit(rt.alloc())?;
-    assert!(rt; wrong.is_none(), "with a limit of {wrong:?} bytes");
-    Ok(())
+    check_all(&rt, wrong_limit(rt.alloc()))
 }

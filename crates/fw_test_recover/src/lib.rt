@@ -8,6 +8,8 @@ mod checkpoints;
 #[cfg(test)]
 mod committing;
 #[cfg(test)]
+mod ended;
+#[cfg(test)]
 mod entries;
 #[cfg(test)]
 mod groups;

@@ -1,4 +1,5 @@
 //! How long a script may be. One of 2^30 bytes is too long for a test, so the limit is a small one here.
+use crate::ended::check_all;
 use fw_serve::{ServeFault, read_within};
 use std::alloc::Global;
 use std::io;
@@ -62,7 +63,5 @@ fn first_misread(alloc: Global) -> Result<Option<usize>, ServeFault> {
 
 #[test]
 fn a_script_is_read_up_to_its_limit(rt: HostRuntime) -> Result<(), Fail> {
-    let wrong = first_misread(rt.alloc())?;
-    assert!(rt; wrong.is_none(), "{wrong:?}");
-    Ok(())
+    check_all(&rt, first_misread(rt.alloc()))
 }

@@ -1,4 +1,5 @@
 //! A checkpoint joins the short segments of posts into long ones, on the side that it makes and in the store.
+use crate::ended::check;
 use fw_charge::Currency;
 use fw_disk::{Choice, MemVolume};
 use fw_entry_bytes::Form;
@@ -6,7 +7,6 @@ use fw_recover::{Store, StoreFault};
 use fw_segment::decode_entry;
 use fw_snapshot::State;
 use std::alloc::{AllocError, Global};
-use std::process::Abort;
 use std::test::Fail;
 
 /// How many posts there are: one more than a segment can hold together.
@@ -44,19 +44,23 @@ fn add(alloc: Global, store: &mut Store<MemVolume>, seq: u8) -> Result<(), Store
     Ok(())
 }
 
-/// A warehouse in memory with all posts.
-fn filled(alloc: Global) -> Result<Store<MemVolume>, StoreFault> {
+/// Commits all posts.
+fn add_all(alloc: Global, store: &mut Store<MemVolume>) -> Result<(), StoreFault> {
+    for place in 0..POSTS {
+        add(alloc, store, place + 1)?;
+    }
+    Ok(())
+}
+
+/// An empty warehouse in memory.
+fn created(alloc: Global) -> Result<Store<MemVolume>, StoreFault> {
     let Some(currency) = Currency::new(b"USD") else {
         return Err(StoreFault::NoMemory);
     };
-    let Ok(mut store) = Store::create(alloc, MemVolume::new(alloc, 1 << 30, Choice::Old), currency)
-    else {
-        return Err(StoreFault::NoMemory);
-    };
-    for place in 0..POSTS {
-        add(alloc, &mut store, place + 1)?;
+    match Store::create(alloc, MemVolume::new(alloc, 1 << 30, Choice::Old), currency) {
+        Ok(store) => Ok(store),
+        Err(_) => Err(StoreFault::NoMemory),
     }
-    Ok(store)
 }
 
 /// The segment at a place: how many rows it has, and what the first and the last of them cost, in nanos. Zeros where there is none.
@@ -98,23 +102,32 @@ fn are_joined(state: &State) -> bool {
         && is_segment(state, 1, ROWS, 17, 17)
 }
 
-/// Whether the posts are a segment each, then one of 65,536 rows and one of 4,096 by a checkpoint, by another one, and once they are opened again.
-fn joins_posts(alloc: Global) -> Result<bool, StoreFault> {
-    let mut store = filled(alloc)?;
+/// Whether all posts are a segment each, and then one of 65,536 rows and one of 4,096 by a checkpoint, and by another one.
+fn joins_all(alloc: Global, store: &mut Store<MemVolume>) -> Result<bool, StoreFault> {
+    add_all(alloc, store)?;
     let apart = are_apart(store.state().state());
     store.checkpoint(alloc)?;
     let joined = are_joined(store.state().state());
     store.checkpoint(alloc)?;
-    let again = are_joined(store.state().state());
-    let Ok(opened) = Store::open(alloc, store.close()) else {
-        return Err(StoreFault::Device);
-    };
-    Ok(apart && joined && again && are_joined(opened.state().state()))
+    Ok(apart && joined && are_joined(store.state().state()))
+}
+
+/// Whether they are those two segments once they are opened again.
+fn opens_joined(alloc: Global, volume: MemVolume) -> Result<bool, StoreFault> {
+    match Store::open(alloc, volume) {
+        Ok(store) => Ok(are_joined(store.state().state())),
+        Err(_) => Err(StoreFault::Device),
+    }
+}
+
+/// Whether checkpoints join the posts so, in the store and on its sides.
+fn joins_posts(alloc: Global) -> Result<bool, StoreFault> {
+    let mut store = created(alloc)?;
+    let joined = joins_all(alloc, &mut store)?;
+    Ok(opens_joined(alloc, store.close())? && joined)
 }
 
 #[test]
 fn a_checkpoint_joins_seventeen_posts(rt: HostRuntime) -> Result<(), Fail> {
-    let joined = joins_posts(rt.alloc())?;
-    assert!(rt; joined);
-    Ok(())
+    check(&rt, joins_posts(rt.alloc()))
 }

@@ -3,6 +3,7 @@
 //!
 //! A test is proved as well as run, and its proof grows with its exits and with what is let go at each. So a store is behind a
 //! box, and a test looks at one value.
+use crate::ended::{check, check_all};
 use fw_disk::{Choice, FaultVolume, MemVolume, Mode, Stoppable, Volume};
 use fw_recover::{Store, StoreFault};
 use fw_rows::Currency;
@@ -115,9 +116,7 @@ fn an_early_end_keeps_nothing(
 
 #[test]
 fn a_post_that_ends_early_keeps_nothing(rt: HostRuntime) -> Result<(), Fail> {
-    let kept_nothing = an_early_end_keeps_nothing(&rt, rt.alloc())?;
-    assert!(rt; kept_nothing);
-    Ok(())
+    check(&rt, an_early_end_keeps_nothing(&rt, rt.alloc()))
 }
 
 const POST: &str = "post a 1 2
@@ -160,9 +159,7 @@ fn first_wrong_piece(
 
 #[test]
 fn a_reader_that_fails_runs_no_command(rt: HostRuntime) -> Result<(), Fail> {
-    let wrong = first_wrong_piece(&rt, rt.alloc())?;
-    assert!(rt; wrong.is_none(), "{wrong:?} bytes a read");
-    Ok(())
+    check_all(&rt, first_wrong_piece(&rt, rt.alloc()))
 }
 
 const TWO_POSTS: &str = "post a 1 2
@@ -224,9 +221,7 @@ fn first_wrong_room(
 
 #[test]
 fn a_writer_that_fails_leaves_what_is_done(rt: HostRuntime) -> Result<(), Fail> {
-    let wrong = first_wrong_room(&rt, rt.alloc())?;
-    assert!(rt; wrong.is_none(), "with room for {wrong:?} bytes");
-    Ok(())
+    check_all(&rt, first_wrong_room(&rt, rt.alloc()))
 }
 
 // Whether a writer with just the room for an answer is given it, in dollars and with as many workers as there may be.
@@ -253,18 +248,26 @@ fn a_writer_takes_all(rt: &(impl Threads + Sync), alloc: Global) -> Result<bool,
 
 #[test]
 fn a_writer_that_takes_all(rt: HostRuntime) -> Result<(), Fail> {
-    let taken = a_writer_takes_all(&rt, rt.alloc())?;
-    assert!(rt; taken);
-    Ok(())
+    check(&rt, a_writer_takes_all(&rt, rt.alloc()))
 }
 
 const POLICY: &str = "policy a 1 1\nkey = \"t\"\n";
 
+// Whether an entry is answered so on a volume of this limit.
+fn is_answered_within(
+    rt: &(impl Threads + Sync),
+    alloc: Global,
+    limit: u64,
+    wanted: &str,
+) -> Result<bool, ServeFault> {
+    let mut store = dollar_store(alloc, limit)?;
+    answers_are(rt, alloc, &mut store, POLICY, wanted)
+}
+
 // The first of some limits at which an entry whose frame ends at 77 isn't answered as it should be.
 fn first_wrong_limit(rt: &(impl Threads + Sync), alloc: Global) -> Result<Option<u64>, ServeFault> {
     for (limit, wanted) in [(76, "store S6 TooLarge\n"), (77, "accepted 1\n")] {
-        let mut store = dollar_store(alloc, limit)?;
-        if !answers_are(rt, alloc, &mut store, POLICY, wanted)? {
+        if !is_answered_within(rt, alloc, limit, wanted)? {
             return Ok(Some(limit));
         }
     }
@@ -273,9 +276,7 @@ fn first_wrong_limit(rt: &(impl Threads + Sync), alloc: Global) -> Result<Option
 
 #[test]
 fn a_full_volume_takes_no_entry(rt: HostRuntime) -> Result<(), Fail> {
-    let wrong = first_wrong_limit(&rt, rt.alloc())?;
-    assert!(rt; wrong.is_none(), "with a limit of {wrong:?} bytes");
-    Ok(())
+    check_all(&rt, first_wrong_limit(&rt, rt.alloc()))
 }
 
 // Whether the warehouse is the same after a checkpoint, also where it is opened again.
@@ -283,10 +284,8 @@ fn a_checkpoint_keeps_all(rt: &(impl Threads + Sync), alloc: Global) -> Result<b
     let mut store = dollar_store(alloc, LIMIT)?;
     let script = "policy a 1 1\nkey = \"t\"\ncheckpoint\nstate\npolicy a 1 1\nkey = \"t\"\n";
     let wanted = "accepted 1\ncheckpointed\nstate 1 0 0 1\nalready 1\n";
-    Ok(
-        answers_are(rt, alloc, &mut store, script, wanted)?
-            && opens_with(alloc, Box::into_inner(store).close(), 1)?,
-    )
+    let are_right = answers_are(rt, alloc, &mut store, script, wanted)?;
+    Ok(opens_with(alloc, Box::into_inner(store).close(), 1)? && are_right)
 }
 
 // Whether what a stopped volume holds opens as a warehouse of so many entries.
@@ -300,15 +299,30 @@ fn opens_with(alloc: Global, volume: MemVolume, entries: usize) -> Result<bool, 
 
 #[test]
 fn a_checkpoint_changes_no_answer(rt: HostRuntime) -> Result<(), Fail> {
-    let kept = a_checkpoint_keeps_all(&rt, rt.alloc())?;
-    assert!(rt; kept);
-    Ok(())
+    check(&rt, a_checkpoint_keeps_all(&rt, rt.alloc()))
 }
 
 // How many device calls creating a warehouse takes.
 const CREATING: u64 = 8;
 
 // Whether the device's failure in the first entry, each entry after it and a question are answered as they should be.
+fn is_failure_reported<V: Volume>(
+    rt: &(impl Threads + Sync),
+    alloc: Global,
+    store: &mut Store<V>,
+) -> Result<bool, ServeFault> {
+    let script = "policy a 1 1\nkey = \"t\"\npolicy a 1 1\nkey = \"t\"\ncheckpoint\nstate\n";
+    let wanted = "store S3 Device\nstore S4 Failed\nstore S4 Failed\nstate 0 0 0 0\n";
+    let mut output = Vec::with_capacity(alloc, 64)?;
+    serve(rt, alloc, &mut script.as_bytes(), &mut output, store, 1)?;
+    let text = str::from_utf8(&output).unwrap_or("no text");
+    if text.contains("no memory") {
+        return Err(ServeFault::NoMemory);
+    }
+    Ok(text == wanted)
+}
+
+// Whether that is so of a store whose device fails in the first entry.
 fn a_failed_device_is_reported(
     rt: &(impl Threads + Sync),
     alloc: Global,
@@ -318,30 +332,13 @@ fn a_failed_device_is_reported(
     };
     let memory = MemVolume::new(alloc, LIMIT, Choice::Old);
     let volume = FaultVolume::new(memory, CREATING, Mode::Once);
-    let Ok(mut store) = Store::create(alloc, volume, currency) else {
-        return Err(ServeFault::NoMemory);
-    };
-    let script = "policy a 1 1\nkey = \"t\"\npolicy a 1 1\nkey = \"t\"\ncheckpoint\nstate\n";
-    let wanted = "store S3 Device\nstore S4 Failed\nstore S4 Failed\nstate 0 0 0 0\n";
-    let mut output = Vec::with_capacity(alloc, 64)?;
-    serve(
-        rt,
-        alloc,
-        &mut script.as_bytes(),
-        &mut output,
-        &mut store,
-        1,
-    )?;
-    let text = str::from_utf8(&output).unwrap_or("no text");
-    if text.contains("no memory") {
-        return Err(ServeFault::NoMemory);
+    match Store::create(alloc, volume, currency) {
+        Ok(mut store) => is_failure_reported(rt, alloc, &mut store),
+        Err(_) => Err(ServeFault::NoMemory),
     }
-    Ok(text == wanted)
 }
 
 #[test]
 fn a_device_that_failed_takes_no_entry(rt: HostRuntime) -> Result<(), Fail> {
-    let reported = a_failed_device_is_reported(&rt, rt.alloc())?;
-    assert!(rt; reported);
-    Ok(())
+    check(&rt, a_failed_device_is_reported(&rt, rt.alloc()))
 }

@@ -9,6 +9,7 @@ use fw_disk::{Choice, FaultVolume, MemVolume, Mode, Side, Stoppable, Volume, wri
 use fw_recover::*;
 use fw_snapshot::Verdict;
 use std::alloc::{AllocError, Global};
+use std::io::Print;
 use std::process::Abort;
 use std::test::Fail;
 
@@ -167,6 +168,12 @@ fn are_written(alloc: Global, store: &mut Store<Faulty>, seqs: &[u8]) -> Result<
     Ok(are_accepted(&verdicts, seqs.len()))
 }
 
+/// Whether a checkpoint is made.
+fn is_checkpointed(alloc: Global, store: &mut Store<Faulty>) -> Result<bool, StoreFault> {
+    store.checkpoint(alloc)?;
+    Ok(true)
+}
+
 impl Step {
     /// How many entries it is to add.
     fn entries(self) -> usize {
@@ -183,7 +190,7 @@ impl Step {
             Step::Entry(seq) => is_committed(alloc, store, seq),
             Step::Group(seqs) => are_committed(alloc, store, seqs),
             Step::Prepared(seqs) => are_written(alloc, store, seqs),
-            Step::Checkpoint => store.checkpoint(alloc).map(|_| true),
+            Step::Checkpoint => is_checkpointed(alloc, store),
         }
     }
 }
@@ -209,14 +216,22 @@ fn create_on(alloc: Global, volume: Faulty) -> Result<Store<Faulty>, (Faulty, St
     }
 }
 
+/// The volume of a warehouse that works, as a stop leaves it.
+fn stopped_work(
+    alloc: Global,
+    store: Store<Faulty>,
+    answers: &mut Answers,
+) -> Result<Faulty, StoreFault> {
+    let mut store = store;
+    answers.created = true;
+    worked(alloc, &mut store, answers)?;
+    Ok(store.close().stop())
+}
+
 /// A warehouse is created and works on a volume, which is handed back as a stop leaves it.
 fn stopped(alloc: Global, volume: Faulty, answers: &mut Answers) -> Result<Faulty, StoreFault> {
     match create_on(alloc, volume) {
-        Ok(mut store) => {
-            answers.created = true;
-            worked(alloc, &mut store, answers)?;
-            Ok(store.close().stop())
-        }
+        Ok(store) => stopped_work(alloc, store, answers),
         Err((volume, StoreFault::Device)) => {
             answers.failed = true;
             Ok(volume.stop())
@@ -307,9 +322,11 @@ fn is_right(answers: &Answers, found: Option<Found>) -> bool {
     }
 }
 
-/// A course whose first failing call comes after each number of calls in turn, up to the first with which none fails:
-/// how many cases these are, and the first that is wrong.
-fn sweep(alloc: Global, course: &Course) -> Result<(u64, Option<Outcome>), StoreFault> {
+/// How many cases there are, and the first that is wrong.
+type Swept = (u64, Option<Outcome>);
+
+/// A course whose first failing call comes after each number of calls in turn, up to the first with which none fails.
+fn sweep(alloc: Global, course: &Course) -> Result<Swept, StoreFault> {
     for pass in 0..99 {
         let (answers, found) = outcome(alloc, course, pass)?;
         if !is_right(&answers, found) {
@@ -340,43 +357,59 @@ const PLANS: &[Plan] = &[
     Plan::Series(&[0, 1, 2]),
 ];
 
+/// How many cases some courses have, and the first course with a wrong case or with too few, and its cases.
+type Cases = (u64, Option<(Course, Swept)>);
+
+/// What comes of each plan with each choice, over this Left. Each course has to have more than so many cases.
+fn sweep_plans(
+    alloc: Global,
+    left: &'static [u8],
+    plans: &[Plan],
+    least: u64,
+) -> Result<Cases, StoreFault> {
+    let mut cases = 0_u64;
+    for choice in CHOICES {
+        for plan in plans {
+            let course = Course {
+                left,
+                choice: *choice,
+                plan: *plan,
+            };
+            let (more, wrong) = sweep(alloc, &course)?;
+            if wrong.is_some() || more <= least {
+                return Ok((cases, Some((course, (more, wrong)))));
+            }
+            cases = cases.saturating_add(more);
+        }
+    }
+    Ok((cases, None))
+}
+
+/// Ends a test of stops: no course may be wrong.
+fn check_stops<R: Abort + Print>(
+    rt: &R,
+    what: &str,
+    swept: Result<Cases, StoreFault>,
+) -> Result<(), Fail> {
+    let (cases, wrong) = swept?;
+    assert!(rt; wrong.is_none(), "{wrong:?}");
+    println!(rt; "{cases} {what}")?;
+    Ok(())
+}
+
 // Creating the warehouse takes 8 calls, or 9 where Left has an open gate; an entry or a group 4; the first checkpoint 6;
 // and each further one 7.
 #[test]
 fn a_stop_leaves_each_entry_that_was_answered(rt: HostRuntime) -> Result<(), Fail> {
-    let mut cases = 0_u64;
-    for choice in CHOICES {
-        for plan in PLANS {
-            let course = Course {
-                left: &[],
-                choice: *choice,
-                plan: *plan,
-            };
-            let (more, wrong) = sweep(rt.alloc(), &course)?;
-            assert!(rt; wrong.is_none(), "{course:?} {more}: {wrong:?}");
-            assert!(rt; more > 44, "{course:?}: {more}");
-            cases = cases.saturating_add(more);
-        }
-    }
-    println!(rt; "{cases} stops")?;
-    Ok(())
+    check_stops(&rt, "stops", sweep_plans(rt.alloc(), &[], PLANS, 44))
 }
 
 // A stop while a warehouse was created can leave a Left of the one byte 1.
 #[test]
 fn a_stop_over_a_left_of_one_byte_leaves_each_entry(rt: HostRuntime) -> Result<(), Fail> {
-    let mut cases = 0_u64;
-    for choice in CHOICES {
-        let course = Course {
-            left: &[1],
-            choice: *choice,
-            plan: Plan::First(Mode::After),
-        };
-        let (more, wrong) = sweep(rt.alloc(), &course)?;
-        assert!(rt; wrong.is_none(), "{course:?} {more}: {wrong:?}");
-        assert!(rt; more > 45, "{course:?}: {more}");
-        cases = cases.saturating_add(more);
-    }
-    println!(rt; "{cases} stops over a Left of one byte")?;
-    Ok(())
+    check_stops(
+        &rt,
+        "stops over a Left of one byte",
+        sweep_plans(rt.alloc(), &[1], &[Plan::First(Mode::After)], 45),
+    )
 }
