@@ -204,6 +204,19 @@ fn times_of<R: Abort>(rt: &R, rest: Option<u64>, seen: Beside) -> Result<Times, 
     Ok(Times { rest, beside })
 }
 
+// Whether the one post was accepted and is stored, and the gate never gave up.
+fn judge<R: Abort>(rt: &R, left: &Left, told: Told, latch: &Latch) -> Result<(), Fail> {
+    if let Some(fault) = left.fault {
+        return Err(Fail::from(fault));
+    }
+    if told == Told::NoMemory {
+        return Err(Fail::from(StoreFault::NoMemory));
+    }
+    assert_eq!(rt; (left.entries, told), (1, Told::Accepted(1)));
+    assert!(rt; !latch.gave_up.load(Ordering::SeqCst));
+    Ok(())
+}
+
 fn viewed<J: Naming + Send + Sync, R: Threads + Wait + Abort + Clock + Sync>(
     rt: &R,
     alloc: Global,
@@ -227,14 +240,7 @@ fn viewed<J: Naming + Send + Sync, R: Threads + Wait + Abort + Clock + Sync>(
             )
         },
     );
-    if let Some(fault) = left.fault {
-        return Err(Fail::from(fault));
-    }
-    if told == Told::NoMemory {
-        return Err(Fail::from(StoreFault::NoMemory));
-    }
-    assert_eq!(rt; (left.entries, told), (1, Told::Accepted(1)));
-    assert!(rt; !latch.gave_up.load(Ordering::SeqCst));
+    judge(rt, &left, told, &latch)?;
     // The flusher has ended, so there is nothing to view.
     let mut analyst = analyst;
     assert!(rt; analyst.view().is_err());
@@ -315,6 +321,21 @@ fn entries_seen<J: Naming>(analyst: &mut Analyst<J>) -> usize {
     }
 }
 
+// Whether the checkpoint was held all the while, and the post was seen once it was learned.
+fn judge_learned<R: Abort>(
+    rt: &R,
+    left: &Left,
+    learned: &Learned,
+    latch: &Latch,
+) -> Result<(), Fail> {
+    judge(rt, left, learned.told, latch)?;
+    assert!(rt;
+        learned.held && learned.before <= 1 && learned.after == 1,
+        "{learned:?}"
+    );
+    Ok(())
+}
+
 fn checkpointed<J: Naming + Send + Sync, R: Threads + Wait + Abort + Sync>(
     rt: &R,
     alloc: Global,
@@ -330,19 +351,7 @@ fn checkpointed<J: Naming + Send + Sync, R: Threads + Wait + Abort + Sync>(
         move || checkpoint_held(held, watched),
         move || learn_held(rt, alloc, (importer, analyst), watched),
     );
-    if let Some(fault) = left.fault {
-        return Err(Fail::from(fault));
-    }
-    if learned.told == Told::NoMemory {
-        return Err(Fail::from(StoreFault::NoMemory));
-    }
-    assert_eq!(rt;
-        (left.entries, learned.told, learned.after),
-        (1, Told::Accepted(1), 1)
-    );
-    assert!(rt; learned.held && learned.before <= 1);
-    assert!(rt; !latch.gave_up.load(Ordering::SeqCst));
-    Ok(())
+    judge_learned(rt, &left, &learned, &latch)
 }
 
 /// A post is answered `Accepted`. While a checkpoint after it is held in its sync, an analyst learns the receipt and views: the entry is

@@ -1,7 +1,7 @@
 //! Repeats, a device that fails, and a flusher that closes while items wait.
 ghost use Rattle.std.specs.Prelude.{◌≡◌};
 
-use crate::ends::{Held, Told, created, ends_of, memory, outcome_of, post};
+use crate::ends::{Held, Left, Told, created, ends_of, memory, outcome_of, post};
 use fw_disk::{FaultVolume, MemVolume, Mode, Volume};
 use fw_recover::StoreFault;
 use fw_threads::{Importer, Naming, Opened};
@@ -79,6 +79,19 @@ fn ends<'a, J: Naming, V: Volume + Drop, R: Wait>(
     }
 }
 
+// Whether one of two posts of the same entry was accepted, the other was told so, and it is stored once.
+fn judge_repeated<R: Abort>(rt: &R, left: &Left, answers: &Both) -> Result<(), Fail> {
+    if let Some(fault) = left.fault {
+        return Err(Fail::from(fault));
+    }
+    in_memory(answers)?;
+    assert_eq!(rt; (left.entries, left.accepted), (1, 1));
+    let answers = (answers.0[0], answers.1[0]);
+    let first = (Told::Accepted(1), Told::Already(1, 1));
+    assert!(rt; answers == first || answers == (first.1, first.0));
+    Ok(())
+}
+
 fn repeated<J: Naming + Send + Sync, R: Threads + Wait + Abort + Sync>(
     rt: &R,
     alloc: Global,
@@ -92,15 +105,7 @@ fn repeated<J: Naming + Send + Sync, R: Threads + Wait + Abort + Sync>(
         move || held.flush(),
         move || both(rt, alloc, importers, (b'a', b'a'), 1),
     );
-    if let Some(fault) = left.fault {
-        return Err(Fail::from(fault));
-    }
-    in_memory(&answers)?;
-    assert_eq!(rt; (left.entries, left.accepted), (1, 1));
-    let answers = (answers.0[0], answers.1[0]);
-    let first = (Told::Accepted(1), Told::Already(1, 1));
-    assert!(rt; answers == first || answers == (first.1, first.0));
-    Ok(())
+    judge_repeated(rt, &left, &answers)
 }
 
 /// Two importers post the same entry: one is answered `Accepted` with the number 1, the other `Already` after one entry. It is stored
@@ -112,6 +117,23 @@ fn the_same_entry_twice(rt: HostRuntime) -> Result<(), Fail> {
 
 fn count(all: &[Told], told: Told) -> usize {
     all.iter().filter(|one| **one == told).count()
+}
+
+// Whether the device failed, nothing is stored, and one or two posts are unknown and all others closed.
+fn judge_failed<R: Abort>(rt: &R, left: &Left, answers: &Both) -> Result<(), Fail> {
+    in_memory(answers)?;
+    if let Some(StoreFault::NoMemory) = left.fault {
+        return Err(Fail::from(StoreFault::NoMemory));
+    }
+    assert_eq!(rt;
+        (left.entries, left.accepted, left.fault),
+        (0, 0, Some(StoreFault::Device))
+    );
+    let (one, other) = answers;
+    let all = [one[0], one[1], other[0], other[1]];
+    let (unknown, closed) = (count(&all, Told::Unknown), count(&all, Told::Closed));
+    assert!(rt; 0 < unknown && unknown <= 2 && unknown.wrapping_add(closed) == 4);
+    Ok(())
 }
 
 fn failed<J: Naming + Send + Sync, R: Threads + Wait + Abort + Sync>(
@@ -128,19 +150,7 @@ fn failed<J: Naming + Send + Sync, R: Threads + Wait + Abort + Sync>(
         move || held.flush(),
         move || both(rt, alloc, importers, (b'a', b'b'), 2),
     );
-    in_memory(&answers)?;
-    if let Some(StoreFault::NoMemory) = left.fault {
-        return Err(Fail::from(StoreFault::NoMemory));
-    }
-    assert_eq!(rt;
-        (left.entries, left.accepted, left.fault),
-        (0, 0, Some(StoreFault::Device))
-    );
-    let (one, other) = answers;
-    let all = [one[0], one[1], other[0], other[1]];
-    let (unknown, closed) = (count(&all, Told::Unknown), count(&all, Told::Closed));
-    assert!(rt; 0 < unknown && unknown <= 2 && unknown.wrapping_add(closed) == 4);
-    Ok(())
+    judge_failed(rt, &left, &answers)
 }
 
 /// The device fails in the first commit. Whoever is in hand is answered `Unknown`, all others `Closed`, and nobody hangs.
@@ -184,6 +194,14 @@ fn await_post<R: Wait>(rt: &R, in_hand: &AtomicBool, posts: &AtomicBool) {
     }
 }
 
+// Whether nothing is stored, and all posts are closed.
+fn judge_closed<R: Abort>(rt: &R, entries: usize, answers: &Both) -> Result<(), Fail> {
+    in_memory(answers)?;
+    assert_eq!(rt; entries, 0);
+    assert_eq!(rt; *answers, ([Told::Closed; 2], [Told::Closed; 2]));
+    Ok(())
+}
+
 fn closed<J: Naming + Send + Sync, R: Threads + Wait + Abort + Sync>(
     rt: &R,
     alloc: Global,
@@ -205,10 +223,7 @@ fn closed<J: Naming + Send + Sync, R: Threads + Wait + Abort + Sync>(
             )
         },
     );
-    in_memory(&answers)?;
-    assert_eq!(rt; entries, 0);
-    assert_eq!(rt; answers, ([Told::Closed; 2], [Told::Closed; 2]));
-    Ok(())
+    judge_closed(rt, entries, &answers)
 }
 
 /// A flusher closes with one item in hand while another one waits. Both, and what is posted later, are answered `Closed`, and nothing is
