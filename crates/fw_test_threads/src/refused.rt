@@ -79,7 +79,7 @@ fn ends<'a, J: Naming, V: Volume + Drop, R: Wait>(
     }
 }
 
-// Whether one of two posts of the same entry was accepted, the other was told so, and it is stored once.
+// Whether one of two posts of the same entry was accepted and the other answered `Already`, and the entry is stored once.
 fn judge_repeated<R: Abort>(rt: &R, left: &Left, answers: &Both) -> Result<(), Fail> {
     if let Some(fault) = left.fault {
         return Err(Fail::from(fault));
