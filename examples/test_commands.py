@@ -15,6 +15,7 @@ import json
 import os
 import pathlib
 import re
+import shutil
 import struct
 import subprocess
 import sys
@@ -968,6 +969,43 @@ class Bodies(unittest.TestCase):
                 self.assertEqual(focusd("checkpoint", "--dir", folder), (0, "checkpointed\n", ""))
                 self.assertEqual(right.read_bytes(), self.side(2, self.by_column(self.ROWS)))
                 self.says_what_readme_says(folder)
+
+
+class KeptVolumes(unittest.TestCase):
+    """Folders that an earlier program wrote, of the form FWHOUSE1, open with the answers that their scripts had."""
+
+    FOLDERS = ("empty", "log", "checkpointed", "both")
+    MORE = (
+        b"post more 1 2\n"
+        b"BilledCost,EffectiveCost,BillingCurrency,ChargeCategory,ChargePeriodStart,ChargePeriodEnd\n"
+        b"1,2,USD,Usage,2024-01-01T00:00Z,2024-01-01T01:00Z\n"
+    )
+
+    def copy(self, name):
+        folder = tempfile.TemporaryDirectory()
+        self.addCleanup(folder.cleanup)
+        for file in ("left", "right"):
+            shutil.copy(HERE / "volumes" / name / file, folder.name)
+        return folder.name
+
+    def answers(self, *scripts):
+        """What is answered to the last of these scripts after the others."""
+        before = list(expected.answers(io.BytesIO(b"".join(scripts[:-1]))))
+        return "".join(list(expected.answers(io.BytesIO(b"".join(scripts))))[len(before) :])
+
+    def test_each_has_its_entries_before_and_after_a_further_one_and_a_checkpoint(self):
+        questions = (HERE / "volumes" / "questions.script").read_bytes()
+        for name in self.FOLDERS:
+            folder, made = self.copy(name), (HERE / "volumes" / f"{name}.script").read_bytes()
+            for more in (questions, self.MORE, questions, b"checkpoint\n", questions):
+                self.assertEqual(focusd("run", "--dir", folder, given=more), (0, self.answers(made, more), ""), name)
+                made += more
+
+    def test_each_is_of_the_first_form_and_has_both_sides_where_it_should(self):
+        for name in self.FOLDERS:
+            sides = [(HERE / "volumes" / name / file).read_bytes() for file in ("left", "right")]
+            self.assertEqual(sides[0][:9], b"\x01FWHOUSE1", name)
+            self.assertEqual(sides[1][:9], b"\x01FWHOUSE1" if name in ("checkpointed", "both") else b"", name)
 
 
 class Workers(unittest.TestCase):

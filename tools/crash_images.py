@@ -1,7 +1,7 @@
 #!/usr/bin/env python3
 """Opens what a crash may leave of a warehouse's two files, at each moment of a run.
 
-    tools/crash_images.py [--program PROGRAM] [--images N] [--seed N] [--jobs J]
+    tools/crash_images.py [--program PROGRAM] [--images N | --scripts N] [--entries N] [--seed N] [--jobs J]
 
 Scripts of entries and checkpoints are run by `focusd run --dir`, and strace records the writes and syncs. After each of these calls,
 folders are made that hold what a crash may leave then: what was synced stands, and each range written since is old, new, torn at some
@@ -21,7 +21,8 @@ An image that the program gets wrong is kept, with a text that says what is wron
 edits recorded runs instead, each as a wrong program would make it (no sync after a frame, an answer before the sync, a gate written
 before its frame and so on), and opens images until one shows the edit. Each edit has to be seen.
 
-It needs strace (Debian 12: apt-get install strace) and a built program. The images of a seed are the same in each run.
+It needs strace (Debian 12: apt-get install strace) and a built program. The images of a seed are the same in each run, and by --scripts
+there are as many on each machine.
 Exit status: 0 where all images were right, 1 where one wasn't, 2 where nothing could be run.
 """
 
@@ -33,9 +34,11 @@ import sys
 import tempfile
 import threading
 from concurrent.futures import ThreadPoolExecutor
+from dataclasses import replace
 
 from store_runs import (
-    PROGRAM, QUESTIONS, TOP, CannotRun, Case, Disk, Image, Progress, commands, contents_of, lay, order_faults, record, role, room_of, run, shown,
+    PROGRAM, QUESTIONS, SIDES, TOP, CannotRun, Case, Disk, Image, Progress, commands, contents_of, lay, order_faults, record, role, room_of, run,
+    shown,
 )  # fmt: skip
 
 # How many entries a script has that is begun in an empty folder.
@@ -46,6 +49,8 @@ GOES_ON = 10
 FIRST_SYNCS = 6
 # How many images of a recorded run are gone on with in a run that is recorded too.
 RECORDED = 2
+# How many calls in a wrong order are told of a run.
+MOST_ORDER_FAULTS = 3
 # How many runs are killed for each edit of the self-test.
 KILLS = 4
 # How wrong programs order their calls, for the self-test.
@@ -59,6 +64,11 @@ EDITS = {
     "answers before the last sync": lambda steps: answers_first(steps),
     "a gate before its frame": lambda steps: exchanged(steps, "frame", "gate"),
     "a side opened before it is filled": lambda steps: exchanged(steps, "filling", "opening"),
+    "no syncs at all": lambda steps: [call for call in steps if call.name != "fdatasync"],
+    "each sync made of the other file": lambda steps: other_syncs(steps),
+    "a frame that isn't written": lambda steps: without_write(steps, "frame"),
+    "a gate that isn't written": lambda steps: without_write(steps, "gate"),
+    "a body that isn't written": lambda steps: without_write(steps, "filling"),
 }
 
 
@@ -68,8 +78,13 @@ class Search:
     def __init__(self, options, room):
         self.options, self.room = options, room
         self.pool = ThreadPoolExecutor(options.jobs)
-        self.images = self.runs = self.rests = self.wrong = self.moments = 0
+        self.images = self.runs = self.kills = self.rests = self.wrong = self.wrong_images = self.moments = 0
         self.lock = threading.Lock()
+
+    @property
+    def is_over(self):
+        """Whether so many images are wrong that no more is tried."""
+        return self.options.most_wrong is not None and self.wrong_images >= self.options.most_wrong
 
     def folder(self, name):
         """An empty folder of this thread."""
@@ -80,6 +95,8 @@ class Search:
 
     def check(self, image, goes_on):
         """Opens an image, and goes on with it: how many entries it holds."""
+        if self.is_over:
+            return None
         folder = self.folder("image")
         entries, fault = image.fault(self.options.program, folder)
         if not fault and goes_on and entries is not None:
@@ -89,6 +106,7 @@ class Search:
             self.rests += goes_on
             if fault:
                 self.wrong += 1
+                self.wrong_images += 1
                 self.keep(image, fault)
         return entries
 
@@ -139,33 +157,40 @@ class Search:
             disk.apply(call)
         if not inject and disk.as_read() != contents_of(folder):
             raise CannotRun(f"{name}: the recorded calls don't make the files that the run left")
-        for fault in order_faults(calls):
+        faults = order_faults(calls)
+        if len(faults) > MOST_ORDER_FAULTS:
+            faults[MOST_ORDER_FAULTS:] = [f"{len(faults) - MOST_ORDER_FAULTS} more calls come before the sync ahead of them"]
+        for fault in faults:
             self.fault_of_run(name, fault)
         return calls
 
     def explore(self, seed):
         """All that is tried with one script."""
         choice = random.Random(seed)
-        name, case = f"script {seed}", Case(commands(seed, ENTRIES))
+        name, case = f"script {seed}", Case(commands(seed, self.options.entries))
         folder = self.folder("run")
         script, answers = b"".join(case.commands), b"".join(case.answers)
         calls = self.recorded(name, case, folder, script, answers, "--create")
         checked = self.check_all(self.images_of(name, case, Progress(Disk(), None, 0), calls, choice), choice)
         some = [pair for pair in checked if pair[1] is not None and pair[1] < case.entries]
         for image, entries in choice.sample(some, min(RECORDED, len(some))):
+            if self.is_over:
+                return
             folder = self.folder("run")
             lay(folder, image.contents)
             rest, answers = case.rest(entries)
             calls = self.recorded(f"{image.name}, gone on", case, folder, b"".join(rest), b"".join(answers))
             images = self.images_of(f"{image.name}, gone on", case, Progress(Disk(*image.contents), entries, entries), calls, choice)
             self.check_all(images, choice)
-        self.check_all(self.killed(name, case, choice), choice)
+        if not self.is_over:
+            self.check_all(self.killed(name, case, choice), choice)
 
     def killed(self, name, case, choice, edit=list):
         """Images of runs that go on over what a run left unsynced which was killed at a sync."""
         folder, script = self.folder("run"), b"".join(case.commands)
         number = choice.randrange(FIRST_SYNCS, FIRST_SYNCS + 2 * case.entries)
         first = self.recorded(name, case, folder, script, b"", "--create", inject=f"fdatasync:error=EIO:signal=KILL:when={number}")
+        self.kills += 1
         progress = Progress(Disk(), None, 0)
         for call in edit(first):
             progress.apply(call)
@@ -216,6 +241,18 @@ def exchanged(steps, earlier, later):
     return made
 
 
+def other_syncs(steps):
+    """The calls with each sync of a file made of the other one."""
+    other = dict(zip(SIDES, reversed(SIDES)))
+    return [replace(call, where=other.get(call.where, call.where)) if call.name == "fdatasync" else call for call in steps]
+
+
+def without_write(steps, wanted):
+    """The calls without the first write of a kind."""
+    lost = next((place for place, call in enumerate(steps) if call.name == "pwrite64" and role(call) == wanted), len(steps))
+    return steps[:lost] + steps[lost + 1 :]
+
+
 def self_test(options, room):
     """Tries each edit over recorded runs, until an image shows it: the edits that no image shows."""
     missed = []
@@ -244,6 +281,9 @@ def main():
     parser = argparse.ArgumentParser(description=__doc__, formatter_class=argparse.RawDescriptionHelpFormatter)
     parser.add_argument("--program", default=PROGRAM, help="the program (default: out/focusd)")
     parser.add_argument("--images", type=int, default=None, metavar="N", help="how many images at the least (default: 10000; with --self-test at most so many of each edit: 1000)")
+    parser.add_argument("--scripts", type=int, default=None, metavar="N", help="all images of so many scripts, however many these are")
+    parser.add_argument("--entries", type=int, default=ENTRIES, metavar="N", help=f"how many entries a script has (default: {ENTRIES})")
+    parser.add_argument("--most-wrong", type=int, default=None, metavar="N", help="end where so many images are wrong (default: try all)")
     parser.add_argument("--seed", type=int, default=1, metavar="N", help="the first script (default: 1)")
     parser.add_argument("--jobs", type=int, default=len(os.sched_getaffinity(0)), metavar="J", help="images at a time")
     parser.add_argument("--room", metavar="DIR", help="where folders are made (default: in memory, /dev/shm, where there is one)")
@@ -262,11 +302,14 @@ def main():
                 print(f"wrong: {', '.join(missed)}" if missed else "each edit was seen")
                 return 1 if missed else 0
             search, seed = Search(options, room), options.seed
-            while search.images < options.images:
+            while not search.is_over and (search.images < options.images if options.scripts is None else seed < options.seed + options.scripts):
                 search.explore(seed)
                 print(f"script {seed}: so far {search.images} images of {search.moments} moments in {search.runs} runs, {search.wrong} wrong", flush=True)
                 seed += 1
-            print(f"{search.images} images (seeds {options.seed} to {seed - 1}), {search.rests} gone on with, {search.wrong} wrong")
+            print(
+                f"{search.images} images of {search.runs} runs (seeds {options.seed} to {seed - 1}), {search.kills} of which were killed; "
+                f"{search.rests} images gone on with, {search.wrong} wrong"
+            )
             return 1 if search.wrong else 0
     except CannotRun as why:
         print(f"tools/crash_images.py: {why}", file=sys.stderr)

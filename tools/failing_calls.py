@@ -1,7 +1,7 @@
 #!/usr/bin/env python3
 """Makes each call of a run on its warehouse's files fail, one a run, and looks at the answers and at what stands afterwards.
 
-    tools/failing_calls.py [--program PROGRAM] [--seed N] [--images N] [--jobs J]
+    tools/failing_calls.py [--program PROGRAM] [--seed N] [--entries N] [--images N] [--jobs J]
 
 A script of entries and checkpoints is run twice by `focusd run --dir`: with --create, and over a folder that has a warehouse. In each,
 every opening, lock, read, write and sync of the folder and its files, each read of the script and each write of the answers is made to
@@ -97,8 +97,8 @@ class Plan:
 class Trial:
     """All runs of a plan."""
 
-    def __init__(self, plan, program, room, images_each):
-        self.plan, self.program, self.room, self.images_each = plan, program, room, images_each
+    def __init__(self, plan, program, room, images_each, most_wrong):
+        self.plan, self.program, self.room, self.images_each, self.most_wrong = plan, program, room, images_each, most_wrong
         self.runs = self.images = 0
         self.wrong, self.lock = [], threading.Lock()
         folder = self.folder()
@@ -107,6 +107,11 @@ class Trial:
         if ended.status != 0 or ended.error or ended.said != b"".join(plan.answers):
             raise CannotRun(f"{plan.name}: the run is wrong where nothing fails:\n{ended}")
         self.places = plan.places(self.calls)
+
+    @property
+    def is_over(self):
+        """Whether so much is wrong that no more is tried."""
+        return self.most_wrong is not None and len(self.wrong) >= self.most_wrong
 
     def folder(self):
         folder = os.path.join(self.room, str(threading.get_ident()), "run")
@@ -138,13 +143,14 @@ class Trial:
         if (ended.status, ended.said, ended.error) != (status, said, error):
             yield f"it should answer\n{shown(said)}{shown(error)}with status {status}, and it answers\n{ended}"
         progress = Progress(Disk(*self.plan.start), None if "--create" in self.plan.options else self.plan.entries, self.plan.entries)
-        failed = False
+        failed, later = False, []
         for one in calls:
             if failed and one.name in ("pwrite64", "fdatasync") and place != "writing":
-                yield f"after the failure it makes the call {one}"
-                break
+                later.append(one)
             progress.apply(one)
             failed |= not again and (one.name, one.number) == (call.name, call.number)
+        if later:
+            yield f"after the failure it makes the call {later[0]}"
         if progress.disk.as_read() != contents_of(folder):
             raise CannotRun(f"{inject}: the recorded calls don't make the files that the run left")
         choice = random.Random(index)
@@ -164,10 +170,14 @@ class Trial:
 
     def check(self, item):
         index, how, again = item
+        if self.is_over:
+            return
+        faults = []
         try:
-            faults = list(self.faults(index, how, again))
+            for fault in self.faults(index, how, again):
+                faults.append(fault)
         except CannotRun as why:
-            faults = [str(why)]
+            faults.append(str(why))
         with self.lock:
             self.runs += 1
             for fault in faults:
@@ -188,6 +198,8 @@ def main():
     parser = argparse.ArgumentParser(description=__doc__, formatter_class=argparse.RawDescriptionHelpFormatter)
     parser.add_argument("--program", default=PROGRAM, help="the program (default: out/focusd)")
     parser.add_argument("--seed", type=int, default=1, metavar="N", help="the script (default: 1)")
+    parser.add_argument("--entries", type=int, default=ENTRIES, metavar="N", help=f"how many entries each of the two runs stores (default: {ENTRIES})")
+    parser.add_argument("--most-wrong", type=int, default=None, metavar="N", help="end a plan where so much is wrong (default: try all)")
     parser.add_argument("--images", type=int, default=6, metavar="N", help="how many images a run leaves that are opened beside the folder itself (default: 6)")
     parser.add_argument("--jobs", type=int, default=len(os.sched_getaffinity(0)), metavar="J", help="runs at a time")
     parser.add_argument("--room", metavar="DIR", help="where folders are made (default: in memory, /dev/shm, where there is one)")
@@ -199,13 +211,13 @@ def main():
     wrong = 0
     try:
         with tempfile.TemporaryDirectory(prefix="failing-calls-", dir=room_of(options.room)) as room:
-            small = Case(commands(options.seed, ENTRIES))
-            longer = Case(commands(options.seed + 1, 2 * ENTRIES))
+            small = Case(commands(options.seed, options.entries))
+            longer = Case(commands(options.seed + 1, 2 * options.entries))
             os.makedirs(os.path.join(room, "start"))
-            start = settled(program, os.path.join(room, "start"), longer, ENTRIES)
-            plans = [Plan("creating", small, (None, None), 0, ["--create"]), Plan("opening", longer, start, ENTRIES, [])]
+            start = settled(program, os.path.join(room, "start"), longer, options.entries)
+            plans = [Plan("creating", small, (None, None), 0, ["--create"]), Plan("opening", longer, start, options.entries, [])]
             for plan in plans:
-                trial = Trial(plan, program, room, options.images)
+                trial = Trial(plan, program, room, options.images, options.most_wrong)
                 known = [i for i, call in enumerate(trial.calls) if call.name != "mmap"]
                 items = [(i, how, again) for i in known for how, again in errors_of(trial.calls[i])]
                 with ThreadPoolExecutor(options.jobs) as pool:

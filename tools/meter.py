@@ -41,7 +41,7 @@ class Step:
 
 def kind_of(words, folder):
     """What a prover's process does, by its command line and its folder."""
-    if os.path.basename(folder).startswith("rt-edit-"):
+    if os.path.basename(folder).startswith(("rt-edit-", "edit-")):
         return "edit"
     if "--test" in words:
         return "tests"

@@ -1,9 +1,9 @@
 #!/usr/bin/env python3
-"""Runs the built tests, and the built program on each case, with one allocation refused, each allocation in turn.
+"""Runs the built tests, and the built programs on scripts, with one allocation refused, each allocation in turn.
 
     tools/refuse_allocations.py [--most N] [--jobs J] [NAME ...]
 
-The tests are those that the gate built into out/tests (NAME: a crate, or `program`). A test whose allocation
+The tests are those that the gate built into out/tests (NAME: a crate, `program` or `fw_simulate`). A test whose allocation
 is refused has to end in one of two ways: it passes (it looked at the answer, and at what stands after it), or it ends
 with an error that says that memory ran out. An assertion that fails is an answer that changed in place of the error, and
 so is a crash.
@@ -11,6 +11,10 @@ so is a crash.
 The program, out/focusd, is run on the scripts of examples/cases. It has to end in one of three ways: with the answers
 that stand beside the script; with one answer `no memory`, and all others as if that command did not stand in the
 script; or with `focusd: NoMemory` and status 1, and no answer.
+
+The program out/fw_simulate is run on each script of crates/fw_simulate/stdin, and on one of each kind of tools/sweep.py. It has to end with the
+answers of a run with no allocation refused; or with others from a line on that says that memory ran out, or that the device failed, as a volume in
+memory does that can't grow; or with `fw_simulate: no memory` and status 1, and none but right answers.
 
 Where a run allocates more than --most times, the first --most are refused, and as many as half of that, spread over the rest.
 
@@ -28,11 +32,14 @@ import tempfile
 from concurrent.futures import ThreadPoolExecutor
 
 from store_runs import answers_of
+from sweep import SAMPLES
 
 TOP = os.path.dirname(os.path.dirname(os.path.abspath(__file__)))
 TESTS = os.path.join(TOP, "out", "tests")
 PROGRAM = os.path.join(TOP, "out", "focusd")
 CASES = os.path.join(TOP, "examples", "cases")
+SIMULATOR = os.path.join(TOP, "out", "fw_simulate")
+SCRIPTS = os.path.join(TOP, "crates", "fw_simulate", "stdin")
 SHIM = os.path.join(TOP, "tools", "refuse_allocation.c")
 # The errors by which a test may end under a refused allocation: those that say that memory ran out, and a device that
 # failed because a volume in memory could not grow.
@@ -41,6 +48,9 @@ OUT_OF_MEMORY = {"AllocError", "AllocFailed", "NoMemory", "Io", "Device", "OutOf
 NOT_BEGUN = b"focusd: NoMemory\n"
 # What a command is answered that ran out of memory.
 NO_MEMORY = b"no memory\n"
+# How the simulator ends where memory runs out, and what else it may answer then.
+NOT_SIMULATED = b"fw_simulate: no memory\n"
+OUT_OF_MEMORY_LINE = re.compile(rb"no memory|NoMemory|S3 Device|unknown")
 # The crates of tests on threads, which are run only where they are named: where memory for a thread can't be had, the toolchain's `join` makes its
 # two calls one after the other, and calls that wait for each other then wait for ever.
 ON_THREADS = {"fw_test_threads"}
@@ -143,6 +153,44 @@ def sweep_case(program, name, most, shim, room):
     return allocations, len(chosen), wrong
 
 
+def scripts_of_simulator():
+    """The scripts that the simulator is run on, by the numbers of their places."""
+    with open(SCRIPTS, "rb") as file:
+        lines = [line for line in file.read().splitlines(keepends=True) if not line.startswith(b"#")]
+    scripts, script = [], b""
+    for line in lines:
+        script += line
+        if line == b"end\n":
+            scripts.append(script)
+            script = b""
+    return scripts + ["".join(f"{line}\n" for line in sample).encode() for sample in SAMPLES]
+
+
+def is_simulated(right, status, said, error):
+    """Whether a run of the simulator under a refused allocation ended as it has to."""
+    if status == 1 and error == NOT_SIMULATED:
+        return right.startswith(said)
+    lines, wanted = said.splitlines(), right.splitlines()
+    first = next((place for place, pair in enumerate(zip(lines, wanted)) if pair[0] != pair[1]), None)
+    if status != 0 or first is None:
+        return status == 0 and said == right
+    return bool(OUT_OF_MEMORY_LINE.search(lines[first])) and len(lines) <= len(wanted) + 1
+
+
+def sweep_script(script, most, shim, room):
+    """All runs of the simulator on a script: how many allocations it makes, how many were refused, and what went wrong."""
+    allocations, status, right, error = run([SIMULATOR], script, 0, shim, room)
+    if status != 0:
+        return 0, 0, [f"fw_simulate fails with no allocation refused:\n{shown(right + error)}"]
+    wrong = []
+    chosen = numbers(allocations, most)
+    for number in chosen:
+        _, status, said, error = run([SIMULATOR], script, number, shim, room)
+        if not is_simulated(right, status, said, error):
+            wrong.append(f"fw_simulate with allocation {number} of {allocations} refused ended with status {status}:\n{shown(script + said + error)}")
+    return allocations, len(chosen), wrong
+
+
 def tests_of(program):
     """The full names of a program's tests."""
     listed = subprocess.run([program, "--list"], stdout=subprocess.PIPE, check=True, text=True).stdout
@@ -153,7 +201,7 @@ def main():
     parser = argparse.ArgumentParser(description=__doc__, formatter_class=argparse.RawDescriptionHelpFormatter)
     parser.add_argument("--most", type=int, default=MOST, metavar="N", help=f"how many allocations of a test to refuse (default: {MOST})")
     parser.add_argument("--jobs", type=int, default=len(os.sched_getaffinity(0)), help="tests at a time")
-    parser.add_argument("names", nargs="*", metavar="NAME", help="a crate whose tests to run, or `program` (default: all but the tests on threads)")
+    parser.add_argument("names", nargs="*", metavar="NAME", help="a crate whose tests to run, `program` or `fw_simulate` (default: all but the tests on threads and fw_simulate)")
     options = parser.parse_args()
     compiler = shutil.which("cc") or shutil.which("gcc") or shutil.which("clang")
     built = sorted(os.listdir(TESTS)) if os.path.isdir(TESTS) else []
@@ -171,6 +219,9 @@ def main():
                 if name == "program":
                     items, kind = sorted(it[: -len(".script")] for it in os.listdir(CASES) if it.endswith(".script")), "cases"
                     swept = list(pool.map(lambda case: sweep_case(PROGRAM, case, options.most, shim, room), items))
+                elif name == "fw_simulate":
+                    items, kind = scripts_of_simulator(), "scripts"
+                    swept = list(pool.map(lambda script: sweep_script(script, options.most, shim, room), items))
                 else:
                     program = os.path.join(TESTS, name)
                     items, kind = tests_of(program), "tests"

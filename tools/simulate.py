@@ -19,6 +19,7 @@ some three minutes, most of it to compile.
 Exit status: 0 no answer differs, 1 one does (self-test: a wrong body isn't found), 2 the program could not be run.
 """
 import argparse
+import math
 import os
 import random
 import re
@@ -184,7 +185,8 @@ class System:
 
     def __init__(self, words):
         self.importers, self.analysts = int(words[0]), int(words[1])
-        self.fails_left = len(words) - 3
+        self.fails_left = {"once": 1, "ever": math.inf}.get(words[3], len(words) - 3) if len(words) > 3 else 0
+        self.has_failed = False
         self.waiting, self.hand, self.published, self.group = [], [], [], []
         self.failed = self.stopped = False
         self.is_made = True
@@ -192,6 +194,7 @@ class System:
 
     def fails(self):
         """The device fails once more."""
+        self.has_failed = True
         self.fails_left -= 1
         if self.fails_left < 0:
             raise Wrong("the device failed more often than the script says")
@@ -344,6 +347,11 @@ def shown(entries):
 
 def fault_of(script, answers):
     """The first answer that is wrong: the number of its line, counted from 0, and what was expected; or None."""
+    return after(script, answers)[1]
+
+
+def after(script, answers):
+    """The running system after a script with these answers, up to the first one that is wrong, and that one as `fault_of` has it."""
     system = System(script[0].split(" ")[1:])
     for place, line in enumerate(script):
         answer = answers[place] if place < len(answers) else "nothing"
@@ -355,8 +363,8 @@ def fault_of(script, answers):
             else:
                 system.answer(line, answer)
         except Wrong as wrong:
-            return place, str(wrong)
-    return None if len(answers) == len(script) else (len(script), "nothing more")
+            return system, (place, str(wrong))
+    return system, None if len(answers) == len(script) else (len(script), "nothing more")
 
 
 # ---- runs

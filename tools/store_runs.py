@@ -504,7 +504,7 @@ class Image:
         if self.least is None and found.status == 1 and found.error == b"focusd: S1 NoHouse\n" and not found.said:
             again = run(program, folder, QUESTIONS[0], "--create")
             return None, "" if again.status == 0 and again.said == b"state 0 0 0 0\n" else f"it can't be created again:\n{again}"
-        for entries in range(self.least or 0, self.most + 1):
+        for entries in range(self.least or 0, min(self.most, self.case.entries) + 1):
             if found.status == 0 and not found.error and found.said == self.case.histories[entries]:
                 return entries, ""
         return None, f"it has to hold {self.least or 0} to {self.most} entries, and answers:\n{found}"

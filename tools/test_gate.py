@@ -1,5 +1,5 @@
 #!/usr/bin/env python3
-"""Tests of the gate's choice of must-fail edits, and of the gate over a repository of two small crates: python3 tools/test_gate.py"""
+"""Tests of which must-fail edits are due and tried, and of the gate over a repository of two small crates: python3 tools/test_gate.py"""
 import os
 import subprocess
 import sys
@@ -7,14 +7,13 @@ import tempfile
 import unittest
 
 sys.path.insert(0, os.path.dirname(os.path.abspath(__file__)))
+import changes  # noqa: E402
+import due  # noqa: E402
 import gate  # noqa: E402
 import meter  # noqa: E402
 import refuse_allocations  # noqa: E402
 
 TOOL = os.path.join(os.path.dirname(os.path.abspath(__file__)), "gate.py")
-COUNTS = {"a": 9, "b": 7, "c": 5, "d": 3, "e": 3, "f": 1}
-COSTS = {"a": (100.0, 20.0), "b": (300.0, 40.0)}
-
 SOURCE = """//! One function.
 #![tactic(auto)]
 
@@ -32,45 +31,7 @@ REFUSED = "file: src/lib.rt\nold:     u16::from(byte) + 1\nnew:     u16::from(by
 ACCEPTED = "file: src/lib.rt\nold:     u16::from(byte) + 1\nnew:     1 + u16::from(byte)\n"
 
 
-class Choice(unittest.TestCase):
-    def test_eight_picks_see_each_crate_once(self):
-        parts = [gate.part_of(gate.costs_of(COUNTS, COSTS), f"{digit:08x}") for digit in range(8)]
-        self.assertEqual(sorted(crate for part in parts for crate in part), sorted(COUNTS))
-
-    def test_the_parts_cost_about_as_much(self):
-        costs = {f"crate{number}": 10 * number for number in range(1, 40)}
-        loads = [sum(costs[crate] for crate in part) for part in gate.parts_of(costs)]
-        self.assertLessEqual(max(loads) - min(loads), 80)
-
-    def test_a_dear_crate_has_a_part_of_its_own(self):
-        costs = gate.costs_of({"dear": 2, **{f"cheap{number}": 20 for number in range(7)}}, {"dear": (900, 100), **{f"cheap{number}": (20, 5) for number in range(7)}})
-        self.assertIn(["dear"], gate.parts_of(costs))
-
-    def test_edits_cost_their_first_step_and_one_for_each_and_one_behind_them(self):
-        costs = gate.costs_of({"a": 9, "b": 1, "c": 3, "d": 0}, COSTS)
-        self.assertEqual(costs, {"a": 100 + 10 * 20, "b": 300 + 2 * 40, "c": 200 + 4 * 30}, "c costs the mean, and d has none")
-        self.assertEqual(gate.costs_of({"a": 2, "b": 5}, {}), {"a": 4, "b": 7}, "where nothing is known, a step costs one")
-
-    def test_costs_are_read_from_their_file(self):
-        with tempfile.TemporaryDirectory() as top:
-            self.assertEqual(gate.read_costs(top), {}, "there is no such file")
-            os.makedirs(os.path.join(top, "tools"))
-            for text, costs in [("# a note\n\na 100 20.0\nb 300 40\n", COSTS), ("a 100\n", None), ("a 100 dear\n", None)]:
-                with open(os.path.join(top, gate.COSTS), "w", encoding="utf-8") as file:
-                    file.write(text)
-                if costs is None:
-                    self.assertRaises(gate.GateError, gate.read_costs, top)
-                else:
-                    self.assertEqual(gate.read_costs(top), costs)
-
-    def test_the_file_of_this_repository_names_crates_that_have_edits(self):
-        known, counts = gate.read_costs(gate.TOP), gate.edit_counts(gate.files_of(gate.TOP))
-        self.assertEqual([crate for crate in known if not counts.get(crate)], [])
-
-    def test_counts_are_of_edits(self):
-        files = ["crates/a/must-fail/x.edit", "crates/a/must-fail/notes.md", "crates/a/src/lib.rt", "crates/b/src/lib.rt"]
-        self.assertEqual(gate.edit_counts(files), {"a": 1})
-
+class Lines(unittest.TestCase):
     def test_a_program_stands_on_what_its_libraries_stand_on(self):
         lines = gate.crate_lines("# a note\nlow: thiserror\nmid: low\n\nother:\nprogram: mid clap  # the top\n")
         self.assertEqual(gate.below("program", lines), {"program", "mid", "low"})
@@ -81,10 +42,45 @@ class Choice(unittest.TestCase):
         for line in ["fn fw_money::read::parse: not proved", "rt: fw_money proved", "note: src/lib.rt:1:1", "3 passed, 0 failed"]:
             self.assertTrue(gate.is_shown(line, False), line)
 
+    def test_a_crate_is_built_once_it_is_proved_or_kept(self):
+        for line in ["rt: fw_money proved", "rt: fw_money is kept: an earlier run on this machine proved the same files over the same libraries"]:
+            self.assertEqual(gate.BUILT.match(line)[1], "fw_money", line)
+        for line in ["rt: fw_money NOT PROVED", "rt: fw_money: its tests are proved"]:
+            self.assertIsNone(gate.BUILT.match(line), line)
+
+
+class Files(unittest.TestCase):
+    def test_costs_are_read_from_their_file(self):
+        with tempfile.TemporaryDirectory() as top:
+            self.assertEqual(due.read_costs(top), {}, "there is no such file")
+            os.makedirs(os.path.join(top, "tools"))
+            costs = {"a": due.Cost(100, 5, 20), "b": due.Cost(300, 6.5, 40)}
+            for text, known in [("# a note\n\na 100 5 20.0\nb 300 6.5 40\n", costs), ("a 100\n", None), ("a 100 dear 1\n", None)]:
+                with open(os.path.join(top, due.COSTS), "w", encoding="utf-8") as file:
+                    file.write(text)
+                if known is None:
+                    self.assertRaises(due.DueError, due.read_costs, top)
+                else:
+                    self.assertEqual(due.read_costs(top), known)
+
+    def test_records_are_read_as_they_were_written(self):
+        with tempfile.TemporaryDirectory() as top:
+            os.makedirs(os.path.join(top, "tools"))
+            self.assertRaises(due.DueError, due.Records.read, top)
+            records = due.Records("rattle-kit-1 logic ab", "c1", {"b": "c0", "a": "c1"})
+            records.write(top)
+            self.assertEqual(due.Records.read(top), records)
+
+    def test_the_files_of_this_repository_name_crates_that_have_edits(self):
+        crates = {changes.crate_of(path) for path in changes.files_of(gate.TOP) if changes.is_edit(path)}
+        self.assertEqual([crate for crate in due.read_costs(gate.TOP) if crate not in crates], [])
+        self.assertEqual([crate for crate in due.Records.read(gate.TOP).tried if crate not in crates], [])
+
 
 class Kinds(unittest.TestCase):
     def test_what_a_prover_does_is_told_by_its_command_line(self):
-        self.assertEqual(meter.kind_of(["rattle", "check", "--crate-name", "a"], "rooms/rt-edit-x1"), "edit")
+        for folder in ("rooms/rt-edit-x1", "rooms/edit-x1"):
+            self.assertEqual(meter.kind_of(["rattle", "check", "--crate-name", "a"], folder), "edit")
         self.assertEqual(meter.kind_of(["rattle", "build", "--crate-name", "a", "--test"], "/r/crates/a"), "tests")
         self.assertEqual(meter.kind_of(["rattle", "build", "--crate-name", "a"], "/r/crates/a"), "proof")
 
@@ -95,20 +91,20 @@ class Changes(unittest.TestCase):
             repository = Repository(top)
             repository.fill()
             commit = repository.commit("all that the last full run saw")
-            self.assertEqual(gate.changes_since(top, commit), gate.Changes(set(), set()))
+            self.assertEqual(changes.changes_since(top, commit), changes.Changes(set(), set()))
             os.remove(os.path.join(top, "crates/same/must-fail/adds_two.edit"))
             repository.commit("an edit goes")
-            self.assertEqual(gate.changes_since(top, commit), gate.Changes(set(), set()))
+            self.assertEqual(changes.changes_since(top, commit), changes.Changes(set(), set()))
             repository.write("crates/same/must-fail/adds_2.edit", REFUSED)
-            self.assertEqual(gate.changes_since(top, commit), gate.Changes(set(), set()), "an edit with another name")
+            self.assertEqual(changes.changes_since(top, commit), changes.Changes(set(), set()), "an edit with another name")
             three = "crates/same/must-fail/adds_three.edit"
             repository.write(three, REFUSED.replace("+ 2", "+ 3"))
-            self.assertEqual(gate.changes_since(top, commit), gate.Changes(set(), {three}))
+            self.assertEqual(changes.changes_since(top, commit), changes.Changes(set(), {three}))
             code = "crates/changed/src/lib.rt"
             repository.write(code, SOURCE + "// a comment\n")
             repository.commit("another edit, and code")
-            self.assertEqual(gate.changes_since(top, commit), gate.Changes({code}, {three}))
-            self.assertIsNone(gate.changes_since(top, "0" * 40))
+            self.assertEqual(changes.changes_since(top, commit), changes.Changes({code}, {three}))
+            self.assertIsNone(changes.changes_since(top, "0" * 40))
 
     def test_an_edit_is_due_where_its_file_or_a_definition_that_it_goes_by_changed(self):
         with tempfile.TemporaryDirectory() as top:
@@ -131,7 +127,7 @@ class Changes(unittest.TestCase):
                 ({"crates/changed/src/views.rt", "crates/changed/proofs/Lib.antt"}, False),
                 ({"crates/same/src/lib.rt", "crates/same/specs/Lib.antt"}, False),
             ]:
-                self.assertEqual(gate.is_turned(top, commit, edit, files), is_due, files)
+                self.assertEqual(changes.is_turned(top, commit, edit, files), is_due, files)
 
     def test_other_imports_are_no_change(self):
         with tempfile.TemporaryDirectory() as top:
@@ -144,31 +140,81 @@ class Changes(unittest.TestCase):
                 ("", False),
             ]:
                 repository.write("crates/changed/src/lib.rt", SOURCE.replace("ghost use Rattle.std.specs.Prelude.{◌≡◌, ◌+◌};", line))
-                self.assertEqual(gate.changes_since(top, commit).files, {"crates/changed/src/lib.rt"} if is_due else set(), line)
+                self.assertEqual(changes.changes_since(top, commit).files, {"crates/changed/src/lib.rt"} if is_due else set(), line)
             repository.write("crates/changed/src/lib.rt", SOURCE.replace("+ 1\n", "+ 2\n"))
-            self.assertEqual(gate.changes_since(top, commit).files, {"crates/changed/src/lib.rt"})
+            self.assertEqual(changes.changes_since(top, commit).files, {"crates/changed/src/lib.rt"})
 
-    def test_what_a_landing_tried_is_not_due_again(self):
+    def test_what_was_tried_up_to_a_commit_is_due_again_once_it_changes(self):
         with tempfile.TemporaryDirectory() as top:
             repository = Repository(top)
             repository.fill()
+            kit = due.Records.read(top).kit
+            plan = lambda **how: due.plan(top, kit, **how)
+            self.assertEqual(number(plan(budget=None).due), 0)
             repository.write("crates/changed/src/lib.rt", SOURCE + "// a comment\n")
-            repository.leave_all()
-            kit = gate.Record.read(top).kit
-            chosen = gate.choose(top, gate.files_of(top), kit, False)
-            self.assertEqual((chosen.reasons, chosen.edits), ({"changed": "changed"}, {"crates/changed/must-fail/adds_two.edit"}))
-            repository.write(gate.LANDING, f"commit {repository.commit('landed')}\n")
-            new = "crates/same/must-fail/adds_three.edit"
-            repository.write(new, REFUSED.replace("+ 2", "+ 3"))
-            repository.leave_all()
-            chosen = gate.choose(top, gate.files_of(top), kit, False)
-            self.assertEqual((chosen.reasons, chosen.edits), ({"same": "new edits"}, {new}))
-            every = {path for path in gate.files_of(top) if gate.is_edit(path)}
+            commit = repository.commit("code of one crate")
+            two = {"crates/changed/must-fail/adds_two.edit"}
+            self.assertEqual((plan().due["changed"], plan().due["same"], plan().runs), (two, set(), {"changed": two}))
+            records = due.Records.read(top)
+            records.tried["changed"] = commit
+            records.write(top)
+            self.assertEqual(number(plan().due), 0)
+            three = "crates/same/must-fail/adds_three.edit"
+            repository.write(three, REFUSED.replace("+ 2", "+ 3"))
+            self.assertEqual((plan().due["same"], plan().new["same"], plan().runs), ({three}, {three}, {"same": {three}}))
             for another in ("another kit", "rattle-kit-1 logic another"):
-                self.assertEqual(gate.choose(top, gate.files_of(top), another, False).edits, every, another)
-            later = f"a later release logic {gate.logic_of(kit)}"
-            self.assertEqual(gate.choose(top, gate.files_of(top), later, False).edits, {new}, "it proves in the same logic")
-            self.assertEqual(len(gate.choose(top, gate.files_of(top), kit, True).edits), 4)
+                self.assertEqual(number(due.plan(top, another).due), 4, another)
+            later = f"a later release logic {due.logic_of(kit)}"
+            self.assertEqual(number(due.plan(top, later).due), 1, "it proves in the same logic")
+            self.assertEqual(number(plan(tries_all=True).runs), 4)
+            records.tried["same"] = "0" * 40
+            records.write(top)
+            self.assertEqual(len(plan().due["same"]), 3, "a commit that isn't here")
+
+    def test_a_budget_goes_to_new_texts_first_then_to_what_was_tried_longest_ago(self):
+        with tempfile.TemporaryDirectory() as top:
+            repository = Repository(top)
+            repository.fill(("changed", "same", "third"))
+            kit = due.Records.read(top).kit
+            with open(os.path.join(top, due.COSTS), "w", encoding="utf-8") as file:
+                file.write("changed 100 10 20\nsame 100 10 20\nthird 100 10 20\n")
+            later = repository.commit("a later landing", date="2026-01-02T00:00:00")
+            records = due.Records.read(top)
+            records.tried["same"] = records.landing = later
+            records.write(top)
+            new = "crates/third/must-fail/adds_three.edit"
+            repository.write(new, REFUSED.replace("+ 2", "+ 3"))
+            for crate in ("changed", "same"):
+                repository.write(f"crates/{crate}/src/lib.rt", SOURCE + "// a comment\n")
+            repository.commit("all change", date="2026-01-03T00:00:00")
+            one = 100 + 10 + 20 / due.SAMPLE
+            runs = lambda budget: {crate: len(paths) for crate, paths in due.plan(top, kit, budget).runs.items()}
+            self.assertEqual(runs(1), {"third": 1}, "the first is tried whatever it costs")
+            self.assertEqual(runs(2 * one), {"third": 1, "changed": 1})
+            self.assertEqual(runs(2 * one + 50), {"third": 2, "changed": 1}, "what is left of the budget goes to what isn't due")
+            self.assertEqual(runs(4 * one), {"third": 2, "changed": 1, "same": 2})
+            plan = due.plan(top, kit, 2 * one)
+            self.assertEqual(plan.owed(), {"same": {"crates/same/must-fail/adds_two.edit", "crates/same/must-fail/adds_the_other_way.edit"}})
+            self.assertEqual((plan.done(), plan.oldest(plan.owed()), plan.dates["same"]), (["third", "changed"], "same", "2026-01-02 00:00"))
+            self.assertIn("must-fail edits owed: 2, of 1 crates; the oldest of same, tried up to a commit of 2026-01-02 00:00: same (2)", gate.owed_line(plan))
+
+    def test_a_landing_is_written_down_as_its_gate_ran(self):
+        with tempfile.TemporaryDirectory() as top:
+            repository = Repository(top)
+            repository.fill()
+            before = due.Records.read(top)
+            repository.write("crates/changed/src/lib.rt", SOURCE + "// a comment\n")
+            landing = repository.commit("it lands")
+            repository.write("README.md", "more\n")
+            repository.commit("more")
+            gate.landed(top, landing, before.kit)
+            after = due.Records.read(top)
+            self.assertEqual((after.landing, after.tried), (landing, {"changed": landing, "same": landing}))
+            self.assertEqual(number(due.plan(top, before.kit).due), 0)
+
+
+def number(by_crate):
+    return sum(map(len, by_crate.values()))
 
 
 class Refusals(unittest.TestCase):
@@ -209,36 +255,30 @@ class Repository:
         with open(path, "w", encoding="utf-8") as file:
             file.write(text)
 
-    def git(self, *words):
+    def git(self, *words, date=None):
         identity = ["-c", "user.name=test", "-c", "user.email=test@localhost"]
-        return subprocess.run(["git", *identity, *words], cwd=self.top, check=True, capture_output=True, text=True).stdout.strip()
+        dated = {"GIT_AUTHOR_DATE": date, "GIT_COMMITTER_DATE": date, "TZ": "UTC"} if date else {}
+        return subprocess.run(["git", *identity, *words], cwd=self.top, check=True, capture_output=True, text=True, env={**os.environ, **dated}).stdout.strip()
 
-    def commit(self, message):
+    def commit(self, message, date="2026-01-01T00:00:00"):
         self.git("add", "-A")
-        self.git("commit", "-q", "--allow-empty", "-m", message)
+        self.git("commit", "-q", "--allow-empty", "-m", message, date=date)
         return self.git("rev-parse", "HEAD")
 
-    def fill(self):
+    def fill(self, crates=("changed", "same")):
         self.git("init", "-q")
         self.write("HANDLES", "Handles allowed: none.\n")
-        self.write("crates.txt", "changed:\nsame:\n")
+        self.write("crates.txt", "".join(f"{crate}:\n" for crate in crates))
         self.write(".gitignore", "out/\n")
-        for crate in ("changed", "same"):
+        for crate in crates:
             self.write(f"crates/{crate}/src/lib.rt", SOURCE)
             self.write(f"crates/{crate}/must-fail/adds_two.edit", REFUSED)
         # the prover accepts this one, and a run that leaves the crate's edits doesn't see it
         self.write("crates/same/must-fail/adds_the_other_way.edit", ACCEPTED)
         kit = subprocess.run(["rt", "version"], check=True, capture_output=True, text=True).stdout.strip()
         os.makedirs(os.path.join(self.top, "tools"))
-        gate.Record(self.commit("all"), "2026-01-01", kit).write(self.top)
-
-    def leave_all(self):
-        """Commits until the commit's hash picks no crate."""
-        costs = gate.costs_of(gate.edit_counts(gate.files_of(self.top)), {})
-        for number in range(1000):
-            if not gate.part_of(costs, self.commit(f"change {number}")):
-                return
-        raise AssertionError("each commit picks a crate")
+        commit = self.commit("all")
+        due.Records(kit, commit, dict.fromkeys(crates, commit)).write(self.top)
 
 
 class Gate(unittest.TestCase):
@@ -248,15 +288,31 @@ class Gate(unittest.TestCase):
             repository.fill()
             repository.write("crates/changed/src/lib.rt", SOURCE + "// a comment\n")
             repository.write("crates/changed/must-fail/adds_the_other_way.edit", ACCEPTED)
-            repository.leave_all()
-            ran = subprocess.run([sys.executable, TOOL, "--top", top], capture_output=True, text=True, check=False)
+            repository.commit("changed")
+            ran = subprocess.run([sys.executable, "-B", TOOL, "--top", top, "--budget", "0.01"], capture_output=True, text=True, check=False)
             self.assertEqual(ran.returncode, 1, ran.stdout + ran.stderr)
-            self.assertIn("tried: changed (changed, 2)\n", ran.stdout)
-            self.assertIn("left: same (2)\n", ran.stdout)
+            self.assertIn("must-fail edits: 4, of which 2 are due, 1 of them new", ran.stdout)
+            self.assertIn("within 0.01: changed (1)\n", ran.stdout)
             self.assertIn("must-fail changed/adds_the_other_way.edit: NOT REFUSED", ran.stdout)
-            self.assertIn("must-fail changed/adds_two.edit: refused", ran.stdout)
-            self.assertIn("3 passed, 1 failed\n", ran.stdout)
+            self.assertIn("2 passed, 0 failed\n", ran.stdout)
+            self.assertIn("edits: 0 passed, 1 failed\n", ran.stdout)
+            self.assertIn("must-fail edits owed: 1, of 1 crates; the oldest of changed, tried up to a commit of 2026-01-01", ran.stdout)
             self.assertRegex(ran.stdout, r"(?m)^changed +\d+ ")
+
+    def test_what_is_owed_is_worked_through_and_written_down(self):
+        with tempfile.TemporaryDirectory() as top:
+            repository = Repository(top)
+            repository.fill()
+            repository.write("crates/changed/src/lib.rt", SOURCE + "// a comment\n")
+            repository.write("crates/same/src/lib.rt", SOURCE + "// a comment\n")
+            commit = repository.commit("changed")
+            before = due.Records.read(top).tried["same"]
+            ran = subprocess.run([sys.executable, "-B", TOOL, "--top", top, "--owed"], capture_output=True, text=True, check=False)
+            self.assertEqual(ran.returncode, 1, ran.stdout + ran.stderr)
+            self.assertIn("must-fail changed/adds_two.edit: refused", ran.stdout)
+            self.assertIn("must-fail same/adds_the_other_way.edit: NOT REFUSED", ran.stdout)
+            self.assertIn("edits: 2 passed, 1 failed\n", ran.stdout)
+            self.assertEqual(due.Records.read(top).tried, {"changed": commit, "same": before})
 
 
 if __name__ == "__main__":

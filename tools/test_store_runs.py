@@ -10,12 +10,13 @@ import random
 import sys
 import tempfile
 import unittest
+from unittest import mock
 
 sys.path.insert(0, os.path.dirname(os.path.abspath(__file__)))
 from crash_images import EDITS  # noqa: E402
 from folders import Files  # noqa: E402
 from store_runs import (  # noqa: E402
-    CHECKPOINT, Call, Case, Disk, Progress, acknowledged, answers_of, calls_of, commands, order_faults, role,
+    CHECKPOINT, Call, Case, Disk, Ended, Image, Progress, acknowledged, answers_of, calls_of, commands, order_faults, role,
 )  # fmt: skip
 
 # A warehouse without entries, and the frame of a first one, a policy, in its log.
@@ -108,6 +109,27 @@ class Model(unittest.TestCase):
         self.assertTrue(any(one[44:45] == b"\1" and one[45:] != FRAME[1:] for one in found))
 
 
+class Images(unittest.TestCase):
+    def fault(self, least, most, found):
+        """What is wrong with an image of a script of three entries, in which the program finds this."""
+        image = Image(Case(commands(7, 3)), (LEFT, b""), "an image", least, most)
+        with tempfile.TemporaryDirectory() as folder, mock.patch("store_runs.run", return_value=found):
+            return image.fault("focusd", folder)
+
+    def test_what_the_answers_say_to_be_there(self):
+        histories = Case(commands(7, 3)).histories
+        self.assertEqual(self.fault(1, 2, Ended(0, histories[2], b"")), (2, ""))
+        self.assertIn("it has to hold 1 to 2 entries", self.fault(1, 2, Ended(0, histories[3], b""))[1])
+        self.assertIn("it has to hold 2 to 2 entries", self.fault(2, 2, Ended(0, histories[1], b""))[1])
+        self.assertIn("it has to hold 1 to 1 entries", self.fault(1, 1, Ended(1, b"", b"focusd: S2 Corrupt\n"))[1])
+
+    def test_more_frames_than_the_script_has_entries(self):
+        self.assertIn("it has to hold 3 to 9 entries", self.fault(3, 9, Ended(1, b"", b"focusd: S2 Corrupt\n"))[1])
+
+    def test_less_was_written_than_was_answered(self):
+        self.assertIn("it has to hold 2 to 1 entries", self.fault(2, 1, Ended(0, Case(commands(7, 3)).histories[1], b""))[1])
+
+
 class Order(unittest.TestCase):
     def test_kinds_of_writes(self):
         kinds = [role(call) for call in CREATED if call.name == "pwrite64"]
@@ -117,8 +139,22 @@ class Order(unittest.TestCase):
         self.assertEqual(order_faults(CREATED), [])
 
     def test_wrong_orders_have(self):
-        for name in ("no sync after a frame", "no sync after a gate", "answers before the last sync", "no sync after filling a side"):
+        for name in (
+            "no sync after a frame", "no sync after a gate", "answers before the last sync", "no sync after filling a side", "no syncs at all",
+            "each sync made of the other file",
+        ):  # fmt: skip
             self.assertTrue(order_faults(EDITS[name](CREATED)), name)
+
+    def test_a_write_that_is_lost_leaves_less_than_was_answered(self):
+        for name in ("a frame that isn't written", "a gate that isn't written", "a body that isn't written"):
+            steps = EDITS[name](CREATED)
+            self.assertEqual(len(steps), len(CREATED) - 1, name)
+            self.assertEqual(order_faults(steps), [], name)
+            self.assertNotEqual(disk_after(steps).as_read(), disk_after(CREATED).as_read(), name)
+
+    def test_each_edit_changes_the_calls(self):
+        for name in EDITS:
+            self.assertNotEqual(EDITS[name](CREATED), CREATED, name)
 
     def test_what_has_to_stand(self):
         progress, seen = Progress(Disk(), None, 0), []

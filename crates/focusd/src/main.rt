@@ -1,27 +1,24 @@
 //! `focusd` keeps a warehouse of cloud charges, and answers what they cost.
 //!
 //! What it computes stands in libraries: `fw_serve::serve` runs scripts over any reader, writer and volume, and `fw_views` writes what the
-//! commands for people print. This crate is the command line, the folder and the standard streams. Each command is a module of
-//! `commands`.
+//! commands for people print. `fw_command_line` is the command line, and `fw_commands` and `fw_export_commands` are what the commands do
+//! over folders and the standard streams. This crate reads the words of the command line and runs the command that they name. `load`, which needs threads that
+//! wait, is here too.
 #![tactic(auto)]
 
-mod advice;
-mod ask;
-mod command_line;
-mod commands;
-mod fault;
-mod output;
-mod progress;
-mod range;
+mod load;
 
 use clap::ArgMatches;
 use clap::error::ErrorKind;
-use command_line::command_line;
-use commands::{
-    check, checkpoint, coverage, dump, explain, import, lines, load, report, run, status, verify,
+use fw_command_line::command_line;
+use fw_commands::{
+    make_checkpoint, print_coverage, print_dump, print_explanation, print_lines, print_report,
+    print_status, serve_script, verify_folder,
 };
-use fault::Fault;
+use fw_console::{Fault, failed, wrong_use};
+use fw_export_commands::{check_files, import_files};
 use fw_serve::ServeFault;
+use load::load_files;
 use std::alloc::Global;
 use std::process::ExitCode;
 use std::sync::Wait;
@@ -31,20 +28,11 @@ use std::{env, io};
 /// The most bytes of a freed block that the C library keeps for later ones, less what it adds to a block of its own.
 const LARGEST_KEPT: usize = 31 << 20;
 
-/// Where the command line is wrong.
-pub(crate) const WRONG_USE: u8 = 2;
-
 fn main(rt: HostRuntime) -> ExitCode {
     match start(&rt, &rt) {
         Ok(status) => status,
         Err(fault) => failed(&rt, &fault),
     }
-}
-
-/// Prints the line of a fault. A closed standard error leaves nobody to tell.
-pub(crate) fn failed(rt: &HostRuntime, fault: &Fault) -> ExitCode {
-    let _ = eprintln!(rt; "focusd: {fault}");
-    ExitCode::from(fault.status())
 }
 
 // Has the C library keep blocks that are freed. It keeps those that are no larger than the largest one freed so far, and gives others back to the system, so
@@ -78,18 +66,18 @@ fn run_command<R: Threads + Wait + Sync>(
     matches: &ArgMatches<'_>,
 ) -> Result<ExitCode, Fault> {
     match matches.subcommand() {
-        Some(("run", options)) => run::run(rt, threads, options),
-        Some(("import", options)) => import::run(rt, options),
-        Some(("load", options)) => load::run(rt, threads, options),
-        Some(("check", options)) => check::run(rt, options),
-        Some(("report", options)) => report::run(rt, options),
-        Some(("lines", options)) => lines::run(rt, options),
-        Some(("coverage", options)) => coverage::run(rt, options),
-        Some(("status", options)) => Ok(status::run(rt, options)),
-        Some(("verify", options)) => Ok(verify::run(rt, options)),
-        Some(("checkpoint", options)) => Ok(checkpoint::run(rt, options)),
-        Some(("dump", options)) => Ok(dump::run(rt, options)),
-        Some(("explain", options)) => explain::run(rt, options),
+        Some(("run", options)) => serve_script(rt, threads, options),
+        Some(("import", options)) => import_files(rt, options),
+        Some(("load", options)) => load_files(rt, threads, options),
+        Some(("check", options)) => check_files(rt, options),
+        Some(("report", options)) => print_report(rt, options),
+        Some(("lines", options)) => print_lines(rt, options),
+        Some(("coverage", options)) => print_coverage(rt, options),
+        Some(("status", options)) => Ok(print_status(rt, options)),
+        Some(("verify", options)) => Ok(verify_folder(rt, options)),
+        Some(("checkpoint", options)) => Ok(make_checkpoint(rt, options)),
+        Some(("dump", options)) => Ok(print_dump(rt, options)),
+        Some(("explain", options)) => print_explanation(rt, options),
         _ => Ok(wrong_use(rt, "no command")),
     }
 }
@@ -106,10 +94,4 @@ fn refused(rt: &HostRuntime, error: &clap::Error) -> Result<ExitCode, Fault> {
         return Err(Fault::Serve(ServeFault::Write));
     }
     Ok(ExitCode::from(status))
-}
-
-/// Says what is wrong with the command line.
-pub(crate) fn wrong_use(rt: &HostRuntime, what: &str) -> ExitCode {
-    let _ = eprintln!(rt; "focusd: {what}");
-    ExitCode::from(WRONG_USE)
 }

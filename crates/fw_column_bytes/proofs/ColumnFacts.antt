@@ -8,7 +8,7 @@ use Rattle.fw_bytes.specs.Reading.{Fails}
 use Rattle.fw_bytes.specs.declared.fault.ReadError.{ReadError}
 use Rattle.fw_bytes.specs.declared.fault.ReadError.TheVariants as errors
 use Rattle.fw_charge.specs.Charge.{Charge}
-use Rattle.fw_row_bytes.specs.Reading.{fields_agree, row_from}
+use Rattle.fw_fields.specs.Row.{fields_agree, row_from}
 use Rattle.fw_column_bytes.specs.Spelling.{columns}
 use Rattle.fw_column_bytes.specs.Reading.{Parts, parts_at, fields_at_place, rows_fields, rows_from, columns_at}
 use Rattle.fw_column_bytes.specs.Rows.{Refuses, agreeing_rows}

@@ -30,9 +30,9 @@ use Rattle.fw_row_table.proofs.NameFacts.{text_at_place}
 use Rattle.fw_row_table.proofs.TextFacts.{IsKnown, AreKnown, IsRowKnown, rows-known, with_text_adds_one}
 use Rattle.fw_row_table.proofs.ListFacts.{with_texts-all}
 use Rattle.fw_row_table.proofs.TableFacts.{text-back, tags-back}
-use Rattle.fw_row_bytes.specs.Reading.{fields_agree, row_from}
-use Rattle.fw_row_bytes.proofs.RowFacts.{parts_of, parts_agree, tags_rise}
-use Rattle.fw_row_bytes.proofs.RowFormat.{row_to, row_from-to}
+use Rattle.fw_fields.specs.Row.{fields_agree, row_from}
+use Rattle.fw_fields.proofs.RowFacts.{parts_of, parts_agree, tags_rise}
+use Rattle.fw_fields.proofs.RowOfFields.{row_to, row_from-to}
 use Rattle.fw_column_bytes.specs.Direct.{fields_of_rows, AreColumnsOf}
 use Rattle.fw_column_bytes.specs.Kept.{AreRows}
 use Rattle.fw_column_bytes.specs.Fits.{FitsTimes, FitsByte, FitsTextCode, FitsPlace, FitsPlaces, FitBody, FitParts}

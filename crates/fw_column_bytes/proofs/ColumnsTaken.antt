@@ -11,7 +11,7 @@ use Rattle.std.proofs.lemmas.List.FromFn.{length-range_with_len, get_or-range_wi
 use Rattle.fw_bytes.proofs.Laws.{IsBytes, Takes, bind_ok, passed, ok_is}
 use Rattle.fw_charge.specs.Charge.{Charge}
 use Rattle.fw_charge.specs.Spelling.{IsRow}
-use Rattle.fw_row_bytes.specs.Reading.{fields_agree, row_from}
+use Rattle.fw_fields.specs.Row.{fields_agree, row_from}
 use Rattle.fw_column_bytes.specs.Kept.{AreRows}
 use Rattle.fw_column_bytes.specs.Fits.{FitParts}
 use Rattle.fw_column_bytes.specs.Spelling.{columns}

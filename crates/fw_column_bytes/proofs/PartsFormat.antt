@@ -9,7 +9,7 @@ use Rattle.fw_bytes.proofs.Laws.{Takes, Takes-then, IsFormat, bind_ok, ok_is, ch
 use Rattle.fw_charge.specs.Spelling.{nanos}
 use Rattle.fw_charge.specs.Tags.{most_tags}
 use Rattle.fw_row_table.specs.Names.{Text}
-use Rattle.fw_row_bytes.proofs.FieldFormats.{nanos_format, second_format, tag_text_format}
+use Rattle.fw_fields.proofs.FieldFormats.{nanos_format, second_format, tag_text_format}
 use Rattle.fw_column_bytes.specs.Spelling.{layout}
 use Rattle.fw_column_bytes.specs.Reading.{byte_at, is_text_code, text_code_at, is_place_code, place_at, tag_count_at, tag_places_at, row_count_at, most_names, names_at, Front, front_at, Body, body_at, amounts_at, periods_at, discounts_at, quantities_at, texts_at, Parts, parts_at}
 use Rattle.fw_column_bytes.specs.Fits.{FitsTimes, FitsByte, FitsTextCode, FitsPlace, FitsPlaces, FitFront, FitBody, FitParts}

@@ -13,8 +13,8 @@ use Rattle.fw_charge.specs.Tags.{TagText, most_tags}
 use Rattle.fw_row_table.specs.Names.{Text}
 use Rattle.fw_row_table.specs.Table.{text_at, text_of, quantity_of, tag_of, tags_of, most_column_rows}
 use Rattle.fw_row_table.proofs.LendingFacts.{tags_counted}
-use Rattle.fw_row_bytes.specs.Reading.{fields_agree, row_from}
-use Rattle.fw_row_bytes.proofs.RowFormat.{FitFields, is_row_from}
+use Rattle.fw_fields.specs.Row.{fields_agree, row_from}
+use Rattle.fw_fields.proofs.RowOfFields.{FitFields, is_row_from}
 use Rattle.fw_charge.specs.Spelling.{FitsSecond}
 use Rattle.fw_money.specs.Amount.{most_nanos}
 use Rattle.std.specs.Prelude.{nat_abs}

@@ -11,7 +11,8 @@ use Rattle.fw_charge.specs.Spelling.{is_short}
 use Rattle.fw_charge.specs.Tags.{most_tags}
 use Rattle.fw_row_table.specs.Names.{Text}
 use Rattle.fw_row_table.specs.Table.{category_at, class_at, text_at, text_of, quantity_of, tags_of, most_column_rows}
-use Rattle.fw_row_bytes.specs.Reading.{Fields, nanos_at, second_at, tag_text_at, fields_agree, row_from}
+use Rattle.fw_fields.specs.Reading.{nanos_at, second_at, tag_text_at}
+use Rattle.fw_fields.specs.Row.{Fields, fields_agree, row_from}
 use Rattle.fw_column_bytes.specs.Spelling.{columns, layout}
 
 -- ---- single fields

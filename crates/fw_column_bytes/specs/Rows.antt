@@ -6,7 +6,7 @@ use Rattle.fw_bytes.specs.declared.fault.ReadError.TheVariants as errors
 use Rattle.fw_money.specs.Amount.{most_nanos}
 use Rattle.fw_charge.specs.Charge.{Charge}
 use Rattle.fw_charge.specs.Tags.{TagText}
-use Rattle.fw_row_bytes.specs.Reading.{Fields, fields_agree}
+use Rattle.fw_fields.specs.Row.{Fields, fields_agree}
 use Rattle.fw_column_bytes.specs.Reading.{Parts, rows_fields, rows_from}
 use Rattle.fw_column_bytes.specs.declared.rows.FieldsRead.{FieldsRead}
 

@@ -1,12 +1,12 @@
 //! Readers of single columns. Each returns the values and the bytes after them. Memory is taken as each value is read, not for their number.
 ghost use Rattle.std.specs.Prelude.{◌≡◌, map, string_bytes};
 ghost use Rattle.fw_bytes.specs.Reading.{Gives, times};
-ghost use Rattle.fw_row_bytes.specs.Reading.{nanos_at, second_at, tag_text_at};
+ghost use Rattle.fw_fields.specs.Reading.{nanos_at, second_at, tag_text_at};
 ghost use Rattle.fw_column_bytes.specs.Reading.{byte_at, is_text_code, names_at, place_at, tag_places_at, text_code_at};
 
 use fw_bytes::{ReadError, u32_at};
 use fw_charge::{Tags, is_short_text};
-use fw_row_bytes::{nanos_of, second_of, tag_text_of};
+use fw_fields::{nanos_of, second_of, tag_text_of};
 use std::alloc::Global;
 
 /// So many amounts.

@@ -6,7 +6,7 @@ ghost use Rattle.fw_charge.specs.Tags.{TagText};
 ghost use Rattle.fw_charge.specs.Spelling.{FitsTags};
 ghost use Rattle.fw_columns.specs.RowViews.{charge_with};
 ghost use Rattle.fw_row_table.specs.Table.{tag_of, tags_of, text_of, most_column_rows};
-ghost use Rattle.fw_row_bytes.specs.Reading.{discount_agrees, fields_agree, row_from};
+ghost use Rattle.fw_fields.specs.Row.{fields_agree, row_from};
 ghost use Rattle.fw_column_bytes.specs.Spelling.{columns};
 ghost use Rattle.fw_column_bytes.specs.Reading.{columns_at, fields_at_place};
 ghost use Rattle.fw_column_bytes.specs.PartsView.{parts_view};
@@ -19,8 +19,8 @@ use crate::writing::put_columns;
 use fw_bytes::ReadError;
 use fw_charge::{Category, DiscountKind, DiscountStatus, Tag};
 use fw_columns::{Columns, ColumnsBuilder, RowView};
+use fw_fields::{discount_agrees, keys_rise, tags_in_order};
 use fw_money::Nanos;
-use fw_row_bytes::{keys_rise, tags_in_order};
 use fw_row_table::{amount_at, category_at, class_at, quantity_of};
 use std::alloc::{AllocError, Global};
 
@@ -107,25 +107,6 @@ fn tags_of(alloc: Global, names: &[String], list: &[u32]) -> Result<Vec<Tag>, Al
         rest = after;
     }
     Ok(tags)
-}
-
-/// Whether the parts of a discount agree in a row of the category: a null id has neither kind nor status; an id has a kind, and in a usage row a
-/// status.
-fn discount_agrees(
-    category: Category,
-    id: Option<&str>,
-    kind: Option<DiscountKind>,
-    status: Option<DiscountStatus>,
-) -> bool
-    ensures { result ≡ discount_agrees category (option_copied id.entry, (kind, status)) }
-{
-    match (id, kind, status) {
-        (None, None, None) => true,
-        (None, _, _) => false,
-        (Some(_), None, _) => false,
-        (Some(_), Some(_), Some(_)) => true,
-        (Some(_), Some(_), None) => category != Category::Usage,
-    }
 }
 
 /// Whether the rules over several fields hold.
@@ -232,9 +213,9 @@ fn columns_by_row(alloc: Global, bytes: &[u8]) -> Result<(Columns, &[u8]), ReadE
 /// [`ReadError::Corrupt`] at the first field that is cut off or out of its range: another layout than 2, a number of rows that is 0 or above
 /// 65,536, a name that isn't UTF-8 or has more than 1,024 bytes, an amount, a second or a code out of its range, the code of a name that isn't
 /// there, that of an id, a unit, a SKU or a sub-account whose name hasn't 1 to 256 bytes, more than 256 tags. Where there is none, at the layout where the
-/// fields of a row don't agree, as `fw_row_bytes::row_of` says, where a null quantity has another amount than 0, or where the names aren't each text of
-/// the rows once, in the order in which it first occurs. [`ReadError::NoMemory`] where there is no memory for the rows, reported where it runs out: a
-/// later fault isn't looked for.
+/// period of a row ends before it starts, where the parts of a discount don't agree (`fw_fields::discount_agrees`), where the keys of the tags don't rise,
+/// where a null quantity has another amount than 0, or where the names aren't each text of the rows once, in the order in which it first occurs.
+/// [`ReadError::NoMemory`] where there is no memory for the rows, reported where it runs out: a later fault isn't looked for.
 pub fn columns_of(alloc: Global, bytes: &[u8]) -> Result<(Columns, &[u8]), ReadError>
     ensures { Gives (λ x. (x.0, x.1.now)) result (columns_at bytes.now) }
 {

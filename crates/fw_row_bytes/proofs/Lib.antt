@@ -1,4 +1,1 @@
-pub mod FieldFormats
-pub mod RowFacts
 pub mod RowFormat
-pub mod Written

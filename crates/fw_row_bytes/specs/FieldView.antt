@@ -4,7 +4,7 @@ use Rattle.fw_row_bytes.specs.declared.row.AmountFields.{AmountFields}
 use Rattle.fw_row_bytes.specs.declared.row.DiscountFields.{DiscountFields}
 use Rattle.fw_row_bytes.specs.declared.row.ConsumedFields.{ConsumedFields}
 use Rattle.fw_row_bytes.specs.declared.row.ReadFields.{ReadFields}
-use Rattle.fw_row_bytes.specs.Reading.{Amounts, DiscountParts, Consumed, Fields}
+use Rattle.fw_fields.specs.Row.{Amounts, DiscountParts, Consumed, Fields}
 
 abbrev pub amounts_view : AmountFields → Amounts
 amounts_view f = (f.billed, (f.effective, (f.category, f.is_correction)))

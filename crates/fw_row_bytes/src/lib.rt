@@ -1,5 +1,5 @@
-//! Rows as bytes: how each field of a charge row is read and written, a whole row, and rows behind their number. Rows are written as columns
-//! lend them, and read into columns.
+//! Rows as bytes: how a charge row is read and written, and rows behind their number. Rows are written as columns lend them, and read into
+//! columns. `fw_fields` reads and writes each field.
 //!
 //! A row is read from the front of a slice. A fault is reported as the number of bytes from its place to the end: a field that is cut off or
 //! out of its range is a fault at that field, and fields that break a rule together are a fault at the first byte of the row, reported once
@@ -7,17 +7,12 @@
 //! row is spelled.
 #![tactic(auto)]
 
-mod fields;
 mod row;
 mod rows;
 mod spelled;
 mod writing;
 
-pub use fields::{
-    keys_rise, nanos_of, optional_nanos_of, optional_text_of, second_of, short_text_of,
-    tag_text_of, tags_in_order, tags_of,
-};
 pub use row::row_of;
 pub use rows::rows_of;
 pub use spelled::rows_have_spelling;
-pub use writing::{put_nanos, put_optional_nanos, put_optional_text, put_row, put_rows, put_tags};
+pub use writing::{put_row, put_rows};

@@ -2,15 +2,16 @@
 ghost use Rattle.std.specs.Prelude.{◌≡◌};
 ghost use Rattle.fw_bytes.specs.Reading.{Gives};
 ghost use Rattle.fw_charge.specs.Spelling.{IsRow};
-ghost use Rattle.fw_row_bytes.specs.Reading.{amounts_at, period_at, discount_at, consumed_at, fields_at, discount_agrees, fields_agree, discount_from, row_from, row_at};
+ghost use Rattle.fw_fields.specs.Row.{discount_agrees, fields_agree, discount_from, row_from};
+ghost use Rattle.fw_row_bytes.specs.Reading.{amounts_at, period_at, discount_at, consumed_at, fields_at, row_at};
 ghost use Rattle.fw_row_bytes.specs.FieldView.{amounts_view, discount_view, consumed_view, fields_view};
 
-use crate::fields::{
-    category_of, class_of, keys_rise, kind_of, nanos_of, optional_nanos_of, optional_text_of,
-    second_of, status_of, tags_of,
-};
 use fw_bytes::ReadError;
 use fw_charge::{Category, Discount, DiscountKind, DiscountStatus, Row, RowFields, Tag, Tags};
+use fw_fields::{
+    category_of, class_of, discount_agrees, keys_rise, kind_of, nanos_of, optional_nanos_of,
+    optional_text_of, second_of, status_of, tags_of,
+};
 use fw_money::Nanos;
 use std::alloc::Global;
 
@@ -128,13 +129,7 @@ impl DiscountFields {
     fn agree_in(&self, category: Category) -> bool
         ensures { result ≡ discount_agrees category (discount_view self.now) }
     {
-        match (&self.id, self.kind, self.status) {
-            (None, None, None) => true,
-            (None, _, _) => false,
-            (Some(_), None, _) => false,
-            (Some(_), Some(_), Some(_)) => true,
-            (Some(_), Some(_), None) => category != Category::Usage,
-        }
+        discount_agrees(category, self.id.as_deref(), self.kind, self.status)
     }
 
     /// The discount of parts that agree.

@@ -1,71 +1,19 @@
-//! The writers of a row and of its fields, at the end of a buffer.
+//! The writers of rows, at the end of a buffer.
 //!
 //! Each has one error, [`AllocError`] where the buffer can't grow; then nothing is promised of what the buffer holds.
-ghost use Rattle.std.specs.Prelude.{◌≡◌, ◌≤◌, ◌++◌, ◌∷◌, [], length, All, OnOk, IfSome, option_copied};
+ghost use Rattle.std.specs.Prelude.{◌≡◌, ◌++◌, All, OnOk};
 ghost use Rattle.std.specs.List.{flat_map};
-ghost use Rattle.fw_bytes.specs.Spelling.{listed, text, optional};
-ghost use Rattle.fw_charge.specs.Charge.{IsShortText};
-ghost use Rattle.fw_charge.specs.Tags.{longest_tag_text, IsTags, IsTagSized};
-ghost use Rattle.fw_charge.specs.Spelling.{nanos, tag, tags, amounts, period, discount, consumed, row, IsRow};
-ghost use Rattle.fw_row_table.specs.Lending.{tag_lent, tags_lent};
+ghost use Rattle.fw_bytes.specs.Spelling.{listed};
+ghost use Rattle.fw_charge.specs.Tags.{IsTags, IsTagSized};
+ghost use Rattle.fw_charge.specs.Spelling.{tag, tags, amounts, period, discount, consumed, row, IsRow};
+ghost use Rattle.fw_row_table.specs.Lending.{tags_lent};
 
 use crate::spelled::names_are_text;
-use fw_bytes::{put_byte, put_i64, put_text, put_u32, put_u64};
+use fw_bytes::{put_byte, put_u32, put_u64};
 use fw_charge::class_code;
-use fw_columns::{Columns, LentRow, LentTag, LentTags};
-use fw_money::Nanos;
+use fw_columns::{Columns, LentRow, LentTags};
+use fw_fields::{put_nanos, put_optional_nanos, put_optional_text, put_tag};
 use std::alloc::AllocError;
-
-/// Writes an amount.
-pub fn put_nanos(out: &mut Vec<u8>, amount: Nanos) -> Result<(), AllocError>
-    ensures { OnOk result (out.new.items ≡ out.old.items ++ nanos amount) }
-{
-    put_i64(out, amount.count())
-}
-
-/// Writes an amount that may be null.
-pub fn put_optional_nanos(out: &mut Vec<u8>, amount: Option<Nanos>) -> Result<(), AllocError>
-    ensures { OnOk result (out.new.items ≡ out.old.items ++ optional nanos amount) }
-{
-    match amount {
-        None => put_byte(out, 0),
-        Some(amount) => {
-            put_byte(out, 1)?;
-            put_nanos(out, amount)
-        }
-    }
-}
-
-/// Writes a text of 1 to 256 bytes that may be null.
-pub fn put_optional_text(out: &mut Vec<u8>, words: Option<&str>) -> Result<(), AllocError>
-    requires { IfSome (option_copied words) IsShortText }
-    ensures { OnOk result (out.new.items ≡ out.old.items ++ optional text (option_copied words.entry)) }
-{
-    match words {
-        None => put_byte(out, 0),
-        Some(words) => {
-            put_byte(out, 1)?;
-            put_text(out, words)
-        }
-    }
-}
-
-/// Writes a key or a text of a tag.
-fn put_tag_text(out: &mut Vec<u8>, words: &str) -> Result<(), AllocError>
-    requires { length words.now ≤ longest_tag_text }
-    ensures { OnOk result (out.new.items ≡ out.old.items ++ text words.now) }
-{
-    put_text(out, words)
-}
-
-/// Writes a tag.
-fn put_tag(out: &mut Vec<u8>, one: LentTag<'_>) -> Result<(), AllocError>
-    requires { IsTagSized (tag_lent one) }
-    ensures { OnOk result (out.new.items ≡ out.old.items ++ tag (tag_lent one.entry)) }
-{
-    put_tag_text(out, one.key)?;
-    put_tag_text(out, one.value)
-}
 
 /// Writes each tag in turn.
 fn put_each_tag(out: &mut Vec<u8>, all: LentTags<'_>) -> Result<(), AllocError>
@@ -74,7 +22,7 @@ fn put_each_tag(out: &mut Vec<u8>, all: LentTags<'_>) -> Result<(), AllocError>
 {
     match all.split_first() {
         Some((first, rest)) => {
-            put_tag(out, first)?;
+            put_tag(out, first.key, first.value)?;
             put_each_tag(out, rest)?;
             Ok(())
         }
@@ -83,7 +31,7 @@ fn put_each_tag(out: &mut Vec<u8>, all: LentTags<'_>) -> Result<(), AllocError>
 }
 
 /// Writes tags: their number, and each in turn.
-pub fn put_tags(out: &mut Vec<u8>, all: LentTags<'_>) -> Result<(), AllocError>
+fn put_tags(out: &mut Vec<u8>, all: LentTags<'_>) -> Result<(), AllocError>
     requires { IsTags (tags_lent all) }
     ensures { OnOk result (out.new.items ≡ out.old.items ++ tags (tags_lent all.entry)) }
 {

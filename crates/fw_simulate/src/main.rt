@@ -1,10 +1,13 @@
-//! `fw_simulate` runs scripts of events over warehouses in memory, whose devices fail and stop as each script says, and prints what every event
-//! answered. `tools/simulate.py` makes scripts by chance and checks the answers by a definition of its own.
+//! `fw_simulate` runs scripts over warehouses in memory, whose devices fail and stop as each script says, and prints what each line was
+//! answered: events of the running system, or calls on a store. `tools/simulate.py` makes scripts of events by chance, and `tools/sweep.py`
+//! scripts in which each call of the device fails in turn; both check the answers by a definition of their own.
 //!
-//! Scripts come from standard input, one after the other, line by line:
+//! Scripts come from standard input, one after the other, line by line. The words in capitals are numbers, if nothing else is said.
 //!
 //! ```text
-//! run IMPORTERS ANALYSTS LEFT PASSES...   begins a script
+//! # ..                                    is printed as it stands, before or behind a script
+//! files LIMIT LEFT RIGHT                  how long the files of the next script's device may be, and their bytes in hexadecimal, `-` for none
+//! run IMPORTERS ANALYSTS DEVICE           begins a script of events
 //! post IMPORTER ORIGIN NUMBER ROWS COST   an importer posts so many rows, each of this BilledCost
 //! use IMPORTER ORIGIN NUMBER ID           an importer posts a row that names a commitment
 //! commitment IMPORTER ORIGIN NUMBER ID    an importer posts a commitment
@@ -19,22 +22,50 @@
 //! end                                     runs the script
 //! ```
 //!
-//! LEFT is what a crash leaves of a write that wasn't synced: `old`, `new`, or a number from 0 to 255, which is then in each of its bytes. The
-//! device passes the first of PASSES calls and fails one, passes the second number and fails one, and so on. Events and places are counted
-//! from 0.
+//! DEVICE is LEFT PASSES.., LEFT `once` PASS or LEFT `ever` PASS. LEFT is what a crash leaves of a write that wasn't synced: `old`, `new`, or a
+//! number from 0 to 255, which is then in each of its bytes. The device passes the first of PASSES calls and fails one, passes the second
+//! number and fails one, and so on, also after a stop; or it passes PASS calls, and then fails one, or each, until a stop. Events and places are
+//! counted from 0.
 //!
-//! Each script is answered by the line `created`, or `not created` with the fault, then a line for each event, and `end`; where memory ran out, by
-//! `no memory` before that.
+//! A script of events is answered by the line `created`, `not created` with the fault, or `stopped` where its files weren't empty, in which case
+//! nothing is made; then by a line for each event, and `end`; where memory ran out, by `no memory` before that.
+//!
+//! ```text
+//! store DEVICE               begins a script of calls
+//! create                     makes a warehouse
+//! open                       opens one
+//! entry NUMBER               commits the entry of this number of the origin `a`, which sets a policy
+//! group NUMBER..             commits a group of such entries
+//! prepared NUMBER..          prepares such a group, and writes it
+//! each NUMBER..              commits such entries in turn, until one fails
+//! rows NUMBER ROWS NANOS     commits a post of the origin `z`: so many rows, each of so many nanos
+//! checkpoint                 writes the warehouse anew
+//! list                       shows the list
+//! segments                   shows how many rows each segment has, and the first and the last BilledCost
+//! lengths                    shows how long the body and the log are
+//! close                      closes the store
+//! stop                       the device stops as by a crash
+//! files                      shows the bytes of Left and Right
+//! sides                      shows the side in use, its generation, and the length of its body
+//! side GENERATION            makes Right, of an empty warehouse
+//! end                        ends the script
+//! ```
+//!
+//! Each line but the first is answered by a line, with a fault where it is refused. A call on a store where there is none is `ignored`, and so
+//! is one on a device that is in a store.
 #![tactic(auto)]
 
+mod calls;
 mod contents;
 mod print;
 mod script;
+mod setup;
 
+use calls::{Bench, call};
 use fw_group::{EventAnswer, run_events};
-use fw_recover::StoreFault;
-use print::print_answer;
-use script::{Fault, Script, push, read_event, read_script};
+use print::{print_answer, print_line};
+use script::{Fault, Script, Start, push, read_event, read_script};
+use setup::{Files, read_device, read_files};
 use std::alloc::Global;
 use std::io::{self, BufWriter, Write};
 use std::process::ExitCode;
@@ -62,40 +93,93 @@ fn run_scripts(rt: &HostRuntime) -> Result<(), Fault> {
     Ok(())
 }
 
+// What the lines so far have begun.
+#[derive(Drop)]
+struct Begun {
+    files: Files,
+    script: Option<Script>,
+    bench: Option<Bench>,
+}
+
 // Runs the scripts of a text, and writes their answers.
 fn run_lines<W: Write>(alloc: Global, output: &mut W, text: &str) -> Result<(), Fault> {
-    let mut script = None;
+    let mut begun = Begun {
+        files: Files::new(alloc),
+        script: None,
+        bench: None,
+    };
     for line in text.lines() {
-        take_line(alloc, output, &mut script, line)?;
+        take_line(alloc, output, &mut begun, line)?;
     }
     Ok(())
 }
 
-// Takes a line, which goes on with the script that was begun, if one was.
+// Takes a line.
 fn take_line<W: Write>(
     alloc: Global,
     output: &mut W,
-    script: &mut Option<Script>,
+    begun: &mut Begun,
     line: &str,
 ) -> Result<(), Fault> {
+    if line.starts_with('#') {
+        return print_line(output, line);
+    }
     let words: Vec<&str> = line.split(' ').collect(alloc)?;
-    match words.as_slice() {
-        ["run", words @ ..] if script.is_none() => begin(alloc, script, words),
-        ["end"] => match script.take() {
-            Some(script) => run_script(alloc, output, script),
-            None => Err(Fault::Script),
-        },
-        words => match script {
-            Some(script) => add_event(alloc, script, words),
-            None => Err(Fault::Script),
-        },
+    take_words(alloc, output, begun, &words)
+}
+
+// Takes the words of a line, which goes on with the script that was begun, if one was.
+fn take_words<W: Write>(
+    alloc: Global,
+    output: &mut W,
+    begun: &mut Begun,
+    words: &[&str],
+) -> Result<(), Fault> {
+    if words == ["end"].as_slice() {
+        return end(alloc, output, begun);
+    }
+    if let Some(script) = &mut begun.script {
+        return add_event(alloc, script, words);
+    }
+    if let Some(bench) = &mut begun.bench {
+        return print_call(alloc, output, bench, words);
+    }
+    begin(alloc, output, begun, words)
+}
+
+// Takes the words of a line before a script.
+fn begin<W: Write>(
+    alloc: Global,
+    output: &mut W,
+    begun: &mut Begun,
+    words: &[&str],
+) -> Result<(), Fault> {
+    match words {
+        ["files", words @ ..] => {
+            begun.files = read_files(alloc, words)?;
+            Ok(())
+        }
+        ["run", words @ ..] => {
+            let (script, start) = read_script(alloc, &begun.files, words)?;
+            begun.script = Some(script);
+            print_start(alloc, output, start)
+        }
+        ["store", words @ ..] => {
+            begun.bench = Some(Bench::new(read_device(alloc, &begun.files, words)?));
+            Ok(())
+        }
+        _ => Err(Fault::Script),
     }
 }
 
-// Begins a script, by the words behind `run`.
-fn begin(alloc: Global, script: &mut Option<Script>, words: &[&str]) -> Result<(), Fault> {
-    *script = Some(read_script(alloc, words)?);
-    Ok(())
+// Ends the script that was begun.
+fn end<W: Write>(alloc: Global, output: &mut W, begun: &mut Begun) -> Result<(), Fault> {
+    begun.files = Files::new(alloc);
+    match (begun.script.take(), begun.bench.take()) {
+        (Some(script), _) => run_script(alloc, output, script),
+        (None, Some(_)) => print_line(output, "end"),
+        (None, None) => Err(Fault::Script),
+    }
 }
 
 // Adds the event of a line's words to a script.
@@ -104,29 +188,39 @@ fn add_event(alloc: Global, script: &mut Script, words: &[&str]) -> Result<(), F
     Ok(())
 }
 
-// Runs a script over a new warehouse.
+// Makes the call of a line's words, and writes what it answers.
+fn print_call<W: Write>(
+    alloc: Global,
+    output: &mut W,
+    bench: &mut Bench,
+    words: &[&str],
+) -> Result<(), Fault> {
+    let text = call(alloc, bench, words)?;
+    print_line(output, text.as_str())
+}
+
+// Runs a script of events.
 fn run_script<W: Write>(alloc: Global, output: &mut W, script: Script) -> Result<(), Fault> {
-    let (importers, analysts) = (script.importers, script.analysts);
-    let (house, created) = script.setup.house(alloc);
-    print_created(alloc, output, created)?;
-    let (_, answers, refused) = run_events(alloc, house, importers, analysts, script.events);
+    let Script {
+        importers,
+        analysts,
+        house,
+        events,
+    } = script;
+    let (_, answers, refused) = run_events(alloc, house, importers, analysts, events);
     print_answers(alloc, output, answers.as_slice(), refused.is_some())
 }
 
-// Writes whether a warehouse was made.
-fn print_created<W: Write>(
-    alloc: Global,
-    output: &mut W,
-    created: Result<(), StoreFault>,
-) -> Result<(), Fault> {
-    match created {
-        Ok(()) => output.write_all(b"created\n")?,
-        Err(fault) => {
-            let line = format!(in alloc; "not created {fault}\n")?;
-            output.write_all(line.as_bytes())?;
+// Writes what stands where a script of events begins.
+fn print_start<W: Write>(alloc: Global, output: &mut W, start: Start) -> Result<(), Fault> {
+    match start {
+        Start::Created => print_line(output, "created"),
+        Start::Stopped => print_line(output, "stopped"),
+        Start::NotCreated(fault) => {
+            let line = format!(in alloc; "not created {fault}")?;
+            print_line(output, line.as_str())
         }
     }
-    Ok(())
 }
 
 // Writes what the events of a script answered, and whether memory ran out.

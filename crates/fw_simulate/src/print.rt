@@ -1,7 +1,8 @@
-//! What events answered, as text.
+//! What events and calls answered, as text.
 use crate::script::Fault;
+use fw_disk::{Side, Volume};
 use fw_group::{Answer, EventAnswer, Seen};
-use fw_snapshot::{Conflict, Content, Head, Snapshot, State};
+use fw_snapshot::{Conflict, Content, Head, Snapshot, State, Verdict};
 use std::alloc::{AllocError, Global};
 use std::io::Write;
 
@@ -12,7 +13,12 @@ pub(crate) fn print_answer<W: Write>(
     answer: &EventAnswer,
 ) -> Result<(), Fault> {
     let text = answer_text(alloc, answer)?;
-    output.write_all(text.as_bytes())?;
+    print_line(output, text.as_str())
+}
+
+/// Writes a line.
+pub(crate) fn print_line<W: Write>(output: &mut W, line: &str) -> Result<(), Fault> {
+    output.write_all(line.as_bytes())?;
     output.write_all(b"\n")?;
     Ok(())
 }
@@ -82,8 +88,8 @@ fn conflict_number(why: Conflict) -> u64 {
     }
 }
 
-// A list of entries, and the BilledCost of its rows in nanos, in order.
-fn list_text(alloc: Global, word: &str, state: &State) -> Result<String, AllocError> {
+/// A list of entries, and the BilledCost of its rows in nanos, in order.
+pub(crate) fn list_text(alloc: Global, word: &str, state: &State) -> Result<String, AllocError> {
     let mut text = String::from_str(alloc, word)?;
     let heads = state.heads();
     for place in 0..heads.len() {
@@ -114,5 +120,64 @@ fn head_text(alloc: Global, head: &Head) -> Result<String, AllocError> {
             let key = policy.key();
             format!(in alloc; " {origin}/{number}!{key}")
         }
+    }
+}
+
+/// A verdict on an entry.
+pub(crate) fn verdict_text(alloc: Global, verdict: &Verdict) -> Result<String, AllocError> {
+    match verdict {
+        Verdict::Accept => String::from_str(alloc, "accepted"),
+        Verdict::Already { last } => format!(in alloc; "already {last}"),
+        Verdict::Gap { expected } => format!(in alloc; "gap {expected}"),
+        Verdict::Refused(why) => {
+            let number = conflict_number(*why);
+            format!(in alloc; "refused {number}")
+        }
+    }
+}
+
+/// The verdicts on the entries of a group.
+pub(crate) fn verdicts_text(alloc: Global, verdicts: &[Verdict]) -> Result<String, AllocError> {
+    let mut text = String::from_str(alloc, "group")?;
+    for verdict in verdicts {
+        let verdict = verdict_text(alloc, verdict)?;
+        text.push_str(" ")?;
+        text.push_str(verdict.as_str())?;
+    }
+    Ok(text)
+}
+
+/// The segments of a list: how many rows each has, and the BilledCost of its first and its last one.
+pub(crate) fn segments_text(alloc: Global, state: &State) -> Result<String, AllocError> {
+    let mut text = String::from_str(alloc, "segments")?;
+    let segments = state.segments();
+    for number in 0..segments.len() {
+        let billed = segments.get(number).billed();
+        let (rows, first, last) = (billed.len(), amount(billed.first()), amount(billed.last()));
+        let segment = format!(in alloc; " {rows}:{first}..{last}")?;
+        text.push_str(segment.as_str())?;
+    }
+    Ok(text)
+}
+
+// An amount, 0 where there is none.
+fn amount(of: Option<&i64>) -> i64 {
+    match of {
+        Some(amount) => *amount,
+        None => 0,
+    }
+}
+
+/// The bytes of a file as pairs of hexadecimal digits; a `-` where there is none, and `?` where they can't be read.
+pub(crate) fn file_text<V: Volume>(
+    alloc: Global,
+    volume: &mut V,
+    side: Side,
+) -> Result<String, AllocError> {
+    let mut bytes = vec![in alloc; 0; volume.len(side) as usize]?;
+    match volume.read(side, 0, &mut bytes) {
+        Ok(()) if bytes.is_empty() => String::from_str(alloc, "-"),
+        Ok(()) => hex::encode(alloc, bytes),
+        Err(_) => String::from_str(alloc, "?"),
     }
 }

@@ -4,19 +4,14 @@ ghost use Rattle.fw_entry.specs.Spelling.{HasRowCount};
 ghost use Rattle.fw_entry.specs.View.{command_view};
 
 use crate::contents::{CURRENCY, commitment_of, policy_of, row_of_commitment, rows_of_cost};
-use fw_disk::{Choice, FaultVolume, MemVolume, Stoppable};
+use crate::setup::{Device, Files, read_device};
+use fw_disk::Stoppable;
 use fw_entry::{Command, Entry};
 use fw_group::{Event, House};
 use fw_recover::{Store, StoreFault};
 use fw_rows::Currency;
 use std::alloc::{AllocError, Global};
 use std::io;
-
-/// The most bytes of a file.
-const LIMIT: u64 = 1 << 30;
-
-/// A warehouse in memory.
-pub(crate) type Device = FaultVolume<MemVolume>;
 
 /// Why the program ended early.
 #[derive(Clone, Copy, Debug, Drop, thiserror::Error)]
@@ -44,55 +39,70 @@ impl From<io::Error> for Fault {
     }
 }
 
-/// What a script's warehouse is like.
-#[derive(Drop)]
-pub(crate) struct Setup {
-    left: Choice,
-    passes: Vec<u64>,
-}
-
-impl Setup {
-    /// A new warehouse on a device that fails by the script; or the stopped device, and why no warehouse was made.
-    pub(crate) fn house(self, alloc: Global) -> (House<Device>, Result<(), StoreFault>) {
-        let volume = MemVolume::new(alloc, LIMIT, self.left);
-        let device = FaultVolume::series(volume, self.passes);
-        let Some(currency) = Currency::new(CURRENCY) else {
-            return (House::Stopped(device), Err(StoreFault::NoHouse));
-        };
-        match Store::create(alloc, device, currency) {
-            Ok(store) => (House::Open(store), Ok(())),
-            Err((device, fault)) => (House::Stopped(device.stop()), Err(fault)),
-        }
-    }
-}
-
-/// A script.
+/// A script of events.
 #[derive(Drop)]
 pub(crate) struct Script {
     pub(crate) importers: usize,
     pub(crate) analysts: usize,
-    pub(crate) setup: Setup,
+    pub(crate) house: House<Device>,
     pub(crate) events: Vec<Event>,
 }
 
-/// The beginning of a script, by the words behind `run`.
-pub(crate) fn read_script(alloc: Global, words: &[&str]) -> Result<Script, Fault> {
-    let [importers, analysts, left, calls @ ..] = words else {
+/// What stands where a script of events begins.
+pub(crate) enum Start {
+    Created,
+    /// The files weren't empty.
+    Stopped,
+    NotCreated(StoreFault),
+}
+
+/// The beginning of a script of events, by the words behind `run`.
+pub(crate) fn read_script(
+    alloc: Global,
+    files: &Files,
+    words: &[&str],
+) -> Result<(Script, Start), Fault> {
+    let [importers, analysts, device @ ..] = words else {
         return Err(Fault::Script);
     };
-    let mut passes = Vec::new(alloc);
-    for word in calls {
-        push(&mut passes, read_number(word)?)?;
-    }
-    Ok(Script {
-        importers: read_place(importers)?,
-        analysts: read_place(analysts)?,
-        setup: Setup {
-            left: read_choice(left)?,
-            passes,
-        },
+    let (importers, analysts) = (read_place(importers)?, read_place(analysts)?);
+    let device = read_device(alloc, files, device)?;
+    let (house, start) = house_on(alloc, device, files.are_empty());
+    let script = Script {
+        importers,
+        analysts,
+        house,
         events: Vec::new(alloc),
-    })
+    };
+    Ok((script, start))
+}
+
+// A new warehouse on a device; or the stopped device, where it isn't to be made, or none was made.
+fn house_on(alloc: Global, device: Device, is_made: bool) -> (House<Device>, Start) {
+    if !is_made {
+        return (House::Stopped(device), Start::Stopped);
+    }
+    match create(alloc, device) {
+        Ok(store) => (House::Open(store), Start::Created),
+        Err((device, fault)) => (House::Stopped(device.stop()), Start::NotCreated(fault)),
+    }
+}
+
+/// The text of a fault, and of what is corrupt the side and the place. Out of memory is a fault of the program.
+pub(crate) fn wrong(alloc: Global, fault: StoreFault) -> Result<String, Fault> {
+    match fault {
+        StoreFault::NoMemory => Err(Fault::NoMemory),
+        StoreFault::Corrupt { side, at } => Ok(format!(in alloc; "{fault} {side:?} {at}")?),
+        fault => Ok(format!(in alloc; "{fault}")?),
+    }
+}
+
+/// Creates a warehouse in dollars.
+pub(crate) fn create(alloc: Global, device: Device) -> Result<Store<Device>, (Device, StoreFault)> {
+    match Currency::new(CURRENCY) {
+        Some(currency) => Store::create(alloc, device, currency),
+        None => Err((device, StoreFault::NoHouse)),
+    }
 }
 
 /// Adds an item at the end.
@@ -155,28 +165,25 @@ fn read_command(alloc: Global, kind: &str, content: &[&str]) -> Result<Command, 
     }
 }
 
-// What a crash leaves of a write that wasn't synced.
-fn read_choice(word: &str) -> Result<Choice, Fault> {
-    match word {
-        "old" => Ok(Choice::Old),
-        "new" => Ok(Choice::New),
-        _ => match word.parse::<u8>() {
-            Ok(byte) => Ok(Choice::Torn(byte)),
-            Err(_) => Err(Fault::Script),
-        },
+/// The numbers of these words.
+pub(crate) fn read_numbers(alloc: Global, words: &[&str]) -> Result<Vec<u64>, Fault> {
+    let mut numbers = Vec::new(alloc);
+    for word in words {
+        push(&mut numbers, read_number(word)?)?;
     }
+    Ok(numbers)
 }
 
-// A number.
-fn read_number(word: &str) -> Result<u64, Fault> {
+/// A number.
+pub(crate) fn read_number(word: &str) -> Result<u64, Fault> {
     match word.parse::<u64>() {
         Ok(number) => Ok(number),
         Err(_) => Err(Fault::Script),
     }
 }
 
-// A number that counts something.
-fn read_place(word: &str) -> Result<usize, Fault> {
+/// A number that counts something.
+pub(crate) fn read_place(word: &str) -> Result<usize, Fault> {
     match word.parse::<usize>() {
         Ok(place) => Ok(place),
         Err(_) => Err(Fault::Script),

@@ -22,7 +22,7 @@ use Rattle.fw_charge.specs.Codes.{kind_code}
 use Rattle.fw_charge.proofs.CodeFacts.{kind_back, kind_there}
 use Rattle.fw_charge.specs.Tags.{TagText, IsTagSized, IsTags, most_tags, longest_tag_text}
 use Rattle.fw_charge.specs.Spelling.{nanos, tags, keys_rise, FitsNanos, FitsSecond, FitsShortText, FitsTag, FitsTags}
-use Rattle.fw_row_bytes.proofs.FieldFormats.{nanos_format, second_format, short_text_format, tags_format}
+use Rattle.fw_fields.proofs.FieldFormats.{nanos_format, second_format, short_text_format, tags_format}
 use Rattle.fw_terms.specs.Commitment.{PurchaseValue, RateValue, TermsValue, CommitmentValue, kind_of, cost_of, most_skus, most_purchases, AreSkus, IsRate, IsTerms, ArePurchases, IsCommitment}
 use Rattle.fw_terms.specs.Commitment.TermsValue.{usage, spend}
 use Rattle.fw_terms.specs.Spelling.{rate, purchase, committed, names, term, commitment, IsTagUtf8, AreTermsUtf8, IsSpelledCommitment}

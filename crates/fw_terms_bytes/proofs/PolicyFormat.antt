@@ -12,7 +12,7 @@ use Rattle.fw_bytes.specs.Reading.{Fails, checked, seen}
 use Rattle.fw_bytes.proofs.Laws.{IsBytes, IsFormat, Takes, bind_ok, ok_is, checked_format, seen_format, both_format, list_format, number_format, wide64, text_format}
 use Rattle.fw_bytes.proofs.Rising.{sorted_from_rise, rise_from_sorted}
 use Rattle.fw_charge.specs.Spelling.{FitsTagText}
-use Rattle.fw_row_bytes.proofs.FieldFormats.{tag_text_format}
+use Rattle.fw_fields.proofs.FieldFormats.{tag_text_format}
 use Rattle.fw_terms.specs.Policy.{TargetValue, GiveValue, RuleValue, PolicyValue, IsTarget, IsGive, IsRule, IsPolicy, most_text, most_rules, most_targets}
 use Rattle.fw_terms.specs.Policy.GiveValue.{fixed, proportional}
 use Rattle.fw_terms.specs.Groups.{has_double_from, has_target_from}

@@ -13,7 +13,7 @@ use Rattle.fw_terms.specs.Commitment.TermsValue.{usage, spend}
 use Rattle.fw_terms.specs.Policy.{TargetValue, GiveValue, RuleValue, PolicyValue, most_text, most_rules, most_targets, most_weight, policy_value}
 use Rattle.fw_terms.specs.Policy.GiveValue.{fixed, proportional}
 use Rattle.fw_charge.specs.Spelling.{keys_rise}
-use Rattle.fw_row_bytes.specs.Reading.{nanos_at, second_at, short_text_at, tag_text_at, tags_at}
+use Rattle.fw_fields.specs.Reading.{nanos_at, second_at, short_text_at, tag_text_at, tags_at}
 use Rattle.fw_terms.specs.Groups.{has_double_from, has_target_from}
 use Rattle.fw_charge.specs.Charge.{last_hour}
 

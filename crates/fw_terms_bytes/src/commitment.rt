@@ -2,7 +2,7 @@
 ghost use Rattle.std.specs.Prelude.{◌≡◌, ◌≤◌, ◌<ℤ◌, ◌≤ℤ◌, pos, nat_abs, map, length, string_bytes, IfOk};
 ghost use Rattle.fw_money.specs.Amount.{most_nanos};
 ghost use Rattle.fw_bytes.specs.Reading.{Gives, code_at, times};
-ghost use Rattle.fw_row_bytes.specs.Reading.{short_text_at};
+ghost use Rattle.fw_fields.specs.Reading.{short_text_at};
 ghost use Rattle.fw_charge.specs.Codes.{kind_of};
 ghost use Rattle.fw_charge.specs.Spelling.{FitsTags};
 ghost use Rattle.fw_terms.specs.Commitment.{IsCommitment, most_purchases};
@@ -14,8 +14,8 @@ use crate::lists::{Item, list_of};
 use crate::order::names_rise;
 use fw_bytes::{ReadError, u32_at};
 use fw_charge::{DiscountKind, LAST_HOUR, Tag, Tags};
+use fw_fields::{keys_rise, nanos_of, optional_text_of, second_of, short_text_of, tags_of};
 use fw_money::Nanos;
-use fw_row_bytes::{keys_rise, nanos_of, optional_text_of, second_of, short_text_of, tags_of};
 use fw_terms::{Commitment, CommitmentFields, Purchase, Rate, Terms, total_cost};
 use std::alloc::{AllocError, Global};
 

@@ -7,7 +7,7 @@ ghost use Rattle.fw_terms_bytes.specs.Reading.{key_at, weight_at, target_at, tar
 use crate::lists::{Item, list_of};
 use crate::order::names_rise;
 use fw_bytes::{ReadError, str_at, u64_at};
-use fw_row_bytes::tag_text_of;
+use fw_fields::tag_text_of;
 use fw_terms::{Give, Policy, Rule, Target, has_double_from, has_target_from};
 use std::alloc::Global;
 

@@ -11,8 +11,7 @@ ghost use Rattle.fw_terms.specs.TermsView.{terms_view};
 ghost use Rattle.fw_terms.specs.Spelling.{rate, purchase, committed, names, term, commitment, target, given, rule, policy};
 
 use fw_bytes::{put_byte, put_text, put_u32, put_u64};
-use fw_row_bytes::{put_nanos, put_optional_text, put_tags};
-use fw_row_table::LentTags;
+use fw_fields::{put_nanos, put_optional_text, put_tags};
 use fw_terms::{Commitment, Give, Policy, Purchase, Rate, Rule, Target, Terms};
 use std::alloc::AllocError;
 
@@ -24,7 +23,7 @@ fn put_names(out: &mut Vec<u8>, one: &Commitment) -> Result<(), AllocError>
     put_text(out, one.id())?;
     put_byte(out, one.kind().code())?;
     put_optional_text(out, one.sub_account())?;
-    put_tags(out, LentTags::of_tags(one.tags()))?;
+    put_tags(out, one.tags())?;
     Ok(())
 }
 

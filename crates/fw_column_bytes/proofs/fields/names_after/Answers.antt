@@ -3,7 +3,7 @@ use Rattle.std.proofs.lemmas.Result.{err_from_is_err_and}
 use Rattle.std.specs.Prelude.{map, string_bytes}
 use Rattle.fw_bytes.specs.Reading.{times}
 use Rattle.fw_bytes.proofs.Loop.{goes_on, ends, is_done}
-use Rattle.fw_row_bytes.specs.Reading.{tag_text_at}
+use Rattle.fw_fields.specs.Reading.{tag_text_at}
 use Rattle.fw_column_bytes.proofs.fields.names_after.Goals as goal
 
 pub returns-in_err-value : goal.returns-in_err-value

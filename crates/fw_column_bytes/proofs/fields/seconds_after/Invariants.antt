@@ -1,7 +1,7 @@
 use Rattle.std.proofs.Common.{◌≡◌, ◌-◌}
 use Rattle.fw_bytes.specs.Reading.{times}
 use Rattle.fw_bytes.proofs.Loop.{with_front}
-use Rattle.fw_row_bytes.specs.Reading.{second_at}
+use Rattle.fw_fields.specs.Reading.{second_at}
 use Rattle.fw_column_bytes.proofs.fields.seconds_after.Given as goal
 
 abbrev pub invariant-loop : goal.invariant-loop

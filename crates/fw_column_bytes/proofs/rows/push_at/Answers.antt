@@ -5,7 +5,7 @@ use Rattle.fw_charge.specs.Charge.{Charge, IsCharge}
 use Rattle.fw_charge.specs.Spelling.{FitsTags}
 use Rattle.fw_columns.specs.RowViews.{charge_with}
 use Rattle.fw_row_table.specs.Table.{tags_of}
-use Rattle.fw_row_bytes.specs.Reading.{fields_agree, row_from}
+use Rattle.fw_fields.specs.Row.{fields_agree, row_from}
 use Rattle.fw_column_bytes.specs.Fits.{FitParts}
 use Rattle.fw_column_bytes.specs.PartsView.{parts_view}
 use Rattle.fw_column_bytes.specs.Reading.{fields_at_place}

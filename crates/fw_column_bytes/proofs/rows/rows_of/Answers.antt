@@ -5,7 +5,7 @@ use Rattle.std.proofs.lemmas.List.{map_push}
 use Rattle.std.proofs.lemmas.List.FromFn.{map-range_with_len_more}
 use Rattle.std.proofs.lemmas.Result.{err_from_is_err_and}
 use Rattle.fw_charge.specs.Charge.{Charge}
-use Rattle.fw_row_bytes.specs.Reading.{fields_agree, row_from}
+use Rattle.fw_fields.specs.Row.{fields_agree, row_from}
 use Rattle.fw_column_bytes.specs.PartsView.{parts_view}
 use Rattle.fw_column_bytes.specs.Reading.{fields_at_place}
 use Rattle.fw_column_bytes.proofs.RowsRead.{count_within, made_count}

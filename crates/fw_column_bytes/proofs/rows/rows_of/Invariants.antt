@@ -1,7 +1,7 @@
 use Rattle.std.proofs.Common.{◌≡◌, true}
 use Rattle.std.specs.Prelude.{map}
 use Rattle.std.specs.List.{list_all, range_with_len}
-use Rattle.fw_row_bytes.specs.Reading.{fields_agree, row_from}
+use Rattle.fw_fields.specs.Row.{fields_agree, row_from}
 use Rattle.fw_column_bytes.specs.PartsView.{parts_view}
 use Rattle.fw_column_bytes.specs.Reading.{fields_at_place}
 use Rattle.fw_column_bytes.proofs.rows.rows_of.Given as goal

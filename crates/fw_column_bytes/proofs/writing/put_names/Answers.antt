@@ -4,7 +4,7 @@ use Rattle.std.proofs.lemmas.List.{take_all}
 use Rattle.std.proofs.lemmas.Option.{slice_get_within, get_or_from_slice_get}
 use Rattle.fw_bytes.specs.Spelling.{number32, text}
 use Rattle.fw_row_table.specs.Texts.{names_of}
-use Rattle.fw_row_bytes.proofs.Written.{written_more}
+use Rattle.fw_fields.proofs.Written.{written_more}
 use Rattle.fw_column_bytes.proofs.writing.put_names.Goals as goal
 
 pub text-requires : goal.text-requires

@@ -1,7 +1,7 @@
 use Rattle.std.proofs.Common.{All, subst, arith}
 use Rattle.std.specs.Prelude.{IsUtf8}
 use Rattle.std.proofs.lemmas.List.{take_all}
-use Rattle.fw_row_bytes.proofs.Written.{all_more}
+use Rattle.fw_fields.proofs.Written.{all_more}
 use Rattle.fw_row_bytes.proofs.spelled.names_are_text.Goals as goal
 
 pub loop-code-preserved : goal.loop-code-preserved

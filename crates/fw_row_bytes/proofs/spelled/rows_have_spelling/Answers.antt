@@ -3,7 +3,7 @@ use Rattle.std.specs.Prelude.{IsUtf8}
 use Rattle.std.proofs.lemmas.List.{take_all}
 use Rattle.fw_charge.specs.Spelling.{IsRow}
 use Rattle.fw_row_table.proofs.SpelledFacts.{tags_are_text}
-use Rattle.fw_row_bytes.proofs.Written.{all_more}
+use Rattle.fw_fields.proofs.Written.{all_more}
 use Rattle.fw_row_bytes.proofs.spelled.rows_have_spelling.Goals as goal
 
 pub has_spelling-requires : goal.has_spelling-requires

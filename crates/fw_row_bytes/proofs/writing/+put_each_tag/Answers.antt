@@ -6,11 +6,17 @@ use Rattle.fw_charge.specs.Spelling.{tag}
 use Rattle.fw_row_table.specs.Lending.{tag_lent, tags_lent, tags_split}
 use Rattle.fw_row_bytes.proofs.writing.+put_each_tag.Goals as goal
 
-pub put_tag-requires : goal.put_tag-requires
+pub put_tag-requires-clause-key : goal.put_tag-requires-clause-key
 unfolding tags_split
-put_tag-requires t c =
+put_tag-requires-clause-key t c =
     let parted : tags_lent c.args.all ≡ tag_lent c.in-Some.first ∷ tags_lent c.in-Some.rest = c.split_first.ensures ∙ ap tags_split c.in-Some.is in
-    subst (λ ts. All IsTagSized ts) parted c.requires 0 (tag_lent c.in-Some.first) (omega arith)
+    (subst (λ ts. All IsTagSized ts) parted c.requires 0 (tag_lent c.in-Some.first) (omega arith)).key
+
+pub put_tag-requires-clause-value : goal.put_tag-requires-clause-value
+unfolding tags_split
+put_tag-requires-clause-value t c =
+    let parted : tags_lent c.args.all ≡ tag_lent c.in-Some.first ∷ tags_lent c.in-Some.rest = c.split_first.ensures ∙ ap tags_split c.in-Some.is in
+    (subst (λ ts. All IsTagSized ts) parted c.requires 0 (tag_lent c.in-Some.first) (omega arith)).value
 
 pub put_each_tag-requires : goal.put_each_tag-requires
 unfolding tags_split

@@ -3,7 +3,7 @@ use Rattle.std.specs.Prelude.{IsUtf8}
 use Rattle.fw_bytes.specs.Spelling.{number32}
 use Rattle.fw_charge.specs.Spelling.{row, IsRow}
 use Rattle.fw_row_table.proofs.SpelledFacts.{tags_are_text}
-use Rattle.fw_row_bytes.proofs.Written.{written_more, all_more}
+use Rattle.fw_fields.proofs.Written.{written_more, all_more}
 use Rattle.fw_row_bytes.proofs.writing.put_rows.Goals as goal
 
 pub has_spelling-requires : goal.has_spelling-requires

@@ -3,7 +3,7 @@ use Rattle.fw_bytes.specs.Spelling.{number64}
 use Rattle.fw_snapshot.specs.Heads.{head_of}
 use Rattle.fw_segment.specs.Heads.{head}
 use Rattle.fw_segment.proofs.Histories.{head_short}
-use Rattle.fw_row_bytes.proofs.Written.{written_more}
+use Rattle.fw_fields.proofs.Written.{written_more}
 use Rattle.fw_segment.proofs.states.put_heads.Goals as goal
 
 pub put_head-requires : goal.put_head-requires

@@ -3,7 +3,7 @@ use Rattle.fw_bytes.specs.Spelling.{number32}
 use Rattle.fw_segment.specs.declared.layout.SegmentLayout.TheVariants.{Columns}
 use Rattle.fw_segment.specs.Segments.{segment}
 use Rattle.fw_segment.proofs.Histories.{IsSized}
-use Rattle.fw_row_bytes.proofs.Written.{written_more, all_more}
+use Rattle.fw_fields.proofs.Written.{written_more, all_more}
 use Rattle.fw_segment.proofs.states.put_segments.Goals as goal
 
 pub loop-place-preserved : goal.loop-place-preserved

@@ -3,7 +3,7 @@ use Rattle.std.proofs.lemmas.List.{map-append}
 use Rattle.std.proofs.lemmas.Result.{err_from_is_err_and}
 use Rattle.fw_bytes.specs.Reading.{times}
 use Rattle.fw_bytes.proofs.Loop.{goes_on, ends, is_done}
-use Rattle.fw_row_bytes.specs.Reading.{short_text_at}
+use Rattle.fw_fields.specs.Reading.{short_text_at}
 use Rattle.fw_terms_bytes.proofs.commitment.skus_after.Goals as goal
 
 pub returns-in_err-sku : goal.returns-in_err-sku

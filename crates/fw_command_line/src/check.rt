@@ -1,0 +1,56 @@
+//! `focusd check`: all faults of CSV exports, and what is in them.
+use crate::ids::CURRENCY;
+use crate::options::{command_with, files_argument, format_option, quiet_option};
+use clap::{Arg, Command};
+use std::alloc::{AllocError, Global};
+
+/// The formats of the answer.
+const FORMATS: [&str; 2] = ["text", "json"];
+
+const HELP: &str =
+    "Each record is checked as a post's record is. Of a record with several faults each one is found: a field at fault is taken
+for a harmless one, and the record is checked again. Faults are grouped by code and column, each group with its first three
+places. Rows, hours, sums and tags are those of the records without a fault. `-` is standard input.
+
+Example:
+  focusd check january.csv
+
+Exit status: 0 where no file has a fault, 1 where one has or can't be read, 2 where the command line is wrong.";
+
+// The option that names the currency of all costs.
+fn cost_currency<'a>(alloc: Global) -> Arg<'a> {
+    Arg::new(alloc, CURRENCY)
+        .long("currency")
+        .value_name("CUR")
+        .default_value("USD")
+        .help("The currency that all costs must have: three capital letters")
+}
+
+// The options, in the order in which the help has them.
+fn options<'a>(alloc: Global) -> Result<Vec<Arg<'a>>, AllocError> {
+    Ok(vec![in alloc;
+        format_option(
+            alloc,
+            FORMATS.as_slice(),
+            "text",
+            "How the answer is written",
+        ),
+        cost_currency(alloc),
+        quiet_option(alloc),
+        files_argument(
+            alloc,
+            "A CSV with the columns of FOCUS 1.0, or `-` for standard input",
+        ),
+    ]?)
+}
+
+/// The command's part of the command line.
+pub(crate) fn command<'a>(alloc: Global) -> Result<Command<'a>, AllocError> {
+    command_with(
+        alloc,
+        "check",
+        "Lists all faults of CSV exports, and what is in them",
+        HELP,
+        options(alloc)?,
+    )
+}

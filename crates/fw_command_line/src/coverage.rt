@@ -1,0 +1,47 @@
+//! `focusd coverage`: how well commitments were used in a range of time.
+use crate::options::{command_with, folder_option, format_option, from_option, to_option};
+use clap::{Arg, Command};
+use std::alloc::{AllocError, Global};
+
+/// The formats of a coverage.
+const FORMATS: [&str; 2] = ["table", "csv"];
+
+const EXAMPLE: &str =
+    "T is a month (2024-01), a date (2024-01-31) or a time on a whole hour (2024-01-31T14:00Z), in UTC, and
+stands for the hour at which it begins. The range has the hours from --from up to, not including, --to, at
+most 26,304 of them: --from 2024-01 --to 2024-02 is January.
+
+Each line is a commitment that runs in the range, or was paid for there. Capacity is its capacity of each hour
+of its term in the range, in its unit, or in the currency where it is one to a cost; Used is what rows used of
+it, and Share is Used in percent of Capacity. UsedCost and UnusedCost are the EffectiveCost of the commitment's
+Used and Unused lines: what its purchases cost, spread over its term. BilledCost is what was paid for it in the
+range. A table shows hundredths and cents, rounded from the exact sums; csv is exact, to the nano.
+
+Example: which commitments were paid for and not used in January 2024
+  focusd coverage --dir costs --from 2024-01 --to 2024-02";
+
+// The options, in the order in which the help has them.
+fn options<'a>(alloc: Global) -> Result<Vec<Arg<'a>>, AllocError> {
+    Ok(vec![in alloc;
+        folder_option(alloc),
+        from_option(alloc),
+        to_option(alloc),
+        format_option(
+            alloc,
+            FORMATS.as_slice(),
+            "table",
+            "How the coverage is written",
+        ),
+    ]?)
+}
+
+/// The command's part of the command line.
+pub(crate) fn command<'a>(alloc: Global) -> Result<Command<'a>, AllocError> {
+    command_with(
+        alloc,
+        "coverage",
+        "Shows how well commitments were used in a range of time",
+        EXAMPLE,
+        options(alloc)?,
+    )
+}

@@ -1,0 +1,46 @@
+//! The ids by which what the command line took is asked for.
+
+/// The id of the option that says how many analysts view a warehouse while files are loaded.
+pub const ANALYSTS: &str = "analysts";
+
+/// The id of the option that cuts the range of a report into periods.
+pub const BY: &str = "by";
+
+/// The id of the argument that is a code.
+pub const CODE: &str = "code";
+
+/// The id of the option that creates the warehouse.
+pub const CREATE: &str = "create";
+
+/// The id of the option that names the currency.
+pub const CURRENCY: &str = "currency";
+
+/// The id of the option that names the folder of the warehouse.
+pub const DIR: &str = "dir";
+
+/// The id of the argument that names files.
+pub const FILES: &str = "files";
+
+/// The id of the option that names the format of an answer.
+pub const FORMAT: &str = "format";
+
+/// The id of the option that says when the range begins.
+pub const FROM: &str = "from";
+
+/// The id of the option that names who sends the rows, or the first part of such names.
+pub const ORIGIN: &str = "origin";
+
+/// The id of the option that prints no progress.
+pub const QUIET: &str = "quiet";
+
+/// The id of the option that names the tag.
+pub const TAG: &str = "tag";
+
+/// The id of the option that says when the range ends.
+pub const TO: &str = "to";
+
+/// The id of the option that shows the groups that are charged most.
+pub const TOP: &str = "top";
+
+/// The id of the option that says how many workers read posts and make a report.
+pub const WORKERS: &str = "workers";

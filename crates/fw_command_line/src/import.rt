@@ -1,0 +1,66 @@
+//! `focusd import`: CSV exports of any length are taken into a warehouse.
+use crate::ids::ORIGIN;
+use crate::options::{
+    command_with, create_option, currency_option, files_argument, folder_option, quiet_option,
+};
+use clap::{Arg, Command};
+use std::alloc::{AllocError, Global};
+
+const HELP: &str =
+    "The records of each FILE are posted in order, as many as a post can have: 4,096 rows, and 2 MiB of the file. `-` is
+standard input. A file's first record is its header, which may be another one in each file.
+
+ORIGIN names the sender: 1 to 64 ASCII letters, digits, `-`, `_` and `.`. The posts of its files are its entries 1, 2, 3 ..
+in the order of the files. So give each export an origin of its own, or list all files of an origin, from the first one on.
+
+An import that was stopped goes on where it stopped: run it again with the same files. Each post that is there already is
+compared with the file; where they differ, as when a file has changed, the import stops and says so. A post is taken whole
+or not at all, and it is on the disk, by the word of the system, before the next one is read.
+
+Progress is printed to standard error where that is a terminal: the rows, the megabytes, and of files also the share that was
+read and the time that is left.
+
+Example: an export into a new warehouse, and one that is compressed
+  focusd import --dir costs --create --origin aws-2024-01 january.csv
+  zcat february.csv.gz | focusd import --dir costs --origin aws-2024-02 -
+
+Exit status: 0 where all rows are in the warehouse, 1 where a file or the warehouse was refused or failed, 2 where the command
+line is wrong.";
+
+// The option that names who sends the rows.
+fn origin_option<'a>(alloc: Global) -> Arg<'a> {
+    Arg::new(alloc, ORIGIN)
+        .long("origin")
+        .value_name("NAME")
+        .required(true)
+        .help("Who sends the rows")
+}
+
+// The options, in the order in which the help has them.
+fn options<'a>(alloc: Global) -> Result<Vec<Arg<'a>>, AllocError> {
+    Ok(vec![in alloc;
+        folder_option(alloc),
+        create_option(
+            alloc,
+            "Creates a warehouse where the folder, which has to be there, holds none",
+        ),
+        currency_option(alloc),
+        origin_option(alloc),
+        quiet_option(alloc),
+        files_argument(
+            alloc,
+            "A CSV with the columns of FOCUS 1.0, or `-` for standard input",
+        ),
+    ]?)
+}
+
+/// The command's part of the command line.
+pub(crate) fn command<'a>(alloc: Global) -> Result<Command<'a>, AllocError> {
+    command_with(
+        alloc,
+        "import",
+        "Takes CSV exports of any length into a warehouse",
+        HELP,
+        options(alloc)?,
+    )
+}

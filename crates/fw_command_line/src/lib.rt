@@ -1,0 +1,26 @@
+//! The command line of `focusd`: its commands, what they take, and what the help says.
+//!
+//! [`command_line`] is the whole of it. What it took of each option is asked for by the option's id, which is a constant here. Each command has a module.
+#![tactic(auto)]
+
+mod check;
+mod checkpoint;
+mod coverage;
+mod dump;
+mod explain;
+mod ids;
+mod import;
+mod line;
+mod lines;
+mod load;
+mod options;
+mod report;
+mod run;
+mod status;
+mod verify;
+
+pub use ids::{
+    ANALYSTS, BY, CODE, CREATE, CURRENCY, DIR, FILES, FORMAT, FROM, ORIGIN, QUIET, TAG, TO, TOP,
+    WORKERS,
+};
+pub use line::command_line;

@@ -1,0 +1,70 @@
+//! `focusd load`: files are loaded side by side.
+use crate::ids::{ANALYSTS, ORIGIN};
+use crate::options::{command_with, create_option, currency_option, dir_option, files_argument};
+use clap::{Arg, Command, value_parser};
+use std::alloc::{AllocError, Global};
+
+const HELP: &str =
+    "Each FILE is a CSV of at most 4,096 charge rows, and is posted whole, from a thread of its own. What waits together is stored as one
+group, with one sync for all of it. There are at most 64 files.
+
+File number I is entry 1 of the origin ORIGIN.I. So files that are loaded again are answered `already 1`: give a later load
+another --origin.
+
+It prints for each file, in their order, its number and `accepted`, or what else became of it: `already L`, `gap E`, `refused CODE NAME`,
+`unknown` where the disk failed while the file's group was written, `closed` where nothing of it is stored, `no memory`. Then `stale N`: analysts
+view the warehouse meanwhile, and N counts the views that lacked an accepted file that the analyst knew of. N is 0. The last line has the counts
+of entries, rows and commitments, and whether a policy holds. Meanwhile the number of stored files is shown where standard error is a terminal.
+
+Example: three files into a new warehouse, then two more
+  focusd load --dir costs --create --origin aws-2024-01 one.csv two.csv three.csv
+  focusd load --dir costs --origin aws-2024-02 four.csv five.csv
+
+Exit status: 0 where each file was answered, also by `refused`; 1 where the disk failed or had no room; 2 where the command line is wrong.";
+
+// The option that says how many analysts there are.
+fn analysts_option<'a>(alloc: Global) -> Arg<'a> {
+    Arg::new(alloc, ANALYSTS)
+        .long("analysts")
+        .value_name("N")
+        .default_value("1")
+        .value_parser(value_parser!(u8).range(1..=16))
+        .help("How many analysts view the warehouse meanwhile: 1 to 16")
+}
+
+// The option that names the origins.
+fn origin_option<'a>(alloc: Global) -> Arg<'a> {
+    Arg::new(alloc, ORIGIN)
+        .long("origin")
+        .value_name("NAME")
+        .default_value("f")
+        .help("The first part of the names of the origins")
+}
+
+// The options, in the order in which the help has them.
+fn options<'a>(alloc: Global) -> Result<Vec<Arg<'a>>, AllocError> {
+    Ok(vec![in alloc;
+        currency_option(alloc),
+        dir_option(alloc).help(
+            "Keeps the warehouse in this folder, which has to be there; without it the warehouse is in memory",
+        ),
+        create_option(
+            alloc,
+            "Creates the warehouse in the folder; without --dir it changes nothing",
+        ),
+        analysts_option(alloc),
+        origin_option(alloc),
+        files_argument(alloc, "A CSV with the columns of FOCUS 1.0"),
+    ]?)
+}
+
+/// The command's part of the command line.
+pub(crate) fn command<'a>(alloc: Global) -> Result<Command<'a>, AllocError> {
+    command_with(
+        alloc,
+        "load",
+        "Takes up to 64 CSV files into a warehouse side by side",
+        HELP,
+        options(alloc)?,
+    )
+}

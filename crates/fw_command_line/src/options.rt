@@ -1,0 +1,133 @@
+//! The options that several commands have.
+ghost use Rattle.std.specs.Prelude.{◌≡◌, Some, true, option_map, codes};
+ghost use Rattle.clap.specs.declared.builder.action.ArgAction.TheVariants.{SetTrue};
+
+use crate::ids::{CREATE, CURRENCY, DIR, FILES, FORMAT, FROM, QUIET, TO};
+use clap::{Arg, ArgAction, Command};
+use std::alloc::{AllocError, Global};
+
+/// The option that names the folder of the warehouse.
+pub(crate) fn dir_option<'a>(alloc: Global) -> Arg<'a>
+    ensures id { result.id.now ≡ codes "dir" }
+    ensures name { option_map (λ name. name.now) result.long ≡ Some (codes "dir") }
+{
+    Arg::new(alloc, DIR).long("dir").value_name("DIR")
+}
+
+/// The option that names the folder of the warehouse, where it has to be given.
+pub(crate) fn folder_option<'a>(alloc: Global) -> Arg<'a>
+    ensures { result.required ≡ true }
+{
+    dir_option(alloc)
+        .required(true)
+        .help("The folder of the warehouse")
+}
+
+/// The option that names the format of an answer, one of these words.
+pub(crate) fn format_option<'a>(
+    alloc: Global,
+    formats: &'a [&'a str],
+    default: &'a str,
+    help: &'a str,
+) -> Arg<'a> {
+    Arg::new(alloc, FORMAT)
+        .long("format")
+        .value_name("FORMAT")
+        .default_value(default)
+        .value_parser(formats)
+        .help(help)
+}
+
+/// The argument that names a file or more.
+pub(crate) fn files_argument<'a>(alloc: Global, help: &'a str) -> Arg<'a>
+    ensures { result.required ≡ true }
+{
+    Arg::new(alloc, FILES)
+        .value_name("FILE")
+        .required(true)
+        .num_args(1..)
+        .action(ArgAction::Append)
+        .help(help)
+}
+
+/// The option that names the currency of a warehouse that is created.
+pub(crate) fn currency_option<'a>(alloc: Global) -> Arg<'a> {
+    Arg::new(alloc, CURRENCY)
+        .long("currency")
+        .value_name("CUR")
+        .default_value("USD")
+        .help("The currency of all costs, where a warehouse is created: three capital letters")
+}
+
+/// The option that creates the warehouse.
+pub(crate) fn create_option<'a>(alloc: Global, help: &'a str) -> Arg<'a>
+    ensures { result.action ≡ Some SetTrue }
+{
+    Arg::new(alloc, CREATE)
+        .long("create")
+        .action(ArgAction::SetTrue)
+        .help(help)
+}
+
+/// The option that prints no progress.
+pub(crate) fn quiet_option<'a>(alloc: Global) -> Arg<'a>
+    ensures { result.action ≡ Some SetTrue }
+{
+    Arg::new(alloc, QUIET)
+        .long("quiet")
+        .action(ArgAction::SetTrue)
+        .help("Prints no progress")
+}
+
+// The option that takes a time.
+fn time_option<'a>(alloc: Global, id: &'a str, help: &'a str) -> Arg<'a>
+    ensures name { result.long ≡ Some id.entry }
+    ensures required { result.required ≡ true }
+{
+    Arg::new(alloc, id)
+        .long(id)
+        .required(true)
+        .value_name("T")
+        .help(help)
+}
+
+/// The option that says when the range begins.
+pub(crate) fn from_option<'a>(alloc: Global) -> Arg<'a> {
+    time_option(alloc, FROM, "When the range begins")
+}
+
+/// The option that says when the range ends.
+pub(crate) fn to_option<'a>(alloc: Global) -> Arg<'a> {
+    time_option(
+        alloc,
+        TO,
+        "When the range ends; the hour that begins then is not in it",
+    )
+}
+
+/// A command that takes these options.
+pub(crate) fn command_with<'a>(
+    alloc: Global,
+    name: &'a str,
+    about: &'a str,
+    help: &'a str,
+    options: Vec<Arg<'a>>,
+) -> Result<Command<'a>, AllocError> {
+    Command::new(alloc, name)
+        .about(about)
+        .after_help(help)
+        .args(options)
+}
+
+/// A command that takes a folder alone.
+pub(crate) fn folder_command<'a>(
+    alloc: Global,
+    name: &'a str,
+    about: &'a str,
+    example: &'a str,
+) -> Result<Command<'a>, AllocError> {
+    Command::new(alloc, name)
+        .about(about)
+        .after_help(example)
+        .arg(folder_option(alloc))
+}

@@ -1,0 +1,24 @@
+//! Questions to the warehouse of a folder.
+use crate::folder::open_folder;
+use clap::ArgMatches;
+use fw_command_line::DIR;
+use fw_console::{Fault, advised, always_advised, print_answer};
+use fw_views::{Question, answer};
+use std::process::ExitCode;
+
+/// Opens the warehouse of the folder that the options name, and prints its answer to a question. What `verify` finds is printed whole
+/// also where nobody looks at a terminal.
+pub(crate) fn ask(rt: &HostRuntime, options: &ArgMatches<'_>, question: &Question<'_>) -> ExitCode {
+    let folder = options.get_str(DIR).unwrap_or("");
+    let asked = answer_in(rt, folder, question).and_then(|text| print_answer(rt, text.as_slice()));
+    match question {
+        Question::Verify => always_advised(rt, folder, asked),
+        _ => advised(rt, folder, asked),
+    }
+}
+
+// The answer of the warehouse of a folder.
+fn answer_in(rt: &HostRuntime, folder: &str, question: &Question<'_>) -> Result<Vec<u8>, Fault> {
+    let store = open_folder(rt, folder)?;
+    Ok(answer(rt.alloc(), &store, question)?)
+}

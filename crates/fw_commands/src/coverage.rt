@@ -1,0 +1,21 @@
+//! `focusd coverage`: how well commitments were used in a range of time.
+use crate::ask::ask;
+use crate::range::{read_range, wrong_time};
+use clap::ArgMatches;
+use fw_command_line::FORMAT;
+use fw_console::Fault;
+use fw_views::{Format, Question};
+use std::process::ExitCode;
+
+/// Prints the coverage that the options ask for.
+pub fn print_coverage(rt: &HostRuntime, options: &ArgMatches<'_>) -> Result<ExitCode, Fault> {
+    let (from, to) = match read_range(rt.alloc(), options)? {
+        Ok(range) => range,
+        Err(option) => return Ok(wrong_time(rt, options, option)),
+    };
+    let format = match options.get_str(FORMAT) {
+        Some("csv") => Format::Csv,
+        _ => Format::Table,
+    };
+    Ok(ask(rt, options, &Question::Coverage { from, to, format }))
+}

@@ -1,0 +1,53 @@
+//! `focusd dump`: a warehouse as a script that makes it again.
+ghost use Rattle.std.specs.Prelude.{◌≡◌};
+ghost use Rattle.std.specs.Process.{exit_status};
+
+use crate::folder::open_folder;
+use clap::ArgMatches;
+use fw_command_line::DIR;
+use fw_console::{Fault, advised};
+use fw_dump::{DumpFault, TextFault, dump};
+use fw_serve::ServeFault;
+use fw_snapshot::State;
+use std::io::ErrorKind;
+use std::process::ExitCode;
+
+/// Prints the script of the warehouse.
+pub fn print_dump(rt: &HostRuntime, options: &ArgMatches<'_>) -> ExitCode {
+    let folder = options.get_str(DIR).unwrap_or("");
+    advised(rt, folder, dump_folder(rt, folder))
+}
+
+// Prints the script of the warehouse of a folder.
+fn dump_folder(rt: &HostRuntime, folder: &str) -> Result<ExitCode, Fault> {
+    let store = open_folder(rt, folder)?;
+    dump_state(rt, folder, store.state().state())
+}
+
+// Prints the script of a warehouse. A reader that has had enough, as `head`, is no fault.
+fn dump_state(rt: &HostRuntime, folder: &str, state: &State) -> Result<ExitCode, Fault> {
+    match dump(rt.alloc(), state, &mut rt.stdout()) {
+        Ok(()) => Ok(ExitCode::SUCCESS),
+        Err(DumpFault::Write(ErrorKind::BrokenPipe)) => Ok(ExitCode::SUCCESS),
+        Err(DumpFault::Write(_)) => Err(Fault::Serve(ServeFault::Write)),
+        Err(DumpFault::Entry { number, why }) => Ok(stopped(rt, folder, number, why)),
+        Err(DumpFault::NoMemory) => Err(Fault::NoMemory),
+    }
+}
+
+// Says that a dump stopped before an entry, and why.
+fn stopped(rt: &HostRuntime, folder: &str, number: u64, why: TextFault) -> ExitCode
+    ensures { exit_status result ≡ 1 }
+{
+    let _ = eprintln!(rt; "focusd: {why}");
+    let reason = match why {
+        TextFault::TooManyLines =>
+            "has more than 1,000,000 lines, the most of an entry in a script",
+        TextFault::Differs | TextFault::NoMemory =>
+            "would read as another entry: a text can't say all that it has, or focusd has a defect",
+    };
+    let _ = eprintln!(rt;
+        "{folder}: entry {number} of the warehouse {reason}. The script ends before it."
+    );
+    ExitCode::FAILURE
+}

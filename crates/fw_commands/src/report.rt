@@ -1,0 +1,101 @@
+//! `focusd report`: what each group of a tag cost in a range of time.
+ghost use Rattle.std.specs.Prelude.{◌≡◌, ◌≤◌, IfSome};
+ghost use Rattle.std.specs.Process.{exit_status};
+ghost use Rattle.fw_console.specs.Statuses.{wrong_use_status};
+
+use crate::ask::ask;
+use crate::range::{read_range, wrong_time};
+use clap::ArgMatches;
+use fw_calendar::Step;
+use fw_command_line::{BY, FORMAT, TAG, TOP};
+use fw_console::{Fault, WRONG_USE};
+use fw_query::Query;
+use fw_series::SeriesFormat;
+use fw_views::{Format, Question, SeriesOptions};
+use std::process::ExitCode;
+
+/// The most groups that `--top` takes.
+const MOST_TOP: usize = 1_000;
+
+/// Prints the report that the options ask for.
+pub fn print_report(rt: &HostRuntime, options: &ArgMatches<'_>) -> Result<ExitCode, Fault> {
+    let (from_hour, to_hour) = match read_range(rt.alloc(), options)? {
+        Ok(range) => range,
+        Err(option) => return Ok(wrong_time(rt, options, option)),
+    };
+    let key = options.get_str(TAG).unwrap_or("");
+    let query = Query {
+        key,
+        from_hour,
+        to_hour,
+    };
+    let top = match options.get_str(TOP) {
+        Some(text) => match read_top(text) {
+            Some(top) => Some(top),
+            None => return Ok(wrong_top(rt, text)),
+        },
+        None => None,
+    };
+    let series = SeriesOptions {
+        step: step_of(options.get_str(BY)),
+        top,
+        format: format_of(options.get_str(FORMAT)),
+    };
+    Ok(ask(rt, options, &question_of(query, series)))
+}
+
+// The question that a query and options come to: a plain report where nothing else is asked for.
+fn question_of<'q>(query: Query<'q>, options: SeriesOptions) -> Question<'q> {
+    let is_plain = options.step.is_none() && options.top.is_none();
+    match options.format {
+        SeriesFormat::Table if is_plain => Question::Report {
+            query,
+            format: Format::Table,
+        },
+        SeriesFormat::Csv if is_plain => Question::Report {
+            query,
+            format: Format::Csv,
+        },
+        _ => Question::Series { query, options },
+    }
+}
+
+// The period that a word of `--by` names.
+fn step_of(word: Option<&str>) -> Option<Step> {
+    match word {
+        Some("hour") => Some(Step::Hour),
+        Some("day") => Some(Step::Day),
+        Some("month") => Some(Step::Month),
+        _ => None,
+    }
+}
+
+// The format that a word of `--format` names.
+fn format_of(word: Option<&str>) -> SeriesFormat {
+    match word {
+        Some("csv") => SeriesFormat::Csv,
+        Some("json") => SeriesFormat::Json,
+        Some("html") => SeriesFormat::Html,
+        _ => SeriesFormat::Table,
+    }
+}
+
+// The number of groups that `--top` says, if it is one.
+fn read_top(text: &str) -> Option<usize>
+    ensures { IfSome result (λ top. 1 ≤ top × top ≤ 1000) }
+{
+    match text.parse::<usize>() {
+        Ok(top) if top >= 1 && top <= MOST_TOP => Some(top),
+        _ => None,
+    }
+}
+
+// Says that the value of `--top` is no number of groups.
+fn wrong_top(rt: &HostRuntime, text: &str) -> ExitCode
+    ensures { exit_status result ≡ wrong_use_status }
+{
+    let _ = eprintln!(rt;
+        "focusd: --top: {text:?} is not a number of groups from 1 to 1,000, as 5"
+    );
+    ExitCode::from(WRONG_USE)
+}

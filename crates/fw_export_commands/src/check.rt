@@ -1,0 +1,193 @@
+//! `focusd check`: all faults of CSV exports, and what is in them.
+ghost use Rattle.std.specs.Prelude.{◌≡◌, ◌≤◌, IfOk, IsTrue};
+
+use clap::ArgMatches;
+use fw_check::{Checker, as_json, as_text};
+use fw_command_line::{CURRENCY, FILES, FORMAT, QUIET};
+use fw_console::{Fault, Progress, print_answer, wrong_use};
+use fw_cut::{CutFault, Cutter, Part};
+use fw_rows::{Currency, RowFault};
+use std::fs;
+use std::io::Read;
+use std::process::ExitCode;
+
+/// Checks the files that the options name.
+pub fn check_files(rt: &HostRuntime, options: &ArgMatches<'_>) -> Result<ExitCode, Fault> {
+    let text = options.get_str(CURRENCY).unwrap_or("USD");
+    let Some(currency) = Currency::new(text.as_bytes()) else {
+        return Ok(wrong_use(rt, "--currency: it must be three capital letters, e.g. USD"));
+    };
+    let is_json = options.get_str(FORMAT) == Some("json");
+    let files = options.get_strs(FILES).unwrap_or(&[]);
+    let mut progress = Progress::new(rt, options.get_flag(QUIET), files);
+    let mut is_clean = true;
+    for file in files {
+        is_clean = check_named(rt, file, currency, is_json, &mut progress)? && is_clean;
+    }
+    Ok(if is_clean {
+        ExitCode::SUCCESS
+    } else {
+        ExitCode::FAILURE
+    })
+}
+
+// Checks a file, or standard input; whether it has no fault.
+fn check_named(
+    rt: &HostRuntime,
+    file: &str,
+    currency: Currency,
+    is_json: bool,
+    progress: &mut Progress,
+) -> Result<bool, Fault> {
+    if file == "-" {
+        return check_file(
+            rt,
+            "standard input",
+            rt.stdin(),
+            currency,
+            is_json,
+            progress,
+        );
+    }
+    match fs::open(rt, file) {
+        Ok(opened) => check_file(rt, file, opened, currency, is_json, progress),
+        Err(error) => {
+            let _ = eprintln!(rt; "focusd: {file}: {error}");
+            Ok(false)
+        }
+    }
+}
+
+// Checks a file, and prints what was found.
+fn check_file<R: Read + Drop>(
+    rt: &HostRuntime,
+    name: &str,
+    reader: R,
+    currency: Currency,
+    is_json: bool,
+    progress: &mut Progress,
+) -> Result<bool, Fault> {
+    let mut checker = Checker::new(rt.alloc(), currency);
+    match Cutter::open(rt.alloc(), reader) {
+        Ok(mut cutter) => check_cut(rt, name, &mut cutter, &mut checker, is_json, progress),
+        Err(fault) => refused(rt, name, fault),
+    }
+}
+
+// Checks a file that is cut into parts, and prints what was found.
+fn check_cut<R: Read>(
+    rt: &HostRuntime,
+    name: &str,
+    cutter: &mut Cutter<R>,
+    checker: &mut Checker,
+    is_json: bool,
+    progress: &mut Progress,
+) -> Result<bool, Fault>
+    ensures clean { IfOk result (λ is_clean. IsTrue is_clean → (checker.new.faults ≡ 0) × 1 ≤ checker.new.records) }
+{
+    if !check_parts(rt, name, cutter, checker, progress)? {
+        return Ok(false);
+    }
+    progress.end(rt);
+    print_found(rt, name, checker, is_json)?;
+    Ok(checker.faults == 0 && checker.records > 0)
+}
+
+// Prints what was found in a file.
+fn print_found(
+    rt: &HostRuntime,
+    name: &str,
+    checker: &Checker,
+    is_json: bool,
+) -> Result<ExitCode, Fault> {
+    let answer = if is_json {
+        as_json(rt.alloc(), name, checker)?
+    } else {
+        as_text(rt.alloc(), name, checker)?
+    };
+    print_answer(rt, answer.as_bytes())
+}
+
+// Checks the parts of a file in order; false where it was refused, which was said.
+fn check_parts<R: Read>(
+    rt: &HostRuntime,
+    name: &str,
+    cutter: &mut Cutter<R>,
+    checker: &mut Checker,
+    progress: &mut Progress,
+) -> Result<bool, Fault> {
+    checker.pass_header(cutter.header());
+    progress.took(rt, 0, cutter.header().len());
+    for _ in 0..u64::MAX {
+        match check_next(rt, name, cutter, checker, progress)? {
+            Checked::Part => {}
+            Checked::Last => return Ok(true),
+            Checked::Refused => return Ok(false),
+        }
+    }
+    Ok(true)
+}
+
+// What became of a part.
+enum Checked {
+    // More parts follow it.
+    Part,
+    // It is the last one.
+    Last,
+    // It was refused, which was said.
+    Refused,
+}
+
+// Checks the next part of a file.
+fn check_next<R: Read>(
+    rt: &HostRuntime,
+    name: &str,
+    cutter: &mut Cutter<R>,
+    checker: &mut Checker,
+    progress: &mut Progress,
+) -> Result<Checked, Fault> {
+    match cutter.next_part(rt.alloc()) {
+        Ok(part) => check_part(rt, name, &part, checker, progress),
+        Err(fault) => {
+            progress.end(rt);
+            let _said = refused(rt, name, fault)?;
+            Ok(Checked::Refused)
+        }
+    }
+}
+
+// Checks a part of a file.
+fn check_part(
+    rt: &HostRuntime,
+    name: &str,
+    part: &Part,
+    checker: &mut Checker,
+    progress: &mut Progress,
+) -> Result<Checked, Fault> {
+    let before = checker.records;
+    match checker.check(rt.alloc(), part) {
+        Ok(()) => {}
+        Err(RowFault::NoMemory) => return Err(Fault::NoMemory),
+        Err(fault) => {
+            progress.end(rt);
+            let _ = eprintln!(rt; "focusd: {name}: {fault}");
+            return Ok(Checked::Refused);
+        }
+    }
+    let records = checker.records.saturating_sub(before);
+    progress.took(rt, records, part.text.len().saturating_sub(part.header));
+    Ok(if part.is_last {
+        Checked::Last
+    } else {
+        Checked::Part
+    })
+}
+
+// Says why a file can't be cut.
+fn refused(rt: &HostRuntime, name: &str, fault: CutFault) -> Result<bool, Fault> {
+    if let CutFault::NoMemory = fault {
+        return Err(Fault::NoMemory);
+    }
+    let _ = eprintln!(rt; "focusd: {name}: {fault}");
+    Ok(false)
+}

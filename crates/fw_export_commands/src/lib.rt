@@ -1,0 +1,10 @@
+//! What the commands of `focusd` do that read CSV exports of any length: one lists their faults, one takes them into a warehouse.
+//!
+//! Each takes what the command line took of its options, and prints.
+#![tactic(auto)]
+
+mod check;
+mod import;
+
+pub use check::check_files;
+pub use import::import_files;

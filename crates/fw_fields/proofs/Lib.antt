@@ -1,0 +1,4 @@
+pub mod FieldFormats
+pub mod RowFacts
+pub mod RowOfFields
+pub mod Written

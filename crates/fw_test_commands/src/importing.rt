@@ -1,0 +1,90 @@
+//! Parts that are imported twice, in another form, and with other rows.
+use crate::ended::check_all;
+use crate::stores::{Faulty, NEVER, ROOM, created};
+use fw_disk::Mode;
+use fw_import::{ImportFault, Outcome, import_part};
+use fw_recover::{Store, StoreFault};
+use fw_rows::RowFault;
+use std::alloc::Global;
+use std::test::Fail;
+
+const TEXT: &str =
+    "BilledCost,EffectiveCost,BillingCurrency,ChargeCategory,ChargePeriodStart,ChargePeriodEnd,SkuId\n\
+    1,2,USD,Usage,2024-01-01T00:00Z,2024-01-01T01:00Z,a\n\
+    3,4,USD,Usage,2024-01-01T01:00Z,2024-01-01T02:00Z,b\n";
+
+/// The same rows, spelled otherwise.
+const SAME: &str =
+    "SkuId,BilledCost,EffectiveCost,BillingCurrency,ChargeCategory,ChargePeriodStart,ChargePeriodEnd\r\n\
+    \"a\",1.0,2e0,USD,Usage,2024-01-01T00:00:00Z,2024-01-01T01:00Z\r\n\
+    b,+3,4,USD,Usage,2024-01-01T01:00Z,2024-01-01T02:00Z";
+
+/// One row fewer.
+const SHORTER: &str =
+    "BilledCost,EffectiveCost,BillingCurrency,ChargeCategory,ChargePeriodStart,ChargePeriodEnd,SkuId\n\
+    1,2,USD,Usage,2024-01-01T00:00Z,2024-01-01T01:00Z,a\n";
+
+/// Another SKU in the last row.
+const OTHER: &str =
+    "BilledCost,EffectiveCost,BillingCurrency,ChargeCategory,ChargePeriodStart,ChargePeriodEnd,SkuId\n\
+    1,2,USD,Usage,2024-01-01T00:00Z,2024-01-01T01:00Z,a\n\
+    3,4,USD,Usage,2024-01-01T01:00Z,2024-01-01T02:00Z,c\n";
+
+/// Texts with their numbers, and what becomes of each: `A` it is added, `S` it is there, `D` something else is there, `G` a number is
+/// missing, `R` the text is refused.
+const IMPORTS: &[(&str, u64, char)] = &[
+    (TEXT, 2, 'G'),
+    (TEXT, 1, 'A'),
+    (TEXT, 1, 'S'),
+    (SAME, 1, 'S'),
+    (SHORTER, 1, 'D'),
+    (OTHER, 1, 'D'),
+    (SHORTER, 2, 'A'),
+    (TEXT, 2, 'D'),
+    (SHORTER, 2, 'S'),
+    (SAME, 1, 'S'),
+    ("BilledCost\n1\n", 3, 'R'),
+];
+
+/// What becomes of a text.
+fn letter(
+    alloc: Global,
+    store: &mut Store<Faulty>,
+    text: &str,
+    number: u64,
+) -> Result<char, StoreFault> {
+    match import_part(alloc, store, "a", number, text.as_bytes()) {
+        Ok(taken) => match taken.outcome {
+            Outcome::Added => Ok('A'),
+            Outcome::Same => Ok('S'),
+        },
+        Err(ImportFault::Differs) => Ok('D'),
+        Err(ImportFault::Gap { .. }) => Ok('G'),
+        Err(ImportFault::Rows(RowFault::NoMemory)) => Err(StoreFault::NoMemory),
+        Err(ImportFault::Rows(_)) => Ok('R'),
+        Err(ImportFault::NoMemory) => Err(StoreFault::NoMemory),
+        Err(ImportFault::Store(fault)) => Err(fault),
+        Err(_) => Ok('?'),
+    }
+}
+
+/// The place of the first import that is answered otherwise.
+fn first_wrong(alloc: Global, store: &mut Store<Faulty>) -> Result<Option<usize>, StoreFault> {
+    for (place, (text, number, wanted)) in IMPORTS.iter().enumerate() {
+        if letter(alloc, store, text, *number)? != *wanted {
+            return Ok(Some(place));
+        }
+    }
+    Ok(None)
+}
+
+/// The same in a new warehouse.
+fn first_wrong_in_all(alloc: Global) -> Result<Option<usize>, StoreFault> {
+    let mut store = created(alloc, ROOM, NEVER, Mode::Once)?;
+    first_wrong(alloc, &mut store)
+}
+
+#[test]
+fn imports_each_part_once(rt: HostRuntime) -> Result<(), Fail> {
+    check_all(&rt, first_wrong_in_all(rt.alloc()))
+}

@@ -1,0 +1,113 @@
+//! What a state holds, and that it stays as it was.
+use crate::ended::check;
+use crate::warehouse::{committed, empty, posted, ruled, shared};
+use fw_snapshot::{Snapshot, State};
+use std::alloc::{AllocError, Global};
+use std::test::Fail;
+
+/// A use in the first hour of 1970 that carries the id of a commitment.
+const OF_RI: &str = "5e-9,7e-9,USD,Usage,,1970-01-01T00:00Z,1970-01-01T01:00Z,ri,Usage,Used,,,,,\n";
+
+/// Another.
+const OF_SP: &str = "5e-9,7e-9,USD,Usage,,1970-01-01T00:00Z,1970-01-01T01:00Z,sp,Usage,Used,,,,,\n";
+
+/// A commitment of that hour.
+const COMMITMENT: &str = "id = 'cd'
+category = 'Usage'
+start = '1970-01-01T00:00Z'
+hours = 1
+capacity = '1'
+unit = 'Hours'
+skus = ['vm']
+[[purchase]]
+at = '1970-01-01T00:00Z'
+billed = '0.000000024'
+";
+
+/// How many entries, rows, segments and commitments a state has, and whether a policy holds.
+type Counts = (usize, usize, usize, usize, bool);
+
+/// Those after a post, a commitment, a policy and another post.
+const OF_FOUR: Counts = (4, 2, 2, 1, true);
+
+/// Those after one more post.
+const OF_FIVE: Counts = (5, 3, 3, 1, true);
+
+/// The warehouse after a post and a commitment.
+fn two(alloc: Global) -> Result<Snapshot, AllocError> {
+    let one = posted(alloc, &empty(alloc)?, "a", 1, OF_RI)?;
+    committed(alloc, &one, "b", 1, COMMITMENT)
+}
+
+/// The warehouse after a policy and another post, too.
+fn four(alloc: Global) -> Result<Snapshot, AllocError> {
+    let three = ruled(alloc, &two(alloc)?, "a", 2, "key = 'team'")?;
+    posted(alloc, &three, "a", 3, OF_SP)
+}
+
+/// Whether a state has these counts.
+fn has(state: &State, counts: Counts) -> bool {
+    let found = (
+        state.entries(),
+        state.rows(),
+        state.segments().len(),
+        state.commitments(),
+        state.policy().is_some(),
+    );
+    found == counts
+}
+
+/// Whether a state is in dollars, and its first commitment is `cd`.
+fn has_commitment(state: &State) -> bool {
+    state.commitments() > 0
+        && (state.currency().code(), state.commitment(0).id()) == (b"USD".as_slice(), "cd")
+}
+
+/// Whether a state's third entry is the second of `a`.
+fn has_third(state: &State) -> bool {
+    if state.heads().len() < 3 {
+        return false;
+    }
+    let head = state.head(2);
+    (head.origin(), head.seq()) == ("a", 2)
+}
+
+/// Whether a state is the one after four entries.
+fn is_four(state: &State) -> bool {
+    has(state, OF_FOUR) && has_commitment(state) && has_third(state)
+}
+
+fn holds_four(alloc: Global) -> Result<bool, AllocError> {
+    let four = four(alloc)?;
+    Ok(is_four(four.state()))
+}
+
+#[test]
+fn a_state_has_what_was_accepted(rt: HostRuntime) -> Result<(), Fail> {
+    check(&rt, holds_four(rt.alloc()))
+}
+
+/// A snapshot of a copy of a state.
+fn copied(state: &State) -> Result<Snapshot, AllocError> {
+    shared(state.copy()?)
+}
+
+/// Whether a copy of a state has one more post when it was sent.
+fn copy_grows(alloc: Global, state: &State) -> Result<bool, AllocError> {
+    let copy = copied(state)?;
+    let newer = posted(alloc, &copy, "b", 2, OF_RI)?;
+    Ok(is_four(copy.state()) && has(newer.state(), OF_FIVE))
+}
+
+/// Whether a state and one that is shared with it stay as they were then.
+fn older_stay(alloc: Global) -> Result<bool, AllocError> {
+    let older = four(alloc)?;
+    let same = older.copy()?;
+    let grows = copy_grows(alloc, older.state())?;
+    Ok(grows && is_four(older.state()) && is_four(same.state()))
+}
+
+#[test]
+fn an_older_state_and_a_shared_one_stay(rt: HostRuntime) -> Result<(), Fail> {
+    check(&rt, older_stay(rt.alloc()))
+}
