@@ -6,10 +6,10 @@ ghost use Rattle.fw_entry.specs.View.{command_view};
 use crate::script::Fault;
 use fw_charge::MOST_POST_ROWS;
 use fw_column_rows::read_columns;
-use fw_commitment::read_commitment;
+use fw_commitment::{CommitmentFault, read_commitment};
 use fw_entry::Command;
-use fw_policy::read_policy;
-use fw_rows::Currency;
+use fw_policy::{PolicyFault, read_policy};
+use fw_rows::{Currency, RowFault};
 use std::alloc::Global;
 
 /// The currency of all costs.
@@ -30,6 +30,33 @@ skus = [\"vm\"]
 at = \"2024-01-01T00:00Z\"
 billed = \"1\"
 ";
+
+impl From<RowFault> for Fault {
+    fn from(fault: RowFault) -> Fault {
+        match fault {
+            RowFault::NoMemory => Fault::NoMemory,
+            _ => Fault::Script,
+        }
+    }
+}
+
+impl From<CommitmentFault> for Fault {
+    fn from(fault: CommitmentFault) -> Fault {
+        match fault {
+            CommitmentFault::NoMemory => Fault::NoMemory,
+            _ => Fault::Script,
+        }
+    }
+}
+
+impl From<PolicyFault> for Fault {
+    fn from(fault: PolicyFault) -> Fault {
+        match fault {
+            PolicyFault::NoMemory => Fault::NoMemory,
+            _ => Fault::Script,
+        }
+    }
+}
 
 /// So many rows, each of this cost and none of a commitment.
 pub(crate) fn rows_of_cost(alloc: Global, rows: usize, cost: &str) -> Result<Command, Fault>
@@ -59,10 +86,7 @@ fn post_of(alloc: Global, text: &[u8]) -> Result<Command, Fault>
     let Some(currency) = Currency::new(CURRENCY) else {
         return Err(Fault::Script);
     };
-    let rows = match read_columns(alloc, text, currency) {
-        Ok(rows) => rows,
-        Err(_) => return Err(Fault::Script),
-    };
+    let rows = read_columns(alloc, text, currency)?;
     if rows.len() > MOST_POST_ROWS {
         return Err(Fault::Script);
     }
@@ -74,10 +98,7 @@ pub(crate) fn commitment_of(alloc: Global, id: &str) -> Result<Command, Fault>
     ensures { IfOk result (λ command. HasRowCount (command_view command)) }
 {
     let text = format!(in alloc; "id = \"{id}\"\n{TERMS}")?;
-    match read_commitment(alloc, text.as_bytes()) {
-        Ok(commitment) => Ok(Command::Commit(commitment)),
-        Err(_) => Err(Fault::Script),
-    }
+    Ok(Command::Commit(read_commitment(alloc, text.as_bytes())?))
 }
 
 /// A policy by this key, without rules.
@@ -85,8 +106,5 @@ pub(crate) fn policy_of(alloc: Global, key: &str) -> Result<Command, Fault>
     ensures { IfOk result (λ command. HasRowCount (command_view command)) }
 {
     let text = format!(in alloc; "key = \"{key}\"\n")?;
-    match read_policy(alloc, text.as_bytes()) {
-        Ok(policy) => Ok(Command::SetPolicy(policy)),
-        Err(_) => Err(Fault::Script),
-    }
+    Ok(Command::SetPolicy(read_policy(alloc, text.as_bytes())?))
 }

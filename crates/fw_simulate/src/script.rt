@@ -6,7 +6,7 @@ ghost use Rattle.fw_entry.specs.View.{command_view};
 use crate::contents::{CURRENCY, commitment_of, policy_of, row_of_commitment, rows_of_cost};
 use crate::setup::{Device, Files, read_device};
 use fw_disk::Stoppable;
-use fw_entry::{Command, Entry};
+use fw_entry::{Command, Entry, EntryFault};
 use fw_group::{Event, House};
 use fw_recover::{Store, StoreFault};
 use fw_rows::Currency;
@@ -34,8 +34,21 @@ impl From<AllocError> for Fault {
 }
 
 impl From<io::Error> for Fault {
-    fn from(_: io::Error) -> Fault {
-        Fault::Io
+    fn from(error: io::Error) -> Fault {
+        if error.kind() == io::ErrorKind::OutOfMemory {
+            Fault::NoMemory
+        } else {
+            Fault::Io
+        }
+    }
+}
+
+impl From<EntryFault> for Fault {
+    fn from(fault: EntryFault) -> Fault {
+        match fault {
+            EntryFault::NoMemory => Fault::NoMemory,
+            _ => Fault::Script,
+        }
     }
 }
 
@@ -146,10 +159,8 @@ fn read_post(
     requires { HasRowCount (command_view command) }
 {
     let importer = read_place(importer)?;
-    match Entry::new(alloc, origin.as_bytes(), read_number(number)?, command) {
-        Ok(entry) => Ok(Event::Post { importer, entry }),
-        Err(_) => Err(Fault::Script),
-    }
+    let entry = Entry::new(alloc, origin.as_bytes(), read_number(number)?, command)?;
+    Ok(Event::Post { importer, entry })
 }
 
 // What an entry brings, by its kind and the words behind its number.
