@@ -1,6 +1,6 @@
 //! How a TOML text reads as a purchase that is added to a commitment.
 ghost use Rattle.std.specs.Prelude.{◌≡◌, ◌≤◌, ◌≤ℤ◌, pos, codes, string_bytes};
-ghost use Rattle.fw_charge.specs.Charge.{last_second};
+ghost use Rattle.fw_charge.specs.Charge.{IsShortText, last_second};
 ghost use Rattle.fw_toml.specs.Tree.{stated};
 ghost use Rattle.fw_commitment.specs.Fields.{HasAmount, HasSecond};
 ghost use Rattle.fw_commitment.specs.Finding.{Finds};
@@ -54,7 +54,8 @@ impl AddedPurchase {
     pub fn into_parts(self) -> (String, Purchase)
         ensures id { string_bytes result.0 ≡ self.id }
         ensures purchase { result.1 ≡ self.purchase }
-        ensures in_limits { IsAdded self }
+        ensures short { IsShortText (string_bytes result.0) }
+        ensures dated { result.1.at ≤ last_second }
     {
         (self.id, self.purchase)
     }
