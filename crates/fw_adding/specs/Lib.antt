@@ -1,0 +1,4 @@
+pub mod Kinds
+pub mod Documents
+pub mod Adding
+pub mod Matching
