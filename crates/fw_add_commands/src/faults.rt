@@ -71,11 +71,25 @@ fn say_commitment(
         ),
         CommitmentFault::Field(field) => {
             let place = Place::of_commitment(field);
-            say_field(rt, file, text, place, expected_in_commitment(field), "C2 Field")
+            say_field(
+                rt,
+                file,
+                text,
+                place,
+                expected_in_commitment(field),
+                "C2 Field",
+            )
         }
         CommitmentFault::Limit(field) => {
             let place = Place::of_commitment(field);
-            say_field(rt, file, text, place, expected_in_commitment(field), "C3 Limit")
+            say_field(
+                rt,
+                file,
+                text,
+                place,
+                expected_in_commitment(field),
+                "C3 Limit",
+            )
         }
     }
 }

@@ -133,7 +133,11 @@ fn unit_line(
 ) -> Result<String, AllocError> {
     let unit = unit_of(commitment.terms());
     let rows = rows_text(alloc, matches.applies)?;
-    let verb = if matches.applies == 1 { "matches" } else { "match" };
+    let verb = if matches.applies == 1 {
+        "matches"
+    } else {
+        "match"
+    };
     let mut line = format!(in alloc; "{rows} {verb} unit {unit:?}")?;
     push_units(alloc, &mut line, sku_words(commitment.terms()), matches)?;
     Ok(line)
@@ -178,11 +182,7 @@ fn sku_words(terms: &Terms) -> &'static str {
         Terms::Usage { skus, .. } => skus.len(),
         Terms::Spend { rates } => rates.len(),
     };
-    if count == 1 {
-        "this SKU"
-    } else {
-        "these SKUs"
-    }
+    if count == 1 { "this SKU" } else { "these SKUs" }
 }
 
 // So many rows, in words.

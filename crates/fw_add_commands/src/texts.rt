@@ -71,7 +71,9 @@ fn commitment_text(
     let capacity = exact_text(alloc, commitment.capacity())?;
     let unit = unit_of(commitment.terms(), code);
     let cost = exact_text(alloc, commitment.cost())?;
-    format!(in alloc; "commitment {id} ({category}): {term}; {capacity} {unit} each hour; bought for {cost} {code}")
+    format!(in alloc;
+        "commitment {id} ({category}): {term}; {capacity} {unit} each hour; bought for {cost} {code}"
+    )
 }
 
 // What the capacity of terms is counted in: their unit, or the currency.

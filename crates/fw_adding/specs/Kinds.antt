@@ -16,9 +16,9 @@ has_any names ms = list_any (λ name. is_some (at ms name)) names
 unfoldable pub has_commitment_name : Members → Bool
 has_commitment_name ms =
     has_any
-        (codes "category" ∷ codes "start" ∷ codes "hours" ∷ codes "capacity" ∷ codes "unit"
-            ∷ codes "skus" ∷ codes "rates" ∷ codes "purchase" ∷ [])
-        ms
+    (codes "category" ∷ codes "start" ∷ codes "hours" ∷ codes "capacity" ∷ codes "unit"
+    ∷ codes "skus" ∷ codes "rates" ∷ codes "purchase" ∷ [])
+    ms
 
 -- a table has a name that only a policy has
 unfoldable pub has_policy_name : Members → Bool

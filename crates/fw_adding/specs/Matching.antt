@@ -12,8 +12,8 @@ unfoldable pub match_of : CommitmentValue → Charge → Match
 match_of c row =
     if is_eligible row
     then (if is_in_term c (hour_of row.start)
-        then (if allows c.sub_account row.sub_account
-            then (if has_unit c.terms row.unit then match_.Applies else match_.OtherUnit)
-            else match_.OtherAccount)
-        else match_.OutOfTerm)
+    then (if allows c.sub_account row.sub_account
+    then (if has_unit c.terms row.unit then match_.Applies else match_.OtherUnit)
+    else match_.OtherAccount)
+    else match_.OutOfTerm)
     else match_.NotEligible

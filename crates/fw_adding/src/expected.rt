@@ -15,9 +15,7 @@ pub fn expected_in_commitment(field: CommitmentField) -> &'static str {
         CommitmentField::Hours => {
             "\"hours\" must be a whole number from 1 to 26304, without quotes"
         }
-        CommitmentField::Capacity => {
-            "\"capacity\" must be a number above 0, as 2.5, in quotes"
-        }
+        CommitmentField::Capacity => { "\"capacity\" must be a number above 0, as 2.5, in quotes" }
         CommitmentField::Unit => {
             "\"unit\" must be a text of 1 to 256 bytes, the ConsumedUnit of the rows, as \"Hours\""
         }

@@ -41,11 +41,7 @@ pub fn policy_entry(state: &State) -> Option<u64> {
 }
 
 /// Whether an equal commitment is in a warehouse, or an equal policy holds.
-pub(crate) fn is_there(
-    alloc: Global,
-    state: &State,
-    document: &Document,
-) -> Result<bool, AddFault>
+pub(crate) fn is_there(alloc: Global, state: &State, document: &Document) -> Result<bool, AddFault>
     ensures { IfOk result (λ there. IsTrue there → IsThere (command_of document.now) state.now.entries) }
 {
     match document {

@@ -8,7 +8,7 @@ use clap::{Arg, ArgAction, Command};
 use std::alloc::{AllocError, Global};
 
 const HELP: &str =
-    "Each FILE is one commitment or one policy. Which of the two, is seen from its top-level names: `category`, `start`, `hours`,
+    "Each FILE is one commitment or one policy. Its top-level names say which of the two it is: `category`, `start`, `hours`,
 `capacity`, `unit`, `skus`, `rates` or `purchase` make it a commitment, `key` or `rule` a policy. `-` is standard input.
 
 All files are read and checked first. Where one has a fault, that is printed with its line, and nothing is added. Then each
