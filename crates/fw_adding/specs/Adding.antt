@@ -27,13 +27,14 @@ IsThere (post rows) entries = ⊥
 IsThere (commit c) entries = Contains (commitments_of entries) c
 IsThere (set_policy p) entries = policy_of entries ≡ Some p
 
--- a warehouse has the next entry of an origin more; or what is brought is there, and it is as it was
+-- a warehouse has the next entry of an origin more; or what is brought is there, and it stays
 abbrev pub Follows : Outcome → List ℕ → CommandValue → History → History → Type 0
 Follows outcome.Added origin command old new =
     new ≡ with_more old (next_entry origin command old.entries ∷ [])
 Follows outcome.Same origin command old new = (new ≡ old) × IsThere command old.entries
 
-abbrev pub Becomes : {V : Type 0} → Outcome → List ℕ → CommandValue → StoreState V → StoreState V → Type 0
+abbrev pub Becomes : {V : Type 0}
+    → Outcome → List ℕ → CommandValue → StoreState V → StoreState V → Type 0
 Becomes outcome.Added origin command old new =
     Follows outcome.Added origin command old.history new.history
 Becomes outcome.Same origin command old new = (new ≡ old) × IsThere command old.history.entries

@@ -25,14 +25,19 @@ IsOfKind text what = (ms : Members) × IsTable text ms × (kind_in ms ≡ Ok wha
 
 -- the names of a text say that it is a commitment, or a policy, and it reads as this one
 unfoldable pub IsDocument : List ℕ → Document → Type 0
-IsDocument text (document.Commitment c) = IsOfKind text kind.Commitment × CommitmentReads text (Ok c)
+IsDocument text (document.Commitment c) =
+    IsOfKind text kind.Commitment × CommitmentReads text (Ok c)
 IsDocument text (document.Policy p) = IsOfKind text kind.Policy × PolicyReads text (Ok p)
 
 -- why a text is no document
 unfoldable pub IsNoDocument : List ℕ → DocumentFault → Type 0
 IsNoDocument text fault.Syntax = (ms : Members) → ¬ IsTable text ms
-IsNoDocument text fault.Neither = (ms : Members) × IsTable text ms × (kind_in ms ≡ Err fault.Neither)
-IsNoDocument text fault.Both = (ms : Members) × IsTable text ms × (kind_in ms ≡ Err fault.Both)
-IsNoDocument text (fault.Commitment why) = IsOfKind text kind.Commitment × CommitmentReads text (Err why)
-IsNoDocument text (fault.Policy why) = IsOfKind text kind.Policy × PolicyReads text (Err why)
+IsNoDocument text fault.Neither =
+    (ms : Members) × IsTable text ms × (kind_in ms ≡ Err fault.Neither)
+IsNoDocument text fault.Both =
+    (ms : Members) × IsTable text ms × (kind_in ms ≡ Err fault.Both)
+IsNoDocument text (fault.Commitment why) =
+    IsOfKind text kind.Commitment × CommitmentReads text (Err why)
+IsNoDocument text (fault.Policy why) =
+    IsOfKind text kind.Policy × PolicyReads text (Err why)
 IsNoDocument text fault.NoMemory = ⊤

@@ -5,7 +5,7 @@ ghost use Rattle.fw_import.specs.Importing.{MayStop};
 ghost use Rattle.fw_snapshot.specs.Judging.{judged};
 ghost use Rattle.fw_snapshot.specs.Verdicts.{with_more};
 ghost use Rattle.fw_snapshot.specs.declared.verdict.Verdict.TheVariants.{Accept};
-ghost use Rattle.fw_adding.specs.Adding.{entry_of, next_entry, next_number, Becomes, Follows, IsThere};
+ghost use Rattle.fw_adding.specs.Adding.{entry_of, next_entry, next_number, Becomes, Follows};
 ghost use Rattle.fw_adding.specs.Documents.{command_of};
 
 use crate::document::Document;
@@ -57,7 +57,8 @@ fn entry_of(
 /// whose number is too large is answered by the number that is expected.
 #[tactic(auto, using(std::proofs::lemmas::Bool::Decides::nat_tests), unfolding(fw_snapshot::specs::Judging::judged, crate::specs::Adding::next_number))]
 fn next_number(state: &State, last: &Entry) -> Option<u64>
-    ensures { IfSome result (λ number. last.now.seq ≡ u64.MAX → number ≡ next_number last.now.origin state.now.entries) }
+    ensures { IfSome result (λ number. last.now.seq ≡ u64.MAX
+        → number ≡ next_number last.now.origin state.now.entries) }
 {
     match judge(state, last) {
         Verdict::Gap { expected } => Some(expected),
@@ -72,7 +73,8 @@ fn next_entry(
     origin: &str,
     document: &Document,
 ) -> Result<Entry, AddFault>
-    ensures { IfOk result (λ entry. entry ≡ next_entry origin.now (command_of document.now) state.now.entries) }
+    ensures { IfOk result (λ entry.
+        entry ≡ next_entry origin.now (command_of document.now) state.now.entries) }
 {
     let last = entry_of(alloc, origin, u64::MAX, document)?;
     match next_number(state, &last) {
@@ -91,7 +93,8 @@ pub fn try_document(
     origin: &str,
     document: &Document,
 ) -> Result<Tried, AddFault>
-    ensures { IfOk result (λ tried. Follows tried.outcome origin.now (command_of document.now) state.now tried.after) }
+    ensures { IfOk result (λ tried.
+        Follows tried.outcome origin.now (command_of document.now) state.now tried.after) }
 {
     let entry = next_entry(alloc, state, origin, document)?;
     if is_there(alloc, state, document)? {
@@ -141,7 +144,8 @@ pub fn add_document<V: Volume>(
     origin: &str,
     document: &Document,
 ) -> Result<Outcome, AddFault>
-    ensures done { IfOk result (λ outcome. Becomes outcome origin.now (command_of document.now) store.old store.new) }
+    ensures done { IfOk result (λ outcome.
+        Becomes outcome origin.now (command_of document.now) store.old store.new) }
     ensures refused { OnErr result (store.new.history ≡ store.old.history) }
     ensures any_moment { MayStop V.tells V.view store.old store.new }
 {
@@ -159,7 +163,8 @@ fn submit<V: Volume>(
     store: &mut Store<V>,
     entry: &Entry,
 ) -> Result<Outcome, AddFault>
-    ensures done { IfOk result (λ outcome. (outcome ≡ Outcome.Added) × (store.new.history ≡ with_more store.old.history (entry.now ∷ []))) }
+    ensures done { IfOk result (λ outcome. (outcome ≡ Outcome.Added)
+        × (store.new.history ≡ with_more store.old.history (entry.now ∷ []))) }
     ensures refused { OnErr result (store.new.history ≡ store.old.history) }
     ensures any_moment { MayStop V.tells V.view store.old store.new }
 {

@@ -2,7 +2,8 @@
 ghost use Rattle.std.specs.Prelude.{◌≡◌, map, is_some};
 ghost use Rattle.std.specs.List.{list_any};
 ghost use Rattle.fw_toml.specs.Tree.{at, stated};
-ghost use Rattle.fw_adding.specs.Kinds.{kind_in, has_any, has_commitment_name, has_policy_name, kind_by};
+ghost use Rattle.fw_adding.specs.Kinds.{has_any, has_commitment_name, has_policy_name};
+ghost use Rattle.fw_adding.specs.Kinds.{kind_by, kind_in};
 
 use crate::fault::DocumentFault;
 use fw_toml::{Table, member};

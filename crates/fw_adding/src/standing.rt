@@ -42,7 +42,8 @@ pub fn policy_entry(state: &State) -> Option<u64> {
 
 /// Whether an equal commitment is in a warehouse, or an equal policy holds.
 pub(crate) fn is_there(alloc: Global, state: &State, document: &Document) -> Result<bool, AddFault>
-    ensures { IfOk result (λ there. IsTrue there → IsThere (command_of document.now) state.now.entries) }
+    ensures { IfOk result (λ there. IsTrue there
+        → IsThere (command_of document.now) state.now.entries) }
 {
     match document {
         Document::Commitment(commitment) => has_commitment(alloc, state, commitment),
@@ -52,7 +53,8 @@ pub(crate) fn is_there(alloc: Global, state: &State, document: &Document) -> Res
 
 // Whether a warehouse has an equal commitment.
 fn has_commitment(alloc: Global, state: &State, commitment: &Commitment) -> Result<bool, AddFault>
-    ensures { IfOk result (λ there. IsTrue there → Contains (commitments_of state.now.entries) commitment.now) }
+    ensures { IfOk result (λ there. IsTrue there
+        → Contains (commitments_of state.now.entries) commitment.now) }
 {
     match registered(state.commitment_list(), commitment.id()) {
         Some(other) => same_commitment(alloc, commitment, other),
