@@ -995,6 +995,13 @@ team.toml: policy by "team": it would be entry 4 (billing 3)
         self.assertEqual((status, printed), (0, "cd.toml: commitment cd-1: entry 2 (billing 1)\n"))
         self.assertEqual(said, 'cd.toml: 0 rows match unit "Hrs"; 4 rows of this SKU have "Hours"\n')
 
+    def test_a_typo_in_the_sku(self):
+        for skus, words in (('["vms"]', "this SKU"), ('["vms", "db"]', "these SKUs")):
+            file = self.file("cd.toml", self.COMMITMENT.replace('["vm"]', skus))
+            status, printed, said = self.add("--dry-run", file)
+            self.assertEqual((status, said), (0, ""))
+            self.assertEqual(printed.splitlines()[2:], ["cd.toml: it applies to 0 rows", f"cd.toml: no row of the warehouse is of {words}"])
+
     def test_why_rows_are_not_matched(self):
         rows = [
             self.row(0, unit="GB"),

@@ -83,6 +83,10 @@ fn match_lines(
         lines.push(unit_line(alloc, commitment, matches)?)?;
     }
     push_reasons(alloc, &mut lines, commitment, matches)?;
+    if matches.applies == 0 && lines.len() == 1 {
+        let skus = sku_words(commitment.terms());
+        lines.push(format!(in alloc; "no row of the warehouse is of {skus}")?)?;
+    }
     Ok(lines)
 }
 
