@@ -1,8 +1,8 @@
 //! What a TOML text is, as its top-level names say.
-ghost use Rattle.std.specs.Prelude.{◌≡◌, map, is_some};
+ghost use Rattle.std.specs.Prelude.{◌≡◌, is_some};
 ghost use Rattle.std.specs.List.{list_any};
 ghost use Rattle.fw_toml.specs.Tree.{at, stated};
-ghost use Rattle.fw_adding.specs.Kinds.{has_any, has_commitment_name, has_policy_name};
+ghost use Rattle.fw_adding.specs.Kinds.{has_commitment_name, has_policy_name};
 ghost use Rattle.fw_adding.specs.Kinds.{kind_by, kind_in};
 
 use crate::fault::DocumentFault;
@@ -26,12 +26,13 @@ fn has(table: &Table, name: &str) -> bool
 
 // Whether a table has one of these names.
 fn has_any(table: &Table, names: &[&str]) -> bool
-    ensures { result ≡ has_any (map (λ n. n.now) names.now) (stated table.now) }
+    ensures { result ≡ list_any (λ n. is_some (at (stated table.now) n.now)) names.now }
 {
     names.iter().any(|name| has(table, name))
 }
 
 // Whether a table has a name that only a commitment has. `id` is none of them: what is added to a commitment later has one too.
+#[tactic(auto, unfolding(crate::specs::Kinds::has_any, crate::specs::Kinds::has_commitment_name))]
 fn has_commitment_name(table: &Table) -> bool
     ensures { result ≡ has_commitment_name (stated table.now) }
 {
@@ -44,6 +45,7 @@ fn has_commitment_name(table: &Table) -> bool
 }
 
 // Whether a table has a name that only a policy has.
+#[tactic(auto, unfolding(crate::specs::Kinds::has_any, crate::specs::Kinds::has_policy_name))]
 fn has_policy_name(table: &Table) -> bool
     ensures { result ≡ has_policy_name (stated table.now) }
 {
@@ -52,6 +54,7 @@ fn has_policy_name(table: &Table) -> bool
 
 impl Kind {
     /// What the names of a table say that it is. `Neither` where they say nothing, `Both` where they say two things.
+    #[tactic(auto, unfolding(crate::specs::Kinds::kind_in))]
     pub(crate) fn of_table(table: &Table) -> Result<Kind, DocumentFault>
         ensures { result ≡ kind_in (stated table.now) }
     {
