@@ -14,7 +14,7 @@ use crate::standing::is_there;
 use fw_disk::Volume;
 use fw_entry::Entry;
 use fw_recover::Store;
-use fw_snapshot::{State, Verdict, judge};
+use fw_snapshot::{State, Verdict, a_gap_names_the_next_number, judge};
 use std::alloc::Global;
 
 /// What became of a document.
@@ -53,14 +53,15 @@ fn entry_of(
     }
 }
 
-/// The number of the next entry of the origin from which an entry with the greatest number is; `None` where the origin has none left. An entry
-/// whose number is too large is answered by the number that is expected.
-#[tactic(auto, using(std::proofs::lemmas::Bool::Decides::nat_tests), unfolding(fw_snapshot::specs::Judging::judged, crate::specs::Adding::next_number))]
-fn next_number(state: &State, last: &Entry) -> Option<u64>
-    ensures { IfSome result (λ number. last.now.seq ≡ u64.MAX
-        → number ≡ next_number last.now.origin state.now.entries) }
+/// The number of the next entry of an origin, where an entry of it with the greatest number would leave a gap; `None` where that is the next one, or
+/// was accepted.
+#[tactic(auto, unfolding(crate::specs::Adding::next_number))]
+fn next_number(state: &State, greatest: &Entry) -> Option<u64>
+    ensures { IfSome result (λ number.
+        number ≡ next_number greatest.now.origin state.now.entries) }
 {
-    match judge(state, last) {
+    a_gap_names_the_next_number();
+    match judge(state, greatest) {
         Verdict::Gap { expected } => Some(expected),
         Verdict::Already { .. } | Verdict::Accept | Verdict::Refused(_) => None,
     }
@@ -76,8 +77,8 @@ fn next_entry(
     ensures { IfOk result (λ entry.
         entry ≡ next_entry origin.now (command_of document.now) state.now.entries) }
 {
-    let last = entry_of(alloc, origin, u64::MAX, document)?;
-    match next_number(state, &last) {
+    let greatest = entry_of(alloc, origin, u64::MAX, document)?;
+    match next_number(state, &greatest) {
         Some(number) => entry_of(alloc, origin, number, document),
         None => Err(AddFault::NoNumber),
     }
