@@ -986,6 +986,18 @@ team.toml: policy by "team": it would be entry 4 (billing 3)
         self.assertIn("(J2 DoubleId)", said)
         self.assertEqual(self.kept(), before)
 
+    def test_a_reader_that_stops_early_and_one_that_is_full(self):
+        words = [PROGRAM, "add", "--dir", str(self.folder), "--origin", "billing", self.file("cd.toml", self.COMMITMENT)]
+        with open("/dev/full", "wb") as full:
+            ran = subprocess.run([*words, "--dry-run"], stdout=full, stderr=subprocess.PIPE)
+        self.assertEqual((ran.returncode, ran.stderr), (1, b"focusd: F2 Write\n"))
+        read, write = os.pipe()
+        os.close(read)
+        ran = subprocess.run(words, stdout=write, stderr=subprocess.PIPE)
+        os.close(write)
+        self.assertEqual((ran.returncode, ran.stderr), (0, b""))
+        self.assertEqual(self.state(), "state 2 4 1 0\n")
+
     def test_a_typo_in_the_unit(self):
         file = self.file("cd.toml", self.COMMITMENT.replace('unit = "Hours"', 'unit = "Hrs"'))
         status, printed, said = self.add("--dry-run", file)

@@ -3,10 +3,11 @@ ghost use Rattle.std.specs.Prelude.{◌≡◌};
 ghost use Rattle.std.specs.Process.{exit_status};
 ghost use Rattle.fw_console.specs.Statuses.{wrong_use_status};
 
-use crate::check::{Job, Trial, check_all};
+use crate::check::{Job, Trial, check_all, print_same};
 use crate::faults::say_refusal;
 use crate::files::open_warehouse;
 use crate::matched::warn_unmatched;
+use crate::printing::print_line;
 use crate::texts::{name_text, replaced_text};
 use clap::ArgMatches;
 use fw_adding::{AddFault, Document, Outcome, add_document};
@@ -126,17 +127,28 @@ fn print_outcome(
     let name = name_text(rt.alloc(), document)?;
     match outcome {
         Outcome::Added => {
-            let entry = state.entries();
-            let origin = job.origin;
-            let number = last_number(state);
-            let _ = println!(rt; "{file}: {name}{replaced}: entry {entry} ({origin} {number})");
+            print_added(rt, state, job, file, name.as_str(), replaced)?;
             warn_unmatched(rt, state, file, document)?;
         }
-        Outcome::Same => {
-            let _ = println!(rt; "{file}: {name} is there already, the same");
-        }
+        Outcome::Same => print_same(rt, file, name.as_str())?,
     }
     Ok(true)
+}
+
+// Says that a document was added, as the last entry.
+fn print_added(
+    rt: &HostRuntime,
+    state: &State,
+    job: &Job<'_>,
+    file: &str,
+    name: &str,
+    replaced: &str,
+) -> Result<(), Fault> {
+    let entry = state.entries();
+    let origin = job.origin;
+    let number = last_number(state);
+    let line = format!(in rt.alloc(); "{name}{replaced}: entry {entry} ({origin} {number})")?;
+    print_line(rt, file, line.as_str())
 }
 
 // The number of the last entry among those of its origin.

@@ -2,6 +2,7 @@
 use crate::faults::{say_fault, say_refusal};
 use crate::files::text_of;
 use crate::matched::print_matches;
+use crate::printing::print_line;
 use crate::texts::{document_text, name_text, replaced_text};
 use fw_adding::{AddFault, Document, Outcome, Tried, read_document, try_document};
 use fw_console::Fault;
@@ -181,8 +182,13 @@ fn print_document(
     document: &Document,
 ) -> Result<(), Fault> {
     let text = document_text(rt.alloc(), state.currency(), document)?;
-    let _ = println!(rt; "{file}: {text}");
-    Ok(())
+    print_line(rt, file, text.as_str())
+}
+
+/// Says that a document is there already.
+pub(crate) fn print_same(rt: &HostRuntime, file: &str, name: &str) -> Result<(), Fault> {
+    let line = format!(in rt.alloc(); "{name} is there already, the same")?;
+    print_line(rt, file, line.as_str())
 }
 
 // Says what would become of a file.
@@ -196,18 +202,28 @@ fn print_tried(
 ) -> Result<(), Fault> {
     let name = name_text(rt.alloc(), document)?;
     match tried.outcome {
-        Outcome::Added => {
-            let replaced = replaced_text(rt.alloc(), state, document)?;
-            let entry = tried.after.entries();
-            let origin = job.origin;
-            let number = tried.number;
-            let _ = println!(rt;
-                "{file}: {name}{replaced}: it would be entry {entry} ({origin} {number})"
-            );
-        }
-        Outcome::Same => {
-            let _ = println!(rt; "{file}: {name} is there already, the same");
-        }
+        Outcome::Added => print_next(rt, job, state, file, document, tried),
+        Outcome::Same => print_same(rt, file, name.as_str()),
     }
-    Ok(())
+}
+
+// Says that a document would be added.
+fn print_next(
+    rt: &HostRuntime,
+    job: &Job<'_>,
+    state: &State,
+    file: &str,
+    document: &Document,
+    tried: &Tried,
+) -> Result<(), Fault> {
+    let alloc = rt.alloc();
+    let name = name_text(alloc, document)?;
+    let replaced = replaced_text(alloc, state, document)?;
+    let entry = tried.after.entries();
+    let origin = job.origin;
+    let number = tried.number;
+    let line = format!(in alloc;
+        "{name}{replaced}: it would be entry {entry} ({origin} {number})"
+    )?;
+    print_line(rt, file, line.as_str())
 }

@@ -1,7 +1,7 @@
 //! Faults of files, as a person reads them.
 use crate::texts::name_text;
 use fw_adding::{
-    AddFault, Document, DocumentFault, Kind, Located, differs_in, expected_in_commitment,
+    AddFault, Document, DocumentFault, Kind, Located, agree_in, expected_in_commitment,
     expected_in_policy, locate, registered, unknown_name,
 };
 use fw_commitment::{CommitmentFault, CommitmentField};
@@ -354,7 +354,7 @@ fn different_fields(
 ) -> Result<String, AllocError> {
     let mut names = String::new(alloc);
     for field in FIELDS {
-        if differs_in(one, other, field) {
+        if !agree_in(one, other, field) {
             if !names.is_empty() {
                 names.push_str(", ")?;
             }

@@ -8,6 +8,7 @@ mod check;
 mod faults;
 mod files;
 mod matched;
+mod printing;
 mod texts;
 
 pub use add::add_files;

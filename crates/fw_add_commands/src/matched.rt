@@ -1,4 +1,5 @@
 //! The rows that a commitment applies to, in words.
+use crate::printing::print_line;
 use fw_adding::{Document, Matches, matches_of};
 use fw_console::Fault;
 use fw_snapshot::State;
@@ -30,8 +31,7 @@ fn print_matched(
     let matches = matches_of(alloc, commitment, state.segments())?;
     let lines = match_lines(alloc, commitment, &matches)?;
     for line in lines.iter() {
-        let line = line.as_str();
-        let _ = println!(rt; "{file}: {line}");
+        print_line(rt, file, line.as_str())?;
     }
     Ok(())
 }

@@ -26,14 +26,6 @@ pub enum Document {
 }
 
 impl Document {
-    /// What the document is.
-    pub fn kind(&self) -> Kind {
-        match self {
-            Document::Commitment(_) => Kind::Commitment,
-            Document::Policy(_) => Kind::Policy,
-        }
-    }
-
     /// What the document asks a warehouse for. The error comes where memory ran out.
     pub fn command(&self, alloc: Global) -> Result<Command, AllocError>
         ensures command { IfOk result (λ command. command_view command ≡ command_of self.now) }
