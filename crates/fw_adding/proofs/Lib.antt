@@ -1,1 +1,2 @@
 mod KindFacts
+mod TextFacts

@@ -8,4 +8,4 @@ use Rattle.fw_adding.proofs.document.kind_of.Goals as goal
 pub returns-in-Ok : goal.returns-in-Ok
 returns-in-Ok c =
     subst (λ r. MatchResult r (IsOfKind c.args.text.now) (IsNoDocument c.args.text.now)) (sym c.of_table.ensures)
-        (kind_found c.args.text.now (stated c.in-Ok.table) c.in-Ok.ensures)
+    (kind_found c.args.text.now (stated c.in-Ok.table) c.in-Ok.ensures)
