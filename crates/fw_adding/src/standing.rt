@@ -1,8 +1,8 @@
 //! What of a document a warehouse has already.
-ghost use Rattle.std.specs.Prelude.{◌≡◌, IfOk, IfSome, Contains, true, IsTrue};
+ghost use Rattle.std.specs.Prelude.{◌≡◌, IfOk, IfSome, Contains, Some, IsTrue};
+ghost use Rattle.std.specs.Option.{option_copied};
 ghost use Rattle.fw_entry.specs.Spelling.{HasRowCount};
 ghost use Rattle.fw_entry.specs.View.{command_view};
-ghost use Rattle.fw_snapshot.specs.History.{commitments_of, policy_of};
 ghost use Rattle.fw_adding.specs.Adding.{IsThere};
 ghost use Rattle.fw_adding.specs.Documents.{command_of};
 
@@ -41,33 +41,37 @@ pub fn policy_entry(state: &State) -> Option<u64> {
 }
 
 /// Whether an equal commitment is in a warehouse, or an equal policy holds.
+#[tactic(auto, unfolding(crate::specs::Adding::IsThere))]
 pub(crate) fn is_there(alloc: Global, state: &State, document: &Document) -> Result<bool, AddFault>
     ensures { IfOk result (λ there. IsTrue there
         → IsThere (command_of document.now) state.now.entries) }
 {
     match document {
-        Document::Commitment(commitment) => has_commitment(alloc, state, commitment),
-        Document::Policy(policy) => has_policy(alloc, state, policy),
+        Document::Commitment(one) => has_commitment(alloc, state.commitment_list(), one),
+        Document::Policy(one) => is_policy(alloc, state.policy(), one),
     }
 }
 
-// Whether a warehouse has an equal commitment.
-fn has_commitment(alloc: Global, state: &State, commitment: &Commitment) -> Result<bool, AddFault>
-    ensures { IfOk result (λ there. IsTrue there
-        → Contains (commitments_of state.now.entries) commitment.now) }
+// Whether an equal commitment is among these.
+fn has_commitment(
+    alloc: Global,
+    commitments: &[Commitment],
+    one: &Commitment,
+) -> Result<bool, AddFault>
+    ensures { IfOk result (λ there. IsTrue there → Contains commitments.now one.now) }
 {
-    match registered(state.commitment_list(), commitment.id()) {
-        Some(other) => same_commitment(alloc, commitment, other),
+    match registered(commitments, one.id()) {
+        Some(other) => same_commitment(alloc, one, other),
         None => Ok(false),
     }
 }
 
-// Whether a policy that is equal holds.
-fn has_policy(alloc: Global, state: &State, policy: &Policy) -> Result<bool, AddFault>
-    ensures { IfOk result (λ there. IsTrue there → policy_of state.now.entries ≡ Some policy.now) }
+// Whether the policy that holds, if one does, is equal.
+fn is_policy(alloc: Global, held: Option<&Policy>, one: &Policy) -> Result<bool, AddFault>
+    ensures { IfOk result (λ there. IsTrue there → option_copied held.entry ≡ Some one.now) }
 {
-    match state.policy() {
-        Some(other) => same_policy(alloc, policy, other),
+    match held {
+        Some(other) => same_policy(alloc, one, other),
         None => Ok(false),
     }
 }
