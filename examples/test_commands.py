@@ -431,6 +431,50 @@ class Commands(unittest.TestCase):
         self.assertEqual(focusd("--version")[0], 0)
 
 
+class Outside(unittest.TestCase):
+    """Texts from outside that would act on a terminal: what a table shows of them."""
+
+    TEXT = "a\x1b[2Jb\nTotal  999.00\u202e\x85"
+    SHOWN = r"a\u{1b}[2Jb\u{a}Total  999.00\u{202e}\u{85}"
+
+    def setUp(self):
+        room = tempfile.TemporaryDirectory()
+        self.addCleanup(room.cleanup)
+        self.folder = room.name
+        text = json.dumps(self.TEXT)
+        tags = json.dumps({self.TEXT: self.TEXT}).replace('"', '""')
+        content = {
+            "post": [
+                "BilledCost,EffectiveCost,BillingCurrency,ChargeCategory,ChargePeriodStart,ChargePeriodEnd,Tags",
+                f'1,1,USD,Tax,2024-01-01T00:00Z,2024-01-01T01:00Z,"{tags}"',
+            ],
+            "commit": [
+                f"id = {text}", 'category = "Usage"', 'start = "2024-01-01T00:00Z"', "hours = 1", 'capacity = "1"', f"unit = {text}", f"skus = [{text}]",
+                "[[purchase]]", 'at = "2024-01-01T00:00Z"', 'billed = "1"',
+            ],
+            "policy": [f"key = {text}"],
+        }  # fmt: skip
+        lines = []
+        for number, (word, some) in enumerate(content.items(), 1):
+            lines += [f"{word} a {number} {len(some)}", *some]
+        script = "".join(f"{line}\n" for line in lines).encode()
+        self.assertEqual(focusd("run", "--dir", self.folder, "--create", given=script), (0, "accepted 1\naccepted 2\naccepted 3\n", ""))
+
+    def test_tables(self):
+        for words, count in (
+            (("report", "--dir", self.folder, "--tag", self.TEXT, *MONTH), 6),
+            (("report", "--dir", self.folder, "--tag", self.TEXT, *MONTH, "--by", "day"), 6),
+            (("coverage", "--dir", self.folder, *MONTH), None),
+            (("status", "--dir", self.folder), None),
+        ):
+            status, printed, said = focusd(*words)
+            self.assertEqual((status, said), (0, ""), words)
+            self.assertIn(self.SHOWN, printed, words)
+            self.assertNotRegex(printed, "[\x00-\x09\x0b-\x1f\x7f-\x9f\u061c\u200e\u200f\u2028-\u202e\u2066-\u2069]", words)
+            if count:
+                self.assertEqual(len(printed.splitlines()), count, printed)
+
+
 class Files(unittest.TestCase):
     """Import and check, over the shipped export."""
 

@@ -223,6 +223,7 @@ class Checker:
                     ["nice", "-n", "10", *self.words, "--incremental", f"{self.room}/kept", "--jobs", "1"],
                     cwd=copy, stdin=subprocess.DEVNULL, stdout=subprocess.PIPE, stderr=subprocess.STDOUT, errors="replace",
                 )
+                self.lane.began(process)
                 lines = process.stdout.read().rstrip("\n").split("\n")
                 _, status, used = os.wait4(process.pid, 0)
                 process.returncode = os.waitstatus_to_exitcode(status)
@@ -404,6 +405,10 @@ def words_of(top, name, deps):
     return [*words, "--antt-project", f"{at}/rattle/logic/antt-project.json", "--logic-built", f"{at}/logic_built"]
 
 
+class LanesClosed(Exception):
+    """No check begins any more: the run was told to stop."""
+
+
 class Lanes:
     """Lets so many checks run at once, and none that memory has no room for beside others."""
 
@@ -412,6 +417,23 @@ class Lanes:
 
     def __init__(self, most):
         self.most, self.running, self.turn = most, 0, threading.Condition()
+        self.is_closed, self.processes = False, []
+
+    def began(self, process):
+        """Notes a check that runs, so that it can be ended."""
+        with self.turn:
+            self.processes = [it for it in self.processes if it.returncode is None] + [process]
+            if self.is_closed:
+                process.kill()
+
+    def close(self):
+        """Lets no check begin any more, and ends those that run."""
+        with self.turn:
+            self.is_closed = True
+            for process in self.processes:
+                if process.returncode is None:
+                    process.kill()
+            self.turn.notify_all()
 
     def widen(self, most):
         with self.turn:
@@ -420,8 +442,10 @@ class Lanes:
 
     def __enter__(self):
         with self.turn:
-            while self.running >= self.most or self.running and free_memory() < self.NEED:
+            while not self.is_closed and (self.running >= self.most or self.running and free_memory() < self.NEED):
                 self.turn.wait(timeout=2)
+            if self.is_closed:
+                raise LanesClosed
             self.running += 1
 
     def __exit__(self, *_):

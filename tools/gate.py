@@ -162,6 +162,8 @@ class Tries:
         return not wrong and not lacking
 
     def stop(self):
+        """Ends what is still being tried, where the run ends before it."""
+        self.lanes.close()
         self.pool.shutdown(wait=False, cancel_futures=True)
 
 

@@ -144,26 +144,105 @@ def manual(version, top, helps):
     return made
 
 
-def bash_completion(helps):
+def is_file(argument):
+    return any(kind in argument for kind in FILES)
+
+
+def takes_files(said):
+    return any(is_file(argument) for argument, _ in said.arguments)
+
+
+def is_folder(option):
+    return option.names[-1] in FOLDERS
+
+
+BASH_START = r"""# bash completion of focusd, for bash 4 and later. Made by tools/make_manual.py from the program's help.
+
+# Offers those of a list of words that begin with $2.
+_focusd_words() {
+    mapfile -t COMPREPLY < <(compgen -W "$1" -- "$2")
+}
+
+# Offers the files (-f) or the folders (-d) whose names begin with $2. bash quotes what it inserts.
+_focusd_names() {
+    local place name variable
+    compopt -o filenames 2>/dev/null
+    mapfile -t COMPREPLY < <(compgen "$1" -- "$2")
+    for place in "${!COMPREPLY[@]}"; do
+        name="${COMPREPLY[place]}"
+        # A leading ~ or $NAME is written out, since bash can't quote a name behind it in each case.
+        if [[ ! -e $name && ! -L $name ]]; then
+            case "$name" in
+                '~/'*) name="$HOME${name:1}" ;;
+                '$'[A-Za-z_]*/*)
+                    variable="${name%%/*}" variable="${variable:1}"
+                    [[ $variable == *[!A-Za-z0-9_]* ]] || name="${!variable}/${name#*/}"
+                    ;;
+            esac
+        fi
+        # compgen prints a line for each name, so one with a line feed comes in pieces. What isn't there is left to bash's own completion.
+        if [[ ! -e $name && ! -L $name ]]; then
+            COMPREPLY=()
+            if [[ $1 == -d ]]; then compopt -o dirnames; else compopt -o default; fi 2>/dev/null
+            return
+        fi
+        # A name that begins with - would be taken for an option.
+        [[ -z $2 && $name == -* ]] && name="./$name"
+        COMPREPLY[place]="$name"
+    done
+}
+
+_focusd() {
+    local IFS=$' \t\n' here="${COMP_WORDS[COMP_CWORD]}" command="${COMP_WORDS[1]}" options="" takes_files="" past_options=""
+    local word="${2-$here}" before="${3-${COMP_WORDS[COMP_CWORD-1]}}"
+    COMPREPLY=()
+    # bash cuts words at =, : and @ without quotes. So --dir=costs comes as three words; of a name that is cut the start is not known.
+    if [[ $before == = && ${COMP_WORDS[COMP_CWORD-2]} == --* ]]; then
+        before="${COMP_WORDS[COMP_CWORD-2]}"
+    elif [[ $before == [=:@]* || ( $here == [=:@]* && $before != --* ) ]]; then
+        return
+    fi
+    case "$before" in
+        '<' | '>' | '>>' | '<>' | '>|' | '>&' | '&>') _focusd_names -f "$word"; return ;;
+    esac
+"""
+BASH_END = r"""    esac
+    [[ " ${COMP_WORDS[*]:2:COMP_CWORD-2} " == *" -- "* ]] && past_options=yes
+    if [[ $takes_files && ( $word != -* || $past_options ) ]]; then
+        _focusd_names -f "$word"
+    else
+        _focusd_words "$options" "$word"
+    fi
+}
+complete -F _focusd focusd
+"""
+
+
+def bash_value(option):
+    """What offers the values of an option, if anything does."""
+    if option.words:
+        return f'_focusd_words "{" ".join(option.words)}" "$word"; '
+    return '_focusd_names -d "$word"; ' if is_folder(option) else ""
+
+
+def last_names(said):
+    return " ".join(option.names[-1] for option in said.options)
+
+
+def bash_completion(top, helps):
     """The completion of bash."""
-    made = "# bash completion of focusd. Made by tools/make_manual.py from the program's help.\n_focusd() {\n"
-    made += '    local word="${COMP_WORDS[COMP_CWORD]}" before="${COMP_WORDS[COMP_CWORD-1]}" command="${COMP_WORDS[1]}"\n'
-    made += '    COMPREPLY=()\n    if [ "$COMP_CWORD" -eq 1 ]; then\n'
-    made += f'        COMPREPLY=($(compgen -W "{" ".join(helps)} --help --version" -- "$word"))\n        return\n    fi\n'
-    made += '    case "$command $before" in\n'
+    commands = " ".join(top.commands)
+    made = BASH_START + '    if [[ $COMP_CWORD -eq 1 ]]; then\n'
+    made += f'        if [[ $word == -* ]]; then options="{last_names(top)}"; else options="{commands}"; fi\n'
+    made += '        _focusd_words "$options" "$word"\n        return\n    fi\n    case "$command $before" in\n'
     for name, said in helps.items():
         for option in said.options:
-            if not option.value:
-                continue
-            reply = f'compgen -W "{" ".join(option.words)}" -- "$word"' if option.words else 'compgen -d -- "$word"' if option.names[-1] in FOLDERS else ""
-            made += f'        "{name} {option.names[-1]}") {f"COMPREPLY=($({reply})); " if reply else ""}return ;;\n'
-    made += "    esac\n    case \"$command\" in\n"
+            if option.value:
+                made += f'        "{name} {option.names[-1]}") {bash_value(option)}return ;;\n'
+    made += '    esac\n    case "$command" in\n'
     for name, said in helps.items():
-        words = " ".join(option.names[-1] for option in said.options)
-        files = any(kind in argument for kind in FILES for argument, _ in said.arguments)
-        more = ' $(compgen -f -- "$word")' if files else ""
-        made += f'        {name}) COMPREPLY=($(compgen -W "{words}" -- "$word"){more}) ;;\n'
-    return made + "    esac\n}\ncomplete -F _focusd focusd\n"
+        made += f'        {name}) options="{last_names(said)}"{" takes_files=yes" if takes_files(said) else ""} ;;\n'
+    return made + (f'        help) options="{" ".join(helps)}" ;;\n' if "help" in top.commands else "") + BASH_END
 
 
 def zsh_text(text):
@@ -173,22 +252,52 @@ def zsh_text(text):
 def zsh_value(option):
     if option.words:
         return f":{option.value}:({' '.join(option.words)})"
-    return f":{option.value}:_files -/" if option.names[-1] in FOLDERS else f":{option.value}:"
+    return f":{option.value}:_files -/" if is_folder(option) else f":{option.value}:"
 
 
-def zsh_completion(helps):
+def zsh_arguments(said):
+    """The options and the arguments of a command, as `_arguments` reads them. `-S`: after `--` there are no options."""
+    made = "_arguments -S"
+    for option in said.options:
+        made += f" \\\n                '{option.names[-1]}[{zsh_text(option.summary)}]{zsh_value(option) if option.value else ''}'"
+    for argument, _ in said.arguments:
+        many = "*" if argument.endswith("...") else ""
+        made += f" \\\n                '{many}:{re.sub(r'[^A-Z]', '', argument)}:{'_focusd_files' if is_file(argument) else ''}'"
+    return made + "\n"
+
+
+ZSH_START = """#compdef focusd
+# Made by tools/make_manual.py from the program's help.
+
+# Files. A name that begins with - would be taken for an option, so ./ stands before it.
+_focusd_files() {
+    if [[ -n $PREFIX ]]; then
+        _files "$@"
+        return
+    fi
+    local -i found=1
+    _files -F '(-*)' "$@" && found=0
+    _path_files -g '-*' -P ./ "$@" && found=0
+    return found
+}
+
+_focusd() {
+    local -a commands
+    commands=(
+"""
+
+
+def zsh_completion(top, helps):
     """The completion of zsh."""
-    made = "#compdef focusd\n# Made by tools/make_manual.py from the program's help.\n_focusd() {\n    local -a commands\n    commands=(\n"
-    made += "".join(f"        '{name}:{zsh_text(said.about)}'\n" for name, said in helps.items())
-    made += "    )\n    if (( CURRENT == 2 )); then\n        _describe command commands\n        return\n    fi\n    local command=$words[2]\n"
-    made += "    shift words\n    (( CURRENT-- ))\n    case $command in\n"
+    made = ZSH_START
+    made += "".join(f"        '{name}:{zsh_text(about)}'\n" for name, about in top.commands.items())
+    made += "    )\n    if (( CURRENT == 2 )); then\n        if [[ $PREFIX == -* ]]; then\n"
+    made += f"            {zsh_arguments(top)}        else\n            _describe command commands\n        fi\n        return\n    fi\n"
+    made += "    local command=$words[2]\n    shift words\n    (( CURRENT-- ))\n    case $command in\n"
     for name, said in helps.items():
-        made += f"        {name})\n            _arguments"
-        for option in said.options:
-            made += f" \\\n                '{option.names[-1]}[{zsh_text(option.summary)}]{zsh_value(option) if option.value else ''}'"
-        for argument, _ in said.arguments:
-            made += f" \\\n                '*:{re.sub(r'[^A-Z]', '', argument)}:{'_files' if any(kind in argument for kind in FILES) else ''}'"
-        made += "\n            ;;\n"
+        made += f"        {name})\n            {zsh_arguments(said)}            ;;\n"
+    if "help" in top.commands:
+        made += "        help)\n            (( CURRENT == 2 )) && _describe command commands\n            ;;\n"
     return made + "    esac\n}\n_focusd \"$@\"\n"
 
 
@@ -196,18 +305,41 @@ def fish_text(text):
     return text.replace("\\", "\\\\").replace("'", "\\'")
 
 
-def fish_completion(helps):
+FISH_START = """# Made by tools/make_manual.py from the program's help.
+
+# Whether the command line has this command.
+function __focusd_runs
+    set -l words (commandline -opc)
+    test (count $words) -gt 1; and test $words[2] = $argv[1]
+end
+
+complete -c focusd -f
+"""
+
+
+def fish_option(where, option):
+    if option.words:
+        takes = f" -x -a '{' '.join(option.words)}'"
+    elif is_folder(option):
+        takes = " -x -a '(__fish_complete_directories)'"
+    else:
+        takes = " -x" if option.value else ""
+    return f"complete -c focusd -n {where} -l {option.names[-1].lstrip('-')}{takes} -d '{fish_text(option.summary)}'\n"
+
+
+def fish_completion(top, helps):
     """The completion of fish."""
-    made = "# Made by tools/make_manual.py from the program's help.\ncomplete -c focusd -f\n"
+    made = FISH_START
+    for name, about in top.commands.items():
+        made += f"complete -c focusd -n __fish_use_subcommand -a {name} -d '{fish_text(about)}'\n"
+    made += "".join(fish_option("__fish_use_subcommand", option) for option in top.options)
     for name, said in helps.items():
-        made += f"complete -c focusd -n __fish_use_subcommand -a {name} -d '{fish_text(said.about)}'\n"
-    for name, said in helps.items():
-        where = f"-n '__fish_seen_subcommand_from {name}'"
-        for option in said.options:
-            takes = f" -x -a '{' '.join(option.words)}'" if option.words else " -r -F" if option.names[-1] in FOLDERS else " -x" if option.value else ""
-            made += f"complete -c focusd {where} -l {option.names[-1].lstrip('-')}{takes} -d '{fish_text(option.summary)}'\n"
-        if any(kind in argument for kind in FILES for argument, _ in said.arguments):
-            made += f"complete -c focusd {where} -F\n"
+        where = f"'__focusd_runs {name}'"
+        made += "".join(fish_option(where, option) for option in said.options)
+        if takes_files(said):
+            made += f"complete -c focusd -n {where} -F\n"
+    if "help" in top.commands:
+        made += f"complete -c focusd -n '__focusd_runs help' -a '{' '.join(helps)}'\n"
     return made
 
 
@@ -216,7 +348,7 @@ def made_of(program):
     top = read_help(asked(program, []))
     helps = {name: read_help(asked(program, [name])) for name in top.commands if name != "help"}
     version = subprocess.run([program, "--version"], stdout=subprocess.PIPE, text=True, check=False).stdout.strip()
-    return {MANUAL: manual(version, top, helps), BASH: bash_completion(helps), ZSH: zsh_completion(helps), FISH: fish_completion(helps)}
+    return {MANUAL: manual(version, top, helps), BASH: bash_completion(top, helps), ZSH: zsh_completion(top, helps), FISH: fish_completion(top, helps)}
 
 
 def main():

@@ -4,6 +4,8 @@ import os
 import subprocess
 import sys
 import tempfile
+import threading
+import time
 import unittest
 
 sys.path.insert(0, os.path.dirname(os.path.abspath(__file__)))
@@ -164,6 +166,34 @@ class Planting(unittest.TestCase):
     def test_edits_are_dealt_evenly(self):
         self.assertEqual([len(part) for part in edits.in_parts(list(range(65)), 32)], [22, 22, 21])
         self.assertEqual(edits.in_parts([], 32), [])
+
+
+class Stopping(unittest.TestCase):
+    def test_closed_lanes_end_checks_and_begin_none(self):
+        lanes, ended = edits.Lanes(1), []
+
+        def check():
+            with lanes:
+                process = subprocess.Popen(["sleep", "60"])
+                lanes.began(process)
+                ended.append(process.wait())
+
+        def waits():
+            try:
+                with lanes:
+                    ended.append("began")
+            except edits.LanesClosed:
+                ended.append("closed")
+
+        threads = [threading.Thread(target=it) for it in (check, waits)]
+        threads[0].start()
+        while not lanes.processes:
+            time.sleep(0.01)
+        threads[1].start()
+        lanes.close()
+        for thread in threads:
+            thread.join(10)
+        self.assertEqual(sorted(map(str, ended)), ["-9", "closed"])
 
 
 class Trying(unittest.TestCase):

@@ -99,10 +99,19 @@ class MakeManual(unittest.TestCase):
 
     def test_bash_completes(self):
         self.assertEqual(self.completed(["focusd", "re"], 1), ["report"])
+        self.assertEqual(self.completed(["focusd", "-"], 1), ["--help", "--version"])
+        self.assertEqual(self.completed(["focusd", "help", ""], 2), ["report", "take"])
         self.assertEqual(self.completed(["focusd", "take", "--q"], 2), ["--quiet"])
         self.assertEqual(self.completed(["focusd", "report", "--format", ""], 3), ["csv", "table"])
         self.assertEqual(self.completed(["focusd", "take", "pro"], 2), ["prog"])
         self.assertEqual(self.completed(["focusd", "report", "pro"], 2), [])
+
+    def test_each_shell_is_offered_the_help(self):
+        made = make_manual.made_of(self.program)
+        about = "Print this message or the help of the given subcommand(s)"
+        self.assertEqual(self.completed(["focusd", "he"], 1), ["help"])
+        self.assertIn(f"'help:{about}'", made[make_manual.ZSH])
+        self.assertIn(f"-n __fish_use_subcommand -a help -d '{about}'", made[make_manual.FISH])
 
     def test_a_stale_file_is_named(self):
         top, make_manual.TOP = make_manual.TOP, self.room.name

@@ -97,6 +97,26 @@ impl<'a> Line<'a> {
         }
     }
 
+    /// An equal line. It lends the same texts and tags, and takes no memory.
+    pub fn copy(&self) -> Line<'a>
+        ensures { result ≡ self.now }
+    {
+        Line {
+            fields: LineFields {
+                hour: self.fields.hour,
+                kind: self.fields.kind,
+                category: self.fields.category,
+                commitment: self.fields.commitment,
+                billed: self.fields.billed,
+                effective: self.fields.effective,
+                quantity: self.fields.quantity,
+                sku: self.fields.sku,
+                sub_account: self.fields.sub_account,
+                tags: self.fields.tags,
+            },
+        }
+    }
+
     /// The hour of the line, counted from 1970.
     pub fn hour(&self) -> u32
         ensures { result ≡ self.now.hour }

@@ -7,3 +7,4 @@ pub mod HasFacts
 pub mod KindFacts
 pub mod OneReading
 pub mod ReadFacts
+pub mod AddedFacts

@@ -16,7 +16,7 @@ use Rattle.fw_commitment.proofs.TermFacts.{purchases-one}
 use Rattle.fw_commitment.proofs.ValueFacts.{text-one, integer-one, amount-one, hour-one, kind-one}
 use Rattle.fw_commitment.proofs.HasFacts.{account-one, tags-one, rates-one, skus-one, payments-one}
 
-table-one : (text : List ℕ) (ms ns : Members) → IsTable text ms → IsTable text ns → ms ≡ ns
+pub table-one : (text : List ℕ) (ms ns : Members) → IsTable text ms → IsTable text ns → ms ≡ ns
 unfolding IsTable
 table-one text ms ns a b = let both = sym a.1 ∙ b.1 in cc
 
@@ -45,7 +45,7 @@ same_commitment : (i i' : List ℕ) (t t' : TermsValue) (a a' : Option (List ℕ
     (record { id = i'; terms = t'; sub_account = a'; tags = g'; start = s'; hours = h'; capacity = k'; purchases = p' })
 same_commitment i i' t t' a a' g g' s s' h h' k k' p p' ei et ea eg es eh ek ep = rw (ei, et, ea, eg, es, eh, ek, ep) refl
 
-natural-one : (m n : ℕ) → pos m ≡ pos n → m ≡ n
+pub natural-one : (m n : ℕ) → pos m ≡ pos n → m ≡ n
 natural-one m n e = cc
 
 stands-one : (ms : Members) (x y : CommitmentValue) → Stands ms x → Stands ms y → x ≡ y

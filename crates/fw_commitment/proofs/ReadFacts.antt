@@ -15,17 +15,17 @@ use Rattle.fw_commitment.specs.declared.fault.CommitmentFault.TheVariants as fau
 
 -- ---- a rule tells of a field
 
-abbrev of_field : CommitmentFault → Bool
+abbrev pub of_field : CommitmentFault → Bool
 of_field (fault.Field f) = true
 of_field (fault.Limit f) = true
 of_field fault.Syntax = false
 of_field fault.NoMemory = false
 
-abbrev are_of_fields : List Rule → Bool
+abbrev pub are_of_fields : List Rule → Bool
 are_of_fields [] = true
 are_of_fields (r ∷ rules) = of_field r.0 && are_of_fields rules
 
-first-of_field : (rules : List Rule) (f : CommitmentFault) → are_of_fields rules ≡ true → FirstBroken rules f → of_field f ≡ true
+pub first-of_field : (rules : List Rule) (f : CommitmentFault) → are_of_fields rules ≡ true → FirstBroken rules f → of_field f ≡ true
 unfolding FirstBroken
 first-of_field [] f all first = absurd first
 first-of_field (r ∷ rules) f all (inl here) = let both = and_parts (of_field r.0) (are_of_fields rules) all in ap of_field here.1 ∙ both.0

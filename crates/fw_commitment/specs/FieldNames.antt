@@ -1,4 +1,4 @@
--- The names under which the fields of a commitment stand.
+-- The names under which the fields of a commitment stand, and those of a purchase that is added to one.
 use Rattle.std.specs.Prelude.{ℕ, List, [], ◌∷◌, codes}
 use Rattle.fw_charge.specs.declared.discount.DiscountKind.{DiscountKind}
 use Rattle.fw_charge.specs.declared.discount.DiscountKind.TheVariants as kind
@@ -18,6 +18,8 @@ name_of field.Rates = codes "rates"
 name_of field.SubAccount = codes "sub_account"
 name_of field.Tags = codes "tags"
 name_of field.Purchase = codes "purchase"
+name_of field.At = codes "at"
+name_of field.Billed = codes "billed"
 name_of field.Unknown = codes "unknown"
 
 -- the names that may stand in a commitment of a kind
@@ -30,3 +32,7 @@ names_of kind.Spend =
 -- the names that stand in each purchase
 abbrev pub purchase_names : List (List ℕ)
 purchase_names = codes "at" ∷ codes "billed" ∷ []
+
+-- the names that stand in a purchase that is added to a commitment
+abbrev pub added_names : List (List ℕ)
+added_names = codes "id" ∷ codes "at" ∷ codes "billed" ∷ []

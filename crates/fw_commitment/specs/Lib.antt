@@ -4,3 +4,5 @@ pub mod Rules
 pub mod Reading
 pub mod Finding
 pub mod Parts
+pub mod AddedValue
+pub mod Added

@@ -1,14 +1,14 @@
-//! Why a text is no commitment.
+//! Why a text is no commitment, and no purchase that is added to one.
 ghost use Rattle.std.specs.Prelude.{◌≡◌};
 ghost use Rattle.fw_commitment.specs.declared.fault.CommitmentFault.TheVariants.{NoMemory};
 
 use std::alloc::{AllocError, AllocFailed};
 use thiserror::Error;
 
-/// The fields of a commitment, in the order in which they are checked.
+/// The fields of a commitment, and of a purchase that is added to one, in the order in which they are checked.
 #[derive(Clone, Copy, Debug, Drop, PartialEq, Eq)]
 pub enum CommitmentField {
-    /// `id`, a text.
+    /// `id` of a commitment, a text; a purchase that is added names its commitment so.
     Id,
     /// `category`, the text `Usage` or `Spend`.
     Category,
@@ -30,7 +30,11 @@ pub enum CommitmentField {
     Tags,
     /// `purchase`, an array of tables that have `at`, a text that is a time, and `billed`, a text that is a number, and nothing else.
     Purchase,
-    /// A name that is none of these, or that belongs to commitments of the other category.
+    /// `at` of a purchase that is added, a text that is a time from 1970 on.
+    At,
+    /// `billed` of a purchase that is added, a text that is a number.
+    Billed,
+    /// A name that doesn't belong there: it is none of these, or another one's.
     Unknown,
 }
 
@@ -53,6 +57,8 @@ impl CommitmentField {
             CommitmentField::SubAccount => "sub_account",
             CommitmentField::Tags => "tags",
             CommitmentField::Purchase => "purchase",
+            CommitmentField::At => "at",
+            CommitmentField::Billed => "billed",
             CommitmentField::Unknown => "unknown",
         }
     }

@@ -1,6 +1,7 @@
-//! How a TOML text reads as a commitment.
+//! How a TOML text reads as a commitment ([`read_commitment`]), and as a purchase that is added to one ([`read_purchase`]).
 #![tactic(auto)]
 
+mod added;
 mod billing;
 mod fault;
 mod fields;
@@ -12,7 +13,8 @@ mod reading;
 mod tags;
 mod terms;
 
+pub use added::{AddedPurchase, read_purchase};
 pub use fault::{CommitmentFault, CommitmentField};
 pub use fw_terms::{Commitment, Purchase, Rate, Terms};
-pub use laws::commitment_reads_as_one;
+pub use laws::{commitment_reads_as_one, purchase_reads_as_one};
 pub use reading::read_commitment;

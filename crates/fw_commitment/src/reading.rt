@@ -11,6 +11,7 @@ use crate::terms::terms;
 use fw_terms::{Commitment, CommitmentFields};
 use fw_toml::{Table, TableFault, table_of};
 use std::alloc::Global;
+use std::sync::Arc;
 
 /// Reads a commitment from a TOML text.
 ///
@@ -34,16 +35,18 @@ fn commitment_of(alloc: Global, table: &Table) -> Result<Commitment, CommitmentF
     let id_and_term = IdAndTerm::of_table(alloc, table)?;
     let terms = terms(alloc, table, id_and_term.kind)?;
     let billing = Billing::of_table(alloc, table, id_and_term.kind)?;
-    let fields = CommitmentFields {
-        id: id_and_term.id,
-        terms,
-        sub_account: billing.sub_account,
-        tags: billing.tags,
-        start: id_and_term.start,
-        hours: id_and_term.hours,
-        capacity: id_and_term.capacity,
-        purchases: billing.purchases,
-    };
-    let commitment = Commitment::of_fields(alloc, fields)?;
-    Ok(commitment)
+    let fields = Arc::new(
+        alloc,
+        CommitmentFields {
+            id: id_and_term.id,
+            terms,
+            sub_account: billing.sub_account,
+            tags: billing.tags,
+            start: id_and_term.start,
+            hours: id_and_term.hours,
+            capacity: id_and_term.capacity,
+            purchases: billing.purchases,
+        },
+    )?;
+    Ok(Commitment::of_fields(fields))
 }

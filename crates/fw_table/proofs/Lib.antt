@@ -1,1 +1,2 @@
 mod AmountFacts
+mod ShownFacts

@@ -1,5 +1,5 @@
 -- A commitment as plain values.
-use Rattle.std.specs.Prelude.{◌<◌, ◌≤◌, ℕ, List, Option, length, map, All, sum_by, IfSome}
+use Rattle.std.specs.Prelude.{◌<◌, ◌≤◌, ◌+◌, ℕ, Bool, ◌&&◌, nat_lt, nat_le, List, [], ◌∷◌, ◌++◌, Option, length, map, All, sum_by, IfSome}
 use Rattle.fw_money.specs.Amount.{most_nanos}
 use Rattle.fw_charge.specs.Tags.{TagText, IsTags}
 use Rattle.fw_charge.specs.Charge.{IsShortText, last_second, last_hour}
@@ -96,3 +96,13 @@ pub record IsCommitment (c : CommitmentValue) : Type 0 where
   pub capacity_some : 0 < c.capacity
   pub capacity_most : c.capacity ≤ most_nanos
   pub purchases : ArePurchases c.purchases
+
+-- ---- one purchase more
+
+-- it has fewer than 64 purchases, and all of them with this one cost at most 10^17 nanos
+abbrev pub takes_purchase : CommitmentValue → PurchaseValue → Bool
+takes_purchase c p = nat_lt (length c.purchases) most_purchases && nat_le (cost_of c.purchases + p.billed) most_nanos
+
+-- the commitment with this purchase behind its others
+abbrev pub with_purchase : CommitmentValue → PurchaseValue → CommitmentValue
+with_purchase c p = record c { purchases = c.purchases ++ p ∷ [] }

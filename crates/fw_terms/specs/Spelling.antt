@@ -1,7 +1,9 @@
--- The bytes of a commitment and of a policy, and which of them have a spelling.
-use Rattle.std.specs.Prelude.{List, [], ◌∷◌, ◌++◌, All, Some, IfSome, pos, ℕ}
+-- The bytes of a commitment, of a purchase and of a policy, and which of them have a spelling.
+use Rattle.std.specs.Prelude.{◌≤◌, List, [], ◌∷◌, ◌++◌, All, Some, IfSome, pos, ℕ}
 use Rattle.std.specs.Str.{IsUtf8}
 use Rattle.fw_bytes.specs.Spelling.{number32, number64, text, optional, listed}
+use Rattle.fw_money.specs.Amount.{most_nanos}
+use Rattle.fw_charge.specs.Charge.{last_second}
 use Rattle.fw_charge.specs.Spelling.{nanos, tags}
 use Rattle.fw_charge.specs.Tags.{TagText}
 use Rattle.fw_charge.specs.Codes.{kind_code}
@@ -62,6 +64,11 @@ policy p = text p.key ++ listed rule p.rules
 pub record IsTagUtf8 (t : TagText) : Type 0 where
   pub key : IsUtf8 t.key
   pub value : IsUtf8 t.value
+
+-- it is up to the end of the year 9999, and at most 10^17 nanos
+pub record IsSpelledPurchase (p : PurchaseValue) : Type 0 where
+  pub at : p.at ≤ last_second
+  pub billed : p.billed ≤ most_nanos
 
 -- each text of what is committed to is UTF-8
 abbrev pub AreTermsUtf8 : TermsValue → Type 0

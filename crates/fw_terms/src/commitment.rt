@@ -1,7 +1,10 @@
 //! Commitments: what was bought ahead, for which use, over which hours, and what was paid for it.
-ghost use Rattle.std.specs.Prelude.{◌≡◌, ◌≤◌, ◌<ℤ◌, ◌≤ℤ◌, pos, length, map, option_map, string_bytes, IfOk};
-ghost use Rattle.fw_terms.specs.Commitment.{cost_of, most_purchases};
+ghost use Rattle.std.specs.Prelude.{◌≡◌, ◌≤◌, ◌<ℤ◌, ◌≤ℤ◌, pos, length, map, option_map, string_bytes, IfOk, IsTrue};
+ghost use Rattle.fw_money.specs.Amount.{most_nanos};
+ghost use Rattle.fw_charge.specs.Charge.{last_second};
+ghost use Rattle.fw_terms.specs.Commitment.{cost_of, most_purchases, takes_purchase, with_purchase};
 
+use crate::copies::with_one_more;
 use fw_charge::{DiscountKind, Tags};
 use fw_money::Nanos;
 use std::alloc::{AllocError, Global};
@@ -49,6 +52,24 @@ impl Purchase {
     {
         self.billed
     }
+
+    /// How many nanos were paid: at most 10^17.
+    pub(crate) fn nanos(&self) -> u64
+        ensures value { result ≡ self.now.billed }
+        ensures few { result ≤ most_nanos }
+    {
+        self.billed().count() as u64
+    }
+
+    /// An equal purchase. Takes no memory.
+    pub fn copy(&self) -> Purchase
+        ensures { result ≡ self.now }
+    {
+        Purchase {
+            at: self.at,
+            billed: self.billed,
+        }
+    }
 }
 
 /// What some purchases cost together, in nanos: at most 64 of them.
@@ -58,7 +79,7 @@ pub fn total_cost(purchases: &[Purchase]) -> u64
 {
     let mut cost = 0;
     for purchase in purchases {
-        cost += purchase.billed().count() as u64;
+        cost += purchase.nanos();
     }
     cost
 }
@@ -103,6 +124,16 @@ impl Rate {
         ensures { result ≡ self.now.ppm }
     {
         self.ppm
+    }
+
+    /// An equal rate. The error comes where memory ran out.
+    pub fn copy(&self, alloc: Global) -> Result<Rate, AllocError>
+        ensures { IfOk result (λ r. r ≡ self.now) }
+    {
+        Ok(Rate {
+            sku: String::from_str(alloc, &self.sku)?,
+            ppm: self.ppm,
+        })
     }
 }
 
@@ -194,15 +225,13 @@ impl Commitment {
     /// The most purchases of a commitment.
     pub const MOST_PURCHASES: usize = 64;
 
-    /// The commitment with these fields, which keep the limits that [`CommitmentFields`] gives. The error comes where memory ran out.
-    pub fn of_fields(alloc: Global, fields: CommitmentFields) -> Result<Commitment, AllocError>
-        requires in_limits { IsCommitment (commitment_of fields) }
-        requires some_capacity { pos 0 <ℤ fields.capacity }
-        ensures { IfOk result (λ c. c ≡ commitment_of fields) }
+    /// The commitment with these fields, which keep the limits that [`CommitmentFields`] gives. Takes no memory.
+    pub fn of_fields(fields: Arc<CommitmentFields>) -> Commitment
+        requires in_limits { IsCommitment (commitment_of fields.value) }
+        requires some_capacity { pos 0 <ℤ fields.value.capacity }
+        ensures { result ≡ commitment_of fields.value }
     {
-        Ok(Commitment {
-            fields: Arc::new(alloc, fields)?,
-        })
+        Commitment { fields }
     }
 
     /// The name by which rows refer to the commitment.
@@ -279,6 +308,29 @@ impl Commitment {
         ensures { result ≡ pos (cost_of self.now.purchases) }
     {
         Nanos::of_fields(total_cost(self.purchases()) as i64)
+    }
+
+    /// Whether it can have this purchase too: it has fewer than 64 so far, and all of them with this one cost at most 10^17 nanos.
+    pub fn takes_purchase(&self, purchase: &Purchase) -> bool
+        ensures { result ≡ takes_purchase self.now purchase.now }
+    {
+        let purchases = self.purchases();
+        purchases.len() < Commitment::MOST_PURCHASES
+            && total_cost(purchases) + purchase.nanos() <= Nanos::MOST as u64
+    }
+
+    /// An equal commitment with this purchase behind its others; the commitment itself stays as it is. Ask [`Commitment::takes_purchase`]
+    /// first; the purchase is at most in the last second of the year 9999.
+    ///
+    /// # Errors
+    /// [`AllocError`] where memory ran out.
+    pub fn with_purchase(&self, alloc: Global, purchase: Purchase) -> Result<Commitment, AllocError>
+        requires taken { IsTrue (takes_purchase self.now purchase) }
+        requires dated { purchase.at ≤ last_second }
+        ensures { IfOk result (λ c. c ≡ with_purchase self.now purchase) }
+    {
+        let fields = with_one_more(alloc, &self.fields, &purchase)?;
+        Ok(Commitment::of_fields(Arc::new(alloc, fields)?))
     }
 
     /// The same commitment, shared. It takes no memory. The error comes only where it has as many owners as can be counted.

@@ -1,11 +1,12 @@
-//! Each commitment and each policy has a spelling: proof-only functions.
-ghost use Rattle.std.specs.Prelude.{All};
+//! Each commitment and each policy has a spelling, and each purchase up to the year 9999: proof-only functions.
+ghost use Rattle.std.specs.Prelude.{◌≤◌, All};
 ghost use Rattle.std.specs.Str.{IsUtf8};
+ghost use Rattle.fw_charge.specs.Charge.{last_second};
 ghost use Rattle.fw_terms.specs.PolicyView.{give_view};
 ghost use Rattle.fw_terms.specs.TermsView.{terms_view};
-ghost use Rattle.fw_terms.specs.Spelling.{AreTermsUtf8, IsSpelledCommitment, IsGiveUtf8, IsRuleUtf8, IsSpelledPolicy};
+ghost use Rattle.fw_terms.specs.Spelling.{AreTermsUtf8, IsSpelledCommitment, IsSpelledPurchase, IsGiveUtf8, IsRuleUtf8, IsSpelledPolicy};
 
-use crate::commitment::{Commitment, Rate, Terms};
+use crate::commitment::{Commitment, Purchase, Rate, Terms};
 use crate::policy::{Give, Policy, Rule, Target};
 use fw_charge::{optional_text_has_spelling, tags_have_spelling};
 
@@ -36,6 +37,14 @@ pub fn commitment_has_spelling(one: &Commitment)
     terms_are_utf8(one.terms());
     optional_text_has_spelling(one.sub_account());
     tags_have_spelling(one.tags());
+}
+
+/// A purchase up to the end of the year 9999 has a spelling, so it is read from what is written of it.
+pub fn purchase_has_spelling(one: &Purchase)
+    requires { one.now.at ≤ last_second }
+    ensures { IsSpelledPurchase one.now }
+{
+    let _nanos = one.nanos();
 }
 
 /// The group of each target is UTF-8.

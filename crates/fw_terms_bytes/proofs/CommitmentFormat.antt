@@ -25,7 +25,7 @@ use Rattle.fw_charge.specs.Spelling.{nanos, tags, keys_rise, FitsNanos, FitsSeco
 use Rattle.fw_fields.proofs.FieldFormats.{nanos_format, second_format, short_text_format, tags_format}
 use Rattle.fw_terms.specs.Commitment.{PurchaseValue, RateValue, TermsValue, CommitmentValue, kind_of, cost_of, most_skus, most_purchases, AreSkus, IsRate, IsTerms, ArePurchases, IsCommitment}
 use Rattle.fw_terms.specs.Commitment.TermsValue.{usage, spend}
-use Rattle.fw_terms.specs.Spelling.{rate, purchase, committed, names, term, commitment, IsTagUtf8, AreTermsUtf8, IsSpelledCommitment}
+use Rattle.fw_terms.specs.Spelling.{rate, purchase, committed, names, term, commitment, IsTagUtf8, AreTermsUtf8, IsSpelledCommitment, IsSpelledPurchase}
 use Rattle.fw_terms_bytes.specs.Reading.{is_start, is_hours, is_ppm, is_cost, is_capacity, start_at, hours_at, capacity_at, cost_at, ppm_at, Names, names_at, Term, term_at, skus_at, rate_from, rate_at, rates_at, usage_from, committed_at, purchase_from, purchase_at, purchases_at, Head, Fields, head_at, fields_at, commitment_from, skus_rise, commitment_rules, commitment_at}
 use Rattle.fw_terms_bytes.proofs.Formats.{then_by_format, told_format, case_format}
 use Rattle.fw_terms.proofs.Ranges.{count_from_list, list_from_count, text_fits, text_utf8}
@@ -147,21 +147,17 @@ committed_format kind.Spend = case_format (λ (x : List RateValue). spend x) com
 abbrev purchase_to : PurchaseValue → ℕ × ℕ
 purchase_to p = (p.at, p.billed)
 
-pub record FitsPurchase (p : PurchaseValue) : Type 0 where
-  pub at : p.at ≤ last_second
-  pub billed : p.billed ≤ most_nanos
-
-purchase_is : (p : PurchaseValue) → FitsPair FitsSecond (λ n. n ≤ most_nanos) (purchase_to p) → FitsPurchase p
+purchase_is : (p : PurchaseValue) → FitsPair FitsSecond (λ n. n ≤ most_nanos) (purchase_to p) → IsSpelledPurchase p
 purchase_is p h = record { at = leb-true _ _ h.0.1; billed = h.1 }
 
-purchase_fits : (p : PurchaseValue) → FitsPurchase p → FitsPair FitsSecond (λ n. n ≤ most_nanos) (purchase_to p)
+purchase_fits : (p : PurchaseValue) → IsSpelledPurchase p → FitsPair FitsSecond (λ n. n ≤ most_nanos) (purchase_to p)
 purchase_fits p h = ((lt-ltb _ _ (let d = h.at in omega arith), le-leb _ _ h.at), h.billed)
 
-purchase_format : IsFormat purchase_at purchase FitsPurchase
+pub purchase_format : IsFormat purchase_at purchase IsSpelledPurchase
 unfolding purchase_at purchase
 purchase_format = told_format purchase_is purchase_fits (seen_format purchase_from purchase_to (λ x h. refl) (λ y h. refl) (both_format second_format cost_format))
 
-purchases_format : IsFormat purchases_at (listed purchase) (FitsList 1 most_purchases FitsPurchase)
+purchases_format : IsFormat purchases_at (listed purchase) (FitsList 1 most_purchases IsSpelledPurchase)
 unfolding purchases_at
 purchases_format = list_format 1 most_purchases purchase_format
 
@@ -183,7 +179,7 @@ head_format =
     (both_format start_format (both_format hours_format capacity_format))
 
 abbrev FitsFields : Fields → Type 0
-FitsFields f = FitsPair FitsNames FitsTerm f.0 × FitsPair (FitsCommitted f.0.0.1.0) (FitsList 1 most_purchases FitsPurchase) f.1
+FitsFields f = FitsPair FitsNames FitsTerm f.0 × FitsPair (FitsCommitted f.0.0.1.0) (FitsList 1 most_purchases IsSpelledPurchase) f.1
 
 fields_format : IsFormat fields_at (λ f. head_spelled f.0 ++ pair committed (listed purchase) f.1) FitsFields
 unfolding fields_at
@@ -261,17 +257,17 @@ tags_fit ts h u =
     let each : All FitsTag ts = λ k d lt. tag_fits _ (h.sized k d lt) (u k d lt) in
     (list_from_count 0 most_tags FitsTag ts (omega arith) (omega arith) h.few each, rise_from_sorted (map (λ t. t.key) ts) h.rising)
 
-purchases_are : (ps : List PurchaseValue) → FitsList 1 most_purchases FitsPurchase ps → cost_of ps ≤ most_nanos → ArePurchases ps
+purchases_are : (ps : List PurchaseValue) → FitsList 1 most_purchases IsSpelledPurchase ps → cost_of ps ≤ most_nanos → ArePurchases ps
 purchases_are ps h cost =
-    let n = count_from_list 1 most_purchases FitsPurchase ps h in
-    record { some = n.some; few = n.few; dated = All-weaker FitsPurchase (λ p. p.at ≤ last_second) (λ p f. f.at) ps n.each; cost = cost }
+    let n = count_from_list 1 most_purchases IsSpelledPurchase ps h in
+    record { some = n.some; few = n.few; dated = All-weaker IsSpelledPurchase (λ p. p.at ≤ last_second) (λ p f. f.at) ps n.each; cost = cost }
 
-purchases_fit : (ps : List PurchaseValue) → ArePurchases ps → FitsList 1 most_purchases FitsPurchase ps
+purchases_fit : (ps : List PurchaseValue) → ArePurchases ps → FitsList 1 most_purchases IsSpelledPurchase ps
 unfolding cost_of
 purchases_fit ps h =
     let cost = h.cost in
-    let each : All FitsPurchase ps = λ k d lt. record { at = h.dated k d lt; billed = omega (arith, get_or-le-sum_by (λ p. p.billed) ps k d lt) } in
-    list_from_count 1 most_purchases FitsPurchase ps (omega arith) h.some h.few each
+    let each : All IsSpelledPurchase ps = λ k d lt. record { at = h.dated k d lt; billed = omega (arith, get_or-le-sum_by (λ p. p.billed) ps k d lt) } in
+    list_from_count 1 most_purchases IsSpelledPurchase ps (omega arith) h.some h.few each
 
 commitment_is : (c : CommitmentValue) → FitsCommitment c → IsSpelledCommitment c
 unfolding commitment_rules
@@ -330,7 +326,7 @@ pub commitment_kept : (bytes : List ℕ) (f : Fields × List ℕ) → IsBytes by
 commitment_kept bytes f is e rules = (commitment_format.takes bytes (commitment_from f.0, f.1) is (commitment_taken bytes f e rules)).1.limits
 
 pub few_purchases : (bytes : List ℕ) (f : Fields × List ℕ) → IsBytes bytes → fields_at bytes ≡ Ok f → length f.0.1.1 ≤ most_purchases
-few_purchases bytes f is e = (count_from_list 1 most_purchases FitsPurchase f.0.1.1 (fields_format.takes bytes f is e).1.1.1).few
+few_purchases bytes f is e = (count_from_list 1 most_purchases IsSpelledPurchase f.0.1.1 (fields_format.takes bytes f is e).1.1.1).few
 
 commitment_fault : (bytes : List ℕ) (left : ℕ) → fields_at bytes ≡ Err left → commitment_at bytes ≡ Err left
 unfolding commitment_at checked seen

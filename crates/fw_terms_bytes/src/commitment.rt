@@ -1,4 +1,4 @@
-//! The reader of a commitment.
+//! The readers of a commitment and of a purchase.
 ghost use Rattle.std.specs.Prelude.{◌≡◌, ◌≤◌, ◌<ℤ◌, ◌≤ℤ◌, pos, nat_abs, map, length, string_bytes, IfOk};
 ghost use Rattle.fw_money.specs.Amount.{most_nanos};
 ghost use Rattle.fw_bytes.specs.Reading.{Gives, code_at, times};
@@ -18,6 +18,7 @@ use fw_fields::{keys_rise, nanos_of, optional_text_of, second_of, short_text_of,
 use fw_money::Nanos;
 use fw_terms::{Commitment, CommitmentFields, Purchase, Rate, Terms, total_cost};
 use std::alloc::{AllocError, Global};
+use std::sync::Arc;
 
 /// Id, kind, account and tags.
 #[derive(Drop)]
@@ -209,14 +210,25 @@ fn terms_of(alloc: Global, kind: DiscountKind, bytes: &[u8]) -> Result<(Terms, &
     }
 }
 
+/// A purchase, and the bytes after it. Takes no memory.
+///
+/// # Errors
+/// [`ReadError::Corrupt`] at the first of its two fields that is cut off or out of its range: the second, which is at most the last of the
+/// year 9999, and the amount, which is 0 to 10^17 nanos.
+#[tactic(auto, unfolding(crate::specs::Reading::purchase_at, fw_bytes::specs::Reading::both, fw_bytes::specs::Reading::seen))]
+pub fn purchase_of(bytes: &[u8]) -> Result<(Purchase, &[u8]), ReadError>
+    ensures { Gives (λ x. (x.0, x.1.now)) result (purchase_at bytes.now) }
+{
+    let (at, rest) = second_of(bytes)?;
+    let (cost, rest) = cost_of(rest)?;
+    Ok((Purchase::of_fields(at, Nanos::of_fields(cost)), rest))
+}
+
 impl Item for Purchase {
     ghost item_at = { purchase_at };
 
-    #[tactic(auto, unfolding(crate::specs::Reading::purchase_at, fw_bytes::specs::Reading::both, fw_bytes::specs::Reading::seen))]
     fn read(_alloc: Global, bytes: &[u8]) -> Result<(Purchase, &[u8]), ReadError> {
-        let (at, rest) = second_of(bytes)?;
-        let (cost, rest) = cost_of(rest)?;
-        Ok((Purchase::of_fields(at, Nanos::of_fields(cost)), rest))
+        purchase_of(bytes)
     }
 }
 
@@ -287,7 +299,7 @@ impl ReadFields {
             capacity: Nanos::of_fields(term.capacity),
             purchases,
         };
-        Commitment::of_fields(alloc, fields)
+        Ok(Commitment::of_fields(Arc::new(alloc, fields)?))
     }
 }
 

@@ -1,4 +1,4 @@
-//! Commitments and policies as bytes.
+//! Commitments, purchases and policies as bytes.
 //!
 //! `fw_terms` defines the bytes of each, and which of them have bytes at all; `specs/Reading.antt` says what bytes read as, and at which
 //! place the first fault of other bytes is. A reader that fails reports how many bytes were left from the fault to the end.
@@ -10,6 +10,6 @@ mod order;
 mod policy;
 mod writing;
 
-pub use commitment::commitment_of;
+pub use commitment::{commitment_of, purchase_of};
 pub use policy::policy_of;
-pub use writing::{put_commitment, put_policy};
+pub use writing::{put_commitment, put_policy, put_purchase};

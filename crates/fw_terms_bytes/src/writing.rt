@@ -1,4 +1,4 @@
-//! The writers of commitments and policies, at the end of a buffer.
+//! The writers of commitments, purchases and policies, at the end of a buffer.
 //!
 //! Each has one error, [`AllocError`] where the buffer can't grow; then nothing is promised of what the buffer holds.
 ghost use Rattle.std.specs.Prelude.{◌≡◌, ◌≤◌, ◌++◌, length, map, pos, string_bytes, OnOk};
@@ -89,9 +89,12 @@ fn put_terms(out: &mut Vec<u8>, terms: &Terms) -> Result<(), AllocError>
     }
 }
 
-/// Writes when was paid, and how much.
+/// Writes a purchase at the end of the buffer: when was paid, and how much. One up to the end of the year 9999 is read again.
+///
+/// # Errors
+/// [`AllocError`] where the buffer can't grow. Then nothing is promised of what the buffer holds.
 #[tactic(auto, unfolding(fw_terms::specs::Spelling::purchase))]
-fn put_purchase(out: &mut Vec<u8>, one: &Purchase) -> Result<(), AllocError>
+pub fn put_purchase(out: &mut Vec<u8>, one: &Purchase) -> Result<(), AllocError>
     ensures { OnOk result (out.new.items ≡ out.old.items ++ purchase one.now) }
 {
     put_u64(out, one.at())?;

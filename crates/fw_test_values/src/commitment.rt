@@ -5,7 +5,7 @@ use fw_commitment::{CommitmentFault, read_commitment};
 use std::alloc::Global;
 use std::test::Fail;
 
-const USAGE: &str = "id = \"cd-1\"
+pub(crate) const USAGE: &str = "id = \"cd-1\"
 category = \"Usage\"
 start = \"2024-01-01T00:00Z\"
 hours = 3
@@ -19,7 +19,7 @@ at = \"2024-01-01T00:00Z\"
 billed = \"0.00000001\"
 ";
 
-const SPEND: &str = "id = \"cd-2\"
+pub(crate) const SPEND: &str = "id = \"cd-2\"
 category = \"Spend\"
 start = \"2024-01-01T00:00Z\"
 hours = 24

@@ -40,7 +40,7 @@ returns c =
     let billing = c.in_ok-billing.ensures.1 in
     let amount = amount_of c.in_ok-id_and_term.id_and_term.capacity first.capacity_some in (
       none,
-      rw c.in_ok-commitment.ensures (record {
+      rw (c.of_fields.ensures, c.in_ok-fields.ensures.ok) (record {
         id = first.id;
         kind = subst (HasKind ms) (sym terms.2) first.kind;
         start = first.start;
