@@ -805,7 +805,7 @@ to = { web = 3, data = 1 }
 
     def file(self, name, text):
         path = self.top / name
-        path.write_text(text)
+        path.write_text(text, encoding="utf-8")
         return str(path)
 
     def add(self, *words, origin="billing"):
@@ -1041,6 +1041,15 @@ team.toml: policy by "team": it would be entry 4 (billing 3)
         os.close(write)
         self.assertEqual((ran.returncode, ran.stderr), (0, b""))
         self.assertEqual(self.state(), "state 2 4 1 0\n")
+
+    def test_texts_that_act_on_a_terminal(self):
+        text = self.COMMITMENT.replace('"cd-1"', '"cd\\u001b[2J"').replace('"Hours"', '"Hou\\u202ers"')
+        status, printed, said = self.add("--dry-run", self.file("cd.toml", text))
+        self.assertEqual((status, said), (0, ""))
+        self.assertIn("commitment cd\\u{1b}[2J", printed)
+        self.assertIn('0 rows match unit "Hou\\u{202e}rs"', printed)
+        self.assertFalse({"\x1b", "\u202e"} & set(printed))
+        self.refused("hours = 0 # \\u{202e}", self.file("cd.toml", self.COMMITMENT.replace("hours = 3", "hours = 0 # \u202e")))
 
     def test_a_typo_in_the_unit(self):
         file = self.file("cd.toml", self.COMMITMENT.replace('unit = "Hours"', 'unit = "Hrs"'))

@@ -10,6 +10,7 @@ use fw_entry::EntryFault;
 use fw_policy::{PolicyFault, PolicyField};
 use fw_recover::StoreFault;
 use fw_snapshot::{Conflict, State};
+use fw_table::shown_text;
 use fw_terms::Commitment;
 use std::alloc::{AllocError, Global};
 
@@ -194,13 +195,13 @@ fn say_located(
     Ok(false)
 }
 
-// The first letters of a text.
+// The first letters of a text, as a terminal may show them.
 fn first_letters(alloc: Global, text: &str) -> Result<String, AllocError> {
     let mut shown = String::new(alloc);
     for letter in text.chars().take(SHOWN) {
         shown.push(letter)?;
     }
-    Ok(shown)
+    shown_text(alloc, shown.as_str())
 }
 
 // Says which name of a text is no field of what it is.

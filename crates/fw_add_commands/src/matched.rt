@@ -3,7 +3,7 @@ use crate::printing::print_line;
 use fw_adding::{Document, Matches, matches_of};
 use fw_console::Fault;
 use fw_snapshot::State;
-use fw_table::count_text;
+use fw_table::{count_text, shown_text};
 use fw_terms::{Commitment, Terms};
 use std::alloc::{AllocError, Global};
 
@@ -135,14 +135,14 @@ fn unit_line(
     commitment: &Commitment,
     matches: &Matches<'_>,
 ) -> Result<String, AllocError> {
-    let unit = unit_of(commitment.terms());
+    let unit = shown_text(alloc, unit_of(commitment.terms()))?;
     let rows = rows_text(alloc, matches.applies)?;
     let verb = if matches.applies == 1 {
         "matches"
     } else {
         "match"
     };
-    let mut line = format!(in alloc; "{rows} {verb} unit {unit:?}")?;
+    let mut line = format!(in alloc; "{rows} {verb} unit \"{unit}\"")?;
     push_units(alloc, &mut line, sku_words(commitment.terms()), matches)?;
     Ok(line)
 }
@@ -157,7 +157,8 @@ fn push_units(
     for (unit, count) in matches.other_units.iter() {
         let rows = rows_text(alloc, *count)?;
         let verb = have(*count);
-        line.push_str(format!(in alloc; "; {rows} of {skus} {verb} {unit:?}")?.as_str())?;
+        let unit = shown_text(alloc, unit)?;
+        line.push_str(format!(in alloc; "; {rows} of {skus} {verb} \"{unit}\"")?.as_str())?;
     }
     if matches.no_unit > 0 {
         let rows = rows_text(alloc, matches.no_unit)?;

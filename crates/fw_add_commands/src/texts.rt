@@ -4,7 +4,7 @@ use fw_calendar::hour_text;
 use fw_charge::Currency;
 use fw_money::Nanos;
 use fw_snapshot::State;
-use fw_table::count_text;
+use fw_table::{count_text, shown_text};
 use fw_terms::{Commitment, Policy, Terms};
 use std::alloc::{AllocError, Global};
 
@@ -12,12 +12,12 @@ use std::alloc::{AllocError, Global};
 pub(crate) fn name_text(alloc: Global, document: &Document) -> Result<String, AllocError> {
     match document {
         Document::Commitment(commitment) => {
-            let id = commitment.id();
+            let id = shown_text(alloc, commitment.id())?;
             format!(in alloc; "commitment {id}")
         }
         Document::Policy(policy) => {
-            let key = policy.key();
-            format!(in alloc; "policy by {key:?}")
+            let key = shown_text(alloc, policy.key())?;
+            format!(in alloc; "policy by \"{key}\"")
         }
     }
 }
@@ -30,8 +30,8 @@ pub(crate) fn replaced_text(
 ) -> Result<String, AllocError> {
     match (document, state.policy(), policy_entry(state)) {
         (Document::Policy(_), Some(held), Some(entry)) => {
-            let key = held.key();
-            format!(in alloc; " takes the place of the policy by {key:?} (entry {entry})")
+            let key = shown_text(alloc, held.key())?;
+            format!(in alloc; " takes the place of the policy by \"{key}\" (entry {entry})")
         }
         _ => Ok(String::new(alloc)),
     }
@@ -52,10 +52,10 @@ pub(crate) fn document_text(
 
 // What a policy is.
 fn policy_text(alloc: Global, policy: &Policy) -> Result<String, AllocError> {
-    let key = policy.key();
+    let key = shown_text(alloc, policy.key())?;
     let count = policy.rules().len();
     let rules = if count == 1 { "rule" } else { "rules" };
-    format!(in alloc; "policy by {key:?}, {count} {rules}")
+    format!(in alloc; "policy by \"{key}\", {count} {rules}")
 }
 
 // What a commitment is.
@@ -64,12 +64,12 @@ fn commitment_text(
     currency: Currency,
     commitment: &Commitment,
 ) -> Result<String, AllocError> {
-    let id = commitment.id();
+    let id = shown_text(alloc, commitment.id())?;
     let category = commitment.kind().word();
     let term = term_text(alloc, commitment)?;
     let code = str::from_utf8(currency.code()).unwrap_or("");
     let capacity = exact_text(alloc, commitment.capacity())?;
-    let unit = unit_of(commitment.terms(), code);
+    let unit = shown_text(alloc, unit_of(commitment.terms(), code))?;
     let cost = exact_text(alloc, commitment.cost())?;
     format!(in alloc;
         "commitment {id} ({category}): {term}; {capacity} {unit} each hour; bought for {cost} {code}"

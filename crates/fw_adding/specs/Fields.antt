@@ -21,6 +21,7 @@ AgreeInRates (spend rates) (spend others) = rates ≡ others
 AgreeInRates (spend rates) (usage unit skus) = ⊤
 AgreeInRates (usage unit skus) t = ⊤
 
+-- a commitment has no `at` and no `billed` of its own
 unfoldable pub Agree : CommitmentField → CommitmentValue → CommitmentValue → Type 0
 Agree field.Id c d = c.id ≡ d.id
 Agree field.Category c d = kind_of c.terms ≡ kind_of d.terms
@@ -33,4 +34,6 @@ Agree field.Rates c d = AgreeInRates c.terms d.terms
 Agree field.SubAccount c d = c.sub_account ≡ d.sub_account
 Agree field.Tags c d = c.tags ≡ d.tags
 Agree field.Purchase c d = c.purchases ≡ d.purchases
+Agree field.At c d = ⊤
+Agree field.Billed c d = ⊤
 Agree field.Unknown c d = ⊤

@@ -34,6 +34,9 @@ pub fn expected_in_commitment(field: CommitmentField) -> &'static str {
         CommitmentField::Purchase => {
             "there must be 1 to 64 [[purchase]], each with \"at\", a time as 2024-09-01T00:00Z, and \"billed\", an amount of at least 0, both in quotes, and nothing else; together at most 100000000"
         }
+        CommitmentField::At =>
+            "\"at\" must be a time from 1970 on, as 2024-09-01T00:00Z, in quotes",
+        CommitmentField::Billed => "\"billed\" must be an amount of at least 0, as 14.4, in quotes",
         CommitmentField::Unknown => {
             "a commitment has the fields id, category, start, hours, capacity, sub_account, tags and purchase, and unit and skus for \"Usage\" or rates for \"Spend\""
         }

@@ -24,7 +24,7 @@ pub fn agree_in(one: &Commitment, other: &Commitment, field: CommitmentField) ->
         CommitmentField::SubAccount => agree_in_account(one, other),
         CommitmentField::Tags => are_same_tags(one.tags(), other.tags()),
         CommitmentField::Purchase => are_same_purchases(one.purchases(), other.purchases()),
-        CommitmentField::Unknown => true,
+        CommitmentField::At | CommitmentField::Billed | CommitmentField::Unknown => true,
     }
 }
 
