@@ -357,8 +357,13 @@ class Commands(unittest.TestCase):
     def test_status_verify_and_checkpoint(self):
         status = self.asked("status")
         entries, rows, commitments, _ = self.kept.state().split()[1:]
-        for name, value in (("Currency", "USD"), ("Entries", f"{int(entries):,}"), ("Rows", f"{int(rows):,}"), ("Commitments", commitments)):
-            self.assertIn([name, value], [line.split() for line in status.splitlines()])
+        for line in (
+            ("Currency", "USD"),
+            ("Entries", f"{int(entries):,}"),
+            ("Rows", f"{int(rows):,}", "of", "4,194,304"),
+            ("Commitments", commitments, "of", "256"),
+        ):
+            self.assertIn([*line], [line.split() for line in status.splitlines()])
         self.assertEqual(self.asked("verify"), "sound\n" + status)
         before = self.asked("lines", "--from", "2024-01", "--to", "2024-02")
         self.assertEqual(self.asked("checkpoint"), "checkpointed\n")
@@ -419,7 +424,7 @@ class Commands(unittest.TestCase):
             self.assertEqual((run.stderr.read(), run.wait()), (b"", 0))
 
     def test_help_and_version(self):
-        for words in ((), ("run",), ("import",), ("load",), ("check",), ("report",), ("lines",), ("coverage",), ("status",), ("verify",), ("checkpoint",), ("dump",), ("explain",)):
+        for words in ((), ("run",), ("import",), ("load",), ("add",), ("check",), ("report",), ("lines",), ("coverage",), ("status",), ("verify",), ("checkpoint",), ("dump",), ("explain",)):
             status, printed, said = focusd(*words, "--help")
             self.assertEqual((status, said), (0, ""), words)
             self.assertIn("Example", printed, words)
@@ -739,6 +744,355 @@ class Loads(unittest.TestCase):
     def test_an_origin_that_is_none(self):
         wanted = "1 refused E1 Origin\nstale 0\nstate 0 0 0 0\n"
         self.assertEqual(focusd("load", "--origin", "a b", self.right), (0, wanted, ""))
+
+
+class Additions(unittest.TestCase):
+    """Commitments and policies that are added from files."""
+
+    HEADER = "BilledCost,EffectiveCost,BillingCurrency,ChargeCategory,ChargePeriodStart,ChargePeriodEnd,ConsumedQuantity,ConsumedUnit,SkuId,SubAccountId,Tags,CommitmentDiscountId\n"
+    COMMITMENT = """id = "cd-1"
+category = "Usage"
+start = "2024-01-01T00:00Z"
+hours = 3
+capacity = "2.5"
+unit = "Hours"
+skus = ["vm"]
+[tags]
+team = "platform"
+[[purchase]]
+at = "2024-01-01T00:00Z"
+billed = "10.5"
+[[purchase]]
+at = "2024-01-01T01:00Z"
+billed = "4"
+"""
+    SPEND = """id = "cd-s"
+category = "Spend"
+start = "2024-01-01T00:00Z"
+hours = 1
+capacity = "1"
+rates = { vm = 500000, db = 1 }
+sub_account = "a"
+[[purchase]]
+at = "2024-01-01T00:00Z"
+billed = "0"
+"""
+    POLICY = """key = "team"
+[[rule]]
+from = "platform"
+to = { web = 3, data = 1 }
+"""
+
+    def setUp(self):
+        made = tempfile.TemporaryDirectory()
+        self.addCleanup(made.cleanup)
+        self.top = pathlib.Path(made.name)
+        self.folder = self.top / "costs"
+        self.folder.mkdir()
+        rows = [self.row(hour) for hour in (0, 1, 2, 2)]
+        self.script = f"post rows 1 {len(rows) + 1}\n{self.HEADER}{''.join(rows)}"
+        self.assertEqual(self.focusd("run", "--create", given=self.script.encode())[::2], (0, ""))
+
+    def focusd(self, command, *words, given=b""):
+        return focusd(command, "--dir", str(self.folder), *words, given=given)
+
+    @staticmethod
+    def row(hour, category="Usage", unit="Hours", sku="vm", account="a", discount="", quantity="1"):
+        return (
+            f"0.1,0.1,USD,{category},2024-01-01T{hour:02}:00:00Z,2024-01-01T{hour + 1:02}:00:00Z,{quantity},{unit},{sku},{account},"
+            f'"{{""team"":""web""}}",{discount}\n'
+        )
+
+    def file(self, name, text):
+        path = self.top / name
+        path.write_text(text, encoding="utf-8")
+        return str(path)
+
+    def add(self, *words, origin="billing"):
+        """The status, standard output and standard error of a run, without the names of the folder of the files."""
+        status, printed, said = self.focusd("add", "--origin", origin, *words)
+        return status, printed.replace(f"{self.top}/", ""), said.replace(f"{self.top}/", "")
+
+    def kept(self):
+        return {it.name: it.read_bytes() for it in self.folder.iterdir()}
+
+    def state(self):
+        return self.focusd("run", given=b"state\n")[1]
+
+    def refused(self, said, *words, status=1):
+        """A run that is refused with this on standard error, and changes nothing."""
+        before = self.kept()
+        found = self.add(*words)
+        self.assertEqual(found[:2], (status, ""), found)
+        self.assertIn(said, found[2])
+        self.assertEqual(self.kept(), before)
+
+    def test_a_commitment_and_a_policy(self):
+        commitment, policy = self.file("cd.toml", self.COMMITMENT), self.file("team.toml", self.POLICY)
+        self.assertEqual(self.add(commitment), (0, "cd.toml: commitment cd-1: entry 2 (billing 1)\n", ""))
+        self.assertEqual(self.add(policy), (0, 'team.toml: policy by "team": entry 3 (billing 2)\n', ""))
+        self.assertEqual(self.state(), "state 3 4 1 1\n")
+        # What the files became is what a script makes of their lines.
+        kinds = (("commit", self.COMMITMENT), ("policy", self.POLICY))
+        sent = "".join(f"{kind} billing {at} {text.count(chr(10))}\n{text}" for at, (kind, text) in enumerate(kinds, 1))
+        with tempfile.TemporaryDirectory() as other:
+            self.assertEqual(focusd("run", "--dir", other, "--create", given=(self.script + sent).encode())[0], 0)
+            self.assertEqual(focusd("dump", "--dir", other), self.focusd("dump"))
+
+    def test_several_files_in_their_order(self):
+        files = self.file("cd.toml", self.COMMITMENT), self.file("team.toml", self.POLICY), self.file("s.toml", self.SPEND)
+        lines = (
+            "cd.toml: commitment cd-1: entry 2 (billing 1)\n"
+            'team.toml: policy by "team": entry 3 (billing 2)\n'
+            "s.toml: commitment cd-s: entry 4 (billing 3)\n"
+        )
+        self.assertEqual(self.add(*files), (0, lines, ""))
+        self.assertEqual(self.state(), "state 4 4 2 1\n")
+        # A file that stands twice is added once, and another origin counts its own entries.
+        other = self.file("other.toml", self.COMMITMENT.replace("cd-1", "cd-2"))
+        lines = "other.toml: commitment cd-2: entry 5 (b 1)\nother.toml: commitment cd-2 is there already, the same\n"
+        self.assertEqual(self.add(other, other, origin="b"), (0, lines, ""))
+
+    def test_standard_input(self):
+        found = self.focusd("add", "--origin", "billing", "-", given=self.POLICY.encode())
+        self.assertEqual(found, (0, '-: policy by "team": entry 2 (billing 1)\n', ""))
+
+    def test_the_same_again(self):
+        files = self.file("cd.toml", self.COMMITMENT), self.file("team.toml", self.POLICY)
+        self.assertEqual(self.add(*files)[0], 0)
+        before = self.kept()
+        lines = 'cd.toml: commitment cd-1 is there already, the same\nteam.toml: policy by "team" is there already, the same\n'
+        # Spelled another way, it is the same.
+        self.file("cd.toml", self.COMMITMENT.replace('"2.5"', '"2.50"').replace("hours = 3", "hours=3 # three"))
+        for origin in ("billing", "another"):
+            self.assertEqual(self.add(*files, origin=origin), (0, lines, ""))
+        self.assertEqual(self.kept(), before)
+
+    def test_other_terms(self):
+        file = self.file("cd.toml", self.COMMITMENT)
+        self.assertEqual(self.add(file)[0], 0)
+        changes = (
+            ("hours = 3", "hours = 4", "hours"),
+            ('"2.5"', '"2"', "capacity"),
+            ('unit = "Hours"', 'unit = "Hrs"', "unit"),
+            ('["vm"]', '["vm", "db"]', "skus"),
+            ("T00:00Z", "T05:00Z", "start, purchase"),
+            ('"platform"', '"data"', "tags"),
+            ('"4"', '"5"', "purchase"),
+            ("[tags]", 'sub_account = "a"\n[tags]', "sub_account"),
+        )
+        for old, new, fields in changes:
+            self.file("cd.toml", self.COMMITMENT.replace(old, new))
+            self.refused(f"cd.toml: commitment cd-1 is there already with other terms, and a commitment is never changed; the fields that differ: {fields} (J2 DoubleId)\n", file)
+        self.file("cd.toml", self.SPEND.replace("cd-s", "cd-1"))
+        self.refused("the fields that differ: category, hours, capacity, sub_account, tags, purchase (J2 DoubleId)", file)
+
+    def test_two_files_with_one_id(self):
+        first, second = self.file("one.toml", self.COMMITMENT), self.file("two.toml", self.COMMITMENT.replace("hours = 3", "hours = 4"))
+        self.refused("two.toml: commitment cd-1 is there already with other terms", first, second)
+
+    def test_nothing_is_added_where_one_file_has_a_fault(self):
+        good, bad = self.file("good.toml", self.COMMITMENT), self.file("bad.toml", self.POLICY.replace("web = 3", "web = -3"))
+        self.refused("bad.toml: line 4: to = { web = -3, data = 1 }: ", good, bad)
+        self.refused("focusd: nothing was added\n", bad, good)
+        self.refused("none.toml: ", good, str(self.top / "none.toml"))
+        # Each fault is said.
+        said = self.add(bad, good, bad)[2]
+        self.assertEqual(said.count("(P3 Limit)"), 2)
+
+    def test_faults_of_commitments(self):
+        file = self.file("cd.toml", "")
+        for old, new, said in (
+            ('"2024-01-01T00:00Z"\nhours', '"2024-01-01"\nhours', 'cd.toml: line 3: start = "2024-01-01": "start" must be the time of a whole hour, as 2024-09-01T00:00Z, in quotes (C2 Field)\n'),
+            ('id = "cd-1"\n', "", 'cd.toml: id is missing: "id" must be a text of 1 to 256 bytes, as "cd-1" (C2 Field)\n'),
+            ("hours = 3", "hours = 0", 'cd.toml: line 4: hours = 0: "hours" must be a whole number from 1 to 26304, without quotes (C3 Limit)\n'),
+            ("hours = 3", 'hours = "3"', 'cd.toml: line 4: hours = "3": "hours" must be a whole number from 1 to 26304, without quotes (C2 Field)\n'),
+            ('"2.5"', "2.5", 'cd.toml: line 5: capacity = 2.5: "capacity" must be a number above 0, as 2.5, in quotes (C2 Field)\n'),
+            ('"2.5"', '"-1"', "cd.toml: line 5: capacity = \"-1\": "),
+            ('"Usage"', '"usage"', 'cd.toml: line 2: category = "usage": "category" must be '),
+            ('["vm"]', '["vm", "vm"]', 'cd.toml: line 7: skus = ["vm", "vm"]: "skus" must be an array'),
+            ('["vm"]', "[]", "cd.toml: line 7: skus = []: "),
+            ('unit = "Hours"\n', "", "cd.toml: unit is missing: "),
+            ('"platform"', "1", "cd.toml: line 8: [tags]: "),
+            ('billed = "4"', 'billed = "four"', "cd.toml: line 10: [[purchase]]: there must be 1 to 64 [[purchase]]"),
+            ("hours = 3", "hours = 3\n  colour = 1", "cd.toml: line 5: colour = 1: a commitment has the fields id, "),
+            ("hours = 3", f"hours = 3 # {100 * 'x'}", "cd.toml: line 4: hours = 3"),
+            ('["vm"]', '["vm"', "cd.toml: it is no TOML in UTF-8"),
+        ):
+            text = self.COMMITMENT.replace(old, new)
+            if "xxx" in text:
+                text = text.replace("hours = 3", "hours = 0")
+                said = f"cd.toml: line 4: hours = 0 # {48 * 'x'}: "
+            self.file("cd.toml", text)
+            self.refused(said, file)
+        self.file("cd.toml", self.SPEND.replace("500000", "1000001"))
+        self.refused('cd.toml: line 6: rates = { vm = 1000001, db = 1 }: "rates" must be a table', file)
+        # A field of a table is not the field of the document.
+        self.file("cd.toml", self.COMMITMENT.replace("hours = 3\n", "").replace("team =", "hours ="))
+        self.refused("cd.toml: hours is missing: ", file)
+
+    def test_faults_of_policies(self):
+        file = self.file("p.toml", "")
+        for text, said in (
+            ('key = ""\n', 'p.toml: line 1: key = "": "key" must be a text of 1 to 1024 bytes'),
+            ("[[rule]]\n", "p.toml: key is missing: "),
+            ('key = "team"\nrule = 1\n', "p.toml: line 2: rule = 1: there must be at most 64 [[rule]]"),
+            ('key = "team"\n[[rule]]\nto = { web = 1 }\n', "p.toml: from is missing: "),
+            ('key = "team"\n[[rule]]\nfrom = 1\nproportional = true\n', "p.toml: line 3: from = 1: "),
+            ('key = "team"\n[[rule]]\nfrom = "a"\nproportional = false\n', 'p.toml: line 4: proportional = false: "proportional" must be true'),
+            ('key = "team"\n[[rule]]\nfrom = "a"\n[rule.to]\nweb = "1"\n', "p.toml: line 4: [rule.to]: "),
+            ('key = "team"\n[[rule]]\nfrom = "a"\nproportional = true\ncolor = 1\n', "p.toml: line 5: color = 1: a policy has the fields key and rule"),
+            ('key = "team"\nfrom = "a"\n', 'p.toml: line 2: from = "a": a policy has the fields key and rule'),
+            ('key = "team"\n' + 2 * '[[rule]]\nfrom = "a"\nproportional = true\n', "(P4 DoubleFrom)"),
+            ('key = "team"\n[[rule]]\nfrom = "a"\nto = { a = 1 }\n', "(P5 TargetIsFrom)"),
+        ):
+            self.file("p.toml", text)
+            self.refused(said, file)
+
+    def test_what_a_file_is(self):
+        file = self.file("f.toml", "")
+        for text in ("", 'id = "cd-1"\n', '[tags]\nkey = "a"\n', 'colour = "red"\n'):
+            self.file("f.toml", text)
+            self.refused("f.toml: it is neither a commitment, which has ", file)
+        self.file("f.toml", 'key = "team"\n' + self.COMMITMENT)
+        self.refused("f.toml: it has fields of a commitment and of a policy", file)
+
+    def test_a_policy_that_takes_the_place_of_another(self):
+        first, other = self.file("team.toml", self.POLICY), self.file("cost.toml", self.POLICY.replace("team", "cost-center"))
+        self.assertEqual(self.add(first)[0], 0)
+        self.file("team.toml", self.POLICY.replace("web = 3", "web = 4"))
+        line = 'team.toml: policy by "team" takes the place of the policy by "team" (entry 2): entry 3 (billing 2)\n'
+        self.assertEqual(self.add(first), (0, line, ""))
+        refusal = 'cost.toml: policy by "cost-center" takes the place of the policy by "team" (entry 3), whose key is another one'
+        self.refused(refusal, other)
+        self.refused("give --yes to add it", other)
+        line = 'cost.toml: policy by "cost-center" takes the place of the policy by "team" (entry 3): entry 4 (billing 3)\n'
+        self.assertEqual(self.add("--yes", other), (0, line, ""))
+
+    def test_wrong_origins(self):
+        file = self.file("cd.toml", self.COMMITMENT)
+        for origin in ("", "a b", "a/b", "é", 65 * "a"):
+            for folder in (self.folder, self.top / "none"):
+                status, printed, said = focusd("add", "--dir", str(folder), "--origin", origin, file)
+                self.assertEqual((status, printed), (2, ""), origin)
+                self.assertIn("--origin", said)
+        self.assertEqual(self.add(file, origin=64 * "a")[0], 0)
+        self.assertEqual(self.focusd("add", file)[0], 2)
+        self.assertEqual(self.focusd("add", "--origin", "billing")[0], 2)
+
+    def test_no_warehouse(self):
+        file = self.file("cd.toml", self.COMMITMENT)
+        empty = self.top / "empty"
+        empty.mkdir()
+        for words in ((), ("--dry-run",)):
+            found = focusd("add", "--dir", str(empty), "--origin", "billing", *words, file)
+            self.assertEqual(found, (1, "", "focusd: S1 NoHouse\n"))
+            self.assertEqual(list(empty.iterdir()), [])
+            found = focusd("add", "--dir", str(self.top / "none"), "--origin", "billing", *words, file)
+            self.assertEqual(found, (1, "", "focusd: K1 Io\n"))
+            self.assertFalse((self.top / "none").exists())
+
+    def test_an_id_that_a_row_carries(self):
+        row = self.row(5, discount="cd-1").rstrip("\n")
+        lines = self.HEADER.rstrip("\n") + ",CommitmentDiscountCategory,CommitmentDiscountStatus\n" + row + ",Usage,Used\n"
+        self.assertEqual(self.focusd("run", given=f"post rows 2 2\n{lines}".encode())[1], "accepted 2\n")
+        self.refused("(J3 IdInUse)", self.file("cd.toml", self.COMMITMENT))
+
+    def test_257_commitments(self):
+        files = [self.file(f"{number}.toml", self.COMMITMENT.replace("cd-1", f"cd-{number}")) for number in range(257)]
+        self.refused("256.toml: commitment cd-256: the warehouse has 256 commitments, and takes no more (J5 TooManyCommitments)\n", *files)
+        self.assertEqual(self.add(*files[:256])[0], 0)
+        self.assertIn(["Commitments", "256", "of", "256"], [line.split() for line in self.focusd("status")[1].splitlines()])
+        self.refused("(J5 TooManyCommitments)", files[256])
+
+    def test_a_dry_run_says_what_files_are_and_changes_nothing(self):
+        before = self.kept()
+        commitment, spend, policy = self.file("cd.toml", self.COMMITMENT), self.file("s.toml", self.SPEND), self.file("team.toml", self.POLICY)
+        lines = """cd.toml: commitment cd-1 (Usage): 2024-01-01T00:00Z to 2024-01-01T03:00Z, 3 hours; 2.5 Hours each hour; bought for 14.5 USD
+cd.toml: commitment cd-1: it would be entry 2 (billing 1)
+cd.toml: it applies to 4 rows
+s.toml: commitment cd-s (Spend): 2024-01-01T00:00Z to 2024-01-01T01:00Z, 1 hour; 1 USD each hour; bought for 0 USD
+s.toml: commitment cd-s: it would be entry 3 (billing 2)
+s.toml: it applies to 1 row
+s.toml: 3 rows of these SKUs are outside of the term
+team.toml: policy by "team", 1 rule
+team.toml: policy by "team": it would be entry 4 (billing 3)
+"""
+        self.assertEqual(self.add("--dry-run", commitment, spend, policy), (0, lines, ""))
+        self.assertEqual(self.kept(), before)
+        self.assertEqual(self.add(commitment, policy)[0], 0)
+        before = self.kept()
+        status, printed, said = self.add("--dry-run", commitment)
+        self.assertEqual((status, printed.splitlines()[1], said), (0, "cd.toml: commitment cd-1 is there already, the same", ""))
+        self.file("cd.toml", self.COMMITMENT.replace("hours = 3", "hours = 4"))
+        status, _, said = self.add("--dry-run", commitment)
+        self.assertEqual(status, 1)
+        self.assertIn("(J2 DoubleId)", said)
+        self.assertEqual(self.kept(), before)
+
+    def test_a_reader_that_stops_early_and_one_that_is_full(self):
+        words = [PROGRAM, "add", "--dir", str(self.folder), "--origin", "billing", self.file("cd.toml", self.COMMITMENT)]
+        with open("/dev/full", "wb") as full:
+            ran = subprocess.run([*words, "--dry-run"], stdout=full, stderr=subprocess.PIPE)
+        self.assertEqual((ran.returncode, ran.stderr), (1, b"focusd: F2 Write\n"))
+        read, write = os.pipe()
+        os.close(read)
+        ran = subprocess.run(words, stdout=write, stderr=subprocess.PIPE)
+        os.close(write)
+        self.assertEqual((ran.returncode, ran.stderr), (0, b""))
+        self.assertEqual(self.state(), "state 2 4 1 0\n")
+
+    def test_texts_that_act_on_a_terminal(self):
+        text = self.COMMITMENT.replace('"cd-1"', '"cd\\u001b[2J"').replace('"Hours"', '"Hou\\u202ers"')
+        status, printed, said = self.add("--dry-run", self.file("cd.toml", text))
+        self.assertEqual((status, said), (0, ""))
+        self.assertIn("commitment cd\\u{1b}[2J", printed)
+        self.assertIn('0 rows match unit "Hou\\u{202e}rs"', printed)
+        self.assertFalse({"\x1b", "\u202e"} & set(printed))
+        self.refused("hours = 0 # \\u{202e}", self.file("cd.toml", self.COMMITMENT.replace("hours = 3", "hours = 0 # \u202e")))
+
+    def test_a_typo_in_the_unit(self):
+        file = self.file("cd.toml", self.COMMITMENT.replace('unit = "Hours"', 'unit = "Hrs"'))
+        status, printed, said = self.add("--dry-run", file)
+        self.assertEqual((status, said), (0, ""))
+        self.assertEqual(printed.splitlines()[2:], ["cd.toml: it applies to 0 rows", 'cd.toml: 0 rows match unit "Hrs"; 4 rows of this SKU have "Hours"'])
+        status, printed, said = self.add(file)
+        self.assertEqual((status, printed), (0, "cd.toml: commitment cd-1: entry 2 (billing 1)\n"))
+        self.assertEqual(said, 'cd.toml: 0 rows match unit "Hrs"; 4 rows of this SKU have "Hours"\n')
+
+    def test_a_typo_in_the_sku(self):
+        for skus, words in (('["vms"]', "this SKU"), ('["vms", "db"]', "these SKUs")):
+            file = self.file("cd.toml", self.COMMITMENT.replace('["vm"]', skus))
+            status, printed, said = self.add("--dry-run", file)
+            self.assertEqual((status, said), (0, ""))
+            self.assertEqual(printed.splitlines()[2:], ["cd.toml: it applies to 0 rows", f"cd.toml: no row of the warehouse is of {words}"])
+
+    def test_why_rows_are_not_matched(self):
+        rows = [
+            self.row(0, unit="GB"),
+            self.row(1, unit=""),
+            self.row(0, account="b"),
+            self.row(0, category="Tax"),
+            self.row(0, quantity=""),
+            self.row(9),
+            self.row(0, sku="db"),
+            self.row(0, sku=""),
+        ]
+        script = f"post rows 2 {len(rows) + 1}\n{self.HEADER}{''.join(rows)}"
+        self.assertEqual(self.focusd("run", given=script.encode())[1], "accepted 2\n")
+        file = self.file("cd.toml", self.COMMITMENT.replace("[tags]", 'sub_account = "a"\n[tags]'))
+        lines = """cd.toml: it applies to 4 rows
+cd.toml: 4 rows match unit "Hours"; 1 row of this SKU has "GB"; 1 row of this SKU has no unit
+cd.toml: 1 row of this SKU is of another sub-account
+cd.toml: 1 row of this SKU is outside of the term
+cd.toml: 2 rows of this SKU are not eligible: they are no use of exactly one hour, carry the id of a commitment, are corrections, or have no quantity above 0 or a cost below 0
+"""
+        self.assertEqual("".join(self.add("--dry-run", file)[1].splitlines(keepends=True)[2:]), lines)
+        # What it says it applies to is what the lines have.
+        self.assertEqual(self.add(file)[0], 0)
+        found = self.focusd("lines", "--from", "2024-01-01", "--to", "2024-01-02")[1]
+        used = [it for it in csv.DictReader(io.StringIO(found)) if it["CommitmentDiscountStatus"] == "Used" and it["CommitmentDiscountId"] == "cd-1"]
+        self.assertEqual(len(used), 4)
 
 
 class Dumps(unittest.TestCase):

@@ -1,7 +1,7 @@
 //! `focusd` keeps a warehouse of cloud charges, and answers what they cost.
 //!
 //! What it computes stands in libraries: `fw_serve::serve` runs scripts over any reader, writer and volume, and `fw_views` writes what the
-//! commands for people print. `fw_command_line` is the command line, and `fw_commands` and `fw_export_commands` are what the commands do
+//! commands for people print. `fw_command_line` is the command line, and `fw_commands`, `fw_export_commands` and `fw_add_commands` are what the commands do
 //! over folders and the standard streams. This crate reads the words of the command line and runs the command that they name. `load`, which needs threads that
 //! wait, is here too.
 #![tactic(auto)]
@@ -10,6 +10,7 @@ mod load;
 
 use clap::ArgMatches;
 use clap::error::ErrorKind;
+use fw_add_commands::add_files;
 use fw_command_line::command_line;
 use fw_commands::{
     make_checkpoint, print_coverage, print_dump, print_explanation, print_lines, print_report,
@@ -69,6 +70,7 @@ fn run_command<R: Threads + Wait + Sync>(
         Some(("run", options)) => serve_script(rt, threads, options),
         Some(("import", options)) => import_files(rt, options),
         Some(("load", options)) => load_files(rt, threads, options),
+        Some(("add", options)) => add_files(rt, options),
         Some(("check", options)) => check_files(rt, options),
         Some(("report", options)) => print_report(rt, options),
         Some(("lines", options)) => print_lines(rt, options),

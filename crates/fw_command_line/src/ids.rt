@@ -18,6 +18,9 @@ pub const CURRENCY: &str = "currency";
 /// The id of the option that names the folder of the warehouse.
 pub const DIR: &str = "dir";
 
+/// The id of the option that writes nothing.
+pub const DRY_RUN: &str = "dry-run";
+
 /// The id of the argument that names files.
 pub const FILES: &str = "files";
 
@@ -27,7 +30,7 @@ pub const FORMAT: &str = "format";
 /// The id of the option that says when the range begins.
 pub const FROM: &str = "from";
 
-/// The id of the option that names who sends the rows, or the first part of such names.
+/// The id of the option that names who sends the entries, or the first part of such names.
 pub const ORIGIN: &str = "origin";
 
 /// The id of the option that prints no progress.
@@ -44,3 +47,6 @@ pub const TOP: &str = "top";
 
 /// The id of the option that says how many workers read posts and make a report.
 pub const WORKERS: &str = "workers";
+
+/// The id of the option that lets a policy take the place of one by another key.
+pub const YES: &str = "yes";

@@ -3,6 +3,7 @@
 //! [`command_line`] is the whole of it. What it took of each option is asked for by the option's id, which is a constant here. Each command has a module.
 #![tactic(auto)]
 
+mod add;
 mod check;
 mod checkpoint;
 mod coverage;
@@ -20,7 +21,7 @@ mod status;
 mod verify;
 
 pub use ids::{
-    ANALYSTS, BY, CODE, CREATE, CURRENCY, DIR, FILES, FORMAT, FROM, ORIGIN, QUIET, TAG, TO, TOP,
-    WORKERS,
+    ANALYSTS, BY, CODE, CREATE, CURRENCY, DIR, DRY_RUN, FILES, FORMAT, FROM, ORIGIN, QUIET, TAG,
+    TO, TOP, WORKERS, YES,
 };
 pub use line::command_line;

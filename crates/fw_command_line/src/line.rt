@@ -1,6 +1,7 @@
 //! The whole command line.
 use crate::{
-    check, checkpoint, coverage, dump, explain, import, lines, load, report, run, status, verify,
+    add, check, checkpoint, coverage, dump, explain, import, lines, load, report, run, status,
+    verify,
 };
 use clap::Command;
 use std::alloc::{AllocError, Global};
@@ -52,6 +53,7 @@ enum Name {
     Run,
     Import,
     Load,
+    Add,
     Check,
     Report,
     Lines,
@@ -65,10 +67,11 @@ enum Name {
 
 impl Name {
     /// All commands, in the order in which the help has them.
-    const ALL: [Name; 12] = [
+    const ALL: [Name; 13] = [
         Name::Run,
         Name::Import,
         Name::Load,
+        Name::Add,
         Name::Check,
         Name::Report,
         Name::Lines,
@@ -86,6 +89,7 @@ impl Name {
             Name::Run => run::command(alloc),
             Name::Import => import::command(alloc),
             Name::Load => load::command(alloc),
+            Name::Add => add::command(alloc),
             Name::Check => check::command(alloc),
             Name::Report => report::command(alloc),
             Name::Lines => lines::command(alloc),

@@ -1,4 +1,7 @@
 //! What a warehouse holds.
+ghost use Rattle.std.specs.Prelude.{◌≡◌};
+ghost use Rattle.fw_snapshot.specs.Judging.{most_commitments, most_rows};
+
 use fw_calendar::hour_text;
 use fw_charge::hour_of;
 use fw_columns::Columns;
@@ -14,7 +17,7 @@ use std::alloc::{AllocError, Global};
 const ALIGNS: [Align; 2] = [Align::Left, Align::Left];
 
 /// What a warehouse holds, as lines of a name and a value: its currency, its entries by origin, its rows and the hours that they are of,
-/// its commitments, its policy, how long its body and its log are, and whether a checkpoint pays.
+/// its commitments (and how many of both a warehouse may have), its policy, how long its body and its log are, and whether a checkpoint pays.
 pub(crate) fn status_text<V: Volume>(
     alloc: Global,
     store: &Store<V>,
@@ -38,9 +41,15 @@ fn push_contents(alloc: Global, lines: &mut Vec<Line>, state: &State) -> Result<
     push(alloc, lines, "Currency", String::from_str(alloc, code)?)?;
     push_count(alloc, lines, "Entries", state.entries() as u64)?;
     push_origins(alloc, lines, state.heads())?;
-    push_count(alloc, lines, "Rows", state.rows() as u64)?;
+    push_part(alloc, lines, "Rows", state.rows() as u64, most_rows())?;
     push_hours(alloc, lines, state.segments())?;
-    push_count(alloc, lines, "Commitments", state.commitments() as u64)?;
+    push_part(
+        alloc,
+        lines,
+        "Commitments",
+        state.commitments() as u64,
+        most_commitments(),
+    )?;
     push(alloc, lines, "Policy", policy_text(alloc, state)?)
 }
 
@@ -61,6 +70,33 @@ fn push_count(
     count: u64,
 ) -> Result<(), AllocError> {
     push(alloc, lines, name, count_text(alloc, count)?)
+}
+
+// The most rows of a warehouse.
+fn most_rows() -> u64
+    ensures { result ≡ most_rows }
+{
+    4_194_304
+}
+
+// The most commitments of a warehouse.
+fn most_commitments() -> u64
+    ensures { result ≡ most_commitments }
+{
+    256
+}
+
+// Adds a line of a name and a number, of so many at most.
+fn push_part(
+    alloc: Global,
+    lines: &mut Vec<Line>,
+    name: &str,
+    count: u64,
+    most: u64,
+) -> Result<(), AllocError> {
+    let count = count_text(alloc, count)?;
+    let most = count_text(alloc, most)?;
+    push(alloc, lines, name, format!(in alloc; "{count} of {most}")?)
 }
 
 // Adds a line for each origin, in the order in which they came first, with the number of its entries.

@@ -1,0 +1,162 @@
+//! The command: all files are checked, and then each is added.
+ghost use Rattle.std.specs.Prelude.{◌≡◌};
+ghost use Rattle.std.specs.Process.{exit_status};
+ghost use Rattle.fw_console.specs.Statuses.{wrong_use_status};
+
+use crate::check::{Job, Trial, check_all, print_same};
+use crate::faults::say_refusal;
+use crate::files::open_warehouse;
+use crate::matched::warn_unmatched;
+use crate::printing::print_line;
+use crate::texts::{name_text, replaced_text};
+use clap::ArgMatches;
+use fw_adding::{AddFault, Document, Outcome, add_document};
+use fw_command_line::{DIR, DRY_RUN, FILES, ORIGIN, YES};
+use fw_console::{Fault, WRONG_USE, advised};
+use fw_disk::Volume;
+use fw_entry::is_origin;
+use fw_recover::Store;
+use fw_snapshot::State;
+use std::process::ExitCode;
+
+/// Adds the files that the options name.
+pub fn add_files(rt: &HostRuntime, options: &ArgMatches<'_>) -> Result<ExitCode, Fault> {
+    let origin = options.get_str(ORIGIN).unwrap_or("");
+    if !is_origin(origin.as_bytes()) {
+        return Ok(wrong_origin(rt, origin));
+    }
+    let job = Job {
+        origin,
+        is_dry: options.get_flag(DRY_RUN),
+        may_change_key: options.get_flag(YES),
+    };
+    let folder = options.get_str(DIR).unwrap_or("");
+    let done = add_into(rt, folder, &job, options.get_strs(FILES).unwrap_or(&[]));
+    Ok(advised(rt, folder, done))
+}
+
+// Says that the name of the origin is none.
+fn wrong_origin(rt: &HostRuntime, origin: &str) -> ExitCode
+    ensures { exit_status result ≡ wrong_use_status }
+{
+    let _ = eprintln!(rt;
+        "focusd: --origin: {origin:?} is not 1 to 64 ASCII letters, digits, `-`, `_` and `.`, e.g. billing"
+    );
+    ExitCode::from(WRONG_USE)
+}
+
+// Adds files to the warehouse of a folder.
+fn add_into(
+    rt: &HostRuntime,
+    folder: &str,
+    job: &Job<'_>,
+    files: &[&str],
+) -> Result<ExitCode, Fault> {
+    let mut store = open_warehouse(rt, folder)?;
+    add_to(rt, &mut store, job, files)
+}
+
+// Checks files against a warehouse, and where none has a fault adds them, unless nothing is to be written.
+fn add_to<V: Volume>(
+    rt: &HostRuntime,
+    store: &mut Store<V>,
+    job: &Job<'_>,
+    files: &[&str],
+) -> Result<ExitCode, Fault> {
+    let mut trial = Trial::new(rt.alloc(), store.state().state())?;
+    if !check_all(rt, job, &mut trial, files)? {
+        return Ok(nothing_added(rt));
+    }
+    if job.is_dry {
+        return Ok(ExitCode::SUCCESS);
+    }
+    add_all(rt, store, job, files, trial.documents())
+}
+
+// Says that a fault kept all files out.
+fn nothing_added(rt: &HostRuntime) -> ExitCode {
+    let _ = eprintln!(rt; "focusd: nothing was added");
+    ExitCode::FAILURE
+}
+
+// Adds documents, each of the file at its place.
+fn add_all<V: Volume>(
+    rt: &HostRuntime,
+    store: &mut Store<V>,
+    job: &Job<'_>,
+    files: &[&str],
+    documents: &[Document],
+) -> Result<ExitCode, Fault> {
+    for (file, document) in files.iter().zip(documents) {
+        if !add_one(rt, store, job, file, document)? {
+            return Ok(ExitCode::FAILURE);
+        }
+    }
+    Ok(ExitCode::SUCCESS)
+}
+
+// Adds a document, and says what became of it; false where it was refused, which was said.
+fn add_one<V: Volume>(
+    rt: &HostRuntime,
+    store: &mut Store<V>,
+    job: &Job<'_>,
+    file: &str,
+    document: &Document,
+) -> Result<bool, Fault> {
+    let replaced = replaced_text(rt.alloc(), store.state().state(), document)?;
+    match add_document(rt.alloc(), store, job.origin, document) {
+        Ok(outcome) => {
+            let state = store.state().state();
+            print_outcome(rt, state, job, file, document, outcome, replaced.as_str())
+        }
+        Err(AddFault::Store(fault)) => Err(Fault::Store(fault)),
+        Err(fault) => say_refusal(rt, store.state().state(), job.origin, file, document, fault),
+    }
+}
+
+// Says what became of a document.
+fn print_outcome(
+    rt: &HostRuntime,
+    state: &State,
+    job: &Job<'_>,
+    file: &str,
+    document: &Document,
+    outcome: Outcome,
+    replaced: &str,
+) -> Result<bool, Fault> {
+    let name = name_text(rt.alloc(), document)?;
+    match outcome {
+        Outcome::Added => {
+            print_added(rt, state, job, file, name.as_str(), replaced)?;
+            warn_unmatched(rt, state, file, document)?;
+        }
+        Outcome::Same => print_same(rt, file, name.as_str())?,
+    }
+    Ok(true)
+}
+
+// Says that a document was added, as the last entry.
+fn print_added(
+    rt: &HostRuntime,
+    state: &State,
+    job: &Job<'_>,
+    file: &str,
+    name: &str,
+    replaced: &str,
+) -> Result<(), Fault> {
+    let entry = state.entries();
+    let origin = job.origin;
+    let number = last_number(state);
+    let line = format!(in rt.alloc(); "{name}{replaced}: entry {entry} ({origin} {number})")?;
+    print_line(rt, file, line.as_str())
+}
+
+// The number of the last entry among those of its origin.
+fn last_number(state: &State) -> u64 {
+    let heads = state.heads();
+    let count = heads.len();
+    if count == 0 {
+        return 0;
+    }
+    heads.get(count - 1).seq()
+}

@@ -1,0 +1,229 @@
+//! All files are read and checked before the first is added.
+use crate::faults::{say_fault, say_refusal};
+use crate::files::text_of;
+use crate::matched::print_matches;
+use crate::printing::print_line;
+use crate::texts::{document_text, name_text, replaced_text};
+use fw_adding::{AddFault, Document, Outcome, Tried, read_document, try_document};
+use fw_console::Fault;
+use fw_snapshot::State;
+use std::alloc::{AllocError, Global};
+
+/// What the options ask for.
+#[derive(Drop)]
+pub(crate) struct Job<'a> {
+    /// Who sends the files.
+    pub(crate) origin: &'a str,
+    /// Whether nothing is written.
+    pub(crate) is_dry: bool,
+    /// Whether a policy may take the place of one by another key.
+    pub(crate) may_change_key: bool,
+}
+
+/// What a warehouse would become by the files that were checked.
+#[derive(Drop)]
+pub(crate) struct Trial {
+    /// The warehouse with these files.
+    state: State,
+    /// What the files hold, in order.
+    documents: Vec<Document>,
+}
+
+impl Trial {
+    /// No file was checked yet.
+    pub(crate) fn new(alloc: Global, state: &State) -> Result<Trial, AllocError> {
+        Ok(Trial {
+            state: state.copy()?,
+            documents: Vec::new(alloc),
+        })
+    }
+
+    /// What the files hold, in order.
+    pub(crate) fn documents(&self) -> &[Document] {
+        self.documents.as_slice()
+    }
+
+    // One more file is checked, after which the warehouse would be this.
+    fn add(&mut self, document: Document, after: State) -> Result<(), AllocError> {
+        self.documents.push(document)?;
+        self.state = after;
+        Ok(())
+    }
+}
+
+/// Checks files in order, each against the warehouse and the files before it; false where one has a fault. Each fault is said, and where nothing
+/// is to be written also what each file is.
+pub(crate) fn check_all(
+    rt: &HostRuntime,
+    job: &Job<'_>,
+    trial: &mut Trial,
+    files: &[&str],
+) -> Result<bool, Fault> {
+    let mut are_sound = true;
+    for file in files {
+        are_sound = check_file(rt, job, trial, file)? && are_sound;
+    }
+    Ok(are_sound)
+}
+
+// Checks a file; false where it has a fault, which was said.
+fn check_file(
+    rt: &HostRuntime,
+    job: &Job<'_>,
+    trial: &mut Trial,
+    file: &str,
+) -> Result<bool, Fault> {
+    match text_of(rt, file)? {
+        Some(text) => check_text(rt, job, trial, file, text.as_slice()),
+        None => Ok(false),
+    }
+}
+
+// Checks the text of a file.
+fn check_text(
+    rt: &HostRuntime,
+    job: &Job<'_>,
+    trial: &mut Trial,
+    file: &str,
+    text: &[u8],
+) -> Result<bool, Fault> {
+    match read_document(rt.alloc(), text) {
+        Ok(document) => check_document(rt, job, trial, file, document),
+        Err(fault) => say_fault(rt, file, text, fault),
+    }
+}
+
+// Checks what a file holds.
+fn check_document(
+    rt: &HostRuntime,
+    job: &Job<'_>,
+    trial: &mut Trial,
+    file: &str,
+    document: Document,
+) -> Result<bool, Fault> {
+    match tried(rt, job, &trial.state, file, &document)? {
+        Some(after) => {
+            trial.add(document, after)?;
+            Ok(true)
+        }
+        None => Ok(false),
+    }
+}
+
+// What a warehouse would become by what a file holds; `None` where it is refused, which was said.
+fn tried(
+    rt: &HostRuntime,
+    job: &Job<'_>,
+    state: &State,
+    file: &str,
+    document: &Document,
+) -> Result<Option<State>, Fault> {
+    if job.is_dry {
+        print_document(rt, state, file, document)?;
+    }
+    if !job.may_change_key && changes_key(state, document) {
+        say_other_key(rt, state, file, document)?;
+        return Ok(None);
+    }
+    match try_document(rt.alloc(), state, job.origin, document) {
+        Ok(tried) => taken(rt, job, state, file, document, tried),
+        Err(AddFault::Store(fault)) => Err(Fault::Store(fault)),
+        Err(fault) => {
+            let _said = say_refusal(rt, state, job.origin, file, document, fault)?;
+            Ok(None)
+        }
+    }
+}
+
+// What a warehouse would become; where nothing is to be written, that is said.
+fn taken(
+    rt: &HostRuntime,
+    job: &Job<'_>,
+    state: &State,
+    file: &str,
+    document: &Document,
+    tried: Tried,
+) -> Result<Option<State>, Fault> {
+    if job.is_dry {
+        print_tried(rt, job, state, file, document, &tried)?;
+        print_matches(rt, state, file, document)?;
+    }
+    Ok(Some(tried.after))
+}
+
+// Whether a document is a policy by another key than that of the policy which holds.
+fn changes_key(state: &State, document: &Document) -> bool {
+    match (document, state.policy()) {
+        (Document::Policy(policy), Some(held)) => policy.key() != held.key(),
+        _ => false,
+    }
+}
+
+// Says that a policy takes the place of one by another key, which has to be asked for.
+fn say_other_key(
+    rt: &HostRuntime,
+    state: &State,
+    file: &str,
+    document: &Document,
+) -> Result<(), Fault> {
+    let name = name_text(rt.alloc(), document)?;
+    let replaced = replaced_text(rt.alloc(), state, document)?;
+    let _ = eprintln!(rt;
+        "{file}: {name}{replaced}, whose key is another one: costs by the old key are not shared any more; give --yes to add it"
+    );
+    Ok(())
+}
+
+// Says what a file is.
+fn print_document(
+    rt: &HostRuntime,
+    state: &State,
+    file: &str,
+    document: &Document,
+) -> Result<(), Fault> {
+    let text = document_text(rt.alloc(), state.currency(), document)?;
+    print_line(rt, file, text.as_str())
+}
+
+/// Says that a document is there already.
+pub(crate) fn print_same(rt: &HostRuntime, file: &str, name: &str) -> Result<(), Fault> {
+    let line = format!(in rt.alloc(); "{name} is there already, the same")?;
+    print_line(rt, file, line.as_str())
+}
+
+// Says what would become of a file.
+fn print_tried(
+    rt: &HostRuntime,
+    job: &Job<'_>,
+    state: &State,
+    file: &str,
+    document: &Document,
+    tried: &Tried,
+) -> Result<(), Fault> {
+    let name = name_text(rt.alloc(), document)?;
+    match tried.outcome {
+        Outcome::Added => print_next(rt, job, state, file, document, tried),
+        Outcome::Same => print_same(rt, file, name.as_str()),
+    }
+}
+
+// Says that a document would be added.
+fn print_next(
+    rt: &HostRuntime,
+    job: &Job<'_>,
+    state: &State,
+    file: &str,
+    document: &Document,
+    tried: &Tried,
+) -> Result<(), Fault> {
+    let alloc = rt.alloc();
+    let name = name_text(alloc, document)?;
+    let replaced = replaced_text(alloc, state, document)?;
+    let entry = tried.after.entries();
+    let origin = job.origin;
+    let number = tried.number;
+    let line = format!(in alloc;
+        "{name}{replaced}: it would be entry {entry} ({origin} {number})"
+    )?;
+    print_line(rt, file, line.as_str())
+}

@@ -1,0 +1,366 @@
+//! Faults of files, as a person reads them.
+use crate::texts::name_text;
+use fw_adding::{
+    AddFault, Document, DocumentFault, Kind, Located, agree_in, expected_in_commitment,
+    expected_in_policy, locate, registered, unknown_name,
+};
+use fw_commitment::{CommitmentFault, CommitmentField};
+use fw_console::Fault;
+use fw_entry::EntryFault;
+use fw_policy::{PolicyFault, PolicyField};
+use fw_recover::StoreFault;
+use fw_snapshot::{Conflict, State};
+use fw_table::shown_text;
+use fw_terms::Commitment;
+use std::alloc::{AllocError, Global};
+
+/// The longest part of a line that is shown, in characters.
+const SHOWN: usize = 60;
+
+/// Says why a text is no document. The answer is false.
+pub(crate) fn say_fault(
+    rt: &HostRuntime,
+    file: &str,
+    text: &[u8],
+    fault: DocumentFault,
+) -> Result<bool, Fault> {
+    match fault {
+        DocumentFault::NoMemory => Err(Fault::NoMemory),
+        DocumentFault::Syntax => say(
+            rt,
+            file,
+            "it is no TOML in UTF-8: texts stand in quotes, and each purchase or rule begins with a line [[purchase]] or [[rule]] (C1 Syntax)",
+        ),
+        DocumentFault::Neither => say(
+            rt,
+            file,
+            "it is neither a commitment, which has id, category, start, hours, capacity and purchase, nor a policy, which has key and rule",
+        ),
+        DocumentFault::Both => say(
+            rt,
+            file,
+            "it has fields of a commitment and of a policy: put each into a file of its own",
+        ),
+        DocumentFault::Commitment(fault) => say_commitment(rt, file, text, fault),
+        DocumentFault::Policy(fault) => say_policy(rt, file, text, fault),
+    }
+}
+
+// Says a sentence about a file. The answer is false.
+fn say(rt: &HostRuntime, file: &str, sentence: &str) -> Result<bool, Fault> {
+    let _ = eprintln!(rt; "{file}: {sentence}");
+    Ok(false)
+}
+
+// Says why a text is no commitment.
+fn say_commitment(
+    rt: &HostRuntime,
+    file: &str,
+    text: &[u8],
+    fault: CommitmentFault,
+) -> Result<bool, Fault> {
+    match fault {
+        CommitmentFault::NoMemory => Err(Fault::NoMemory),
+        CommitmentFault::Syntax => say(rt, file, "it is no TOML in UTF-8 (C1 Syntax)"),
+        CommitmentFault::Field(CommitmentField::Unknown) => say_unknown(
+            rt,
+            file,
+            text,
+            Kind::Commitment,
+            expected_in_commitment(CommitmentField::Unknown),
+            "C2 Field",
+        ),
+        CommitmentFault::Field(field) => {
+            let place = Place::of_commitment(field);
+            say_field(
+                rt,
+                file,
+                text,
+                place,
+                expected_in_commitment(field),
+                "C2 Field",
+            )
+        }
+        CommitmentFault::Limit(field) => {
+            let place = Place::of_commitment(field);
+            say_field(
+                rt,
+                file,
+                text,
+                place,
+                expected_in_commitment(field),
+                "C3 Limit",
+            )
+        }
+    }
+}
+
+// Says why a text is no policy.
+fn say_policy(
+    rt: &HostRuntime,
+    file: &str,
+    text: &[u8],
+    fault: PolicyFault,
+) -> Result<bool, Fault> {
+    match fault {
+        PolicyFault::NoMemory => Err(Fault::NoMemory),
+        PolicyFault::Syntax => say(rt, file, "it is no TOML in UTF-8 (P1 Syntax)"),
+        PolicyFault::Field(PolicyField::Unknown) => say_unknown(
+            rt,
+            file,
+            text,
+            Kind::Policy,
+            expected_in_policy(PolicyField::Unknown),
+            "P2 Field",
+        ),
+        PolicyFault::Field(field) => {
+            let place = Place::of_policy(field);
+            say_field(rt, file, text, place, expected_in_policy(field), "P2 Field")
+        }
+        PolicyFault::Limit(field) => {
+            let place = Place::of_policy(field);
+            say_field(rt, file, text, place, expected_in_policy(field), "P3 Limit")
+        }
+        PolicyFault::DoubleFrom => say(
+            rt,
+            file,
+            "two rules give the cost of one group away: join them into one with all its targets (P4 DoubleFrom)",
+        ),
+        PolicyFault::TargetIsFrom => say(
+            rt,
+            file,
+            "a rule gives to a group that a rule gives away: costs move once (P5 TargetIsFrom)",
+        ),
+    }
+}
+
+// Where a field is looked for: in a table of this name, or in the document itself.
+#[derive(Clone, Copy, Drop)]
+struct Place {
+    table: &'static str,
+    field: &'static str,
+}
+
+impl Place {
+    fn of_commitment(field: CommitmentField) -> Place {
+        Place {
+            table: "",
+            field: field.name(),
+        }
+    }
+
+    fn of_policy(field: PolicyField) -> Place {
+        let table = match field {
+            PolicyField::From | PolicyField::To | PolicyField::Proportional => "rule",
+            _ => "",
+        };
+        Place {
+            table,
+            field: field.name(),
+        }
+    }
+}
+
+// Says what is wrong with a field.
+fn say_field(
+    rt: &HostRuntime,
+    file: &str,
+    text: &[u8],
+    place: Place,
+    expected: &str,
+    code: &str,
+) -> Result<bool, Fault> {
+    let document = str::from_utf8(text).unwrap_or("");
+    match locate(document, place.table, place.field) {
+        Some(found) => say_located(rt, file, found, expected, code),
+        None => {
+            let field = place.field;
+            let _ = eprintln!(rt; "{file}: {field} is missing: {expected} ({code})");
+            Ok(false)
+        }
+    }
+}
+
+// Says what is wrong with a field that stands in a line.
+fn say_located(
+    rt: &HostRuntime,
+    file: &str,
+    found: Located<'_>,
+    expected: &str,
+    code: &str,
+) -> Result<bool, Fault> {
+    let line = found.line;
+    let shown = first_letters(rt.alloc(), found.text)?;
+    let _ = eprintln!(rt; "{file}: line {line}: {shown}: {expected} ({code})");
+    Ok(false)
+}
+
+// The first letters of a text, as a terminal may show them.
+fn first_letters(alloc: Global, text: &str) -> Result<String, AllocError> {
+    let mut shown = String::new(alloc);
+    for letter in text.chars().take(SHOWN) {
+        shown.push(letter)?;
+    }
+    shown_text(alloc, shown.as_str())
+}
+
+// Says which name of a text is no field of what it is.
+fn say_unknown(
+    rt: &HostRuntime,
+    file: &str,
+    text: &[u8],
+    kind: Kind,
+    expected: &str,
+    code: &str,
+) -> Result<bool, Fault> {
+    match unknown_name(rt.alloc(), kind, text)? {
+        Some(name) => say_name(rt, file, text, name.as_str(), expected, code),
+        None => {
+            let _ = eprintln!(rt; "{file}: {expected} ({code})");
+            Ok(false)
+        }
+    }
+}
+
+// Says that a name is no field.
+fn say_name(
+    rt: &HostRuntime,
+    file: &str,
+    text: &[u8],
+    name: &str,
+    expected: &str,
+    code: &str,
+) -> Result<bool, Fault> {
+    let document = str::from_utf8(text).unwrap_or("");
+    let found = locate(document, "", name).or(locate(document, "rule", name));
+    match found {
+        Some(found) => say_located(rt, file, found, expected, code),
+        None => {
+            let _ = eprintln!(rt; "{file}: {name:?} is no field of it: {expected} ({code})");
+            Ok(false)
+        }
+    }
+}
+
+/// Says why a document was refused. The answer is false.
+pub(crate) fn say_refusal(
+    rt: &HostRuntime,
+    state: &State,
+    origin: &str,
+    file: &str,
+    document: &Document,
+    fault: AddFault,
+) -> Result<bool, Fault> {
+    let name = name_text(rt.alloc(), document)?;
+    match fault {
+        AddFault::NoMemory | AddFault::Store(StoreFault::NoMemory) => Err(Fault::NoMemory),
+        AddFault::Store(fault) => Err(Fault::Store(fault)),
+        AddFault::Conflict(conflict) => {
+            say_conflict(rt, state, file, document, name.as_str(), conflict)
+        }
+        AddFault::Entry(fault) => say_entry(rt, file, name.as_str(), fault),
+        AddFault::NoNumber => {
+            let _ = eprintln!(rt; "{file}: {name}: the origin {origin} has no further number");
+            Ok(false)
+        }
+    }
+}
+
+// Says why a document makes no entry.
+fn say_entry(rt: &HostRuntime, file: &str, name: &str, fault: EntryFault) -> Result<bool, Fault> {
+    let code = match fault {
+        EntryFault::NoMemory => return Err(Fault::NoMemory),
+        EntryFault::Origin => "E1 Origin",
+        EntryFault::Seq => "E2 Seq",
+        EntryFault::TooLarge => "E3 TooLarge",
+    };
+    let _ = eprintln!(rt; "{file}: {name}: {fault} ({code})");
+    Ok(false)
+}
+
+// Says why a document doesn't go with what was accepted before.
+fn say_conflict(
+    rt: &HostRuntime,
+    state: &State,
+    file: &str,
+    document: &Document,
+    name: &str,
+    conflict: Conflict,
+) -> Result<bool, Fault> {
+    let reason = match conflict {
+        Conflict::DoubleId => return say_double(rt, state, file, document, name),
+        Conflict::IdInUse => {
+            "a row of the warehouse carries this id as its CommitmentDiscountId: the provider has amortised the commitment in its rows already, so don't add it (J3 IdInUse)"
+        }
+        Conflict::TooManyCommitments => {
+            "the warehouse has 256 commitments, and takes no more (J5 TooManyCommitments)"
+        }
+        Conflict::Full => "the warehouse would have more than 4,194,304 rows (J1 Full)",
+        Conflict::OwnCommitment => "a row carries the id of a commitment (J4 OwnCommitment)",
+    };
+    let _ = eprintln!(rt; "{file}: {name}: {reason}");
+    Ok(false)
+}
+
+// Says that there is a commitment of the same id with other terms.
+fn say_double(
+    rt: &HostRuntime,
+    state: &State,
+    file: &str,
+    document: &Document,
+    name: &str,
+) -> Result<bool, Fault> {
+    let fields = match document {
+        Document::Commitment(commitment) => other_fields(rt.alloc(), state, commitment)?,
+        Document::Policy(_) => String::new(rt.alloc()),
+    };
+    let _ = eprintln!(rt;
+        "{file}: {name} is there already with other terms, and a commitment is never changed; the fields that differ: {fields} (J2 DoubleId)"
+    );
+    Ok(false)
+}
+
+// The names of the fields in which a commitment differs from the one of its id.
+fn other_fields(
+    alloc: Global,
+    state: &State,
+    commitment: &Commitment,
+) -> Result<String, AllocError> {
+    match registered(state.commitment_list(), commitment.id()) {
+        Some(other) => different_fields(alloc, commitment, other),
+        None => Ok(String::new(alloc)),
+    }
+}
+
+/// The fields of a commitment, in their order.
+const FIELDS: [CommitmentField; 11] = [
+    CommitmentField::Id,
+    CommitmentField::Category,
+    CommitmentField::Start,
+    CommitmentField::Hours,
+    CommitmentField::Capacity,
+    CommitmentField::Unit,
+    CommitmentField::Skus,
+    CommitmentField::Rates,
+    CommitmentField::SubAccount,
+    CommitmentField::Tags,
+    CommitmentField::Purchase,
+];
+
+// The names of the fields in which two commitments differ.
+fn different_fields(
+    alloc: Global,
+    one: &Commitment,
+    other: &Commitment,
+) -> Result<String, AllocError> {
+    let mut names = String::new(alloc);
+    for field in FIELDS {
+        if !agree_in(one, other, field) {
+            if !names.is_empty() {
+                names.push_str(", ")?;
+            }
+            names.push_str(field.name())?;
+        }
+    }
+    Ok(names)
+}

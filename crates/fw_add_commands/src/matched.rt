@@ -1,0 +1,198 @@
+//! The rows that a commitment applies to, in words.
+use crate::printing::print_line;
+use fw_adding::{Document, Matches, matches_of};
+use fw_console::Fault;
+use fw_snapshot::State;
+use fw_table::{count_text, shown_text};
+use fw_terms::{Commitment, Terms};
+use std::alloc::{AllocError, Global};
+
+/// Says how many rows of a warehouse a commitment applies to, and why it doesn't apply to others of its SKUs. Of a policy nothing is said.
+pub(crate) fn print_matches(
+    rt: &HostRuntime,
+    state: &State,
+    file: &str,
+    document: &Document,
+) -> Result<(), Fault> {
+    match document {
+        Document::Commitment(commitment) => print_matched(rt, state, file, commitment),
+        Document::Policy(_) => Ok(()),
+    }
+}
+
+// Says how many rows a commitment applies to, and why not to others.
+fn print_matched(
+    rt: &HostRuntime,
+    state: &State,
+    file: &str,
+    commitment: &Commitment,
+) -> Result<(), Fault> {
+    let alloc = rt.alloc();
+    let matches = matches_of(alloc, commitment, state.segments())?;
+    let lines = match_lines(alloc, commitment, &matches)?;
+    for line in lines.iter() {
+        print_line(rt, file, line.as_str())?;
+    }
+    Ok(())
+}
+
+/// Warns on standard error where a commitment applies to no row, and rows of its SKUs are in another unit.
+pub(crate) fn warn_unmatched(
+    rt: &HostRuntime,
+    state: &State,
+    file: &str,
+    document: &Document,
+) -> Result<(), Fault> {
+    match document {
+        Document::Commitment(commitment) => warn_units(rt, state, file, commitment),
+        Document::Policy(_) => Ok(()),
+    }
+}
+
+// Warns where a commitment applies to no row, and rows of its SKUs are in another unit.
+fn warn_units(
+    rt: &HostRuntime,
+    state: &State,
+    file: &str,
+    commitment: &Commitment,
+) -> Result<(), Fault> {
+    let alloc = rt.alloc();
+    let matches = matches_of(alloc, commitment, state.segments())?;
+    if matches.applies == 0 && is_in_other_units(&matches) {
+        let line = unit_line(alloc, commitment, &matches)?;
+        let _ = eprintln!(rt; "{file}: {line}");
+    }
+    Ok(())
+}
+
+// Whether there are rows in another unit, or in none.
+fn is_in_other_units(matches: &Matches<'_>) -> bool {
+    matches.no_unit > 0 || !matches.other_units.is_empty()
+}
+
+// The lines on how many rows a commitment applies to.
+fn match_lines(
+    alloc: Global,
+    commitment: &Commitment,
+    matches: &Matches<'_>,
+) -> Result<Vec<String>, AllocError> {
+    let mut lines = Vec::new(alloc);
+    let rows = rows_text(alloc, matches.applies)?;
+    lines.push(format!(in alloc; "it applies to {rows}")?)?;
+    if is_in_other_units(matches) {
+        lines.push(unit_line(alloc, commitment, matches)?)?;
+    }
+    push_reasons(alloc, &mut lines, commitment, matches)?;
+    if matches.applies == 0 && lines.len() == 1 {
+        let skus = sku_words(commitment.terms());
+        lines.push(format!(in alloc; "no row of the warehouse is of {skus}")?)?;
+    }
+    Ok(lines)
+}
+
+// Adds a line for each other reason why a commitment doesn't apply to rows of its SKUs.
+fn push_reasons(
+    alloc: Global,
+    lines: &mut Vec<String>,
+    commitment: &Commitment,
+    matches: &Matches<'_>,
+) -> Result<(), AllocError> {
+    let skus = sku_words(commitment.terms());
+    let reasons = [
+        (matches.other_account, "of another sub-account"),
+        (matches.out_of_term, "outside of the term"),
+        (
+            matches.not_eligible,
+            "not eligible: they are no use of exactly one hour, carry the id of a commitment, are corrections, or have no quantity above 0 or a cost below 0",
+        ),
+    ];
+    for (count, reason) in reasons {
+        push_reason(alloc, lines, skus, count, reason)?;
+    }
+    Ok(())
+}
+
+// Adds the line of a reason, where it holds of a row.
+fn push_reason(
+    alloc: Global,
+    lines: &mut Vec<String>,
+    skus: &str,
+    count: u64,
+    reason: &str,
+) -> Result<(), AllocError> {
+    if count == 0 {
+        return Ok(());
+    }
+    let rows = rows_text(alloc, count)?;
+    let verb = if count == 1 { "is" } else { "are" };
+    lines.push(format!(in alloc; "{rows} of {skus} {verb} {reason}")?)?;
+    Ok(())
+}
+
+// How many rows are in the unit of a commitment, and how many in which others.
+fn unit_line(
+    alloc: Global,
+    commitment: &Commitment,
+    matches: &Matches<'_>,
+) -> Result<String, AllocError> {
+    let unit = shown_text(alloc, unit_of(commitment.terms()))?;
+    let rows = rows_text(alloc, matches.applies)?;
+    let verb = if matches.applies == 1 {
+        "matches"
+    } else {
+        "match"
+    };
+    let mut line = format!(in alloc; "{rows} {verb} unit \"{unit}\"")?;
+    push_units(alloc, &mut line, sku_words(commitment.terms()), matches)?;
+    Ok(line)
+}
+
+// Adds how many rows are in which other units.
+fn push_units(
+    alloc: Global,
+    line: &mut String,
+    skus: &str,
+    matches: &Matches<'_>,
+) -> Result<(), AllocError> {
+    for (unit, count) in matches.other_units.iter() {
+        let rows = rows_text(alloc, *count)?;
+        let verb = have(*count);
+        let unit = shown_text(alloc, unit)?;
+        line.push_str(format!(in alloc; "; {rows} of {skus} {verb} \"{unit}\"")?.as_str())?;
+    }
+    if matches.no_unit > 0 {
+        let rows = rows_text(alloc, matches.no_unit)?;
+        let verb = have(matches.no_unit);
+        line.push_str(format!(in alloc; "; {rows} of {skus} {verb} no unit")?.as_str())?;
+    }
+    Ok(())
+}
+
+// The verb of so many rows.
+fn have(count: u64) -> &'static str {
+    if count == 1 { "has" } else { "have" }
+}
+
+// The unit of terms to a quantity.
+fn unit_of(terms: &Terms) -> &str {
+    match terms {
+        Terms::Usage { unit, .. } => unit.as_str(),
+        Terms::Spend { .. } => "",
+    }
+}
+
+// The SKUs of terms, in words.
+fn sku_words(terms: &Terms) -> &'static str {
+    let count = match terms {
+        Terms::Usage { skus, .. } => skus.len(),
+        Terms::Spend { rates } => rates.len(),
+    };
+    if count == 1 { "this SKU" } else { "these SKUs" }
+}
+
+// So many rows, in words.
+fn rows_text(alloc: Global, count: u64) -> Result<String, AllocError> {
+    let number = count_text(alloc, count)?;
+    let word = if count == 1 { "row" } else { "rows" };
+    format!(in alloc; "{number} {word}")
+}

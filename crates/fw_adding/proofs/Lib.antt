@@ -1,0 +1,2 @@
+mod KindFacts
+mod TextFacts

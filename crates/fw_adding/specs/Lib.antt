@@ -1,0 +1,5 @@
+pub mod Kinds
+pub mod Documents
+pub mod Adding
+pub mod Matching
+pub mod Fields

@@ -1,0 +1,87 @@
+//! `focusd add`: commitments and policies are taken from TOML files into a warehouse.
+ghost use Rattle.std.specs.Prelude.{◌≡◌, Some};
+ghost use Rattle.clap.specs.declared.builder.action.ArgAction.TheVariants.{SetTrue};
+
+use crate::ids::{DRY_RUN, ORIGIN, YES};
+use crate::options::{command_with, files_argument, folder_option};
+use clap::{Arg, ArgAction, Command};
+use std::alloc::{AllocError, Global};
+
+const HELP: &str =
+    "Each FILE is one commitment or one policy. Its top-level names say which of the two it is: `category`, `start`, `hours`,
+`capacity`, `unit`, `skus`, `rates` or `purchase` make it a commitment, `key` or `rule` a policy. `-` is standard input.
+
+All files are read and checked first. Where one has a fault, that is printed with its line, and nothing is added. Then each
+file is added in turn, as the next entry of the origin NAME: 1 to 64 ASCII letters, digits, `-`, `_` and `.`.
+
+A file that was added before is known again, and changes nothing. A commitment is never changed: one of the same id with other
+terms is refused. A policy takes the place of the one that holds; where its key is another one, only with --yes.
+
+With --dry-run nothing is written. It says what each file is, and for a commitment how many rows of the warehouse it applies to,
+and why not to others of its SKUs. So a unit that is misspelled is seen before the commitment is there for good.
+
+Example: a commitment of two hours of use each hour, bought for September
+  printf '%s\\n' 'id = \"cd-1\"' 'category = \"Usage\"' 'start = \"2024-09-01T00:00Z\"' 'hours = 720' \\
+    'capacity = \"2\"' 'unit = \"Hours\"' 'skus = [\"vm\"]' '[[purchase]]' 'at = \"2024-09-01T00:00Z\"' 'billed = \"14.4\"' > cd-1.toml
+  focusd add --dir costs --origin billing --dry-run cd-1.toml
+  focusd add --dir costs --origin billing cd-1.toml
+
+  prints
+    cd-1.toml: commitment cd-1: entry 5 (billing 3)
+
+Exit status: 0 where each file was added or was there already, 1 where a file or the warehouse was refused or failed, 2 where the
+command line is wrong.";
+
+// The option that names who sends the files.
+fn origin_option<'a>(alloc: Global) -> Arg<'a> {
+    Arg::new(alloc, ORIGIN)
+        .long("origin")
+        .value_name("NAME")
+        .required(true)
+        .help("Who sends the files")
+}
+
+// The option that writes nothing.
+fn dry_run_option<'a>(alloc: Global) -> Arg<'a>
+    ensures { result.action ≡ Some SetTrue }
+{
+    Arg::new(alloc, DRY_RUN)
+        .long("dry-run")
+        .action(ArgAction::SetTrue)
+        .help("Writes nothing: says what each file is, and which rows it would apply to")
+}
+
+// The option that lets a policy take the place of one by another key.
+fn yes_option<'a>(alloc: Global) -> Arg<'a>
+    ensures { result.action ≡ Some SetTrue }
+{
+    Arg::new(alloc, YES)
+        .long("yes")
+        .action(ArgAction::SetTrue)
+        .help("Lets a policy take the place of one by another key")
+}
+
+// The options, in the order in which the help has them.
+fn options<'a>(alloc: Global) -> Result<Vec<Arg<'a>>, AllocError> {
+    Ok(vec![in alloc;
+        folder_option(alloc),
+        origin_option(alloc),
+        dry_run_option(alloc),
+        yes_option(alloc),
+        files_argument(
+            alloc,
+            "A TOML with a commitment or a policy, or `-` for standard input",
+        ),
+    ]?)
+}
+
+/// The command's part of the command line.
+pub(crate) fn command<'a>(alloc: Global) -> Result<Command<'a>, AllocError> {
+    command_with(
+        alloc,
+        "add",
+        "Takes commitments and policies from TOML files into a warehouse",
+        HELP,
+        options(alloc)?,
+    )
+}
