@@ -1334,12 +1334,12 @@ class Bodies(unittest.TestCase):
         targets = struct.pack("<I", 2) + self.text("data") + struct.pack("<Q", 1) + self.text("web") + struct.pack("<Q", 3)
         return self.text("team") + struct.pack("<I", 1) + self.text("platform") + b"\1" + targets
 
-    def side(self, generation, *segments):
-        """A side of this generation whose body has the entries of README's script, with the post's rows in these segments, and whose log is empty."""
+    def side(self, form, generation, *segments):
+        """A side of this form and generation whose body has the entries of README's script, with the post's rows in these segments, and whose log is empty."""
         kinds = b"\2" + self.commitment(), b"\1" + struct.pack("<I", len(self.ROWS)), b"\3" + self.policy()
         heads = b"".join(self.text("billing") + struct.pack("<Q", number) + kind for number, kind in enumerate(kinds, 1))
         body = self.text("USD") + struct.pack("<Q", len(kinds)) + heads + struct.pack("<I", len(segments)) + b"".join(segments)
-        return b"\1FWHOUSE1" + struct.pack("<QQ", generation, len(body)) + body + b"\0"
+        return b"\1" + form + struct.pack("<QQ", generation, len(body)) + body + b"\0"
 
     def says_what_readme_says(self, folder):
         """README's script, sent again, and the commands for people."""
@@ -1358,15 +1358,16 @@ class Bodies(unittest.TestCase):
             ("the first one by one, the second by column", [self.in_turn(first), self.by_column(second)]),
             ("by column", [self.by_column(self.ROWS)]),
         ):
-            with self.subTest(name), tempfile.TemporaryDirectory() as folder:
-                left, right = pathlib.Path(folder) / "left", pathlib.Path(folder) / "right"
-                left.write_bytes(self.side(1, *segments))
-                right.write_bytes(b"")
-                self.says_what_readme_says(folder)
-                self.assertEqual((left.read_bytes(), right.read_bytes()), (self.side(1, *segments), b""))
-                self.assertEqual(focusd("checkpoint", "--dir", folder), (0, "checkpointed\n", ""))
-                self.assertEqual(right.read_bytes(), self.side(2, self.by_column(self.ROWS)))
-                self.says_what_readme_says(folder)
+            for form in (b"FWHOUSE1", b"FWHOUSE2"):
+                with self.subTest(name, form=form), tempfile.TemporaryDirectory() as folder:
+                    left, right = pathlib.Path(folder) / "left", pathlib.Path(folder) / "right"
+                    left.write_bytes(self.side(form, 1, *segments))
+                    right.write_bytes(b"")
+                    self.says_what_readme_says(folder)
+                    self.assertEqual((left.read_bytes(), right.read_bytes()), (self.side(form, 1, *segments), b""))
+                    self.assertEqual(focusd("checkpoint", "--dir", folder), (0, "checkpointed\n", ""))
+                    self.assertEqual(right.read_bytes(), self.side(b"FWHOUSE2", 2, self.by_column(self.ROWS)))
+                    self.says_what_readme_says(folder)
 
 
 class KeptVolumes(unittest.TestCase):
@@ -1398,6 +1399,37 @@ class KeptVolumes(unittest.TestCase):
             for more in (questions, self.MORE, questions, b"checkpoint\n", questions):
                 self.assertEqual(focusd("run", "--dir", folder, given=more), (0, self.answers(made, more), ""), name)
                 made += more
+
+    def words(self, folder):
+        """The magic words of both sides, none where there is no side, and that of the side in use."""
+        sides = [(pathlib.Path(folder) / file).read_bytes() for file in ("left", "right")]
+        there = [side for side in sides if len(side) >= 26 and side[0] == 1]
+        used = max(there, key=lambda side: int.from_bytes(side[9:17], "little"))
+        return [side[1:9] for side in sides], used[1:9]
+
+    def test_each_keeps_its_form_until_a_checkpoint(self):
+        """A post leaves the form of a side as it is. A checkpoint makes the other side of the second form, and changes no report."""
+        questions = (HERE / "volumes" / "questions.script").read_bytes()
+        for name in self.FOLDERS:
+            folder = self.copy(name)
+            before = self.words(folder)
+            self.assertEqual(before[1], b"FWHOUSE1", name)
+            self.done_script(folder, self.MORE)
+            self.assertEqual(self.words(folder), before, name)
+            reports = self.done_script(folder, questions)
+            self.assertEqual(focusd("checkpoint", "--dir", folder), (0, "checkpointed\n", ""), name)
+            both, used = self.words(folder)
+            self.assertEqual((used, sorted(both)), (b"FWHOUSE2", [b"FWHOUSE1", b"FWHOUSE2"]), name)
+            self.assertEqual(self.done_script(folder, questions), reports, name)
+            self.assertEqual(focusd("checkpoint", "--dir", folder), (0, "checkpointed\n", ""), name)
+            self.assertEqual(self.words(folder), ([b"FWHOUSE2"] * 2, b"FWHOUSE2"), name)
+            self.assertEqual(self.done_script(folder, questions), reports, name)
+
+    def done_script(self, folder, script):
+        """What is answered to a script, which has to end well."""
+        status, printed, said = focusd("run", "--dir", folder, given=script)
+        self.assertEqual((status, said), (0, ""))
+        return printed
 
     def test_each_is_of_the_first_form_and_has_both_sides_where_it_should(self):
         for name in self.FOLDERS:

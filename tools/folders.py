@@ -397,7 +397,7 @@ class Files:
             if len(file) < LEAST_SIDE or file[0] != 1:
                 continue
             size = int.from_bytes(file[17:25], "little")
-            if file[1:9] != b"FWHOUSE1" or file[9:17] == bytes(8) or 25 + size >= len(file):
+            if file[1:9] not in (b"FWHOUSE1", b"FWHOUSE2") or file[9:17] == bytes(8) or 25 + size >= len(file):
                 return "S2 Corrupt"
             found[side] = int.from_bytes(file[9:17], "little"), size, file
         if not found:

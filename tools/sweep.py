@@ -22,13 +22,15 @@ TOGETHER = 16
 # The most calls of the device that a run makes.
 MOST_CALLS = 999
 
+# The magic words of both forms of a side. What earlier versions wrote is of the first one, and what is written now of the second.
+FORMS = (b"FWHOUSE1", b"FWHOUSE2")
 # A side of an empty warehouse in dollars: the gate, the magic word, the generation, a body of 19 bytes, and a closed gate.
 BODY = "03000000" + b"USD".hex() + "00" * 12
 
 
-def side(generation):
+def side(generation, form=FORMS[1]):
     """The bytes of a side of an empty warehouse, of 45 bytes."""
-    return "01" + b"FWHOUSE1".hex() + generation.to_bytes(8, "little").hex() + (19).to_bytes(8, "little").hex() + BODY + "00"
+    return "01" + form.hex() + generation.to_bytes(8, "little").hex() + (19).to_bytes(8, "little").hex() + BODY + "00"
 
 
 class Wrong(Exception):
@@ -275,27 +277,29 @@ ENTRY_LEFT = {"old": (0, 0, 0, 0, 1), "new": (0, 0, 1, 1, 1), "0": (0, 0, 0, 0, 
 
 
 def entries(program):
-    """A stop leaves the entry or not. A warehouse is opened in five calls."""
+    """A stop leaves the entry or not, in the log of a side of either form. A warehouse is opened in five calls."""
     calls = ["open", "entry 1", "entry 1", "list", "close", "stop", "open", "list"]
     cases = [(left, passed, there) for left, row in ENTRY_LEFT.items() for passed, there in enumerate(row)]
     scripts = [store_script(f"{left} ever {passed + 5}", calls) for left, passed, _ in cases]
-    for (left, passed, there), answers in zip(cases, answered(program, [f"files 100 {side(1)} -"], scripts)):
-        added = ("accepted", "already 1") if passed == 4 else ("S3 Device", "S4 Failed")
-        expected = ["opened", *added, listed(int(passed == 4)), "closed", "stopped", "opened", listed(there), "end"]
-        require(answers == expected, (left, passed, answers))
-    return f"{len(cases)} runs"
+    for form in FORMS:
+        for (left, passed, there), answers in zip(cases, answered(program, [f"files 100 {side(1, form)} -"], scripts)):
+            added = ("accepted", "already 1") if passed == 4 else ("S3 Device", "S4 Failed")
+            expected = ["opened", *added, listed(int(passed == 4)), "closed", "stopped", "opened", listed(there), "end"]
+            require(answers == expected, (form, left, passed, answers))
+    return f"{len(cases) * len(FORMS)} runs"
 
 
 def making_a_side(program):
-    """A stop leaves one of both sides. A side that isn't there yet is made in six calls, a write and a sync for each of its three steps."""
+    """A stop leaves one of both sides, of which the first may be of either form. A side that isn't there yet is made in six calls, a write and a sync for each of its three steps."""
     cases = [(left, passed) for left in CHOICES for passed in range(7)]
     scripts = [store_script(f"{left} ever {passed}", ["side 2", "stop", "sides"]) for left, passed in cases]
-    for (left, passed), answers in zip(cases, answered(program, [f"files 100 {side(1)} -"], scripts)):
-        made = answers[0] == "made"
-        require(made == (passed == 6) and answers[0] in ("made", "S3 Device"), (left, passed, answers))
-        right = answers[2] == "Right 2 19" and passed >= 4 or answers[2] == "Left 1 19" and not made
-        require(right and answers[1] == "stopped", (left, passed, answers))
-    return f"{len(cases)} runs"
+    for form in FORMS:
+        for (left, passed), answers in zip(cases, answered(program, [f"files 100 {side(1, form)} -"], scripts)):
+            made = answers[0] == "made"
+            require(made == (passed == 6) and answers[0] in ("made", "S3 Device"), (form, left, passed, answers))
+            right = answers[2] == "Right 2 19" and passed >= 4 or answers[2] == "Left 1 19" and not made
+            require(right and answers[1] == "stopped", (form, left, passed, answers))
+    return f"{len(cases) * len(FORMS)} runs"
 
 
 # The checkpoints of a new warehouse: how many calls pass before each, how many it makes, and the generation before. The first one makes a Right that

@@ -20,7 +20,7 @@ from store_runs import (  # noqa: E402
 )  # fmt: skip
 
 # A warehouse without entries, and the frame of a first one, a policy, in its log.
-LEFT = bytes.fromhex("01 4657484f55534531 0100000000000000 1300000000000000 03000000 555344 0000000000000000 00000000 00")
+LEFT = bytes.fromhex("01 4657484f55534532 0100000000000000 1300000000000000 03000000 555344 0000000000000000 00000000 00")
 FRAME = bytes.fromhex("01 1b000000 01000000 0100000061 0100000000000000 03 0100000074 00000000 00")
 # A run that creates a warehouse and stores this entry, as it has to order its calls.
 CREATED = [

@@ -44,8 +44,7 @@ brought_at kind.Post = seen post rows_at
 brought_at kind.Commit = seen commit commitment_at
 brought_at kind.SetPolicy = seen set_policy policy_at
 
--- a byte for the kind, and what a command of this kind brings; a kind that the form doesn't have is a fault at its byte. The one form that there is
--- has all kinds
+-- a byte for the kind, and what a command of this kind brings; a kind that the form doesn't have is a fault at its byte. Both forms have all kinds
 unfoldable pub command_at : Form → Reading CommandValue
 command_at form = of_kind kind_meant brought_at
 

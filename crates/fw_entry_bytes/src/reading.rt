@@ -34,7 +34,7 @@ fn brought_of(alloc: Global, kind: CommandKind, bytes: &[u8]) -> Result<(Command
     }
 }
 
-/// What an entry asks for: its kind, and what a command of this kind brings. The one form that there is has all kinds.
+/// What an entry asks for: its kind, and what a command of this kind brings. Both forms have all kinds.
 #[tactic(auto, unfolding(crate::specs::Reading::command_at, fw_terms_bytes::specs::Reading::of_kind))]
 fn command_of(alloc: Global, _form: Form, bytes: &[u8]) -> Result<(Command, &[u8]), ReadError>
     ensures { Gives (λ x. (command_view x.0, x.1.now)) result (command_at _form bytes.now) }

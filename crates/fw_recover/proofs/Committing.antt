@@ -6,6 +6,7 @@ use Rattle.fw_disk.specs.declared.volume.Side.{Side}
 use Rattle.fw_disk.specs.Volume.{Image, View, LeavesOnly, Settled, other}
 use Rattle.fw_disk.proofs.Moments.{started, weakened}
 use Rattle.fw_entry.specs.Entry.{EntryValue}
+use Rattle.fw_entry_bytes.specs.declared.form.Form.{Form}
 use Rattle.fw_journal.specs.Frames.{Tells}
 use Rattle.fw_journal.specs.Log.{LogState, Stands, Appends}
 use Rattle.fw_segment.specs.Groups.{group, IsGroup}
@@ -25,10 +26,10 @@ use Rattle.fw_recover.proofs.Judged.{payload_some, length-group}
 use Rattle.fw_recover.proofs.Standing.{by_side, no_more, stands_same}
 
 -- where nothing is pending each image stands for what is in use
-pub each_stands : (g : ℕ) (log : LogState) (h : History) (v : View) → IsFresh g log h v → EachStandsFor h v
-each_stands g log h v fresh c now = stands_same h v.seen c fresh.standing (λ s. fresh.settled s c now)
+pub each_stands : (form : Form) (g : ℕ) (log : LogState) (h : History) (v : View) → IsFresh form g log h v → EachStandsFor h v
+each_stands form g log h v fresh c now = stands_same h v.seen c fresh.standing (λ s. fresh.settled s c now)
 
-module _ (old new : View) (g : ℕ) (log : LogState) (h next : History) (payload : List ℕ) (fresh : IsFresh g log h old) (goes : GoesBehind h payload next) where
+module _ (old new : View) (form : Form) (g : ℕ) (log : LogState) (h next : History) (payload : List ℕ) (fresh : IsFresh form g log h old) (goes : GoesBehind h payload next) where
   abbrev u : Side
   u = fresh.standing.side
 
@@ -100,11 +101,11 @@ module _ (old new : View) (g : ℕ) (log : LogState) (h next : History) (payload
         ap (λ (s : Side). generation_of (new.seen s)) side_is ∙ at_log ∙ fresh.generation_is
 
     -- after the append the warehouse with the group is in use
-    pub fresh_after : IsFresh g after next new
+    pub fresh_after : IsFresh form g after next new
     unfolding stands_on
     fresh_after =
         let used = fresh.standing in
-        subst (λ (k : History). IsFresh g after k new) (sym goes.is) (record {
+        subst (λ (k : History). IsFresh form g after k new) (sym goes.is) (record {
           settled = settled_after;
           standing =
               stands_on h old.seen used new.seen (same_other new.seen (images new.seen now)) (same_before new.seen (images new.seen now)) (with_more h goes.more) (groups ++ goes.more ∷ [])
@@ -112,6 +113,7 @@ module _ (old new : View) (g : ℕ) (log : LogState) (h next : History) (payload
               (more_history h used.tells.state groups goes.more used.tells.is_history)
               (legal_append [] h.entries goes.more used.tells.legal goes.legal);
           in_use = fresh.in_use ∙ sym side_is;
+          form_is = fresh.form_is;
           generation_is = generation_after;
           start = start_stays ∙ fresh.start;
           stands = subst (λ (qs : List (List ℕ)). Stands after qs new) payloads_are stands;
@@ -121,7 +123,7 @@ module _ (old new : View) (g : ℕ) (log : LogState) (h next : History) (payload
 
 module _ {V : Type 0} (tells : Bool) (view : V → View) (s : StoreState V) (kept : IsKept tells view s) (told : IsTrue tells) (going : s.failed ≡ false) where
   pub each_now : EachStandsFor s.history (view s.volume)
-  each_now = each_stands s.generation s.log s.history (view s.volume) (kept.fresh told going)
+  each_now = each_stands s.form s.generation s.log s.history (view s.volume) (kept.fresh told going)
 
   -- where nothing was called each image stands for the warehouse
   pub still : (P : Image → Type 0) → ((c : Image) → (view s.volume).left_since (view s.volume).moment c → (view s.volume).may_leave c) → ((c : Image) → StandsFor s.history c → P c)
@@ -141,7 +143,7 @@ module _ {V : Type 0} (tells : Bool) (view : V → View) (inside s : StoreState 
   goes_there : GoesBehind inside.history payload next
   goes_there = subst (λ (x : StoreState V). GoesBehind x.history payload next) (sym same) goes
 
-  abbrev fresh : IsFresh inside.generation inside.log inside.history old
+  abbrev fresh : IsFresh inside.form inside.generation inside.log inside.history old
   fresh = kept.fresh told goes_on
 
   abbrev payloads : List (List ℕ)
@@ -151,7 +153,7 @@ module _ {V : Type 0} (tells : Bool) (view : V → View) (inside s : StoreState 
   run = moments (kept.log goes_on) payloads fresh.stands
 
   either_there : LeavesOnly old new (λ c. StandsFor inside.history c ⊎ StandsFor next c)
-  either_there = either_run old new inside.generation inside.log inside.history next payload fresh goes_there run
+  either_there = either_run old new inside.form inside.generation inside.log inside.history next payload fresh goes_there run
 
   pub either_since : LeavesOnly (view s.volume) new (λ c. StandsFor s.history c ⊎ StandsFor next c)
   either_since = subst (λ (x : StoreState V). LeavesOnly (view x.volume) new (λ c. StandsFor x.history c ⊎ StandsFor next c)) same either_there
@@ -165,9 +167,9 @@ module _ {V : Type 0} (tells : Bool) (view : V → View) (inside s : StoreState 
 
     -- after the append
     pub next_in_use : (after : LogState) → (after.side ≡ inside.log.side) × (after.start ≡ inside.log.start) → new.seen (other inside.log.side) ≡ old.seen (other inside.log.side) → new.may_leave new.seen
-        → ((ps : List (List ℕ)) → Stands inside.log ps old → Stands after (ps ++ payload ∷ []) new) → IsFresh inside.generation after next new
+        → ((ps : List (List ℕ)) → Stands inside.log ps old → Stands after (ps ++ payload ∷ []) new) → IsFresh inside.form inside.generation after next new
     next_in_use after place seen_other now stands =
-        fresh_after old new inside.generation inside.log inside.history next payload fresh goes_there after place.0 place.1 seen_other (λ c left. run.each c (counts old.moment c run.later left)) now
+        fresh_after old new inside.form inside.generation inside.log inside.history next payload fresh goes_there after place.0 place.1 seen_other (λ c left. run.each c (counts old.moment c run.later left)) now
         (stands payloads fresh.stands)
 
 -- the state with one entry more
@@ -194,7 +196,7 @@ added_some tells view old new payload next accepted going appended is spelled so
   history = appended.history ∙ is;
   failed = appended.failed;
   none = λ none. absurd (omega (arith, some, ap (λ (l : List EntryValue). length l) none));
-  moved = λ _. (appended.generation, appended.log ∙ ap (λ (bytes : List ℕ). let l : LogState = record { side = old.log.side; start = old.log.start; end = old.log.end + 5 + length bytes; failed = old.log.failed } in l) spelled);
+  moved = λ _. (appended.form, appended.generation, appended.log ∙ ap (λ (bytes : List ℕ). let l : LogState = record { side = old.log.side; start = old.log.start; end = old.log.end + 5 + length bytes; failed = old.log.failed } in l) spelled);
   each = λ told. subst (λ (k : History). EachStandsFor k (view new.volume)) (sym appended.history) (appended.each told);
 }
 

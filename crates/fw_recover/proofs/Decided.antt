@@ -12,7 +12,7 @@ use Rattle.fw_disk.specs.declared.volume.Side.TheVariants.{Left, Right}
 use Rattle.fw_disk.specs.Volume.{Image, other}
 use Rattle.fw_entry.specs.Entry.{EntryValue}
 use Rattle.fw_entry_bytes.specs.declared.form.Form.{Form}
-use Rattle.fw_entry_bytes.specs.declared.form.Form.TheVariants.{One}
+use Rattle.fw_entry_bytes.specs.declared.form.Form.TheVariants.{One, Two}
 use Rattle.fw_entry_bytes.specs.Whole.{whole}
 use Rattle.fw_entry_bytes.proofs.WholeFormat.{whole_takes}
 use Rattle.fw_journal.specs.Frames.{open_frame, IsFit, IsBroken}
@@ -28,10 +28,10 @@ use Rattle.fw_snapshot.specs.declared.verdict.Verdict.{Verdict}
 use Rattle.fw_snapshot.specs.declared.verdict.Verdict.TheVariants as verdict
 use Rattle.fw_recover.specs.Sides.{magic, generation_of, body_len_of, log_start_of, HasMagic, IsOpen, IsSound}
 use Rattle.fw_recover.specs.Stands.{IsNewest, StandsFor}
-use Rattle.fw_recover.specs.Corrupt.{LacksAt, LogBreaks, CorruptAt, HasMeaning}
+use Rattle.fw_recover.specs.Corrupt.{IsSigned, LacksAt, LogBreaks, CorruptAt, HasMeaning}
 use Rattle.fw_recover.specs.Headers.{HasHeader}
 use Rattle.fw_recover.specs.Opening.{GoesNotBehind, GoesBehind, HasGroups, IsClosedAt}
-use Rattle.fw_recover.proofs.Found.{bad_frame, no_groups_yet, one_group_more, breaks_there, side_tells, as_one, bad_body, bad_log}
+use Rattle.fw_recover.proofs.Found.{bad_frame, no_groups_yet, one_group_more, breaks_there, side_tells, bad_body, bad_log}
 use Rattle.fw_recover.proofs.Headers.{field, front_is}
 use Rattle.fw_recover.proofs.Standing.{by_side}
 use Rattle.fw_recover.proofs.Walks.{IsShut}
@@ -59,17 +59,27 @@ open_or_not file = elim (cases_eq (get_or file 0 0) 1) [
   ]
 ]
 
-unsigned : (file : List ℕ) (form : Form) → (HasMagic One file → ⊥) → HasMagic form file → ⊥
-unsigned file One unlike is = unlike is
+unsigned : (file : List ℕ) (form : Form) → (HasMagic One file → ⊥) → (HasMagic Two file → ⊥) → HasMagic form file → ⊥
+unsigned file One not_one not_two is = not_one is
+unsigned file Two not_one not_two is = not_two is
+
+signed_or_not : (file : List ℕ) → IsSigned file ⊎ (IsSigned file → ⊥)
+signed_or_not file = elim (equal_or_not (take 8 (drop 1 file)) (magic One)) [
+  | inl one ↦ inl (One, one)
+  | inr not_one ↦ elim (equal_or_not (take 8 (drop 1 file)) (magic Two)) [
+    | inl two ↦ inl (Two, two)
+    | inr not_two ↦ inr (λ signed. unsigned file signed.0 not_one not_two signed.1)
+  ]
+]
 
 sound_or_lacks : (file : List ℕ) → IsSound file ⊎ ((at : ℕ) × LacksAt file at)
-sound_or_lacks file = elim (equal_or_not (take 8 (drop 1 file)) (magic One)) [
-  | inr unlike ↦ inr (1, inl (refl, λ signed. unsigned file signed.0 unlike signed.1))
-  | inl word ↦ elim (cases_eq (generation_of file) 0) [
-    | inl none ↦ inr (9, inr (inl (refl, (One, word), none)))
+sound_or_lacks file = elim (signed_or_not file) [
+  | inr unlike ↦ inr (1, inl (refl, unlike))
+  | inl signed ↦ elim (cases_eq (generation_of file) 0) [
+    | inl none ↦ inr (9, inr (inl (refl, signed, none)))
     | inr some ↦ elim (cases_lt (log_start_of file) (length file)) [
-      | inl within ↦ inl (record { form = One; magic_is = word; generation = omega (arith, some); gate_within = within })
-      | inr past ↦ inr (17, inr (inr (refl, (One, word), omega (arith, some), past)))
+      | inl within ↦ inl (record { form = signed.0; magic_is = signed.1; generation = omega (arith, some); gate_within = within })
+      | inr past ↦ inr (17, inr (inr (refl, signed, omega (arith, some), past)))
     ]
   ]
 ]
@@ -79,17 +89,17 @@ module _ (file : List ℕ) (bytes : IsBytes file) (is_open : IsOpen file) (sound
   spelled_at at within =
       wide64.back (take 8 (drop at file)) (omega (arith, within, length-take 8 (drop at file), length-drop at file)) (IsBytes-take 8 (drop at file) (IsBytes-drop at file bytes))
 
-  header_spelled : take 25 file ≡ 1 ∷ (magic One ++ (number64 (generation_of file) ++ number64 (body_len_of file)))
+  header_spelled : take 25 file ≡ 1 ∷ (magic sound.form ++ (number64 (generation_of file) ++ number64 (body_len_of file)))
   unfolding generation_of body_len_of
   header_spelled =
-      front_is (take 25 file) (generation_of file) (body_len_of file) (omega (arith, length-take 25 file, is_open.long))
+      front_is sound.form (take 25 file) (generation_of file) (body_len_of file) (omega (arith, length-take 25 file, is_open.long))
       (get_or-take 25 file 0 0 (omega arith) ∙ is_open.gate)
-      (field file 1 24 (omega arith) (omega arith) ∙ as_one sound.form file sound.magic_is)
+      (field file 1 24 (omega arith) (omega arith) ∙ sound.magic_is)
       (spelled_at 9 (omega (arith, is_open.long)) ∙ sym (field file 9 16 (omega arith) (omega arith)))
       (spelled_at 17 (omega (arith, is_open.long)) ∙ sym (field file 17 8 (omega arith) (omega arith)))
 
-  header_there : HasHeader (generation_of file) (body_len_of file) file
-  header_there = record { is_open = is_open; sound = sound; generation_is = refl; body_len_is = refl; spelled = header_spelled }
+  header_there : HasHeader sound.form (generation_of file) (body_len_of file) file
+  header_there = record { is_open = is_open; sound = sound; magic_is = sound.magic_is; generation_is = refl; body_len_is = refl; spelled = header_spelled }
 
 body_len_fits : (file : List ℕ) → IsBytes file → body_len_of file < 2 ^ 64
 unfolding body_len_of
@@ -167,18 +177,18 @@ legal_or_not first (e ∷ es) = elim (accept_or_not (judged first e)) [
   ]
 ]
 
-read_as : (h : History) (payload : List ℕ) → IsBytes payload → (read : Result (List EntryValue) ℕ) → whole (group_at One) payload ≡ read
-    → ((next : History) × GoesBehind h payload next) ⊎ GoesNotBehind h.entries payload
-read_as h payload are (Err left) is = inr (inl (left, is))
-read_as h payload are (Ok es) is =
-    let found = whole_takes (group_format One) payload es are is in
+read_as : (form : Form) (h : History) (payload : List ℕ) → IsBytes payload → (read : Result (List EntryValue) ℕ) → whole (group_at form) payload ≡ read
+    → ((next : History) × GoesBehind h payload next) ⊎ GoesNotBehind form h.entries payload
+read_as form h payload are (Err left) is = inr (inl (left, is))
+read_as form h payload are (Ok es) is =
+    let found = whole_takes (group_format form) payload es are is in
     elim (legal_or_not h.entries es) [
       | inr illegal ↦ inr (inr (es, is, illegal))
       | inl legal ↦ inl (with_more h es, record { more = es; is_group = found.0; spelled = found.1; legal = legal; is = refl })
     ]
 
-goes_or_not : (h : History) (payload : List ℕ) → IsBytes payload → ((next : History) × GoesBehind h payload next) ⊎ GoesNotBehind h.entries payload
-goes_or_not h payload are = read_as h payload are (whole (group_at One) payload) refl
+goes_or_not : (form : Form) (h : History) (payload : List ℕ) → IsBytes payload → ((next : History) × GoesBehind h payload next) ⊎ GoesNotBehind form h.entries payload
+goes_or_not form h payload are = read_as form h payload are (whole (group_at form) payload) refl
 
 -- ---- a log
 
@@ -189,9 +199,9 @@ record Ends (state : History) (start : ℕ) (file : List ℕ) : Type 0 where
   has : HasGroups state start end file now
   shut : IsClosedAt end file
 
-module _ (state : History) (start : ℕ) (file : List ℕ) (are : IsBytes file) where
+module _ (form : Form) (state : History) (start : ℕ) (file : List ℕ) (are : IsBytes file) where
   abbrev Decided : Type 0
-  Decided = Ends state start file ⊎ ((at : ℕ) × LogBreaks One state start at file)
+  Decided = Ends state start file ⊎ ((at : ℕ) × LogBreaks form state start at file)
 
   -- from one gate to the next
   one_step : (now : History) (gate : ℕ) → HasGroups state start gate file now
@@ -199,9 +209,9 @@ module _ (state : History) (start : ℕ) (file : List ℕ) (are : IsBytes file) 
       → Decided
   one_step now gate has further = elim (at_gate (drop gate file) (IsBytes-drop gate file are)) [
     | inl shut ↦ inl (record { now = now; end = gate; has = has; shut = record { byte = shut.gate; rest = shut.rest; is = shut.is; shut = shut.shut } })
-    | inr (inr broken) ↦ inr (gate, breaks_there state now start gate file has (inl broken))
-    | inr (inl frame) ↦ elim (goes_or_not now frame.payload frame.are_bytes) [
-      | inr bad ↦ inr (gate, breaks_there state now start gate file has (inr (bad_frame now.entries (drop gate file) frame.payload frame.rest frame.fit frame.is bad)))
+    | inr (inr broken) ↦ inr (gate, breaks_there form state now start gate file has (inl broken))
+    | inr (inl frame) ↦ elim (goes_or_not form now frame.payload frame.are_bytes) [
+      | inr bad ↦ inr (gate, breaks_there form state now start gate file has (inr (bad_frame form now.entries (drop gate file) frame.payload frame.rest frame.fit frame.is bad)))
       | inl goes ↦ further frame.payload frame.rest goes.0 frame.is
           (one_group_more state now goes.0 start gate (gate + 5 + length frame.payload) file frame.payload frame.rest has frame.fit frame.is refl goes.1)
     ]
@@ -214,26 +224,32 @@ module _ (state : History) (start : ℕ) (file : List ℕ) (are : IsBytes file) 
 
 -- ---- a side
 
-side_decided : (c : Image) (side : Side) → IsBytes (c side) → IsNewest c side → (read : Result History ℕ) → state_at One (take (body_len_of (c side)) (drop 25 (c side))) ≡ read
+-- the form of the newer side
+abbrev form_there : (c : Image) (side : Side) → IsNewest c side → Form
+form_there c side newest = (newest.sound side newest.is_open).form
+
+side_decided : (c : Image) (side : Side) → IsBytes (c side) → (newest : IsNewest c side) → (read : Result History ℕ)
+    → state_at (form_there c side newest) (take (body_len_of (c side)) (drop 25 (c side))) ≡ read
     → ((h : History) × StandsFor h c) ⊎ ((at : ℕ) × CorruptAt c side at)
 side_decided c side are newest (Err left) read =
     let file = c side in
     let header = header_there file are newest.is_open (newest.sound side newest.is_open) in
     let at = 25 + (length (take (body_len_of file) (drop 25 file)) - left) in
-    inr (at, bad_body c side side (generation_of file) (body_len_of file) at file refl newest header refl (record { left = left; read = read; place = refl }))
+    inr (at, bad_body c side side (form_there c side newest) (generation_of file) (body_len_of file) at file refl newest header refl (record { left = left; read = read; place = refl }))
 side_decided c side are newest (Ok state) read =
     let file = c side in
     let n = body_len_of file in
+    let form = form_there c side newest in
     let header = header_there file are newest.is_open (newest.sound side newest.is_open) in
-    let spells = state_taken One (take n (drop 25 file)) state (IsBytes-take n (drop 25 file) (IsBytes-drop 25 file are)) read in
-    elim (walked state (25 + n) file are (length file) state (25 + n) (no_groups_yet state (25 + n) file spells.history.legal) (omega arith)) [
-      | inr breaks ↦ inr (breaks.0, bad_log c side side (generation_of file) n breaks.0 state file file refl refl newest header spells refl breaks.1)
+    let spells = state_taken form (take n (drop 25 file)) state (IsBytes-take n (drop 25 file) (IsBytes-drop 25 file are)) read in
+    elim (walked form state (25 + n) file are (length file) state (25 + n) (no_groups_yet state (25 + n) file spells.history.legal) (omega arith)) [
+      | inr breaks ↦ inr (breaks.0, bad_log c side side form (generation_of file) n breaks.0 state file file refl refl newest header spells refl breaks.1)
       | inl ends ↦ inl (
         ends.now,
         record {
           side = side;
           newest = newest;
-          tells = side_tells file (generation_of file) n header state ends.now ends.end spells ends.has ends.shut (generation_of file) refl (body_len_fits file are);
+          tells = side_tells file form (generation_of file) n header state ends.now ends.end spells ends.has ends.shut (generation_of file) refl (body_len_fits file are);
         },
       )
     ]
@@ -242,7 +258,7 @@ side_decided c side are newest (Ok state) read =
 
 module _ (c : Image) (are : (side : Side) → IsBytes (c side)) where
   by_newest : (side : Side) → IsNewest c side → HasMeaning c
-  by_newest side newest = elim (side_decided c side (are side) newest (state_at One (take (body_len_of (c side)) (drop 25 (c side)))) refl) [
+  by_newest side newest = elim (side_decided c side (are side) newest (state_at (form_there c side newest) (take (body_len_of (c side)) (drop 25 (c side)))) refl) [
     | inl stands ↦ inl stands
     | inr corrupt ↦ inr (inr (side, corrupt.0, corrupt.1))
   ]

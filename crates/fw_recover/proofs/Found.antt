@@ -9,7 +9,6 @@ use Rattle.fw_disk.specs.Volume.{Image, View, Calm, other}
 use Rattle.fw_disk.proofs.Moments.{calm_through, calm_settled}
 use Rattle.fw_entry.specs.Entry.{EntryValue}
 use Rattle.fw_entry_bytes.specs.declared.form.Form.{Form}
-use Rattle.fw_entry_bytes.specs.declared.form.Form.TheVariants.{One}
 use Rattle.fw_journal.specs.Frames.{open_frame, spelled, IsFit, AllFit, IsBroken, Tells}
 use Rattle.fw_journal.specs.declared.fault.LogFault.{LogFault}
 use Rattle.fw_journal.specs.declared.fault.LogFault.TheVariants as log_faults
@@ -81,23 +80,25 @@ pub not_read : {Y : Type 0} (total at : ℕ) (read : Result Y ℕ) → IsAt tota
 not_read total at (Ok y) is = absurd is
 not_read total at (Err left) is = (left, refl, is)
 
-pub no_group : (entries : List EntryValue) (payload : List ℕ) (at : ℕ) → IsAt (length payload) (faults.Corrupt at) (whole (group_at One) payload) → GoesNotBehind entries payload
-no_group entries payload at is =
-    let bad = not_read (length payload) at (whole (group_at One) payload) is in
+pub no_group : (form : Form) (entries : List EntryValue) (payload : List ℕ) (at : ℕ) → IsAt (length payload) (faults.Corrupt at) (whole (group_at form) payload) → GoesNotBehind form entries payload
+no_group form entries payload at is =
+    let bad = not_read (length payload) at (whole (group_at form) payload) is in
     inl (bad.0, bad.1)
 
-pub after_group : (h : History) (payload : List ℕ) (es : List EntryValue) (next : Option History) → IsGroup es → payload ≡ group es → whole (group_at One) payload ≡ Ok es → IsAfter h es next
-    → IsWithGroup h payload next
-after_group h payload es None is_group is read refused = inr (es, read, refused)
-after_group h payload es (Some next) is_group is read after = record { more = es; is_group = is_group; spelled = is; legal = after.0; is = after.1 }
+pub after_group : (form : Form) (h : History) (payload : List ℕ) (es : List EntryValue) (next : Option History) → IsGroup es → payload ≡ group es → whole (group_at form) payload ≡ Ok es → IsAfter h es next
+    → IsWithGroup form h payload next
+after_group form h payload es None is_group is read refused = inr (es, read, refused)
+after_group form h payload es (Some next) is_group is read after = record { more = es; is_group = is_group; spelled = is; legal = after.0; is = after.1 }
 
-pub bad_frame : (entries : List EntryValue) (bytes payload rest : List ℕ) → IsFit payload → bytes ≡ open_frame payload ++ rest → GoesNotBehind entries payload → IsBadFrame One entries bytes
-bad_frame entries bytes payload rest fit is bad = (payload, rest, fit, is, bad)
+pub bad_frame : (form : Form) (entries : List EntryValue) (bytes payload rest : List ℕ) → IsFit payload → bytes ≡ open_frame payload ++ rest → GoesNotBehind form entries payload
+    → IsBadFrame form entries bytes
+bad_frame form entries bytes payload rest fit is bad = (payload, rest, fit, is, bad)
 
-pub bad_body_at : (file bytes : List ℕ) (body_len at place : ℕ) → bytes ≡ take body_len (drop 25 file) → place ≡ 25 + at → IsAt (length bytes) (faults.Corrupt at) (state_at One bytes) → HasBadBody body_len place file
-bad_body_at file bytes body_len at place same is bad =
-    let I : List ℕ → Type 0 = λ l. IsAt (length l) (faults.Corrupt at) (state_at One l) in
-    let there = not_read (length (take body_len (drop 25 file))) at (state_at One (take body_len (drop 25 file))) (subst I same bad) in
+pub bad_body_at : (form : Form) (file bytes : List ℕ) (body_len at place : ℕ) → bytes ≡ take body_len (drop 25 file) → place ≡ 25 + at → IsAt (length bytes) (faults.Corrupt at) (state_at form bytes)
+    → HasBadBody form body_len place file
+bad_body_at form file bytes body_len at place same is bad =
+    let I : List ℕ → Type 0 = λ l. IsAt (length l) (faults.Corrupt at) (state_at form l) in
+    let there = not_read (length (take body_len (drop 25 file))) at (state_at form (take body_len (drop 25 file))) (subst I same bad) in
     record { left = there.0; read = there.1; place = is ∙ ap (λ (n : ℕ). 25 + n) there.2 }
 
 pub no_groups_yet : (state : History) (start : ℕ) (file : List ℕ) → IsLegal state.entries → HasGroups state start start file state
@@ -145,20 +146,20 @@ one_group_more state now next start gate behind file payload rest has fit frame 
       legal = subst (λ (k : History). IsLegal k.entries) (sym goes.is) (legal_append [] now.entries goes.more has.legal goes.legal);
     }
 
-pub breaks_there : (state now : History) (start at : ℕ) (file : List ℕ) → HasGroups state start at file now → IsBroken (drop at file) ⊎ IsBadFrame One now.entries (drop at file)
-    → LogBreaks One state start at file
-breaks_there state now start at file has breaks = record {
+pub breaks_there : (form : Form) (state now : History) (start at : ℕ) (file : List ℕ) → HasGroups state start at file now → IsBroken (drop at file) ⊎ IsBadFrame form now.entries (drop at file)
+    → LogBreaks form state start at file
+breaks_there form state now start at file has breaks = record {
   walked = record { passed = map group has.groups; is = has.is; fit = has.fit; place = has.place };
   groups = has.groups;
   each = has.each;
   payloads = refl;
   legal = subst (λ (k : History). IsLegal k.entries) has.is_history has.legal;
-  breaks = subst (λ (k : History). IsBroken (drop at file) ⊎ IsBadFrame One k.entries (drop at file)) has.is_history breaks;
+  breaks = subst (λ (k : History). IsBroken (drop at file) ⊎ IsBadFrame form k.entries (drop at file)) has.is_history breaks;
 }
 
 -- ---- a side
 
-module _ (file : List ℕ) (generation body_len : ℕ) (header : HasHeader generation body_len file) where
+module _ (file : List ℕ) (form : Form) (generation body_len : ℕ) (header : HasHeader form generation body_len file) where
   abbrev start : ℕ
   start = 25 + body_len
 
@@ -168,14 +169,15 @@ module _ (file : List ℕ) (generation body_len : ℕ) (header : HasHeader gener
   long : length body ≡ body_len
   long = omega (arith, length-take body_len (drop 25 file), length-drop 25 file, header.sound.gate_within, header.body_len_is)
 
-  made : 1 ∷ made_of One generation body ≡ take 25 file ++ body
+  made : 1 ∷ made_of form generation body ≡ take 25 file ++ body
   unfolding made_of
   made =
-      ap (λ (n : ℕ). 1 ∷ (magic One ++ (number64 generation ++ (number64 n ++ body)))) long
-      ∙ ap (λ (l : List ℕ). 1 ∷ (magic One ++ l)) (sym (append_assoc (number64 generation) (number64 body_len) body))
+      ap (λ (n : ℕ). 1 ∷ (magic form ++ (number64 generation ++ (number64 n ++ body)))) long
+      ∙ ap (λ (l : List ℕ). 1 ∷ (magic form ++ l)) (sym (append_assoc (number64 generation) (number64 body_len) body))
+      ∙ ap (λ (l : List ℕ). 1 ∷ l) (sym (append_assoc (magic form) (number64 generation ++ number64 body_len) body))
       ∙ ap (λ (l : List ℕ). l ++ body) (sym header.spelled)
 
-  pub side_is : file ≡ 1 ∷ (made_of One generation body ++ drop start file)
+  pub side_is : file ≡ 1 ∷ (made_of form generation body ++ drop start file)
   side_is =
       sym (take-append-drop 25 file)
       ∙ ap (λ (l : List ℕ). take 25 file ++ l) (sym (take-append-drop body_len (drop 25 file)) ∙ ap (λ (l : List ℕ). body ++ l) (drop-drop body_len 25 file))
@@ -194,11 +196,11 @@ module _ (file : List ℕ) (generation body_len : ℕ) (header : HasHeader gener
 
     pub side_tells : (g : ℕ) → generation ≡ g → body_len < 2 ^ 64 → SideTells g now file
     side_tells g same fits = record {
-      form = One;
+      form = form;
       body = body;
       fits = omega (arith, fits, long);
       log = drop start file;
-      is = side_is ∙ ap (λ (k : ℕ). 1 ∷ (made_of One k body ++ drop start file)) same;
+      is = side_is ∙ ap (λ (k : ℕ). 1 ∷ (made_of form k body ++ drop start file)) same;
       state = state;
       spells = spells;
       groups = has.groups;
@@ -209,11 +211,11 @@ module _ (file : List ℕ) (generation body_len : ℕ) (header : HasHeader gener
     }
 
 -- what is in use after all of a side was read
-pub in_use : (c : View) (side : Side) (generation body_len end : ℕ) (state now : History) → AllSettled c → IsNewest c.seen side → HasHeader generation body_len (c.seen side)
+pub in_use : (c : View) (side : Side) (form : Form) (generation body_len end : ℕ) (state now : History) → AllSettled c → IsNewest c.seen side → HasHeader form generation body_len (c.seen side)
     → body_len < 2 ^ 64 → Spells (take body_len (drop 25 (c.seen side))) state → HasGroups state (25 + body_len) end (c.seen side) now → IsClosedAt end (c.seen side)
-    → IsFresh generation (record { side = side; start = 25 + body_len; end = end; failed = false }) now c
+    → IsFresh form generation (record { side = side; start = 25 + body_len; end = end; failed = false }) now c
 unfolding side_tells
-in_use c side generation body_len end state now settled newest header fits spells has shut =
+in_use c side form generation body_len end state now settled newest header fits spells has shut =
     let file = c.seen side in
     let same = header.generation_is in
     record {
@@ -221,13 +223,14 @@ in_use c side generation body_len end state now settled newest header fits spell
       standing = record {
         side = side;
         newest = newest;
-        tells = side_tells file generation body_len header state now end spells has shut (generation_of file) (sym same) fits;
+        tells = side_tells file form generation body_len header state now end spells has shut (generation_of file) (sym same) fits;
       };
       in_use = refl;
+      form_is = refl;
       generation_is = same;
-      start = omega (arith, long file generation body_len header);
+      start = omega (arith, long file form generation body_len header);
       stands = record {
-        tells = log_told file generation body_len header state now end spells has shut;
+        tells = log_told file form generation body_len header state now end spells has shut;
         end = has.place;
         settled = settled side;
       };
@@ -235,42 +238,39 @@ in_use c side generation body_len end state now settled newest header fits spell
 
 -- ---- where a side breaks
 
-pub as_one : (form : Form) (file : List ℕ) → HasMagic form file → HasMagic One file
-as_one One file magic_is = magic_is
-
-pub bad_body : (c : Image) (side at_side : Side) (generation body_len at : ℕ) (file : List ℕ) → file ≡ c side → IsNewest c side → HasHeader generation body_len (c side)
-    → at_side ≡ side → HasBadBody body_len at file → CorruptAt c at_side at
-bad_body c side at_side generation body_len at file is newest header place bad =
-    let B : List ℕ → Type 0 = λ l. HasBadBody body_len at l in
+pub bad_body : (c : Image) (side at_side : Side) (form : Form) (generation body_len at : ℕ) (file : List ℕ) → file ≡ c side → IsNewest c side → HasHeader form generation body_len (c side)
+    → at_side ≡ side → HasBadBody form body_len at file → CorruptAt c at_side at
+bad_body c side at_side form generation body_len at file is newest header place bad =
+    let B : List ℕ → Type 0 = λ l. HasBadBody form body_len at l in
     let there = subst B is bad in
     let body_is : body_of (c side) ≡ take body_len (drop 25 (c side)) = ap (λ (n : ℕ). take n (drop 25 (c side))) header.body_len_is in
     let breaks : Breaks c side at = record {
       newest = newest;
-      form = One;
-      magic_is = as_one header.sound.form (c side) header.sound.magic_is;
+      form = form;
+      magic_is = header.magic_is;
       breaks = inl (record {
         left = there.left;
-        read = ap (λ (l : List ℕ). state_at One l) body_is ∙ there.read;
+        read = ap (λ (l : List ℕ). state_at form l) body_is ∙ there.read;
         place = there.place ∙ ap (λ (l : List ℕ). 25 + (length l - there.left)) (sym body_is);
       });
     } in
     subst (λ (s : Side). CorruptAt c s at) (sym place) (inr (inr breaks))
 
-pub bad_log : (c : Image) (side at_side : Side) (generation body_len at : ℕ) (state : History) (first file : List ℕ) → first ≡ c side → file ≡ c side → IsNewest c side
-    → HasHeader generation body_len (c side) → Spells (take body_len (drop 25 first)) state → at_side ≡ side → LogBreaks One state (25 + body_len) at file → CorruptAt c at_side at
-bad_log c side at_side generation body_len at state first file first_is is newest header spells place bad =
+pub bad_log : (c : Image) (side at_side : Side) (form : Form) (generation body_len at : ℕ) (state : History) (first file : List ℕ) → first ≡ c side → file ≡ c side → IsNewest c side
+    → HasHeader form generation body_len (c side) → Spells (take body_len (drop 25 first)) state → at_side ≡ side → LogBreaks form state (25 + body_len) at file → CorruptAt c at_side at
+bad_log c side at_side form generation body_len at state first file first_is is newest header spells place bad =
     let spelled_there = subst (λ (l : List ℕ). Spells (take body_len (drop 25 l)) state) first_is spells in
-    let B : List ℕ → Type 0 = λ l. LogBreaks One state (25 + body_len) at l in
+    let B : List ℕ → Type 0 = λ l. LogBreaks form state (25 + body_len) at l in
     let there = subst B is bad in
     let body_is : body_of (c side) ≡ take body_len (drop 25 (c side)) = ap (λ (n : ℕ). take n (drop 25 (c side))) header.body_len_is in
     let breaks : Breaks c side at = record {
       newest = newest;
-      form = One;
-      magic_is = as_one header.sound.form (c side) header.sound.magic_is;
+      form = form;
+      magic_is = header.magic_is;
       breaks = inr (record {
         state = state;
-        read = ap (λ (l : List ℕ). state_at One l) body_is ∙ state_again One (take body_len (drop 25 (c side))) state spelled_there;
-        log = subst (λ (n : ℕ). LogBreaks One state (25 + n) at (c side)) (sym header.body_len_is) there;
+        read = ap (λ (l : List ℕ). state_at form l) body_is ∙ state_again form (take body_len (drop 25 (c side))) state spelled_there;
+        log = subst (λ (n : ℕ). LogBreaks form state (25 + n) at (c side)) (sym header.body_len_is) there;
       });
     } in
     subst (λ (s : Side). CorruptAt c s at) (sym place) (inr (inr breaks))
@@ -335,16 +335,16 @@ module _ (old v1 v2 v3 : View) (first : Calm old v1) (second : Calm v1 v2) (thir
   pub calm_three : Calm old v3
   calm_three = calm_through old v2 v3 calm_two third
 
-  pub in_use_read : (side : Side) (generation body_len end : ℕ) (body state : History) → AllSettled old → IsNewest old.seen side × HasHeader generation body_len (old.seen side)
+  pub in_use_read : (side : Side) (form : Form) (generation body_len end : ℕ) (body state : History) → AllSettled old → IsNewest old.seen side × HasHeader form generation body_len (old.seen side)
       → body_len < 2 ^ 64 → Spells (take body_len (drop 25 (v1.seen side))) body → HasGroups body (25 + body_len) end (v2.seen side) state → IsClosedAt end (v2.seen side)
-      → IsFresh generation (record { side = side; start = 25 + body_len; end = end; failed = false }) state v3
-  in_use_read side generation body_len end body state settled found fits spells has shut =
+      → IsFresh form generation (record { side = side; start = 25 + body_len; end = end; failed = false }) state v3
+  in_use_read side form generation body_len end body state settled found fits spells has shut =
       let one : v1.seen side ≡ v3.seen side = first.seen side ∙ sym (calm_three.seen side) in
       let two : v2.seen side ≡ v3.seen side = sym (third.seen side) in
-      in_use v3 side generation body_len end body state
+      in_use v3 side form generation body_len end body state
       (λ s. calm_settled old v3 s calm_three (settled s))
       (newest_same old.seen v3.seen calm_three.seen side found.0)
-      (subst (λ (l : List ℕ). HasHeader generation body_len l) (sym (calm_three.seen side)) found.1)
+      (subst (λ (l : List ℕ). HasHeader form generation body_len l) (sym (calm_three.seen side)) found.1)
       fits
       (subst (λ (l : List ℕ). Spells (take body_len (drop 25 l)) body) one spells)
       (subst (λ (l : List ℕ). HasGroups body (25 + body_len) end l state) two has)

@@ -4,8 +4,9 @@ use Rattle.std.proofs.lemmas.List.{append-nil, drop_all, get_or-take, drop-drop,
 use Rattle.fw_bytes.specs.Spelling.{number64}
 use Rattle.std.specs.Int.{from_le_bytes}
 use Rattle.std.specs.Int.Width.{w64}
-use Rattle.fw_entry_bytes.specs.declared.form.Form.TheVariants.{One}
+use Rattle.fw_entry_bytes.specs.declared.form.Form.{Form}
 use Rattle.fw_recover.specs.Sides.{magic, generation_of, body_len_of, HasMagic, IsOpen}
+use Rattle.fw_recover.specs.Corrupt.{IsSigned}
 
 pub header_is : (file into : List ℕ) → length into ≡ 25 → into ≡ take (length into) (drop 0 file) → into ≡ take 25 file
 header_is file into long is = is ∙ ap (λ (n : ℕ). take n file) long
@@ -39,13 +40,16 @@ module _ (file header : List ℕ) (is : header ≡ take 25 file) where
   pub opened : get_or header 0 0 ≡ 1 → 26 ≤ length file → IsOpen file
   opened gate long = record { long = long; gate = sym gate_is ∙ gate }
 
-  pub signed : take 8 (drop 1 header) ≡ magic One → HasMagic One file
-  signed word = sym word_is ∙ word
+  pub signed : (form : Form) → take 8 (drop 1 header) ≡ magic form → HasMagic form file
+  signed form word = sym word_is ∙ word
+
+  pub unsigned : ((form : Form) → take 8 (drop 1 header) ≡ magic form → ⊥) → IsSigned file → ⊥
+  unsigned none signs = none signs.0 (word_is ∙ signs.1)
 
 -- the first 25 bytes of a file: its gate, its magic word and two numbers
-pub front_is : (header : List ℕ) (g n : ℕ) → length header ≡ 25 → get_or header 0 0 ≡ 1 → take 8 (drop 1 header) ≡ magic One → number64 g ≡ take 8 (drop 9 header) → number64 n ≡ take 8 (drop 17 header)
-    → header ≡ 1 ∷ (magic One ++ (number64 g ++ number64 n))
-front_is header g n long gate word generation len =
+pub front_is : (form : Form) (header : List ℕ) (g n : ℕ) → length header ≡ 25 → get_or header 0 0 ≡ 1 → take 8 (drop 1 header) ≡ magic form → number64 g ≡ take 8 (drop 9 header) → number64 n ≡ take 8 (drop 17 header)
+    → header ≡ 1 ∷ (magic form ++ (number64 g ++ number64 n))
+front_is form header g n long gate word generation len =
     let rest : drop 25 header ≡ [] = drop_all 25 header (omega (arith, long)) in
     let last : drop 17 header ≡ number64 n =
     sym (take-append-drop 8 (drop 17 header)) ∙ ap (λ (l : List ℕ). l ++ drop 8 (drop 17 header)) (sym len)
@@ -53,7 +57,7 @@ front_is header g n long gate word generation len =
     let third : drop 9 header ≡ number64 g ++ number64 n =
     sym (take-append-drop 8 (drop 9 header)) ∙ ap (λ (l : List ℕ). l ++ drop 8 (drop 9 header)) (sym generation)
     ∙ ap (λ (l : List ℕ). number64 g ++ l) (drop-drop 8 9 header ∙ last) in
-    let second : drop 1 header ≡ magic One ++ (number64 g ++ number64 n) =
+    let second : drop 1 header ≡ magic form ++ (number64 g ++ number64 n) =
     sym (take-append-drop 8 (drop 1 header)) ∙ ap (λ (l : List ℕ). l ++ drop 8 (drop 1 header)) word
-    ∙ ap (λ (l : List ℕ). magic One ++ l) (drop-drop 8 1 header ∙ third) in
-    first_is header (magic One ++ (number64 g ++ number64 n)) (omega (arith, long)) gate second
+    ∙ ap (λ (l : List ℕ). magic form ++ l) (drop-drop 8 1 header ∙ third) in
+    first_is header (magic form ++ (number64 g ++ number64 n)) (omega (arith, long)) gate second

@@ -9,7 +9,7 @@ use Rattle.fw_disk.specs.Volume.{Image, View, Calm, LeavesOnly, other}
 use Rattle.fw_disk.proofs.Moments.{weakened, calm_before}
 use Rattle.fw_entry.specs.Entry.{EntryValue}
 use Rattle.fw_entry_bytes.specs.declared.form.Form.{Form}
-use Rattle.fw_entry_bytes.specs.declared.form.Form.TheVariants.{One}
+use Rattle.fw_entry_bytes.specs.declared.form.Form.TheVariants.{Two}
 use Rattle.fw_journal.specs.Frames.{Tells}
 use Rattle.fw_journal.specs.Log.{LogState, Stands}
 use Rattle.fw_journal.proofs.Spelling.{spelled-none}
@@ -57,38 +57,39 @@ empty_body currency body spells =
     let is : body ≡ state currency [] [] = spells.spelled ∙ ap (λ (cut : Cut). state currency [] cut) none in
     omega (arith, ap (λ (l : List ℕ). length l) is, spelled_empty currency, spells.history.currency.0)
 
-pub length_first : (currency body bytes : List ℕ) → Spells body (empty currency) → bytes ≡ made_of One 1 body ++ 0 ∷ [] → length bytes ≡ 44
+pub length_first : (currency body bytes : List ℕ) → Spells body (empty currency) → bytes ≡ made_of Two 1 body ++ 0 ∷ [] → length bytes ≡ 44
 length_first currency body bytes spells is =
-    omega (arith, empty_body currency body spells, ap (λ (l : List ℕ). length l) is, length-append (made_of One 1 body) (0 ∷ []), length-made One 1 body)
+    omega (arith, empty_body currency body spells, ap (λ (l : List ℕ). length l) is, length-append (made_of Two 1 body) (0 ∷ []), length-made Two 1 body)
 
 -- ---- a side as it was just made
 
-module _ (h : History) (form : Form) (g : ℕ) (some : 0 < g) (fits : g < 2 ^ 64) (body : List ℕ) (body_fits : length body < 2 ^ 64) (spells : Spells body h) (v : View) (settled : AllSettled v)
-    (side : Side) (tail : List ℕ) (is : v.seen side ≡ 1 ∷ ((made_of form g body ++ 0 ∷ []) ++ tail)) where
+module _ (h : History) (g : ℕ) (some : 0 < g) (fits : g < 2 ^ 64) (body : List ℕ) (body_fits : length body < 2 ^ 64) (spells : Spells body h) (v : View) (settled : AllSettled v)
+    (side : Side) (tail : List ℕ) (is : v.seen side ≡ 1 ∷ ((made_of Two g body ++ 0 ∷ []) ++ tail)) where
   pub body_alone : HasBodyAlone g h (v.seen side)
   body_alone = record {
-    form = form;
     body = body;
     spells = spells;
     tail = tail;
-    is = split h form g some fits body body_fits spells (v.seen side) tail is;
+    is = split h Two g some fits body body_fits spells (v.seen side) tail is;
   }
 
   log_stands : Stands (empty_log side (25 + length body)) [] v
   log_stands = record {
     tells =
-        subst (λ (l : List ℕ). Tells [] l) (sym (new_log h form g some fits body body_fits spells (v.seen side) tail is))
-        (closed_log h form g some fits body body_fits spells (v.seen side) tail is);
+        subst (λ (l : List ℕ). Tells [] l) (sym (new_log h Two g some fits body body_fits spells (v.seen side) tail is))
+        (closed_log h Two g some fits body body_fits spells (v.seen side) tail is);
     end = omega (arith, ap (λ (l : List ℕ). length l) spelled-none);
     settled = settled side;
   }
 
-  fresh_by : (standing : StandsFor h v.seen) → standing.side ≡ side → standing.tells.body ≡ body → standing.tells.groups ≡ [] → IsFresh g (empty_log side (25 + length body)) h v
-  fresh_by standing in_use body_is none = record {
+  fresh_by : (standing : StandsFor h v.seen) → standing.side ≡ side → standing.tells.form ≡ Two → standing.tells.body ≡ body → standing.tells.groups ≡ []
+      → IsFresh Two g (empty_log side (25 + length body)) h v
+  fresh_by standing in_use form_is body_is none = record {
     settled = settled;
     standing = standing;
     in_use = in_use;
-    generation_is = new_generation h form g some fits body body_fits spells (v.seen side) tail is;
+    form_is = form_is;
+    generation_is = new_generation h Two g some fits body body_fits spells (v.seen side) tail is;
     start = ap (λ (b : List ℕ). 25 + length b) (sym body_is);
     stands = subst (λ (gs : List (List EntryValue)). Stands (empty_log side (25 + length body)) (map group gs) v) (sym none) log_stands;
   }
@@ -106,28 +107,28 @@ calm_then h old mid new calm settled none run = calm_before old mid new (StandsF
 
 -- ---- the first side of all
 
-module _ (h : History) (form : Form) (bytes body : List ℕ) (bytes_are : bytes ≡ made_of form 1 body ++ 0 ∷ []) (body_fits : length body < 2 ^ 64) (spells : Spells body h) (old new : View)
+module _ (h : History) (bytes body : List ℕ) (bytes_are : bytes ≡ made_of Two 1 body ++ 0 ∷ []) (body_fits : length body < 2 ^ 64) (spells : Spells body h) (old new : View)
     (none : StandsForNone old.seen) where
-  first_bytes : (tail : List ℕ) → new.seen Left ≡ 1 ∷ (bytes ++ tail) → new.seen Left ≡ 1 ∷ ((made_of form 1 body ++ 0 ∷ []) ++ tail)
+  first_bytes : (tail : List ℕ) → new.seen Left ≡ 1 ∷ (bytes ++ tail) → new.seen Left ≡ 1 ∷ ((made_of Two 1 body ++ 0 ∷ []) ++ tail)
   first_bytes tail is = is ∙ ap (λ (b : List ℕ). 1 ∷ (b ++ tail)) bytes_are
 
   one_fits : 1 < 2 ^ 64
   one_fits = omega arith
 
-  pub first_fresh : Made Left bytes old new → IsFresh 1 (empty_log Left (25 + length body)) h new
+  pub first_fresh : Made Left bytes old new → IsFresh Two 1 (empty_log Left (25 + length body)) h new
   unfolding first_side new_tells
   first_fresh made =
       let is = first_bytes made.tail made.is in
-      fresh_by h form 1 (omega arith) one_fits body body_fits spells new made.settled Left made.tail is
-      (first_side h old.seen none form body body_fits spells new.seen made.other_stays made.tail is) refl refl refl
+      fresh_by h 1 (omega arith) one_fits body body_fits spells new made.settled Left made.tail is
+      (first_side h old.seen none Two body body_fits spells new.seen made.other_stays made.tail is) refl refl refl refl
 
   pub first_alone : Made Left bytes old new → HasBodyAlone 1 h (new.seen Left)
-  first_alone made = body_alone h form 1 (omega arith) one_fits body body_fits spells new made.settled Left made.tail (first_bytes made.tail made.is)
+  first_alone made = body_alone h 1 (omega arith) one_fits body body_fits spells new made.settled Left made.tail (first_bytes made.tail made.is)
 
   pub first_moments : LeavesOnly old new (Keeps Left old (Making bytes)) → LeavesOnly old new (StandsForNoneOr h)
   first_moments run =
       weakened old new (Keeps Left old (Making bytes)) (StandsForNoneOr h) run (λ c keeps.
-      stands_or_none h old.seen none form body body_fits spells c keeps.other_stays
+      stands_or_none h old.seen none Two body body_fits spells c keeps.other_stays
       (subst (λ (b : List ℕ). Making b (old.seen Left) (c Left)) bytes_are keeps.this))
 
 -- the first side of an empty warehouse, from before the files were synced on
@@ -141,16 +142,16 @@ module _ (currency bytes items : List ℕ) (bytes_are : bytes ≡ items) (made :
   pub first_since : AllSettled old → LeavesOnly mid new (Keeps Left mid (Making bytes)) → LeavesOnly old new (StandsForNoneOr (empty currency))
   first_since settled run =
       calm_then (empty currency) old mid new calm settled none
-      (first_moments (empty currency) One bytes made.body (bytes_are ∙ made.is) (omega (arith, body_is)) made.spells mid new still_none run)
+      (first_moments (empty currency) bytes made.body (bytes_are ∙ made.is) (omega (arith, body_is)) made.spells mid new still_none run)
 
-  pub first_in_use : Made Left bytes mid new → IsFresh 1 (empty_log Left 44) (empty currency) new
+  pub first_in_use : Made Left bytes mid new → IsFresh Two 1 (empty_log Left 44) (empty currency) new
   first_in_use is_made =
-      subst (λ (n : ℕ). IsFresh 1 (empty_log Left (25 + n)) (empty currency) new) body_is
-      (first_fresh (empty currency) One bytes made.body (bytes_are ∙ made.is) (omega (arith, body_is)) made.spells mid new still_none is_made)
+      subst (λ (n : ℕ). IsFresh Two 1 (empty_log Left (25 + n)) (empty currency) new) body_is
+      (first_fresh (empty currency) bytes made.body (bytes_are ∙ made.is) (omega (arith, body_is)) made.spells mid new still_none is_made)
 
 -- ---- the side that isn't in use
 
-module _ (h : History) (form : Form) (g : ℕ) (fits : g < 2 ^ 64) (bytes body : List ℕ) (bytes_are : bytes ≡ made_of form g body ++ 0 ∷ []) (body_fits : length body < 2 ^ 64) (spells : Spells body h)
+module _ (h : History) (g : ℕ) (fits : g < 2 ^ 64) (bytes body : List ℕ) (bytes_are : bytes ≡ made_of Two g body ++ 0 ∷ []) (body_fits : length body < 2 ^ 64) (spells : Spells body h)
     (old new : View) (standing : StandsFor h old.seen) (newer : generation_of (old.seen standing.side) < g) where
   abbrev next : Side
   next = other standing.side
@@ -161,30 +162,30 @@ module _ (h : History) (form : Form) (g : ℕ) (fits : g < 2 ^ 64) (bytes body :
   newer_moments : LeavesOnly old new (Keeps next old (Making bytes)) → LeavesOnly old new (StandsFor h)
   newer_moments run =
       weakened old new (Keeps next old (Making bytes)) (StandsFor h) run (λ c keeps.
-      stands_while h old.seen standing form g newer fits body body_fits spells c (used_stays c keeps.other_stays)
+      stands_while h old.seen standing Two g newer fits body body_fits spells c (used_stays c keeps.other_stays)
       (subst (λ (b : List ℕ). Making b (old.seen next) (c next)) bytes_are keeps.this))
 
-  newer_bytes : (tail : List ℕ) → new.seen next ≡ 1 ∷ (bytes ++ tail) → new.seen next ≡ 1 ∷ ((made_of form g body ++ 0 ∷ []) ++ tail)
+  newer_bytes : (tail : List ℕ) → new.seen next ≡ 1 ∷ (bytes ++ tail) → new.seen next ≡ 1 ∷ ((made_of Two g body ++ 0 ∷ []) ++ tail)
   newer_bytes tail is = is ∙ ap (λ (b : List ℕ). 1 ∷ (b ++ tail)) bytes_are
 
-  newer_fresh : Made next bytes old new → IsFresh g (empty_log next (25 + length body)) h new
+  newer_fresh : Made next bytes old new → IsFresh Two g (empty_log next (25 + length body)) h new
   unfolding stands_new new_tells
   newer_fresh made =
       let is = newer_bytes made.tail made.is in
-      fresh_by h form g (omega (arith, newer)) fits body body_fits spells new made.settled next made.tail is
-      (stands_new h old.seen standing form g newer fits body body_fits spells new.seen (used_stays new.seen made.other_stays) made.tail is) refl refl refl
+      fresh_by h g (omega (arith, newer)) fits body body_fits spells new made.settled next made.tail is
+      (stands_new h old.seen standing Two g newer fits body body_fits spells new.seen (used_stays new.seen made.other_stays) made.tail is) refl refl refl refl
 
   newer_alone : Made next bytes old new → HasBodyAlone g h (new.seen next)
-  newer_alone made = body_alone h form g (omega (arith, newer)) fits body body_fits spells new made.settled next made.tail (newer_bytes made.tail made.is)
+  newer_alone made = body_alone h g (omega (arith, newer)) fits body body_fits spells new made.settled next made.tail (newer_bytes made.tail made.is)
 
   -- the same, of the side by the log
   module _ (used : Side) (is_used : standing.side ≡ used) where
     pub next_moments : LeavesOnly old new (Keeps (other used) old (Making bytes)) → LeavesOnly old new (StandsFor h)
     next_moments run = newer_moments (subst (λ (s : Side). LeavesOnly old new (Keeps (other s) old (Making bytes))) (sym is_used) run)
 
-    pub next_fresh : Made (other used) bytes old new → IsFresh g (empty_log (other used) (25 + length body)) h new
+    pub next_fresh : Made (other used) bytes old new → IsFresh Two g (empty_log (other used) (25 + length body)) h new
     next_fresh made =
-        subst (λ (s : Side). IsFresh g (empty_log (other s) (25 + length body)) h new) is_used
+        subst (λ (s : Side). IsFresh Two g (empty_log (other s) (25 + length body)) h new) is_used
         (newer_fresh (subst (λ (s : Side). Made (other s) bytes old new) (sym is_used) made))
 
     pub next_alone : Made (other used) bytes old new → HasBodyAlone g h (new.seen (other used))
@@ -195,27 +196,27 @@ module _ (h : History) (form : Form) (g : ℕ) (fits : g < 2 ^ 64) (bytes body :
 -- ---- how the bytes of a side are put together
 
 -- behind the magic word and the generation stands a number that is replaced by the length of the body
-pub length_put : (g n : ℕ) (first second third last new body : List ℕ) → first ≡ magic One → second ≡ first ++ number64 g → third ≡ second ++ number64 0 → last ≡ third ++ body
-    → n ≡ length last - 24 → new ≡ take 16 last ++ number64 n ++ drop 24 last → new ≡ made_of One g body
+pub length_put : (g n : ℕ) (first second third last new body : List ℕ) → first ≡ magic Two → second ≡ first ++ number64 g → third ≡ second ++ number64 0 → last ≡ third ++ body
+    → n ≡ length last - 24 → new ≡ take 16 last ++ number64 n ++ drop 24 last → new ≡ made_of Two g body
 unfolding made_of
 length_put g n first second third last new body a b c d counted put =
-    let is : last ≡ magic One ++ (number64 g ++ (number64 0 ++ body)) = d ∙ ap (λ (l : List ℕ). l ++ body) (c ∙ ap (λ (l : List ℕ). l ++ number64 0) (b ∙ ap (λ (l : List ℕ). l ++ number64 g) a)) in
-    let front : take 16 last ≡ magic One ++ number64 g = ap (λ (l : List ℕ). take 16 l) is in
+    let is : last ≡ magic Two ++ (number64 g ++ (number64 0 ++ body)) = d ∙ ap (λ (l : List ℕ). l ++ body) (c ∙ ap (λ (l : List ℕ). l ++ number64 0) (b ∙ ap (λ (l : List ℕ). l ++ number64 g) a)) in
+    let front : take 16 last ≡ magic Two ++ number64 g = ap (λ (l : List ℕ). take 16 l) is in
     let behind : drop 24 last ≡ body = ap (λ (l : List ℕ). drop 24 l) is in
     let long = ap (λ (l : List ℕ). length l) is in
     let same : n ≡ length body = omega (arith, counted, long) in
     put
     ∙ ap (λ (l : List ℕ). l ++ number64 n ++ drop 24 last) front
-    ∙ ap (λ (l : List ℕ). (magic One ++ number64 g) ++ number64 n ++ l) behind
-    ∙ ap (λ (k : ℕ). (magic One ++ number64 g) ++ number64 k ++ body) same
+    ∙ ap (λ (l : List ℕ). (magic Two ++ number64 g) ++ number64 n ++ l) behind
+    ∙ ap (λ (k : ℕ). (magic Two ++ number64 g) ++ number64 k ++ body) same
 
 -- ---- a checkpoint of what is in use
 
 length_spelled : (generation : ℕ) (h : History) (bytes : List ℕ) (made : SpellsSide generation h bytes) → length bytes ≡ 25 + length made.body
 length_spelled generation h bytes made =
-    omega (arith, ap (λ (l : List ℕ). length l) made.is, length-append (made_of One generation made.body) (0 ∷ []), length-made One generation made.body)
+    omega (arith, ap (λ (l : List ℕ). length l) made.is, length-append (made_of Two generation made.body) (0 ∷ []), length-made Two generation made.body)
 
-module _ (h : History) (before : ℕ) (log : LogState) (old new : View) (fresh : IsFresh before log h old) (g : ℕ) (next_is : g ≡ before + 1) (fits : g < 2 ^ 64)
+module _ (h : History) (form : Form) (before : ℕ) (log : LogState) (old new : View) (fresh : IsFresh form before log h old) (g : ℕ) (next_is : g ≡ before + 1) (fits : g < 2 ^ 64)
     (bytes : List ℕ) (bytes_fit : length bytes < 2 ^ 64) (spells : SpellsSide g h bytes) (side : Side) (side_is : side ≡ other log.side) where
   body_fits : length spells.body < 2 ^ 64
   body_fits = omega (arith, bytes_fit, length_spelled g h bytes spells)
@@ -225,23 +226,24 @@ module _ (h : History) (before : ℕ) (log : LogState) (old new : View) (fresh :
 
   pub checkpoint_moments : LeavesOnly old new (Keeps side old (Making bytes)) → LeavesOnly old new (StandsFor h)
   checkpoint_moments run =
-      next_moments h One g fits bytes spells.body spells.is body_fits spells.spells old new fresh.standing is_newer log.side fresh.in_use
+      next_moments h g fits bytes spells.body spells.is body_fits spells.spells old new fresh.standing is_newer log.side fresh.in_use
       (subst (λ (s : Side). LeavesOnly old new (Keeps s old (Making bytes))) side_is run)
 
-  pub checkpoint_fresh : Made side bytes old new → IsFresh g (empty_log side (length bytes)) h new
+  pub checkpoint_fresh : Made side bytes old new → IsFresh Two g (empty_log side (length bytes)) h new
   checkpoint_fresh made =
-      subst (λ (n : ℕ). IsFresh g (empty_log side n) h new) (sym (length_spelled g h bytes spells))
-      (subst (λ (s : Side). IsFresh g (empty_log s (25 + length spells.body)) h new) (sym side_is)
-      (next_fresh h One g fits bytes spells.body spells.is body_fits spells.spells old new fresh.standing is_newer log.side fresh.in_use
+      subst (λ (n : ℕ). IsFresh Two g (empty_log side n) h new) (sym (length_spelled g h bytes spells))
+      (subst (λ (s : Side). IsFresh Two g (empty_log s (25 + length spells.body)) h new) (sym side_is)
+      (next_fresh h g fits bytes spells.body spells.is body_fits spells.spells old new fresh.standing is_newer log.side fresh.in_use
       (subst (λ (s : Side). Made s bytes old new) side_is made)))
 
 -- the store after it
-pub checkpointed : {V : Type 0} (tells : Bool) (view : V → View) (old new : StoreState V) (bytes : List ℕ) (side : Side) → new.generation ≡ old.generation + 1 → new.failed ≡ false
+pub checkpointed : {V : Type 0} (tells : Bool) (view : V → View) (old new : StoreState V) (bytes : List ℕ) (side : Side) → new.form ≡ Two → new.generation ≡ old.generation + 1 → new.failed ≡ false
     → side ≡ other old.log.side → new.log ≡ empty_log side (length bytes) → SpellsSide new.generation new.history bytes → 1 + length bytes ≤ (view new.volume).limit
     → (IsTrue tells → (tail : List ℕ) × ((view new.volume).seen side ≡ 1 ∷ (bytes ++ tail))) → IsCheckpointed tells view old new
-checkpointed tells view old new bytes side generation failed side_is log spells fits reads =
+checkpointed tells view old new bytes side form generation failed side_is log spells fits reads =
     let long = length_spelled new.generation new.history bytes spells in
     record {
+      form = form;
       generation = generation;
       side = ap (λ (l : LogState). l.side) log ∙ side_is;
       body = spells.body;
@@ -251,14 +253,13 @@ checkpointed tells view old new bytes side generation failed side_is log spells 
       no_group = ap (λ (l : LogState). l.end) log ∙ sym (ap (λ (l : LogState). l.start) log);
       failed = failed;
       made = λ told. record {
-        form = One;
         body = spells.body;
         spells = spells.spells;
         tail = (reads told).0;
         is = ap (λ (l : LogState). (view new.volume).seen l.side) log
             ∙ (reads told).1
             ∙ ap (λ (l : List ℕ). 1 ∷ (l ++ (reads told).0)) spells.is
-            ∙ ap (λ (l : List ℕ). 1 ∷ l) (append_assoc (made_of One new.generation spells.body) (0 ∷ []) (reads told).0);
+            ∙ ap (λ (l : List ℕ). 1 ∷ l) (append_assoc (made_of Two new.generation spells.body) (0 ∷ []) (reads told).0);
       };
       same_body = λ told. refl;
     }

@@ -37,18 +37,19 @@ abbrev pub HasNoRoom : {V : Type 0} → ℕ → StoreState V → List EntryValue
 HasNoRoom limit s accepted = (0 < length accepted) × (limit < s.log.end + 6 + length (group accepted))
 
 -- the store after these entries were added: they are in the warehouse and, where there are any, in the log. Whatever a crash
--- leaves from now on stands for the warehouse with them
+-- leaves from now on stands for the warehouse with them. The side in use stays, and so do its form and its generation
 pub record Committed {V : Type 0} (tells : Bool) (view : V → View) (old new : StoreState V) (accepted : List EntryValue) : Type 0 where
   pub went_on : old.failed ≡ false
   pub history : new.history ≡ with_more old.history accepted
   pub failed : new.failed ≡ false
   pub none : accepted ≡ [] → new ≡ old
-  pub moved : 0 < length accepted → (new.generation ≡ old.generation) × (new.log ≡ record old.log { end = old.log.end + 5 + length (group accepted) })
+  pub moved : 0 < length accepted → (new.form ≡ old.form) × (new.generation ≡ old.generation) × (new.log ≡ record old.log { end = old.log.end + 5 + length (group accepted) })
   pub each : IsTrue tells → EachStandsFor new.history (view new.volume)
 
 -- the store after a payload went to its log, with which its warehouse is this one
 pub record Appended {V : Type 0} (tells : Bool) (view : V → View) (old new : StoreState V) (payload : List ℕ) (next : History) : Type 0 where
   pub history : new.history ≡ next
+  pub form : new.form ≡ old.form
   pub generation : new.generation ≡ old.generation
   pub log : new.log ≡ record old.log { end = old.log.end + 5 + length payload }
   pub failed : new.failed ≡ false
@@ -57,6 +58,7 @@ pub record Appended {V : Type 0} (tells : Bool) (view : V → View) (old new : S
 -- the store after the device failed: it shows the warehouse as it was, and takes no more
 pub record Lost {V : Type 0} (old new : StoreState V) : Type 0 where
   pub history : new.history ≡ old.history
+  pub form : new.form ≡ old.form
   pub generation : new.generation ≡ old.generation
   pub failed : new.failed ≡ true
   pub log : new.log ≡ record old.log { failed = true }

@@ -3,16 +3,16 @@
 use Rattle.std.specs.Prelude.{◌≡◌, ◌≢◌, ◌⊎◌, ℕ, ◌≤◌, List, [], ◌∷◌, ◌++◌, length, take, drop, get_or}
 use Rattle.fw_disk.specs.declared.volume.Side.{Side}
 use Rattle.fw_disk.specs.Volume.{Image, View, Settled, Torn, other}
-use Rattle.fw_entry_bytes.specs.declared.form.Form.TheVariants.{One}
+use Rattle.fw_entry_bytes.specs.declared.form.Form.TheVariants.{Two}
 use Rattle.fw_segment.specs.States.{Spells}
 use Rattle.fw_snapshot.specs.History.{History}
 use Rattle.fw_recover.specs.Sides.{made_of}
 
--- all of a side behind its gate: a header, a body that spells the warehouse, and a closed gate behind it
+-- all of a side behind its gate: a header, which is of the second form, a body that spells the warehouse, and a closed gate behind it
 pub record SpellsSide (generation : ℕ) (h : History) (bytes : List ℕ) : Type 0 where
   pub body : List ℕ
   pub spells : Spells body h
-  pub is : bytes ≡ made_of One generation body ++ 0 ∷ []
+  pub is : bytes ≡ made_of Two generation body ++ 0 ∷ []
 
 -- nothing is pending
 abbrev pub AllSettled : View → Type 0

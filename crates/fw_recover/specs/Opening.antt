@@ -2,7 +2,7 @@
 use Rattle.std.specs.Prelude.{◌≡◌, ◌≢◌, ◌⊎◌, ⊤, ℕ, ◌+◌, ◌-◌, List, ◌∷◌, ◌++◌, length, take, drop, map, All, Option, Some, None, Ok, Err}
 use Rattle.fw_disk.specs.declared.volume.Side.{Side}
 use Rattle.fw_entry.specs.Entry.{EntryValue}
-use Rattle.fw_entry_bytes.specs.declared.form.Form.TheVariants.{One}
+use Rattle.fw_entry_bytes.specs.declared.form.Form.{Form}
 use Rattle.fw_entry_bytes.specs.Whole.{whole}
 use Rattle.fw_journal.specs.Frames.{spelled, AllFit}
 use Rattle.fw_journal.specs.declared.fault.LogFault.{LogFault}
@@ -40,11 +40,11 @@ abbrev pub IsAfter : History → List EntryValue → Option History → Type 0
 IsAfter h es None = IsLegalAfter h.entries es → ⊥
 IsAfter h es (Some next) = IsLegalAfter h.entries es × (next ≡ with_more h es)
 
--- the payload is no group, or one with an entry that isn't accepted after those before it
-abbrev pub GoesNotBehind : List EntryValue → List ℕ → Type 0
-GoesNotBehind entries payload =
-    ((left : ℕ) × (whole (group_at One) payload ≡ Err left))
-    ⊎ ((es : List EntryValue) × (whole (group_at One) payload ≡ Ok es) × (IsLegalAfter entries es → ⊥))
+-- the payload is no group of the form, or one with an entry that isn't accepted after those before it
+abbrev pub GoesNotBehind : Form → List EntryValue → List ℕ → Type 0
+GoesNotBehind form entries payload =
+    ((left : ℕ) × (whole (group_at form) payload ≡ Err left))
+    ⊎ ((es : List EntryValue) × (whole (group_at form) payload ≡ Ok es) × (IsLegalAfter entries es → ⊥))
 
 -- the payload is that of a group which goes behind the warehouse, and this is the warehouse with it
 pub record GoesBehind (h : History) (payload : List ℕ) (next : History) : Type 0 where
@@ -54,10 +54,10 @@ pub record GoesBehind (h : History) (payload : List ℕ) (next : History) : Type
   pub legal : IsLegalAfter h.entries more
   pub is : next ≡ with_more h more
 
--- the warehouse with the group of a payload
-abbrev pub IsWithGroup : History → List ℕ → Option History → Type 0
-IsWithGroup h payload None = GoesNotBehind h.entries payload
-IsWithGroup h payload (Some next) = GoesBehind h payload next
+-- the warehouse with the group of a payload, which is of the form
+abbrev pub IsWithGroup : Form → History → List ℕ → Option History → Type 0
+IsWithGroup form h payload None = GoesNotBehind form h.entries payload
+IsWithGroup form h payload (Some next) = GoesBehind h payload next
 
 -- from the first gate of a log up to this one stand the frames of the groups that made a state into this warehouse
 pub record HasGroups (state : History) (start gate : ℕ) (file : List ℕ) (now : History) : Type 0 where
@@ -76,8 +76,8 @@ pub record IsClosedAt (gate : ℕ) (file : List ℕ) : Type 0 where
   pub is : drop gate file ≡ byte ∷ rest
   pub shut : byte ≢ 1
 
--- where a body of so many bytes spells no state: the first fault is at this offset of the file
-pub record HasBadBody (body_len at : ℕ) (file : List ℕ) : Type 0 where
+-- where a body of so many bytes spells no state of the form: the first fault is at this offset of the file
+pub record HasBadBody (form : Form) (body_len at : ℕ) (file : List ℕ) : Type 0 where
   pub left : ℕ
-  pub read : state_at One (take body_len (drop 25 file)) ≡ Err left
+  pub read : state_at form (take body_len (drop 25 file)) ≡ Err left
   pub place : at ≡ 25 + (length (take body_len (drop 25 file)) - left)

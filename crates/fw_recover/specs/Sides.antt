@@ -13,11 +13,12 @@ use Rattle.std.specs.Int.{from_le_bytes}
 use Rattle.std.specs.Int.Width.{w64}
 use Rattle.fw_bytes.specs.Spelling.{number64}
 use Rattle.fw_entry_bytes.specs.declared.form.Form.{Form}
-use Rattle.fw_entry_bytes.specs.declared.form.Form.TheVariants.{One}
+use Rattle.fw_entry_bytes.specs.declared.form.Form.TheVariants.{One, Two}
 
--- the magic word of a form: FWHOUSE1
+-- the magic word of a form: FWHOUSE1 or FWHOUSE2
 abbrev pub magic : Form → List ℕ
 magic One = 70 ∷ 87 ∷ 72 ∷ 79 ∷ 85 ∷ 83 ∷ 69 ∷ 49 ∷ []
+magic Two = 70 ∷ 87 ∷ 72 ∷ 79 ∷ 85 ∷ 83 ∷ 69 ∷ 50 ∷ []
 
 -- a side from its second byte on, up to its log
 unfoldable pub made_of : Form → ℕ → List ℕ → List ℕ

@@ -10,13 +10,14 @@ ghost use Rattle.fw_recover.specs.Making.{SpellsSide};
 use crate::spelled::side_bytes;
 use crate::{Store, StoreFault, make_side};
 use fw_disk::Volume;
+use fw_entry_bytes::Form;
 use fw_journal::Log;
 use fw_snapshot::Snapshot;
 use std::alloc::Global;
 
 impl<V: Volume> Store<V> {
-    /// Makes the side that isn't in use anew, of the state as it is and with the next generation; from then on that side
-    /// is in use, and its log is empty. The rows are then in few segments, on the side and in the store: short ones that follow each other are
+    /// Makes the side that isn't in use anew, of the state as it is, of the second form and with the next generation; from
+    /// then on that side is in use, and its log is empty. The rows are then in few segments, on the side and in the store: short ones that follow each other are
     /// joined, as [`State::merged`](fw_snapshot::State::merged) says. At each moment since the call's start, and after it whatever it answers, a crash
     /// leaves files that stand for the warehouse as it is.
     ///
@@ -55,6 +56,7 @@ impl<V: Volume> Store<V> {
         let Ok(()) = make_side(&mut self.volume, side, &bytes) else {
             return Err(StoreFault::Device);
         };
+        self.form = Form::Two;
         self.generation = generation;
         self.snapshot = snapshot;
         self.log = Log::at(side, start, start);

@@ -3,6 +3,7 @@ ghost use Rattle.std.specs.Prelude.{◌≡◌, ◌⊎◌, ◌↔◌, ◌<◌, �
 ghost use Rattle.fw_disk.specs.declared.volume.Side.{Side};
 ghost use Rattle.fw_disk.specs.declared.volume.Side.TheVariants.{Left};
 ghost use Rattle.fw_disk.specs.Volume.{Rose, Calm, SameSizes, LeavesOnly};
+ghost use Rattle.fw_entry_bytes.specs.declared.form.Form.TheVariants.{Two};
 ghost use Rattle.fw_recover.specs.declared.fault.StoreFault.TheVariants.{Device, TooLarge, Exists, NoMemory};
 ghost use Rattle.fw_recover.specs.Sides.{IsOpen};
 ghost use Rattle.fw_recover.specs.Stands.{StandsForNone, EachStandsFor};
@@ -16,19 +17,21 @@ use crate::spelled::side_bytes;
 use crate::{Store, StoreFault, make_side};
 use fw_charge::Currency;
 use fw_disk::{Side, Volume, VolumeFault};
+use fw_entry_bytes::Form;
 use fw_journal::Log;
 use fw_snapshot::{Snapshot, State};
 use std::alloc::Global;
 
 impl<V: Volume> Store<V> {
-    /// Creates an empty warehouse of this currency on the volume: Left is made, of 45 bytes and with generation 1. Where
-    /// no side was open and nothing was pending, a crash at any moment of the call leaves no warehouse or the empty one.
+    /// Creates an empty warehouse of this currency on the volume: Left is made, of 45 bytes, of the second form and with
+    /// generation 1. Where no side was open and nothing was pending, a crash at any moment of the call leaves no warehouse or
+    /// the empty one.
     ///
     /// `Device` where a sync or a read failed, then `Exists` where a side is open, then `TooLarge` where the volume's
     /// limit is below 45 bytes, or `NoMemory` where a growth was refused: up to here no byte changes, and a crash leaves
     /// nothing that it could not leave before. `Device` also where a write failed. The volume is handed back with each.
     pub fn create(alloc: Global, volume: V, currency: Currency) -> Result<Store<V>, (V, StoreFault)>
-        ensures made { IfOk result (λ s. (s.history ≡ empty currency) × (s.generation ≡ 1) × (s.failed ≡ false)
+        ensures made { IfOk result (λ s. (s.history ≡ empty currency) × (s.form ≡ Two) × (s.generation ≡ 1) × (s.failed ≡ false)
             × (s.log ≡ record { side = Left; start = 44; end = 44; failed = false })) }
         ensures each { IfOk result (λ s. IsTrue V.tells → EachStandsFor (empty currency) (V.view s.volume)) }
         ensures bytes { IfOk result (λ s. IsTrue V.tells → HasBodyAlone 1 (empty currency) ((V.view s.volume).seen Left)) }
@@ -58,6 +61,7 @@ impl<V: Volume> Store<V> {
         match make_first(alloc, &mut volume, currency) {
             Ok((log, snapshot)) => Ok(Store {
                 volume,
+                form: Form::Two,
                 generation: 1,
                 log,
                 snapshot,
@@ -75,7 +79,7 @@ fn make_first<V: Volume>(
     currency: Currency,
 ) -> Result<(Log, Snapshot), StoreFault>
     ensures made { IfOk result (λ r. (r.1 ≡ empty currency) × (r.0 ≡ record { side = Left; start = 44; end = 44; failed = false })) }
-    ensures in_use { IfOk result (λ r. IsInUse V.tells 1 r.0 r.1 (V.view volume.new)) }
+    ensures in_use { IfOk result (λ r. IsInUse V.tells Two 1 r.0 r.1 (V.view volume.new)) }
     ensures bytes { IfOk result (λ r. IsTrue V.tells → HasBodyAlone 1 (empty currency) ((V.view volume.new).seen Left)) }
     ensures any_moment { IsTrue V.tells → AllSettled (V.view volume.old) → StandsForNone (V.view volume.old).seen
         → LeavesOnly (V.view volume.old) (V.view volume.new) (StandsForNoneOr (empty currency)) }

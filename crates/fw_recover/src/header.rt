@@ -1,12 +1,12 @@
 //! The headers of the two sides, and which side is in use.
 ghost use Rattle.std.specs.Option.{ForSome};
-ghost use Rattle.std.specs.Prelude.{◌≡◌, ◌⊎◌, ◌↔◌, ◌+◌, ◌<◌, ◌≤◌, ℕ, length, take, drop, IfOk, IfErr, IsErrOf, IsTrue};
+ghost use Rattle.std.specs.Prelude.{◌≡◌, ◌⊎◌, ◌+◌, ◌<◌, ◌≤◌, ℕ, length, take, drop, IfSome, IfNone, IfOk, IfErr, IsErrOf, IsTrue};
 ghost use Rattle.std.specs.Int.{from_le_bytes};
 ghost use Rattle.std.specs.Int.Width.{w64};
 ghost use Rattle.fw_bytes.specs.Spelling.{number64};
 ghost use Rattle.fw_disk.specs.declared.volume.Side.{Side};
 ghost use Rattle.fw_disk.specs.Volume.{Rose, SameSizes, Calm};
-ghost use Rattle.fw_entry_bytes.specs.declared.form.Form.TheVariants.{One};
+ghost use Rattle.fw_entry_bytes.specs.declared.form.Form.{Form};
 ghost use Rattle.fw_recover.specs.declared.fault.StoreFault.TheVariants.{NoHouse, Corrupt, Device};
 ghost use Rattle.fw_recover.specs.Sides.{magic, IsOpen};
 ghost use Rattle.fw_recover.specs.Stands.{IsNewest, StandsForNone};
@@ -16,13 +16,13 @@ ghost use Rattle.fw_recover.specs.Opening.{IsOpenFault};
 
 use crate::StoreFault;
 use fw_disk::{Side, Volume};
-
-/// The magic word of a side.
-pub(crate) const MAGIC: [u8; 8] = *b"FWHOUSE1";
+use fw_entry_bytes::Form;
 
 /// What the header of an open side says.
 #[derive(Clone, Copy, Debug)]
 pub struct Header {
+    /// The form of all that follows the magic word: of the body and of the log.
+    pub form: Form,
     /// Its generation, from 1 on: a side that is made anew has a greater one than the side in use.
     pub generation: u64,
     /// The length of the body, in bytes. The first gate of the log is 25 bytes further on in the file.
@@ -36,7 +36,7 @@ pub struct Header {
 /// generation; `NoHouse` where no side is open. Whatever is answered, no byte changes, and a crash leaves nothing that it
 /// could not leave before.
 pub fn side_in_use<V: Volume>(volume: &mut V) -> Result<(Side, Header), StoreFault>
-    ensures found { IfOk result (λ r. IsTrue V.tells → IsNewest (V.view volume.old).seen r.0 × HasHeader r.1.generation r.1.body_len ((V.view volume.old).seen r.0)) }
+    ensures found { IfOk result (λ r. IsTrue V.tells → IsNewest (V.view volume.old).seen r.0 × HasHeader r.1.form r.1.generation r.1.body_len ((V.view volume.old).seen r.0)) }
     ensures within { IfOk result (λ r. (0 < r.1.generation) × (25 + r.1.body_len < (V.view volume.old).size r.0)) }
     ensures none { IsErrOf result NoHouse → IsTrue V.tells → StandsForNone (V.view volume.old).seen }
     ensures corrupt { (side : Side) (at : ℕ) → IsErrOf result (Corrupt side at) → IsTrue V.tells → CorruptAt (V.view volume.old).seen side at }
@@ -94,9 +94,9 @@ fn header_of<V: Volume>(volume: &mut V, side: Side) -> Result<Option<Header>, St
     if header[0] != 1 {
         return Ok(None);
     }
-    if !is_signed(&header) {
+    let Some(form) = form_of(&header) else {
         return Err(StoreFault::Corrupt { side, at: 1 });
-    }
+    };
     let generation = number_in(&header, 9);
     if generation == 0 {
         return Err(StoreFault::Corrupt { side, at: 9 });
@@ -106,19 +106,38 @@ fn header_of<V: Volume>(volume: &mut V, side: Side) -> Result<Option<Header>, St
         return Err(StoreFault::Corrupt { side, at: 17 });
     }
     Ok(Some(Header {
+        form,
         generation,
         body_len,
     }))
 }
 
-/// Whether a header has the magic word.
-fn is_signed(header: &[u8]) -> bool
+/// The form whose magic word a header has; none where it has neither.
+fn form_of(header: &[u8]) -> Option<Form>
     requires { 9 ≤ length header.now }
-    ensures { IsTrue result ↔ (take 8 (drop 1 header.now) ≡ magic One) }
+    ensures some { IfSome result (λ form. take 8 (drop 1 header.now) ≡ magic form) }
+    ensures none { IfNone result ((form : Form) → (take 8 (drop 1 header.now) ≡ magic form) → ⊥) }
 {
     let (_, behind) = header.split_at(1);
     let (word, _) = behind.split_at(8);
-    word == MAGIC.as_slice()
+    let (one, two) = (word_of(Form::One), word_of(Form::Two));
+    if word == one.as_slice() {
+        return Some(Form::One);
+    }
+    if word == two.as_slice() {
+        return Some(Form::Two);
+    }
+    None
+}
+
+/// The magic word of a form.
+pub(crate) fn word_of(form: Form) -> [u8; 8]
+    ensures { result ≡ magic form }
+{
+    match form {
+        Form::One => *b"FWHOUSE1",
+        Form::Two => *b"FWHOUSE2",
+    }
 }
 
 /// The number in the eight bytes from an offset on, the lowest first.

@@ -33,13 +33,13 @@ pub(crate) fn settle<V: Volume>(volume: &mut V) -> Result<(), VolumeFault>
     volume.sync(Side::Right)
 }
 
-/// The generation, the log and the state of the side in use. First both sides are synced, so that a crash leaves of them
+/// The form, the generation, the log and the state of the side in use. First both sides are synced, so that a crash leaves of them
 /// what is read.
 pub(crate) fn read_sides<V: Volume>(
     alloc: Global,
     volume: &mut V,
-) -> Result<(u64, Log, State), StoreFault>
-    ensures found { IfOk result (λ r. IsInUse V.tells r.0 r.1 r.2 (V.view volume.new)) }
+) -> Result<(Form, u64, Log, State), StoreFault>
+    ensures found { IfOk result (λ r. IsInUse V.tells r.0 r.1 r.2 r.3 (V.view volume.new)) }
     ensures none { IsErrOf result NoHouse → IsTrue V.tells → StandsForNone (V.view volume.old).seen }
     ensures corrupt { (side : Side) (at : ℕ) → IsErrOf result (Corrupt side at) → IsTrue V.tells → CorruptAt (V.view volume.old).seen side at }
     ensures which { IfErr result IsOpenFault }
@@ -55,11 +55,14 @@ pub(crate) fn read_sides<V: Volume>(
     read_settled(alloc, volume)
 }
 
-/// The generation, the log and the state of the side in use, where nothing is pending.
-fn read_settled<V: Volume>(alloc: Global, volume: &mut V) -> Result<(u64, Log, State), StoreFault>
+/// The form, the generation, the log and the state of the side in use, where nothing is pending.
+fn read_settled<V: Volume>(
+    alloc: Global,
+    volume: &mut V,
+) -> Result<(Form, u64, Log, State), StoreFault>
     requires settled { IsTrue V.tells → AllSettled (V.view volume.old) }
 
-    ensures found { IfOk result (λ r. IsInUse V.tells r.0 r.1 r.2 (V.view volume.new)) }
+    ensures found { IfOk result (λ r. IsInUse V.tells r.0 r.1 r.2 r.3 (V.view volume.new)) }
     ensures none { IsErrOf result NoHouse → IsTrue V.tells → StandsForNone (V.view volume.old).seen }
     ensures corrupt { (side : Side) (at : ℕ) → IsErrOf result (Corrupt side at) → IsTrue V.tells → CorruptAt (V.view volume.old).seen side at }
     ensures which { IfErr result IsOpenFault }
@@ -70,26 +73,32 @@ fn read_settled<V: Volume>(alloc: Global, volume: &mut V) -> Result<(u64, Log, S
     ensures device { IsErrOf result Device → Rose (V.view volume.old).failures (V.view volume.new).failures }
 {
     let (side, header) = side_in_use(volume)?;
-    let state = body_state(alloc, volume, side, header.body_len)?;
+    let state = body_state(alloc, volume, side, header.form, header.body_len)?;
     let start = 25 + header.body_len;
-    let (state, end) = walk_log(alloc, volume, side, start, state)?;
-    Ok((header.generation, Log::at(side, start, end), state))
+    let (state, end) = walk_log(alloc, volume, side, header.form, start, state)?;
+    Ok((
+        header.form,
+        header.generation,
+        Log::at(side, start, end),
+        state,
+    ))
 }
 
-/// The state that the body of a side spells, which has so many bytes behind the header.
+/// The state that the body of a side spells, which is of the form and has so many bytes behind the header.
 ///
 /// `Corrupt` where it spells none, `Device` where the read failed, `NoMemory` where a growth was refused.
 fn body_state<V: Volume>(
     alloc: Global,
     volume: &mut V,
     side: Side,
+    form: Form,
     body_len: u64,
 ) -> Result<State, StoreFault>
     requires { 25 + body_len < (V.view volume.old).size side }
 
     ensures found { IfOk result (λ state. IsTrue V.tells → Spells (take body_len (drop 25 ((V.view volume.old).seen side))) state) }
     ensures corrupt { (at_side : Side) (at : ℕ) → IsErrOf result (Corrupt at_side at)
-        → (at_side ≡ side) × (IsTrue V.tells → HasBadBody body_len at ((V.view volume.old).seen side)) }
+        → (at_side ≡ side) × (IsTrue V.tells → HasBadBody form body_len at ((V.view volume.old).seen side)) }
     ensures not_no_house { IsErrOf result NoHouse → ⊥ }
     ensures which { IfErr result IsOpenFault }
 
@@ -104,7 +113,7 @@ fn body_state<V: Volume>(
     let Ok(()) = volume.read(side, 25, &mut body) else {
         return Err(StoreFault::Device);
     };
-    match decode_state(alloc, Form::One, &body) {
+    match decode_state(alloc, form, &body) {
         Ok(state) => Ok(state),
         Err(DecodeFault::Corrupt { at }) => Err(StoreFault::Corrupt {
             side,

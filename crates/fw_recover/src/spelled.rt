@@ -2,7 +2,7 @@
 ghost use Rattle.std.specs.Prelude.{◌≡◌, ◌⊎◌, ◌+◌, ◌<◌, ◌≤◌, ℕ, List, length, IfOk, OnErr, IsErrOf};
 ghost use Rattle.fw_bytes.specs.Spelling.{number64};
 ghost use Rattle.fw_disk.specs.Volume.{Holds};
-ghost use Rattle.fw_entry_bytes.specs.declared.form.Form.TheVariants.{One};
+ghost use Rattle.fw_entry_bytes.specs.declared.form.Form.TheVariants.{Two};
 ghost use Rattle.fw_segment.specs.States.{Spells};
 ghost use Rattle.fw_recover.specs.declared.fault.StoreFault.TheVariants.{TooLarge, NoMemory};
 ghost use Rattle.fw_recover.specs.Sides.{made_of};
@@ -10,13 +10,15 @@ ghost use Rattle.fw_recover.specs.Making.{SpellsSide};
 ghost use Rattle.fw_recover.specs.Checkpoints.{HasNoRoomFor};
 
 use crate::StoreFault;
-use crate::header::MAGIC;
+use crate::header::word_of;
 use fw_bytes::put_u64;
+use fw_entry_bytes::Form;
 use fw_segment::append_state;
 use fw_snapshot::State;
 use std::alloc::{AllocError, Global};
 
-/// All of a side behind its gate: a header, the body that spells the state, and the closed first gate of the log.
+/// All of a side behind its gate: a header, which is of the second form, the body that spells the state, and the closed first
+/// gate of the log.
 ///
 /// `TooLarge` where the gate and these bytes are longer than the limit, `NoMemory` where a growth was refused.
 pub(crate) fn side_bytes(
@@ -42,11 +44,12 @@ pub(crate) fn side_bytes(
     }
 }
 
-/// A header without the gate of its side, and the body that spells the state.
+/// A header without the gate of its side, of the second form, and the body that spells the state.
 fn header_and_body(alloc: Global, generation: u64, state: &State) -> Result<Vec<u8>, AllocError>
-    ensures { IfOk result (λ bytes. (body : List ℕ) × Spells body state.now × (bytes.items ≡ made_of One generation body)) }
+    ensures { IfOk result (λ bytes. (body : List ℕ) × Spells body state.now × (bytes.items ≡ made_of Two generation body)) }
 {
-    let mut bytes = MAGIC.to_vec(alloc)?;
+    let word = word_of(Form::Two);
+    let mut bytes = word.to_vec(alloc)?;
     put_u64(&mut bytes, generation)?;
     // The place of the body's length, which is known once the body stands.
     put_u64(&mut bytes, 0)?;

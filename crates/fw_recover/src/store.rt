@@ -11,6 +11,7 @@ ghost use Rattle.fw_recover.specs.Store.{IsKept};
 use crate::StoreFault;
 use crate::opening::read_sides;
 use fw_disk::Volume;
+use fw_entry_bytes::Form;
 use fw_journal::Log;
 use fw_snapshot::Snapshot;
 use std::alloc::Global;
@@ -20,6 +21,8 @@ use std::marker::Model;
 #[derive(Drop)]
 pub struct Store<V: Volume> {
     pub(crate) volume: V,
+    /// The form of the side in use.
+    pub(crate) form: Form,
     /// The generation of the side in use, from 1 on.
     pub(crate) generation: u64,
     /// The log of the side in use.
@@ -34,14 +37,14 @@ impl<V: Volume> Model for Store<V> {
 
     ghost Value = { StoreState V };
 
-    ghost view = { λ s. record { volume = s.volume; generation = s.generation; log = s.log; history = s.snapshot; failed = s.failed } };
+    ghost view = { λ s. record { volume = s.volume; form = s.form; generation = s.generation; log = s.log; history = s.snapshot; failed = s.failed } };
 
-    ghost invariant = { λ s. IsKept V.tells V.view (record { volume = s.volume; generation = s.generation; log = s.log; history = s.snapshot; failed = s.failed }) };
+    ghost invariant = { λ s. IsKept V.tells V.view (record { volume = s.volume; form = s.form; generation = s.generation; log = s.log; history = s.snapshot; failed = s.failed }) };
 }
 
 impl<V: Volume> Store<V> {
     /// Opens the warehouse that stands on the volume. It syncs both sides, and then reads the two headers, and the body
-    /// and the log of the side in use. It holds one body or one group in memory beside the state.
+    /// and the log of the side in use, both by the form that its magic word names. It holds one body or one group in memory beside the state.
     ///
     /// `Device` where a sync or a read failed, `NoHouse` where no side is open, `Corrupt` at the first fault of the files,
     /// `NoMemory` where a growth was refused; the volume is handed back. Whatever is answered, no byte changes, and a
@@ -61,9 +64,10 @@ impl<V: Volume> Store<V> {
     {
         let mut volume = volume;
         match read_sides(alloc, &mut volume) {
-            Ok((generation, log, state)) => match Snapshot::new(state) {
+            Ok((form, generation, log, state)) => match Snapshot::new(state) {
                 Ok(snapshot) => Ok(Store {
                     volume,
+                    form,
                     generation,
                     log,
                     snapshot,
@@ -80,6 +84,15 @@ impl<V: Volume> Store<V> {
         ensures { result.now ≡ self.now.history }
     {
         &self.snapshot
+    }
+
+    /// The form of the side in use: of its body and of its log. [`Store::create`] and [`Store::checkpoint`] make a side of the
+    /// second form. A side of the first one, which an earlier version of the program made, keeps its form while entries are
+    /// added to its log.
+    pub fn form(&self) -> Form
+        ensures { result ≡ self.now.form }
+    {
+        self.form
     }
 
     /// The volume on which the warehouse stands. Nothing is written or synced.

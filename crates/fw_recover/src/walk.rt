@@ -2,7 +2,6 @@
 ghost use Rattle.std.specs.Prelude.{◌≡◌, ◌≢◌, ◌+◌, ◌<◌, ◌≤◌, ℕ, IfOk, IfErr, IsErrOf, IsTrue};
 ghost use Rattle.fw_disk.specs.declared.volume.Side.{Side};
 ghost use Rattle.fw_disk.specs.Volume.{Rose, SameSizes, Calm};
-ghost use Rattle.fw_entry_bytes.specs.declared.form.Form.TheVariants.{One};
 ghost use Rattle.fw_snapshot.specs.Judging.{IsLegal};
 ghost use Rattle.fw_recover.specs.declared.fault.StoreFault.TheVariants.{NoHouse, Corrupt, Device};
 ghost use Rattle.fw_recover.specs.Corrupt.{LogBreaks};
@@ -16,7 +15,7 @@ use fw_segment::{DecodeFault, decode_group};
 use fw_snapshot::{Entry, State, Verdict, judge};
 use std::alloc::{AllocError, Global};
 
-/// The state with the groups of a log, and the log's first closed gate. It reads the log frame by frame: each group is
+/// The state with the groups of a log of the form, and the log's first closed gate. It reads the log frame by frame: each group is
 /// decoded, and its entries are judged, before the next frame is looked at. It holds one payload in memory.
 ///
 /// `Corrupt` at the first gate where neither a closed gate nor the frame of a group stands whose entries are accepted
@@ -25,6 +24,7 @@ pub(crate) fn walk_log<V: Volume>(
     alloc: Global,
     volume: &mut V,
     side: Side,
+    form: Form,
     start: u64,
     state: State,
 ) -> Result<(State, u64), StoreFault>
@@ -34,7 +34,7 @@ pub(crate) fn walk_log<V: Volume>(
     ensures closed { IfOk result (λ r. IsTrue V.tells → IsClosedAt r.1 ((V.view volume.old).seen side)) }
     ensures within { IfOk result (λ r. r.1 < (V.view volume.old).size side) }
     ensures corrupt { (at_side : Side) (at : ℕ) → IsErrOf result (Corrupt at_side at)
-        → (at_side ≡ side) × (IsTrue V.tells → LogBreaks One state start at ((V.view volume.old).seen side)) }
+        → (at_side ≡ side) × (IsTrue V.tells → LogBreaks form state start at ((V.view volume.old).seen side)) }
     ensures not_no_house { IsErrOf result NoHouse → ⊥ }
     ensures which { IfErr result IsOpenFault }
 
@@ -48,7 +48,7 @@ pub(crate) fn walk_log<V: Volume>(
     loop {
         match frame_at(alloc, volume, side, gate) {
             Ok(None) => return Ok((state, gate)),
-            Ok(Some((payload, next))) => match with_group(alloc, state, &payload) {
+            Ok(Some((payload, next))) => match with_group(alloc, form, state, &payload) {
                 Ok(Some(after)) => {
                     state = after;
                     gate = next;
@@ -73,12 +73,17 @@ fn of_log(side: Side, fault: LogFault) -> StoreFault
     }
 }
 
-/// The state with the group of a payload; none where the payload is no group, or an entry isn't accepted after those
-/// before it.
-fn with_group(alloc: Global, state: State, payload: &[u8]) -> Result<Option<State>, AllocError>
-    ensures { IfOk result (λ next. IsWithGroup state payload.now next) }
+/// The state with the group of a payload; none where the payload is no group of the form, or an entry isn't accepted after
+/// those before it.
+fn with_group(
+    alloc: Global,
+    form: Form,
+    state: State,
+    payload: &[u8],
+) -> Result<Option<State>, AllocError>
+    ensures { IfOk result (λ next. IsWithGroup form state payload.now next) }
 {
-    match decode_group(alloc, Form::One, payload) {
+    match decode_group(alloc, form, payload) {
         Ok(entries) => with_entries(state, &entries),
         Err(DecodeFault::Corrupt { .. }) => Ok(None),
         Err(DecodeFault::NoMemory) => Err(AllocError),

@@ -67,7 +67,7 @@ brought_at kind.Post = seen posted_rows post_count_at
 brought_at kind.Commit = seen committed_to commitment_at
 brought_at kind.SetPolicy = seen policy_set policy_at
 
--- a kind that the form doesn't have is a fault at its byte; the one form that there is has all kinds
+-- a kind that the form doesn't have is a fault at its byte; both forms have all kinds
 unfoldable pub content_at : Form → Reading ContentValue
 content_at form = of_kind kind_meant brought_at
 

@@ -114,7 +114,7 @@ fn brought_of(
     }
 }
 
-/// What an entry brought: its kind, and what an entry of this kind brings. The one form that there is has all kinds.
+/// What an entry brought: its kind, and what an entry of this kind brings. Both forms have all kinds.
 #[tactic(auto, unfolding(crate::specs::Heads::content_at, fw_terms_bytes::specs::Reading::of_kind))]
 fn content_of(alloc: Global, _form: Form, bytes: &[u8]) -> Result<(ReadContent, &[u8]), ReadError>
     ensures { Gives (λ x. (content_view x.0, x.1.now)) result (content_at _form bytes.now) }

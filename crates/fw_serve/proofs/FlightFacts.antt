@@ -120,7 +120,7 @@ pub within_one : {V : Type 0} (tells : Bool) (view : V → View) (command : Plai
 within_one tells view command answer old new kept keeps only moves = record {
   any_moment = λ told works. moved_at tells view (FailsOnSent (standing_of view old) command answer) old new kept only moves told works;
   once_failed = λ told works fails. moved_failed tells view (FailsOnSent (standing_of view old) command answer) old new moves told works fails;
-  each = λ told works. each_stands new.generation new.log new.history (view new.volume) (keeps.fresh told works);
+  each = λ told works. each_stands new.form new.generation new.log new.history (view new.volume) (keeps.fresh told works);
   stays = λ failed. failed_stays tells view (FailsOnSent (standing_of view old) command answer) old new moves failed;
 }
 

@@ -30,7 +30,7 @@ unfolding Judges verdict_line
 committed_by tells view old new e verdict.Accept text works done room limit says =
     let moved = done.moved (omega arith) in
     let count : length new.history.entries ≡ length old.history.entries + 1 = ap (λ (h : History). length h.entries) done.history ∙ length-append old.history.entries (e ∷ []) in
-    inl (says ∙ ap accepted_line count, rw (done.history, moved.0, moved.1, limit, done.failed, works) refl, λ none. room (omega arith, none))
+    inl (says ∙ ap accepted_line count, rw (done.history, moved.1, moved.2, limit, done.failed, works) refl, λ none. room (omega arith, none))
 committed_by tells view old new e (verdict.Already last) text works done room limit says = (says, ap (standing_of view) (done.none refl))
 committed_by tells view old new e (verdict.Gap expected) text works done room limit says = (says, ap (standing_of view) (done.none refl))
 committed_by tells view old new e (verdict.Refused why) text works done room limit says = (says, ap (standing_of view) (done.none refl))

@@ -15,10 +15,10 @@ use std::alloc::{AllocError, Global};
 /// The longest group that is added, in bytes.
 const LONGEST_GROUP: usize = 8_388_608;
 
-/// A side of an empty warehouse in dollars behind its gate: a header with the place of the generation at 8, a body of 19 bytes, and a closed
-/// gate.
+/// A side of an empty warehouse in dollars behind its gate, of the second form: a header with the place of the generation at 8, a body of 19
+/// bytes, and a closed gate.
 const EMPTY_SIDE: [u8; 44] = [
-    0x46, 0x57, 0x48, 0x4f, 0x55, 0x53, 0x45, 0x31, 0, 0, 0, 0, 0, 0, 0, 0, 0x13, 0, 0, 0, 0, 0, 0,
+    0x46, 0x57, 0x48, 0x4f, 0x55, 0x53, 0x45, 0x32, 0, 0, 0, 0, 0, 0, 0, 0, 0x13, 0, 0, 0, 0, 0, 0,
     0, 3, 0, 0, 0, 0x55, 0x53, 0x44, 0, 0, 0, 0, 0, 0, 0, 0, 0, 0, 0, 0, 0,
 ];
 

@@ -1,6 +1,7 @@
 use Rattle.std.proofs.Common.{◌≡◌, ℕ, IsTrue, List, length, refl, sym, ap, subst, arith}
 use Rattle.fw_disk.specs.declared.volume.Side.TheVariants.{Left}
 use Rattle.fw_disk.specs.Volume.{LeavesOnly}
+use Rattle.fw_entry_bytes.specs.declared.form.Form.TheVariants.{Two}
 use Rattle.fw_journal.specs.Log.{LogState}
 use Rattle.fw_snapshot.specs.History.{History}
 use Rattle.fw_recover.specs.Store.{IsInUse, IsFresh}
@@ -38,7 +39,7 @@ pub returns-clause-in_use : goal.returns-clause-in_use
 returns-clause-in_use g c =
     let new = g.V.Volume.view c.make_side.new.volume in
     let start : 44 ≡ c.len-start.result = omega (arith, c.len-start.ensures, c.in_ok-bytes.ensures.long, c.in_ok-bytes.bytes.ok) in
-    let P : LogState → Type 0 = λ log. IsInUse g.V.Volume.tells 1 log c.in_ok-bytes.snapshot new in
+    let P : LogState → Type 0 = λ log. IsInUse g.V.Volume.tells Two 1 log c.in_ok-bytes.snapshot new in
     subst P (sym c.at.ensures) (record {
       room = omega (arith, c.in-Ok.ensures.sizes, ap (λ (l : List ℕ). length l) c.deref.ensures.value, c.in_ok-bytes.ensures.long, c.len-start.ensures, c.in_ok-bytes.bytes.ok);
       some_generation = omega arith;
@@ -49,6 +50,6 @@ returns-clause-in_use g c =
           first_in_use c.args.currency c.deref.result.now c.in_ok-bytes.bytes.items c.deref.ensures.value c.in_ok-bytes.ensures.made
           (g.V.Volume.view c.args.volume.now) (g.V.Volume.view c.find_free.new.volume) new (c.find_free.ensures.calm told) (c.in_ok-find_free.ensures.free told)
           (c.in-Ok.ensures.made told (c.in_ok-find_free.ensures.settled told)) in
-          subst (λ (k : ℕ). IsFresh 1 (empty_log Left k) c.in_ok-bytes.snapshot new) start
-          (subst (λ (s : History). IsFresh 1 (empty_log Left 44) s new) (sym c.in_ok-bytes.ensures.state) fresh);
+          subst (λ (k : ℕ). IsFresh Two 1 (empty_log Left k) c.in_ok-bytes.snapshot new) start
+          (subst (λ (s : History). IsFresh Two 1 (empty_log Left 44) s new) (sym c.in_ok-bytes.ensures.state) fresh);
     })

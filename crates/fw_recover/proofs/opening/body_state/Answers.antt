@@ -15,5 +15,5 @@ returns-in-Err-Corrupt-clause-corrupt g c side at is = (
       let read : into ≡ take (length into) (drop 25 file) = c.in-Ok-read.ensures.bytes told in
       let same : c.deref.result.now ≡ take c.args.body_len (drop 25 file) =
       c.deref.ensures.value ∙ written_back into c.in-Ok.body.items n size ∙ read ∙ ap (λ (k : ℕ). take k (drop 25 file)) (size ∙ asked) in
-      bad_body_at file c.deref.result.now c.args.body_len c.in-Err-Corrupt.at at same (cc) (rw c.in-Err-Corrupt.field-0-is at c.in-Err-Corrupt.ensures.exact),
+      bad_body_at c.args.form file c.deref.result.now c.args.body_len c.in-Err-Corrupt.at at same (cc) (rw c.in-Err-Corrupt.field-0-is at c.in-Err-Corrupt.ensures.exact),
 )

@@ -1,5 +1,5 @@
 use Rattle.std.proofs.Common.{arith, rules, ◌≡◌}
-use Rattle.fw_entry_bytes.specs.declared.form.Form.TheVariants.{One}
+use Rattle.fw_entry_bytes.specs.declared.form.Form.TheVariants.{Two}
 use Rattle.fw_recover.specs.Sides.{magic}
 use Rattle.fw_recover.proofs.Made.{length_put}
 use Rattle.fw_recover.proofs.spelled.header_and_body.Goals as goal
@@ -7,7 +7,7 @@ use Rattle.fw_recover.proofs.spelled.header_and_body.Goals as goal
 pub returns : goal.returns
 returns c =
     let state = c.in_ok-append_state.ensures in
-    let word : c.in_ok-bytes.bytes.items ≡ magic One = search rules in (
+    let word : c.in_ok-bytes.bytes.items ≡ magic Two = search rules in (
       state.0,
       state.2,
       length_put c.args.generation _ c.in_ok-bytes.bytes.items c.put_u64.new.out.items c.put_u64-2.new.out.items c.append_state.new.out.items c.replace_u64.new.bytes.items state.0 word

@@ -1,5 +1,5 @@
 use Rattle.std.proofs.Common.{List, ℕ, length, ap, arith}
-use Rattle.fw_entry_bytes.specs.declared.form.Form.TheVariants.{One}
+use Rattle.fw_entry_bytes.specs.declared.form.Form.TheVariants.{Two}
 use Rattle.fw_recover.proofs.Files.{length-made}
 use Rattle.fw_recover.proofs.spelled.side_bytes.Goals as goal
 
@@ -9,5 +9,5 @@ returns-then-len-limit-clause-too_large c is =
     record {
       body = made.0;
       spells = made.1;
-      too_long = omega (arith, ap (λ (l : List ℕ). length l) made.2, length-made One c.args.generation made.0);
+      too_long = omega (arith, ap (λ (l : List ℕ). length l) made.2, length-made Two c.args.generation made.0);
     }

@@ -1,6 +1,5 @@
 use Rattle.std.proofs.Common.{◌≡◌, inl, inr, ℕ, List, drop, Some, Err, refl, sym, ◌∙◌, ap, subst, arith}
 use Rattle.fw_disk.proofs.Moments.{calm_start, calm_through}
-use Rattle.fw_entry_bytes.specs.declared.form.Form.TheVariants.{One}
 use Rattle.fw_journal.specs.declared.fault.LogFault.{LogFault}
 use Rattle.fw_journal.specs.Frames.{IsBroken}
 use Rattle.fw_journal.specs.Log.{IsFrameAt}
@@ -50,13 +49,13 @@ returns-in-Ok-None-with_group-clause-corrupt g c at_side at is = (
       let payload = c.in-Ok-Some.payload.items in
       let P : List ℕ → Type 0 = λ l. IsFrameAt c.loop-state.gate (drop c.loop-state.gate l) (Some (c.in-Ok-Some.payload, c.in-Ok-Some.next)) in
       let step = subst P same (rw c.in-Ok-Some.field-0-is at (c.in-Ok-Some.ensures.found told)) in
-      let Q : List ℕ → Type 0 = λ l. GoesNotBehind c.loop-state.state.entries l in
+      let Q : List ℕ → Type 0 = λ l. GoesNotBehind c.args.form c.loop-state.state.entries l in
       let bad = subst Q c.deref.ensures.value (rw c.in-Ok-None-with_group.field-0-is at c.in-Ok-None-with_group.ensures) in
       let place : c.loop-state.gate ≡ at = cc in
       let breaks =
-      breaks_there c.args.state c.loop-state.state c.args.start c.loop-state.gate file (kept.groups told)
-      (inr (bad_frame c.loop-state.state.entries (drop c.loop-state.gate file) payload step.0 step.1 step.2 bad)) in
-      subst (λ (n : ℕ). LogBreaks One c.args.state c.args.start n file) place breaks,
+      breaks_there c.args.form c.args.state c.loop-state.state c.args.start c.loop-state.gate file (kept.groups told)
+      (inr (bad_frame c.args.form c.loop-state.state.entries (drop c.loop-state.gate file) payload step.0 step.1 step.2 bad)) in
+      subst (λ (n : ℕ). LogBreaks c.args.form c.args.state c.args.start n file) place breaks,
 )
 
 pub returns-in-Err-clause-corrupt : goal.returns-in-Err-clause-corrupt
@@ -71,8 +70,8 @@ returns-in-Err-clause-corrupt g c at_side at is =
       λ told.
           let B : List ℕ → Type 0 = λ l. IsBroken (drop c.loop-state.gate l) in
           let broken = subst B ((kept.calm told).seen c.args.side) (there.1 told) in
-          subst (λ (n : ℕ). LogBreaks One c.args.state c.args.start n file) (sym there.0)
-          (breaks_there c.args.state c.loop-state.state c.args.start c.loop-state.gate file (kept.groups told) (inl broken)),
+          subst (λ (n : ℕ). LogBreaks c.args.form c.args.state c.args.start n file) (sym there.0)
+          (breaks_there c.args.form c.args.state c.loop-state.state c.args.start c.loop-state.gate file (kept.groups told) (inl broken)),
     )
 
 pub returns-in-Err-clause-not_no_house : goal.returns-in-Err-clause-not_no_house

@@ -40,13 +40,13 @@ returns-clause-each_command g c =
 
 -- what each store keeps says what each image has
 pub returns-in_err-text-clause-each : goal.returns-in_err-text-clause-each
-returns-in_err-text-clause-each g c = λ told works. each_stands _ _ _ _ (c.keeps.ensures.fresh told works)
+returns-in_err-text-clause-each g c = λ told works. each_stands _ _ _ _ _ (c.keeps.ensures.fresh told works)
 
 pub returns-in_err-text-clause-each_once_failed : goal.returns-in_err-text-clause-each_once_failed
 returns-in_err-text-clause-each_once_failed g c = c.keeps.ensures.lost
 
 pub returns-clause-each : goal.returns-clause-each
-returns-clause-each g c = λ told works. each_stands _ _ _ _ (c.keeps-2.ensures.fresh told works)
+returns-clause-each g c = λ told works. each_stands _ _ _ _ _ (c.keeps-2.ensures.fresh told works)
 
 pub returns-clause-each_once_failed : goal.returns-clause-each_once_failed
 returns-clause-each_once_failed g c = c.keeps-2.ensures.lost

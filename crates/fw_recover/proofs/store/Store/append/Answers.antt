@@ -33,16 +33,17 @@ returns-in-Ok-clause-done g c =
     let new = g.V.Volume.view c.append.new.volume in
     let going : c.self.inside.failed ≡ false = ap (λ (s : StoreState _). s.failed) c.self.view_is ∙ c.requires.goes_on in
     let P : StoreState _ → Type 0 = λ s. Appended g.V.Volume.tells g.V.Volume.view s
-    (record { volume = c.append.new.volume; generation = c.self.inside.generation; log = c.append.new.self; history = c.args.next; failed = c.self.inside.failed }) c.args.payload.now c.args.next in
+    (record { volume = c.append.new.volume; form = c.self.inside.form; generation = c.self.inside.generation; log = c.append.new.self; history = c.args.next; failed = c.self.inside.failed }) c.args.payload.now c.args.next in
     subst P c.self.view_is (record {
       history = refl;
+      form = refl;
       generation = refl;
       log =
           c.in-Ok.ensures.moved
           ∙ ap (λ (b : Bool). let l : LogState = record { side = log.side; start = log.start; end = log.end + 5 + length c.args.payload.now; failed = b } in l) (sym (c.self.invariant.log going));
       failed = going;
       each = λ told.
-          each_stands c.self.inside.generation c.append.new.self c.args.next new
+          each_stands c.self.inside.form c.self.inside.generation c.append.new.self c.args.next new
           (next_in_use g.V.Volume.tells g.V.Volume.view _ c.args.self.now c.self.view_is c.self.invariant c.requires.goes_on c.args.payload.now c.args.next c.requires.goes new told
           (c.append.ensures.any_moment told) (g.met.V.Volume.counts_now c.append.new.volume) c.append.new.self c.append.ensures.place (c.append.ensures.other_stays told)
           (g.met.V.Volume.stays c.append.new.volume told) (c.in-Ok.ensures.acknowledged told));

@@ -2,6 +2,7 @@ use Rattle.std.proofs.Common.{rules, false, ◌≡◌, ◌<◌, ◌+◌, ◌^◌
 use Rattle.std.proofs.lemmas.Grind.{common_steps}
 use Rattle.fw_disk.specs.Volume.{LeavesOnly, other}
 use Rattle.fw_disk.specs.declared.volume.Side.{Side}
+use Rattle.fw_entry_bytes.specs.declared.form.Form.TheVariants.{Two}
 use Rattle.fw_journal.specs.Log.{LogState}
 use Rattle.fw_snapshot.specs.History.{History}
 use Rattle.fw_recover.specs.Making.{SpellsSide}
@@ -9,6 +10,7 @@ use Rattle.fw_recover.specs.Stands.{StandsFor, EachStandsFor}
 use Rattle.fw_recover.specs.Store.{StoreState, IsKept, IsFresh}
 use Rattle.fw_recover.specs.Checkpoints.{IsCheckpointed}
 use Rattle.fw_recover.proofs.Standing.{other_other}
+use Rattle.fw_recover.proofs.Committing.{still}
 use Rattle.fw_recover.proofs.Made.{empty_log, checkpoint_moments, checkpoint_fresh, checkpointed}
 use Rattle.fw_recover.proofs.store.Store.checkpoint.Given as given
 use Rattle.fw_recover.proofs.store.Store.checkpoint.Goals as goal
@@ -45,7 +47,7 @@ run : (g : given.Over) (c : goal.After-make_side g) → IsTrue g.V.Volume.tells 
 run g c told =
     let inside = c.self.inside in
     let fresh = c.self.invariant.fresh told c.if-self.false in
-    checkpoint_moments inside.snapshot inside.generation inside.log (g.V.Volume.view inside.volume) (g.V.Volume.view c.make_side.new.volume) fresh c.in-Some.generation (next_is g c) (next_fits g c)
+    checkpoint_moments inside.snapshot inside.form inside.generation inside.log (g.V.Volume.view inside.volume) (g.V.Volume.view c.make_side.new.volume) fresh c.in-Some.generation (next_is g c) (next_fits g c)
     c.deref.result.now (fit g c) (spells g c) c.other-side.result (side_is g c) (c.make_side.ensures.any_moment told fresh.settled)
 
 since : (g : given.Over) (c : goal.After-make_side g) → IsTrue g.V.Volume.tells → LeavesOnly (g.V.Volume.view c.args.self.now.volume) (g.V.Volume.view c.make_side.new.volume) (StandsFor c.args.self.now.history)
@@ -57,6 +59,19 @@ each : (g : given.Over) (c : goal.After-make_side g) → IsTrue g.V.Volume.tells
 each g c told image now =
     let all = since g c told in
     all.each image (g.met.V.Volume.counts_now c.make_side.new.volume (g.V.Volume.view c.args.self.now.volume).moment image all.later now)
+
+-- where nothing was called yet
+pub returns-in_default-clause-any_moment : goal.returns-in_default-clause-any_moment
+returns-in_default-clause-any_moment g c told going =
+    let s = c.args.self.now in
+    let P : StoreState g.row.V.Denot → Type 0 = λ x. IsKept g.V.Volume.tells g.V.Volume.view x in
+    still g.V.Volume.tells g.V.Volume.view s (subst P c.self.view_is c.self.invariant) told going (StandsFor s.history) (g.met.V.Volume.only_now s.volume) (λ i stands. stands)
+
+pub returns-in_err-bytes-clause-any_moment : goal.returns-in_err-bytes-clause-any_moment
+returns-in_err-bytes-clause-any_moment g c told going =
+    let s = c.args.self.now in
+    let P : StoreState g.row.V.Denot → Type 0 = λ x. IsKept g.V.Volume.tells g.V.Volume.view x in
+    still g.V.Volume.tells g.V.Volume.view s (subst P c.self.view_is c.self.invariant) told going (StandsFor s.history) (g.met.V.Volume.only_now s.volume) (λ i stands. stands)
 
 pub returns-in_default-make_side-clause-any_moment : goal.returns-in_default-make_side-clause-any_moment
 returns-in_default-make_side-clause-any_moment g c told _ = since g (goal.at.returns-in_default-make_side-clause-any_moment g c).After-make_side told
@@ -77,9 +92,9 @@ returns-clause-done g c =
     let long : c.len-start.result ≡ length c.deref.result.now = omega (arith, ap (λ (l : List ℕ). length l) c.deref.ensures.value, c.len-start.ensures, c.in_ok-bytes.bytes.ok) in
     let fresh = λ (told : IsTrue g.V.Volume.tells). c.self.invariant.fresh told c.if-self.false in
     let P : StoreState g.row.V.Denot → Type 0 = λ s. IsCheckpointed g.V.Volume.tells g.V.Volume.view s
-    (record { volume = c.make_side.new.volume; generation = c.in-Some.generation; log = c.at-self-inside.result; history = c.in_ok-bytes.snapshot; failed = false }) in
+    (record { volume = c.make_side.new.volume; form = Two; generation = c.in-Some.generation; log = c.at-self-inside.result; history = c.in_ok-bytes.snapshot; failed = false }) in
     subst P c.self.view_is
-    (checkpointed g.V.Volume.tells g.V.Volume.view _ _ c.deref.result.now c.other-side.result (next_is g at) refl (side_is g at)
+    (checkpointed g.V.Volume.tells g.V.Volume.view _ _ c.deref.result.now c.other-side.result refl (next_is g at) refl (side_is g at)
     (c.at-self-inside.ensures ∙ ap (λ (n : ℕ). empty_log c.other-side.result n) long) (spells_merged g at)
     (omega (arith, c.in_ok-bytes.ensures.fits, c.make_side.ensures.limit, ap (λ (l : List ℕ). length l) c.deref.ensures.value, ap (λ (s : StoreState g.row.V.Denot). (g.V.Volume.view s.volume).limit) c.self.view_is))
     (λ told. let made = c.in-Ok.ensures.made told (fresh told).settled in (made.tail, made.is)))
@@ -108,7 +123,7 @@ invariant_of-self-2 g c =
     let old = g.V.Volume.view inside.volume in
     let new = g.V.Volume.view c.make_side.new.volume in
     let long : length c.deref.result.now ≡ c.len-start.result = omega (arith, ap (λ (l : List ℕ). length l) c.deref.ensures.value, c.len-start.ensures, c.in_ok-bytes.bytes.ok) in
-    let P : LogState → Type 0 = λ log. IsKept g.V.Volume.tells g.V.Volume.view (record { volume = c.make_side.new.volume; generation = c.in-Some.generation; log = log; history = c.in_ok-bytes.snapshot; failed = false }) in
+    let P : LogState → Type 0 = λ log. IsKept g.V.Volume.tells g.V.Volume.view (record { volume = c.make_side.new.volume; form = Two; generation = c.in-Some.generation; log = log; history = c.in_ok-bytes.snapshot; failed = false }) in
     subst P (sym c.at-self-inside.ensures) (record {
       room = omega (arith, c.in-Ok.ensures.sizes, long);
       some_generation = omega (arith, next_is g at);
@@ -116,9 +131,9 @@ invariant_of-self-2 g c =
       log = λ goes_on. refl;
       fresh = λ told goes_on.
           let fresh = c.self.invariant.fresh told c.if-self.false in
-          subst (λ (h : History). IsFresh c.in-Some.generation (empty_log c.other-side.result c.len-start.result) h new) (sym (kept g at))
-          (subst (λ (n : ℕ). IsFresh c.in-Some.generation (empty_log c.other-side.result n) inside.snapshot new) long
-          (checkpoint_fresh inside.snapshot inside.generation inside.log old new fresh c.in-Some.generation (next_is g at) (next_fits g at) c.deref.result.now (fit g at) (spells g at)
+          subst (λ (h : History). IsFresh Two c.in-Some.generation (empty_log c.other-side.result c.len-start.result) h new) (sym (kept g at))
+          (subst (λ (n : ℕ). IsFresh Two c.in-Some.generation (empty_log c.other-side.result n) inside.snapshot new) long
+          (checkpoint_fresh inside.snapshot inside.form inside.generation inside.log old new fresh c.in-Some.generation (next_is g at) (next_fits g at) c.deref.result.now (fit g at) (spells g at)
           c.other-side.result (side_is g at) (c.in-Ok.ensures.made told fresh.settled)));
       lost = λ told lost. absurd (cc);
     })

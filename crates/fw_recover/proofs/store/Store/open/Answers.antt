@@ -12,7 +12,7 @@ invariant_of-result g c =
       generation_fits = kept.generation_fits;
       log = λ goes_on. kept.log_goes_on;
       fresh = λ told goes_on.
-          let P : History → Type 0 = λ h. IsFresh c.in-Ok.generation c.in-Ok.log h (g.V.Volume.view c.read_sides.new.volume) in
+          let P : History → Type 0 = λ h. IsFresh c.in-Ok.form c.in-Ok.generation c.in-Ok.log h (g.V.Volume.view c.read_sides.new.volume) in
           subst P (sym c.in-Ok-new.ensures.shared) (kept.fresh told);
       lost = λ told lost. absurd (cc);
     }
