@@ -201,11 +201,11 @@ def main():
     parser = argparse.ArgumentParser(description=__doc__, formatter_class=argparse.RawDescriptionHelpFormatter)
     parser.add_argument("--most", type=int, default=MOST, metavar="N", help=f"how many allocations of a test to refuse (default: {MOST})")
     parser.add_argument("--jobs", type=int, default=len(os.sched_getaffinity(0)), help="tests at a time")
-    parser.add_argument("names", nargs="*", metavar="NAME", help="a crate whose tests to run, `program` or `fw_simulate` (default: all but the tests on threads and fw_simulate)")
+    parser.add_argument("names", nargs="*", metavar="NAME", help="a crate whose tests to run, `program` or `fw_simulate` (default: all but the tests on threads)")
     options = parser.parse_args()
     compiler = shutil.which("cc") or shutil.which("gcc") or shutil.which("clang")
     built = sorted(os.listdir(TESTS)) if os.path.isdir(TESTS) else []
-    names = options.names or [*(name for name in built if name not in ON_THREADS), "program"]
+    names = options.names or [*(name for name in built if name not in ON_THREADS), "program", "fw_simulate"]
     if not compiler or not built:
         lacking = "C compiler" if not compiler else "built test in out/tests: run tools/gate.py first"
         print(f"tools/refuse_allocations.py: there is no {lacking}", file=sys.stderr)
