@@ -1,6 +1,5 @@
 //! A document as the next entry of an origin.
-ghost use Rattle.std.specs.Prelude.{◌≡◌, ◌+◌, ◌∷◌, [], IfOk, IfSome, OnErr, true};
-ghost use Rattle.fw_entry.specs.Entry.{EntryValue};
+ghost use Rattle.std.specs.Prelude.{◌≡◌, ◌∷◌, [], IfOk, IfSome, OnErr};
 ghost use Rattle.fw_import.specs.Importing.{MayStop};
 ghost use Rattle.fw_snapshot.specs.Judging.{judged};
 ghost use Rattle.fw_snapshot.specs.Verdicts.{with_more};
@@ -169,16 +168,10 @@ fn submit<V: Volume>(
     ensures refused { OnErr result (store.new.history ≡ store.old.history) }
     ensures any_moment { MayStop V.tells V.view store.old store.new }
 {
-    match store.commit(alloc, entry) {
-        Ok(verdict) => outcome_of(verdict),
-        Err(fault) => Err(AddFault::of_store(fault)),
-    }
-}
-
-// What became of an entry with this verdict.
-fn outcome_of(verdict: Verdict) -> Result<Outcome, AddFault>
-    ensures { IfOk result (λ outcome. (outcome ≡ Outcome.Added) × (verdict ≡ Accept)) }
-{
+    let verdict = match store.commit(alloc, entry) {
+        Ok(verdict) => verdict,
+        Err(fault) => return Err(AddFault::of_store(fault)),
+    };
     match verdict {
         Verdict::Accept => Ok(Outcome::Added),
         Verdict::Refused(conflict) => Err(AddFault::Conflict(conflict)),

@@ -1,5 +1,5 @@
 //! The rows that a commitment applies to, and why it doesn't apply to others of its SKUs.
-ghost use Rattle.std.specs.Prelude.{◌≡◌, IfOk, IfSome};
+ghost use Rattle.std.specs.Prelude.{◌≡◌};
 ghost use Rattle.fw_cover.specs.Applies.{allows, has_unit, is_text};
 ghost use Rattle.fw_terms.specs.TermsView.{terms_view};
 ghost use Rattle.fw_adding.specs.Matching.{match_of};
