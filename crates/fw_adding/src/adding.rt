@@ -52,8 +52,8 @@ fn entry_of(
     }
 }
 
-/// The number of the next entry of an origin, where an entry of it with the greatest number would leave a gap; `None` where that is the next one, or
-/// was accepted.
+/// The number of the next entry of an origin, where an entry of it with the greatest number would leave a gap; `None`
+/// where that is the next one, or was accepted.
 #[tactic(auto, unfolding(crate::specs::Adding::next_number))]
 fn next_number(state: &State, greatest: &Entry) -> Option<u64>
     ensures { IfSome result (λ number.
@@ -83,7 +83,8 @@ fn next_entry(
     }
 }
 
-/// What a warehouse of this state would become by a document that is added as the next entry of an origin. Nothing changes.
+/// What a warehouse of this state would become by a document that is added as the next entry of an origin. Nothing
+/// changes.
 ///
 /// # Errors
 /// `Entry` where the name of the origin or the size is out of range; `Conflict`; `NoNumber`; `NoMemory`.
@@ -132,12 +133,12 @@ fn accepted(state: &State, entry: &Entry) -> Result<Tried, AddFault>
     })
 }
 
-/// Adds a document to a store, as the next entry of an origin. It is on the volume, synced, before this returns `Added`. Where an equal
-/// commitment is there, or an equal policy holds, nothing changes, and the answer is `Same`.
+/// Adds a document to a store, as the next entry of an origin. It is on the volume, synced, before this returns
+/// `Added`. Where an equal commitment is there, or an equal policy holds, nothing changes, and the answer is `Same`.
 ///
 /// # Errors
-/// `Entry` where the name of the origin or the size is out of range; `Conflict`; `NoNumber`; `Store`; `NoMemory`. None changes what the store
-/// shows.
+/// `Entry` where the name of the origin or the size is out of range; `Conflict`; `NoNumber`; `Store`; `NoMemory`. None
+/// changes what the store shows.
 pub fn add_document<V: Volume>(
     alloc: Global,
     store: &mut Store<V>,
