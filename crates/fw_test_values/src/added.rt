@@ -82,10 +82,15 @@ fn reading(alloc: Global, text: &str) -> Result<String, CommitmentFault> {
     }
 }
 
+/// Whether a text reads as a line says.
+fn reads_as(alloc: Global, text: &str, wanted: &str) -> Result<bool, CommitmentFault> {
+    Ok(reading(alloc, text)?.as_str() == wanted)
+}
+
 /// The first text that reads otherwise.
 fn first_misread(alloc: Global) -> Result<Option<&'static str>, CommitmentFault> {
     for (text, wanted) in READINGS {
-        if reading(alloc, text)?.as_str() != *wanted {
+        if !reads_as(alloc, text, wanted)? {
             return Ok(Some(text));
         }
     }
