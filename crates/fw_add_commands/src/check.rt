@@ -51,8 +51,8 @@ impl Trial {
     }
 }
 
-/// Checks files in order, each against the warehouse and the files before it; false where one has a fault. Each fault is said, and where nothing
-/// is to be written also what each file is.
+/// Checks files in order, each against the warehouse and the files before it; false where one has a fault. Each fault
+/// is said, and where nothing is to be written also what each file is.
 pub(crate) fn check_all(
     rt: &HostRuntime,
     job: &Job<'_>,

@@ -1,6 +1,7 @@
 //! `focusd add`: commitments and policies are taken from TOML files into a warehouse.
 //!
-//! What a file is and what becomes of it is computed by `fw_adding`. This crate opens the folder, reads the files and prints: [`add_files`].
+//! What a file is and what becomes of it is computed by `fw_adding`. This crate opens the folder, reads the files and
+//! prints: [`add_files`].
 #![tactic(auto)]
 
 mod add;

@@ -7,7 +7,8 @@ use fw_table::{count_text, shown_text};
 use fw_terms::{Commitment, Terms};
 use std::alloc::{AllocError, Global};
 
-/// Says how many rows of a warehouse a commitment applies to, and why it doesn't apply to others of its SKUs. Of a policy nothing is said.
+/// Says how many rows of a warehouse a commitment applies to, and why it doesn't apply to others of its SKUs. Of a
+/// policy nothing is said.
 pub(crate) fn print_matches(
     rt: &HostRuntime,
     state: &State,

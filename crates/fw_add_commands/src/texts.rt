@@ -37,8 +37,8 @@ pub(crate) fn replaced_text(
     }
 }
 
-/// What a document is: of a commitment the id, the category, the term, the capacity and what it was bought for, of a policy the key and the number
-/// of its rules.
+/// What a document is: of a commitment the id, the category, the term, the capacity and what it was bought for, of a
+/// policy the key and the number of its rules.
 pub(crate) fn document_text(
     alloc: Global,
     currency: Currency,

@@ -1,5 +1,5 @@
 -- In which fields two commitments agree.
-use Rattle.std.specs.Prelude.{◌≡◌, ℕ, List, ⊤}
+use Rattle.std.specs.Prelude.{◌≡◌, ⊤}
 use Rattle.fw_commitment.specs.declared.fault.CommitmentField.{CommitmentField}
 use Rattle.fw_commitment.specs.declared.fault.CommitmentField.TheVariants as field
 use Rattle.fw_terms.specs.Commitment.{CommitmentValue, TermsValue, kind_of}

@@ -1,5 +1,5 @@
 -- Which rows of its SKUs a commitment applies to.
-use Rattle.std.specs.Prelude.{Bool, true, false, if◌then◌else◌}
+use Rattle.std.specs.Prelude.{if◌then◌else◌}
 use Rattle.fw_charge.specs.Charge.{Charge, hour_of}
 use Rattle.fw_terms.specs.Commitment.{CommitmentValue}
 use Rattle.fw_cover.specs.Applies.{allows, has_unit, is_in_term}

@@ -1,6 +1,5 @@
 //! A document as the next entry of an origin.
-ghost use Rattle.std.specs.Prelude.{◌≡◌, ◌+◌, ◌∷◌, [], IfOk, IfSome, OnErr, true};
-ghost use Rattle.fw_entry.specs.Entry.{EntryValue};
+ghost use Rattle.std.specs.Prelude.{◌≡◌, ◌∷◌, [], IfOk, IfSome, OnErr};
 ghost use Rattle.fw_import.specs.Importing.{MayStop};
 ghost use Rattle.fw_snapshot.specs.Judging.{judged};
 ghost use Rattle.fw_snapshot.specs.Verdicts.{with_more};
@@ -53,8 +52,8 @@ fn entry_of(
     }
 }
 
-/// The number of the next entry of an origin, where an entry of it with the greatest number would leave a gap; `None` where that is the next one, or
-/// was accepted.
+/// The number of the next entry of an origin, where an entry of it with the greatest number would leave a gap; `None`
+/// where that is the next one, or was accepted.
 #[tactic(auto, unfolding(crate::specs::Adding::next_number))]
 fn next_number(state: &State, greatest: &Entry) -> Option<u64>
     ensures { IfSome result (λ number.
@@ -84,7 +83,8 @@ fn next_entry(
     }
 }
 
-/// What a warehouse of this state would become by a document that is added as the next entry of an origin. Nothing changes.
+/// What a warehouse of this state would become by a document that is added as the next entry of an origin. Nothing
+/// changes.
 ///
 /// # Errors
 /// `Entry` where the name of the origin or the size is out of range; `Conflict`; `NoNumber`; `NoMemory`.
@@ -133,12 +133,12 @@ fn accepted(state: &State, entry: &Entry) -> Result<Tried, AddFault>
     })
 }
 
-/// Adds a document to a store, as the next entry of an origin. It is on the volume, synced, before this returns `Added`. Where an equal
-/// commitment is there, or an equal policy holds, nothing changes, and the answer is `Same`.
+/// Adds a document to a store, as the next entry of an origin. It is on the volume, synced, before this returns
+/// `Added`. Where an equal commitment is there, or an equal policy holds, nothing changes, and the answer is `Same`.
 ///
 /// # Errors
-/// `Entry` where the name of the origin or the size is out of range; `Conflict`; `NoNumber`; `Store`; `NoMemory`. None changes what the store
-/// shows.
+/// `Entry` where the name of the origin or the size is out of range; `Conflict`; `NoNumber`; `Store`; `NoMemory`. None
+/// changes what the store shows.
 pub fn add_document<V: Volume>(
     alloc: Global,
     store: &mut Store<V>,
@@ -169,16 +169,10 @@ fn submit<V: Volume>(
     ensures refused { OnErr result (store.new.history ≡ store.old.history) }
     ensures any_moment { MayStop V.tells V.view store.old store.new }
 {
-    match store.commit(alloc, entry) {
-        Ok(verdict) => outcome_of(verdict),
-        Err(fault) => Err(AddFault::of_store(fault)),
-    }
-}
-
-// What became of an entry with this verdict.
-fn outcome_of(verdict: Verdict) -> Result<Outcome, AddFault>
-    ensures { IfOk result (λ outcome. (outcome ≡ Outcome.Added) × (verdict ≡ Accept)) }
-{
+    let verdict = match store.commit(alloc, entry) {
+        Ok(verdict) => verdict,
+        Err(fault) => return Err(AddFault::of_store(fault)),
+    };
     match verdict {
         Verdict::Accept => Ok(Outcome::Added),
         Verdict::Refused(conflict) => Err(AddFault::Conflict(conflict)),

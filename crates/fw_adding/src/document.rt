@@ -41,8 +41,9 @@ impl Document {
 /// Reads a document from a TOML text. Which one it is, is seen from its top-level names.
 ///
 /// # Errors
-/// `Syntax` where the text is not UTF-8 or no TOML; `Neither` where no name tells what it is, `Both` where its names tell two things;
-/// `Commitment` and `Policy` where it is one with a fault, the first one. `NoMemory` comes where memory runs out, at any place.
+/// `Syntax` where the text is not UTF-8 or no TOML; `Neither` where no name tells what it is, `Both` where its names
+/// tell two things; `Commitment` and `Policy` where it is one with a fault, the first one. `NoMemory` comes where
+/// memory runs out, at any place.
 pub fn read_document(alloc: Global, text: &[u8]) -> Result<Document, DocumentFault>
     ensures { MatchResult result (IsDocument text.now) (IsNoDocument text.now) }
 {

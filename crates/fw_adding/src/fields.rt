@@ -7,7 +7,8 @@ use fw_charge::{Tag, Tags};
 use fw_commitment::CommitmentField;
 use fw_terms::{Commitment, Purchase, Rate, Terms};
 
-/// Whether two commitments agree in a field. Of the fields that commitments of one category alone have, only those are compared that both have.
+/// Whether two commitments agree in a field. Of the fields that commitments of one category alone have, only those are
+/// compared that both have.
 #[tactic(auto, unfolding(crate::specs::Fields::Agree))]
 pub fn agree_in(one: &Commitment, other: &Commitment, field: CommitmentField) -> bool
     ensures { IsTrue result ↔ Agree field one.now other.now }

@@ -31,7 +31,8 @@ fn has_any(table: &Table, names: &[&str]) -> bool
     names.iter().any(|name| has(table, name))
 }
 
-// Whether a table has a name that only a commitment has. `id` is none of them: what is added to a commitment later has one too.
+// Whether a table has a name that only a commitment has. `id` is none of them: what is added to a commitment later has
+// one too.
 #[tactic(auto, unfolding(crate::specs::Kinds::has_any, crate::specs::Kinds::has_commitment_name))]
 fn has_commitment_name(table: &Table) -> bool
     ensures { result ≡ has_commitment_name (stated table.now) }

@@ -1,9 +1,10 @@
 //! Commitments and policies that are added to a warehouse from TOML texts.
 //!
-//! [`read_document`] reads a text as what it is, which its top-level names say. [`try_document`] answers what a warehouse would become, and
-//! [`add_document`] adds the document to a store as the next entry of an origin; what is there already, and is equal, changes nothing.
-//! [`matches_of`] counts the rows that a commitment applies to, and why it doesn't apply to others of its SKUs. The rest is for messages: where a
-//! field stands in a text, what it must be, and in which fields two commitments agree.
+//! [`read_document`] reads a text as what it is, which its top-level names say. [`try_document`] answers what a
+//! warehouse would become, and [`add_document`] adds the document to a store as the next entry of an origin; what is
+//! there already, and is equal, changes nothing. [`matches_of`] counts the rows that a commitment applies to, and why
+//! it doesn't apply to others of its SKUs. The rest is for messages: where a field stands in a text, what it must be,
+//! and in which fields two commitments agree.
 #![tactic(auto)]
 
 mod adding;

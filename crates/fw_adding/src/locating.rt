@@ -20,8 +20,8 @@ enum Begins<'t> {
     Nothing,
 }
 
-/// The first line that begins a field: the field of a table, or of the document itself where the table's name is the empty text. `[field]`,
-/// `[[field]]` and `field.more = ..` begin it too. `None` where no line does.
+/// The first line that begins a field: the field of a table, or of the document itself where the table's name is the
+/// empty text. `[field]`, `[[field]]` and `field.more = ..` begin it too. `None` where no line does.
 pub fn locate<'t>(text: &'t str, table: &str, field: &str) -> Option<Located<'t>>
     ensures { IfSome result (λ found. 1 ≤ found.line) }
 {

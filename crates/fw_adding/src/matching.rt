@@ -1,5 +1,5 @@
 //! The rows that a commitment applies to, and why it doesn't apply to others of its SKUs.
-ghost use Rattle.std.specs.Prelude.{◌≡◌, IfOk, IfSome};
+ghost use Rattle.std.specs.Prelude.{◌≡◌};
 ghost use Rattle.fw_cover.specs.Applies.{allows, has_unit, is_text};
 ghost use Rattle.fw_terms.specs.TermsView.{terms_view};
 ghost use Rattle.fw_adding.specs.Matching.{match_of};
@@ -26,8 +26,8 @@ pub(crate) enum Match {
     OtherUnit,
 }
 
-/// How many rows of the SKUs that a commitment lists it applies to, and how many it doesn't apply to, each counted under the first reason that
-/// holds: in the order of the fields.
+/// How many rows of the SKUs that a commitment lists it applies to, and how many it doesn't apply to, each counted
+/// under the first reason that holds: in the order of the fields.
 #[derive(Drop)]
 pub struct Matches<'s> {
     /// It applies to them.
@@ -44,8 +44,8 @@ pub struct Matches<'s> {
     pub other_units: IndexMap<&'s str, u64>,
 }
 
-/// How many rows of segments a commitment applies to, and why not to others of its SKUs. It goes over the rows once, and takes memory for each
-/// segment and for each unit, and none for a row. The error comes where memory ran out.
+/// How many rows of segments a commitment applies to, and why not to others of its SKUs. It goes over the rows once,
+/// and takes memory for each segment and for each unit, and none for a row. The error comes where memory ran out.
 pub fn matches_of<'s>(
     alloc: Global,
     commitment: &Commitment,
@@ -123,7 +123,8 @@ fn mark_rates(columns: &Columns, rates: &[Rate], listed: &mut [bool]) {
     }
 }
 
-// Marks the code of a SKU: 1 more than its place among the names. A SKU that isn't among them has a place behind them, and no code.
+// Marks the code of a SKU: 1 more than its place among the names. A SKU that isn't among them has a place behind them,
+// and no code.
 fn mark(columns: &Columns, sku: &str, listed: &mut [bool]) {
     let code = columns.names().place(sku) as usize + 1;
     if code < listed.len() {

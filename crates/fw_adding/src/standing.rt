@@ -27,8 +27,8 @@ pub fn registered<'a>(commitments: &'a [Commitment], id: &str) -> Option<&'a Com
     None
 }
 
-/// The number of the entry that brought the policy which holds, among all entries of the warehouse, counted from 1; `None` where no policy was
-/// set. It reads the heads of the entries from the last one on.
+/// The number of the entry that brought the policy which holds, among all entries of the warehouse, counted from 1;
+/// `None` where no policy was set. It reads the heads of the entries from the last one on.
 pub fn policy_entry(state: &State) -> Option<u64> {
     let heads = state.heads();
     let mut found = None;

@@ -36,8 +36,9 @@ const POLICY_FIELDS: [&str; 2] = ["key", "rule"];
 /// The fields of a rule.
 const RULE_FIELDS: [&str; 3] = ["from", "to", "proportional"];
 
-/// The first name of a text that is no field of what it is, in byte order, or where there is none in the document itself, of its first rule that
-/// has one; `None` where all are fields, or the text is no TOML. The error comes where memory ran out.
+/// The first name of a text that is no field of what it is, in byte order, or where there is none in the document
+/// itself, of its first rule that has one; `None` where all are fields, or the text is no TOML. The error comes where
+/// memory ran out.
 pub fn unknown_name(
     alloc: Global,
     kind: Kind,
