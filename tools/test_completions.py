@@ -348,7 +348,7 @@ class Bash(AtThePrompt, unittest.TestCase):
         return sorted(done.stdout.split("\0")[:-1]) if done.stdout != "\0" else []
 
     def test_what_is_offered(self):
-        commands = ["checkpoint", "check", "coverage", "dump", "explain", "help", "import", "lines", "load", "report", "run", "status", "verify"]
+        commands = "add check checkpoint coverage dump explain help import lines load report run status verify".split()
         options = ["--create", "--currency", "--dir", "--help", "--origin", "--quiet"]
         folder = self.room.folder_with(["-x.csv", "a b.csv", "a$(touch PWNED).csv"], ["costs now"])
         for words, offered in (
@@ -366,6 +366,7 @@ class Bash(AtThePrompt, unittest.TestCase):
             (["import", "--currency", ""], []),
             (["report", "--format", ""], ["csv", "html", "json", "table"]),
             (["report", "--by", "m"], ["month"]),
+            (["add", "-"], ["--dir", "--dry-run", "--help", "--origin", "--yes"]),
             (["status", ""], ["--dir", "--help"]),
             (["status", "a"], []),
             (["run", "<", "a"], ["a b.csv", "a$(touch PWNED).csv"]),
