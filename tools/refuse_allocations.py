@@ -13,8 +13,8 @@ that stand beside the script; with one answer `no memory`, and all others as if 
 script; or with `focusd: NoMemory` and status 1, and no answer.
 
 The program out/fw_simulate is run on each script of crates/fw_simulate/stdin, and on one of each kind of tools/sweep.py. It has to end with the
-answers of a run with no allocation refused; or with others from a line on that says that memory ran out, or that the device failed, as a volume in
-memory does that can't grow; or with `fw_simulate: no memory` and status 1, and none but right answers.
+answers of a run with no allocation refused; or with others, at or behind a line that says that memory ran out, or that the device failed, as a
+volume in memory does that can't grow; or with `fw_simulate: no memory` and status 1, and none but right answers.
 
 Where a run allocates more than --most times, the first --most are refused, and as many as half of that, spread over the rest.
 
@@ -174,7 +174,8 @@ def is_simulated(right, status, said, error):
     first = next((place for place, pair in enumerate(zip(lines, wanted)) if pair[0] != pair[1]), None)
     if status != 0 or first is None:
         return status == 0 and said == right
-    return bool(OUT_OF_MEMORY_LINE.search(lines[first])) and len(lines) <= len(wanted) + 1
+    # A group that is answered `unknown` is stored or not: so the first other line may stand behind such an answer.
+    return any(OUT_OF_MEMORY_LINE.search(line) for line in lines[: first + 1]) and len(lines) <= len(wanted) + 1
 
 
 def sweep_script(script, most, shim, room):
