@@ -172,6 +172,11 @@ class Said:
     status: int
     lines: list
 
+    @staticmethod
+    def is_proved(verdict):
+        """Whether a verdict says that a function is proved: a closure is so where its callers give what it asks, which they have to."""
+        return verdict.startswith("proved")
+
     def verdicts(self):
         """What the check says of each function, by the name that it prints."""
         found = (VERDICT.fullmatch(line) for line in self.lines)
@@ -272,7 +277,7 @@ class Together:
         if not self.said.is_of_prover():
             return f"no verdict, status {self.said.status}: " + " / ".join(self.said.lines[:3])
         others = {printed for some in self.seconds.values() for printed in some}
-        open_ones = [printed for printed, verdict in self.verdicts.items() if verdict != "proved" and printed not in others]
+        open_ones = [printed for printed, verdict in self.verdicts.items() if not self.said.is_proved(verdict) and printed not in others]
         return f"{open_ones[0]}: {self.verdicts[open_ones[0]]}" if open_ones else None
 
     def misplaced(self, seconds):
@@ -314,7 +319,7 @@ class Together:
             if other or not told:
                 return Outcome(REFUSED, other or f"fn {refused[0]}: {self.verdicts[refused[0]]}")
             return Outcome(REFUSED, f"only because a proof file names what the edit took away: {told[0]}")
-        if all(self.verdicts[it] == "proved" for it in printed):
+        if all(self.said.is_proved(self.verdicts[it]) for it in printed):
             return Outcome(MISSED, "the function is still proved with this edit")
         return Outcome(UNSURE, f"fn {printed[0]}: {self.verdicts[printed[0]]}")
 

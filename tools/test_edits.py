@@ -155,6 +155,11 @@ class Planting(unittest.TestCase):
         refused = ["fn sums::Boxed::new_turned_2: not proved", "fn sums::one_more_turned_1: not proved"]
         self.assertIn("sums::two_more", self.judged(self.GOOD[:2] + ["fn sums::two_more: not proved", *refused])[0])
 
+    def test_a_closure_is_proved_where_its_callers_give_what_it_asks(self):
+        refused = ["fn sums::Boxed::new_turned_2: not proved", "fn sums::one_more_turned_1: not proved"]
+        closure = "fn sums::fn::two_more::map: proved where its callers give what it asks"
+        self.assertEqual(self.judged([*self.GOOD, closure, *refused]), (None, {"one.edit": edits.REFUSED, "new.edit": edits.REFUSED}))
+
     def test_an_edit_is_not_judged_where_its_proof_went_to_another_place(self):
         new = "fn sums::Boxed::new_turned_2: not proved"
         for one in (["fn sums::deep::one_more_turned_1: not proved"], ["fn sums::one_more_turned_1: not proved", "fn sums::Stop::one_more_turned_1: not proved"], []):
