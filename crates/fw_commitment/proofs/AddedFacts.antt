@@ -6,7 +6,7 @@ use Rattle.fw_rules.proofs.TableLaws.{first-one, first-not_none}
 use Rattle.fw_toml.specs.Tree.{IsTable, HasOnly, at}
 use Rattle.fw_commitment.specs.FieldNames.{added_names}
 use Rattle.fw_commitment.specs.Finding.{Finds}
-use Rattle.fw_commitment.specs.AddedValue.{AddedValue, added_value}
+use Rattle.fw_terms.specs.Added.{AddedValue, added_value}
 use Rattle.fw_commitment.specs.Added.{PurchaseReads, AddedStands, added_rules, other_rules}
 use Rattle.fw_commitment.specs.declared.fault.CommitmentField.TheVariants as field
 use Rattle.fw_commitment.specs.declared.fault.CommitmentFault.{CommitmentFault}

@@ -6,7 +6,7 @@ use Rattle.fw_toml.specs.Tree.{IsTable, HasOnly}
 use Rattle.fw_commitment.specs.FieldNames.{added_names}
 use Rattle.fw_commitment.specs.Fields.{HasText, HasAmount, HasSecond}
 use Rattle.fw_commitment.specs.Rules.{Rule, field_rule, field_rules, id_rules}
-use Rattle.fw_commitment.specs.AddedValue.{AddedValue}
+use Rattle.fw_terms.specs.Added.{AddedValue}
 use Rattle.fw_commitment.specs.declared.fault.CommitmentField.TheVariants as field
 use Rattle.fw_commitment.specs.declared.fault.CommitmentFault.{CommitmentFault}
 use Rattle.fw_commitment.specs.declared.fault.CommitmentFault.TheVariants as fault

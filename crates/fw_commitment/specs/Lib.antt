@@ -4,5 +4,4 @@ pub mod Rules
 pub mod Reading
 pub mod Finding
 pub mod Parts
-pub mod AddedValue
 pub mod Added

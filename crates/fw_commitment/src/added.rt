@@ -1,65 +1,17 @@
 //! How a TOML text reads as a purchase that is added to a commitment.
-ghost use Rattle.std.specs.Prelude.{◌≡◌, ◌≤◌, ◌≤ℤ◌, pos, codes, string_bytes};
-ghost use Rattle.fw_charge.specs.Charge.{IsShortText, last_second};
+ghost use Rattle.std.specs.Prelude.{◌≡◌, ◌≤◌, ◌≤ℤ◌, pos, codes};
+ghost use Rattle.fw_charge.specs.Charge.{last_second};
 ghost use Rattle.fw_toml.specs.Tree.{stated};
 ghost use Rattle.fw_commitment.specs.Fields.{HasAmount, HasSecond};
 ghost use Rattle.fw_commitment.specs.Finding.{Finds};
-ghost use Rattle.fw_commitment.specs.AddedValue.{IsAdded};
 ghost use Rattle.fw_commitment.specs.Added.{at_rules, billed_rules, added_rules, AddedStands, PurchaseReads};
 
 use crate::fault::{CommitmentFault, CommitmentField};
 use crate::fields::{amount, second, short_text};
 use fw_money::Nanos;
-use fw_terms::Purchase;
+use fw_terms::{AddedPurchase, Purchase};
 use fw_toml::{Table, TableFault, has_only, table_of};
 use std::alloc::Global;
-use std::marker::Model;
-
-/// A purchase that is added to a commitment, up to the end of the year 9999, and the commitment's id of 1 to 256 bytes.
-#[derive(Debug, Drop)]
-pub struct AddedPurchase {
-    id: String,
-    purchase: Purchase,
-}
-
-impl Model for AddedPurchase {
-    ghost use Rattle.std.specs.Prelude.{string_bytes};
-    ghost use Rattle.fw_commitment.specs.AddedValue.{AddedValue, IsAdded, added_value};
-
-    ghost Value = { AddedValue };
-
-    ghost view = { λ a. added_value (string_bytes a.id) a.purchase };
-
-    ghost invariant = { λ a. IsAdded (added_value (string_bytes a.id) a.purchase) };
-}
-
-impl AddedPurchase {
-    /// The id of the commitment.
-    pub fn id(&self) -> &str
-        ensures value { result.now ≡ self.now.id }
-        ensures in_limits { IsAdded self.now }
-    {
-        &self.id
-    }
-
-    /// What was paid, and when.
-    pub fn purchase(&self) -> &Purchase
-        ensures value { result.now ≡ self.now.purchase }
-        ensures in_limits { IsAdded self.now }
-    {
-        &self.purchase
-    }
-
-    /// The id of the commitment, and what was paid for it, taken apart.
-    pub fn into_parts(self) -> (String, Purchase)
-        ensures id { string_bytes result.0 ≡ self.id }
-        ensures purchase { result.1 ≡ self.purchase }
-        ensures short { IsShortText (string_bytes result.0) }
-        ensures dated { result.1.at ≤ last_second }
-    {
-        (self.id, self.purchase)
-    }
-}
 
 /// The second at which was paid.
 fn at(table: &Table) -> Result<u64, CommitmentFault>
@@ -98,7 +50,7 @@ fn added_of(alloc: Global, table: &Table) -> Result<AddedPurchase, CommitmentFau
     }
     let id = String::from_str(alloc, id)?;
     let purchase = Purchase::of_fields(at, billed);
-    Ok(AddedPurchase { id, purchase })
+    Ok(AddedPurchase::of_fields(id, purchase))
 }
 
 /// Reads a purchase that is added to a commitment from a TOML text with the fields `id`, `at` and `billed`.

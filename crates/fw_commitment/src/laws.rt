@@ -2,7 +2,7 @@
 ghost use Rattle.std.specs.Prelude.{◌≡◌, ◌≢◌, Result, Err};
 ghost use Rattle.fw_terms.specs.Commitment.{CommitmentValue};
 ghost use Rattle.fw_commitment.specs.Reading.{CommitmentReads};
-ghost use Rattle.fw_commitment.specs.AddedValue.{AddedValue};
+ghost use Rattle.fw_terms.specs.Added.{AddedValue};
 ghost use Rattle.fw_commitment.specs.Added.{PurchaseReads};
 ghost use Rattle.fw_commitment.specs.declared.fault.CommitmentFault.{CommitmentFault};
 ghost use Rattle.fw_commitment.specs.declared.fault.CommitmentFault.TheVariants.{NoMemory};

@@ -13,8 +13,8 @@ mod reading;
 mod tags;
 mod terms;
 
-pub use added::{AddedPurchase, read_purchase};
+pub use added::read_purchase;
 pub use fault::{CommitmentFault, CommitmentField};
-pub use fw_terms::{Commitment, Purchase, Rate, Terms};
+pub use fw_terms::{AddedPurchase, Commitment, Purchase, Rate, Terms};
 pub use laws::{commitment_reads_as_one, purchase_reads_as_one};
 pub use reading::read_commitment;

@@ -5,12 +5,15 @@ use Rattle.std.specs.List.{list_all}
 use Rattle.fw_charge.specs.Charge.{Charge}
 use Rattle.fw_terms.specs.Commitment.{CommitmentValue}
 use Rattle.fw_terms.specs.Policy.{PolicyValue}
+use Rattle.fw_terms.specs.Added.{AddedValue}
 
--- what an entry asks for: these rows are charged, this is committed to, or this policy holds from now on
+-- what an entry asks for: these rows are charged, this is committed to, this policy holds from now on, or this purchase is added to a commitment that
+-- was made before
 pub data CommandValue : Type 0 where
   post : List Charge → CommandValue
   commit : CommitmentValue → CommandValue
   set_policy : PolicyValue → CommandValue
+  add_purchase : AddedValue → CommandValue
 
 -- a command, who sent it, and its number among those of this sender, counted from 1
 pub record EntryValue : Type 0 where

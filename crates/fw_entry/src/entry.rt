@@ -13,7 +13,8 @@ use crate::fault::EntryFault;
 use crate::kind::CommandKind;
 use fw_columns::Columns;
 use fw_terms::{
-    Commitment, Policy, commitment_has_spelling, commitment_len, policy_has_spelling, policy_len,
+    AddedPurchase, Commitment, Policy, added_has_spelling, added_len, commitment_has_spelling,
+    commitment_len, policy_has_spelling, policy_len,
 };
 use std::alloc::{AllocError, Global};
 use std::marker::Model;
@@ -27,6 +28,8 @@ pub enum Command {
     Commit(Commitment),
     /// This policy holds from now on.
     SetPolicy(Policy),
+    /// This was paid for a commitment that there is.
+    AddPurchase(AddedPurchase),
 }
 
 impl Command {
@@ -42,6 +45,7 @@ impl Command {
             Command::Post(_) => CommandKind::Post,
             Command::Commit(_) => CommandKind::Commit,
             Command::SetPolicy(_) => CommandKind::SetPolicy,
+            Command::AddPurchase(_) => CommandKind::AddPurchase,
         }
     }
 
@@ -53,6 +57,7 @@ impl Command {
             Command::Post(rows) => Ok(Command::Post(rows.copy()?)),
             Command::Commit(commitment) => Ok(Command::Commit(commitment.copy()?)),
             Command::SetPolicy(policy) => Ok(Command::SetPolicy(policy.copy(alloc)?)),
+            Command::AddPurchase(added) => Ok(Command::AddPurchase(added.copy(alloc)?)),
         }
     }
 
@@ -73,6 +78,10 @@ impl Command {
             Command::SetPolicy(policy) => {
                 policy_has_spelling(policy);
                 1 + policy_len(policy)
+            }
+            Command::AddPurchase(added) => {
+                added_has_spelling(added);
+                1 + added_len(added)
             }
         }
     }

@@ -10,12 +10,14 @@ pub enum CommandKind {
     Commit,
     /// A policy is set.
     SetPolicy,
+    /// A purchase is added to a commitment.
+    AddPurchase,
 }
 
 impl CommandKind {
     ghost use Rattle.fw_entry.specs.Kinds.{kind_code, kind_meant};
 
-    /// The byte that stands for the kind: 1, 2 or 3.
+    /// The byte that stands for the kind: 1, 2, 3 or 5.
     pub fn code(self) -> u8
         ensures { result ≡ kind_code self }
     {
@@ -23,6 +25,7 @@ impl CommandKind {
             CommandKind::Post => 1,
             CommandKind::Commit => 2,
             CommandKind::SetPolicy => 3,
+            CommandKind::AddPurchase => 5,
         }
     }
 
@@ -34,6 +37,7 @@ impl CommandKind {
             1 => Some(CommandKind::Post),
             2 => Some(CommandKind::Commit),
             3 => Some(CommandKind::SetPolicy),
+            5 => Some(CommandKind::AddPurchase),
             _ => None,
         }
     }

@@ -38,7 +38,7 @@ pub entry_taken : (form : Form) (bytes : List ℕ) (f : Fields × List ℕ) → 
 entry_taken form bytes f is e small = takes form bytes f e (le-leb _ _ (omega (arith, size_is form bytes f is e)))
 
 pub entry_kept : (form : Form) (bytes : List ℕ) (f : Fields × List ℕ) → IsBytes bytes → fields_at form bytes ≡ Ok f → length bytes - length f.1 ≤ most_entry_bytes → IsEntry (entry_from f.0)
-entry_kept form bytes f is e small = ((entry_format form).takes bytes (entry_from f.0, f.1) is (entry_taken form bytes f is e small)).1
+entry_kept form bytes f is e small = ((entry_format form).takes bytes (entry_from f.0, f.1) is (entry_taken form bytes f is e small)).1.0
 
 faulty : (form : Form) (bytes : List ℕ) (left : ℕ) → fields_at form bytes ≡ Err left → entry_at form bytes ≡ Err left
 unfolding entry_at checked seen

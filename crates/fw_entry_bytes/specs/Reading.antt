@@ -1,17 +1,18 @@
 -- Reading entries.
 use Rattle.std.specs.Prelude.{◌<◌, ◌^◌, ℕ, Bool, List, length, nat_lt, nat_le, IsTrue}
 use Rattle.std.specs.Int.{w64}
-use Rattle.fw_bytes.specs.Reading.{Reading, number_at, text_at, checked, both, seen, list_at}
+use Rattle.fw_bytes.specs.Reading.{Reading, number_at, text_at, code_at, checked, both, seen, list_at}
 use Rattle.fw_charge.specs.Charge.{Charge, most_post_rows}
 use Rattle.fw_row_bytes.specs.Reading.{row_at}
-use Rattle.fw_terms_bytes.specs.Reading.{of_kind, commitment_at, policy_at}
+use Rattle.fw_terms_bytes.specs.Reading.{of_kind, commitment_at, policy_at, added_at}
 use Rattle.fw_entry.specs.Entry.{CommandValue, EntryValue, is_origin}
-use Rattle.fw_entry.specs.Entry.CommandValue.{post, commit, set_policy}
+use Rattle.fw_entry.specs.Entry.CommandValue.{post, commit, set_policy, add_purchase}
 use Rattle.fw_entry.specs.Kinds.{kind_meant}
 use Rattle.fw_entry.specs.Spelling.{entry, most_entry_bytes}
 use Rattle.fw_entry.specs.declared.kind.CommandKind.{CommandKind}
 use Rattle.fw_entry.specs.declared.kind.CommandKind.TheVariants as kind
 use Rattle.fw_entry_bytes.specs.declared.form.Form.{Form}
+use Rattle.fw_entry_bytes.specs.Forms.{has_kind}
 
 -- ---- who sent an entry, and its number
 
@@ -34,6 +35,10 @@ IsSeq n = (0 < n) × (n < 2 ^ 64)
 
 -- ---- what an entry asks for
 
+-- the byte of a kind that the form has; any other is a fault
+unfoldable pub kind_at : Form → Reading CommandKind
+kind_at form = checked (has_kind form) (code_at kind_meant)
+
 -- the rows of a post: 1 to 4,096 of them
 unfoldable pub rows_at : Reading (List Charge)
 rows_at = list_at 1 most_post_rows row_at
@@ -43,10 +48,11 @@ unfoldable pub brought_at : CommandKind → Reading CommandValue
 brought_at kind.Post = seen post rows_at
 brought_at kind.Commit = seen commit commitment_at
 brought_at kind.SetPolicy = seen set_policy policy_at
+brought_at kind.AddPurchase = seen add_purchase added_at
 
--- a byte for the kind, and what a command of this kind brings; a kind that the form doesn't have is a fault at its byte. Both forms have all kinds
+-- the kind, and what a command of this kind brings
 unfoldable pub command_at : Form → Reading CommandValue
-command_at form = of_kind kind_meant brought_at
+command_at form = of_kind (kind_at form) brought_at
 
 -- ---- an entry
 

@@ -1,9 +1,9 @@
 //! Who sent an entry, its number, and the kind of its command.
 ghost use Rattle.std.specs.Prelude.{string_bytes};
-ghost use Rattle.fw_bytes.specs.Reading.{Gives, code_at};
-ghost use Rattle.fw_entry.specs.Kinds.{kind_meant};
-ghost use Rattle.fw_entry_bytes.specs.Reading.{origin_at, seq_at};
+ghost use Rattle.fw_bytes.specs.Reading.{Gives};
+ghost use Rattle.fw_entry_bytes.specs.Reading.{origin_at, seq_at, kind_at};
 
+use crate::form::Form;
 use fw_bytes::{ReadError, str_at, u64_at};
 use fw_entry::{CommandKind, is_origin};
 use std::alloc::Global;
@@ -39,19 +39,24 @@ pub fn seq_of(bytes: &[u8]) -> Result<(u64, &[u8]), ReadError>
     Ok((seq, rest))
 }
 
-/// The kind of a command, and the bytes after it. Takes no memory.
+/// The kind of a command, which the form has, and the bytes after it. Takes no memory.
 ///
 /// # Errors
-/// [`ReadError::Corrupt`] at the byte where it stands for no kind, or where there is none.
-#[tactic(auto, unfolding(fw_bytes::specs::Reading::code_at))]
-pub fn kind_of(bytes: &[u8]) -> Result<(CommandKind, &[u8]), ReadError>
-    ensures { Gives (λ x. (x.0, x.1.now)) result (code_at kind_meant bytes.now) }
+/// [`ReadError::Corrupt`] at the byte where it stands for no kind of the form, or where there is none.
+#[tactic(auto, unfolding(crate::specs::Reading::kind_at, fw_bytes::specs::Reading::checked, fw_bytes::specs::Reading::code_at))]
+pub fn kind_of(form: Form, bytes: &[u8]) -> Result<(CommandKind, &[u8]), ReadError>
+    ensures { Gives (λ x. (x.0, x.1.now)) result (kind_at form bytes.now) }
 {
     match bytes {
         [] => Err(ReadError::Corrupt(0)),
-        [code, rest @ ..] => match CommandKind::from_code(*code) {
-            Some(kind) => Ok((kind, rest)),
-            None => Err(ReadError::Corrupt(bytes.len())),
-        },
+        [code, rest @ ..] => {
+            let Some(kind) = CommandKind::from_code(*code) else {
+                return Err(ReadError::Corrupt(bytes.len()));
+            };
+            if !form.has_kind(kind) {
+                return Err(ReadError::Corrupt(bytes.len()));
+            }
+            Ok((kind, rest))
+        }
     }
 }

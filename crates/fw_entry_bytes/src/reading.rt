@@ -10,7 +10,7 @@ use fw_bytes::ReadError;
 use fw_charge::MOST_POST_ROWS;
 use fw_entry::{Command, CommandKind, Entry};
 use fw_row_bytes::rows_of;
-use fw_terms_bytes::{commitment_of, policy_of};
+use fw_terms_bytes::{added_of, commitment_of, policy_of};
 use std::alloc::Global;
 
 /// What a command of this kind brings.
@@ -31,15 +31,19 @@ fn brought_of(alloc: Global, kind: CommandKind, bytes: &[u8]) -> Result<(Command
             Ok((policy, rest)) => Ok((Command::SetPolicy(policy), rest)),
             Err(e) => Err(e),
         },
+        CommandKind::AddPurchase => match added_of(alloc, bytes) {
+            Ok((added, rest)) => Ok((Command::AddPurchase(added), rest)),
+            Err(e) => Err(e),
+        },
     }
 }
 
-/// What an entry asks for: its kind, and what a command of this kind brings. Both forms have all kinds.
+/// What an entry asks for: its kind, which the form has, and what a command of this kind brings.
 #[tactic(auto, unfolding(crate::specs::Reading::command_at, fw_terms_bytes::specs::Reading::of_kind))]
-fn command_of(alloc: Global, _form: Form, bytes: &[u8]) -> Result<(Command, &[u8]), ReadError>
-    ensures { Gives (λ x. (command_view x.0, x.1.now)) result (command_at _form bytes.now) }
+fn command_of(alloc: Global, form: Form, bytes: &[u8]) -> Result<(Command, &[u8]), ReadError>
+    ensures { Gives (λ x. (command_view x.0, x.1.now)) result (command_at form bytes.now) }
 {
-    let (kind, rest) = kind_of(bytes)?;
+    let (kind, rest) = kind_of(form, bytes)?;
     brought_of(alloc, kind, rest)
 }
 

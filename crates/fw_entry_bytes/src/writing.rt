@@ -9,7 +9,7 @@ ghost use Rattle.fw_charge.specs.Charge.{most_post_rows};
 use fw_bytes::{put_byte, put_text, put_u32, put_u64};
 use fw_entry::{Command, Entry};
 use fw_row_bytes::put_rows;
-use fw_terms_bytes::{put_commitment, put_policy};
+use fw_terms_bytes::{put_added, put_commitment, put_policy};
 use std::alloc::AllocError;
 
 /// Writes what a command brings.
@@ -22,6 +22,7 @@ fn put_brought(out: &mut Vec<u8>, one: &Command) -> Result<(), AllocError>
         Command::Post(rows) => put_rows(out, rows),
         Command::Commit(commitment) => put_commitment(out, commitment),
         Command::SetPolicy(policy) => put_policy(out, policy),
+        Command::AddPurchase(added) => put_added(out, added),
     }
 }
 

@@ -1,4 +1,4 @@
--- The most bytes that the parts of commitments and of policies have where they are written.
+-- The most bytes that the parts of commitments, of purchases that are added and of policies have where they are written.
 use Rattle.std.specs.Prelude.{ℕ, ◌+◌, ◌*◌}
 use Rattle.fw_charge.specs.Charge.{longest_short_text}
 use Rattle.fw_charge.specs.Tags.{most_tags, longest_tag_text}
@@ -29,6 +29,11 @@ most_tags_len = 4 + most_tags * (4 + longest_tag_text + (4 + longest_tag_text))
 -- rates are longer than a unit and SKUs
 abbrev pub most_commitment_len : ℕ
 most_commitment_len = 17 + (most_name_len + (1 + most_name_len) + (most_tags_len + most_rates_len + most_purchases_len))
+
+-- ---- a purchase that is added to a commitment
+
+abbrev pub most_added_len : ℕ
+most_added_len = most_name_len + 16
 
 -- ---- a policy
 

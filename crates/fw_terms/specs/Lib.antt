@@ -5,5 +5,6 @@ pub mod PolicyView
 pub mod Commitment
 pub mod TermsView
 pub mod CommitmentView
+pub mod Added
 pub mod Spelling
 pub mod Lengths

@@ -1,14 +1,15 @@
--- The bytes of a commitment, of a purchase and of a policy, and which of them have a spelling.
+-- The bytes of a commitment, of a purchase, of one that is added, and of a policy, and which of them have a spelling.
 use Rattle.std.specs.Prelude.{◌≤◌, List, [], ◌∷◌, ◌++◌, All, Some, IfSome, pos, ℕ}
 use Rattle.std.specs.Str.{IsUtf8}
 use Rattle.fw_bytes.specs.Spelling.{number32, number64, text, optional, listed}
 use Rattle.fw_money.specs.Amount.{most_nanos}
-use Rattle.fw_charge.specs.Charge.{last_second}
+use Rattle.fw_charge.specs.Charge.{IsShortText, last_second}
 use Rattle.fw_charge.specs.Spelling.{nanos, tags}
 use Rattle.fw_charge.specs.Tags.{TagText}
 use Rattle.fw_charge.specs.Codes.{kind_code}
 use Rattle.fw_terms.specs.Commitment.{PurchaseValue, RateValue, TermsValue, CommitmentValue, IsCommitment, kind_of}
 use Rattle.fw_terms.specs.Commitment.TermsValue.{usage, spend}
+use Rattle.fw_terms.specs.Added.{AddedValue}
 use Rattle.fw_terms.specs.Policy.{TargetValue, GiveValue, RuleValue, PolicyValue, IsPolicy}
 use Rattle.fw_terms.specs.Policy.GiveValue.{fixed, proportional}
 
@@ -39,6 +40,12 @@ term c = number32 c.start ++ (number32 c.hours ++ nanos (pos c.capacity))
 unfoldable pub commitment : CommitmentValue → List ℕ
 commitment c = (names c ++ term c) ++ (committed c.terms ++ listed purchase c.purchases)
 
+-- ---- a purchase that is added to a commitment
+
+-- the id of the commitment, and what was paid
+unfoldable pub added : AddedValue → List ℕ
+added a = text a.id ++ purchase a.purchase
+
 -- ---- a policy
 
 -- a group and its weight
@@ -65,10 +72,16 @@ pub record IsTagUtf8 (t : TagText) : Type 0 where
   pub key : IsUtf8 t.key
   pub value : IsUtf8 t.value
 
--- it is up to the end of the year 9999, and at most 10^17 nanos
+-- its instant is up to the end of the year 9999, and its amount at most 10^17 nanos
 pub record IsSpelledPurchase (p : PurchaseValue) : Type 0 where
   pub at : p.at ≤ last_second
   pub billed : p.billed ≤ most_nanos
+
+-- the id has 1 to 256 bytes and is UTF-8, and the purchase has a spelling
+pub record IsSpelledAdded (a : AddedValue) : Type 0 where
+  pub id : IsShortText a.id
+  pub utf8 : IsUtf8 a.id
+  pub purchase : IsSpelledPurchase a.purchase
 
 -- each text of what is committed to is UTF-8
 abbrev pub AreTermsUtf8 : TermsValue → Type 0

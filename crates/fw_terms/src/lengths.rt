@@ -1,13 +1,14 @@
-//! How many bytes commitments and policies have where they are written.
+//! How many bytes commitments, purchases that are added and policies have where they are written.
 ghost use Rattle.std.specs.Prelude.{◌≡◌, ◌≤◌, length, map, string_bytes};
 ghost use Rattle.fw_bytes.specs.Spelling.{text, listed};
 ghost use Rattle.fw_terms.specs.Commitment.{AreSkus, IsRate, AreRates, IsTerms, most_purchases};
 ghost use Rattle.fw_terms.specs.Policy.{IsTarget, AreTargets, IsGive, IsRule};
-ghost use Rattle.fw_terms.specs.Lengths.{most_skus_len, most_rate_len, most_rates_len, most_purchases_len, most_commitment_len, most_target_len, most_targets_len, most_give_len, most_rule_len, most_policy_len};
+ghost use Rattle.fw_terms.specs.Lengths.{most_skus_len, most_rate_len, most_rates_len, most_purchases_len, most_commitment_len, most_added_len, most_target_len, most_targets_len, most_give_len, most_rule_len, most_policy_len};
 ghost use Rattle.fw_terms.specs.PolicyView.{give_view};
 ghost use Rattle.fw_terms.specs.TermsView.{terms_view};
-ghost use Rattle.fw_terms.specs.Spelling.{rate, purchase, committed, commitment, target, given, rule, policy};
+ghost use Rattle.fw_terms.specs.Spelling.{rate, purchase, added, committed, commitment, target, given, rule, policy};
 
+use crate::added::AddedPurchase;
 use crate::commitment::{Commitment, Purchase, Rate, Terms};
 use crate::policy::{Give, Policy, Rule, Target};
 use fw_bytes::text_len;
@@ -83,6 +84,15 @@ pub fn commitment_len(one: &Commitment) -> usize
     let terms = terms_len(one.terms());
     let purchases = purchases_len(one.purchases());
     17 + id + sub_account + tags + terms + purchases
+}
+
+/// How many bytes a purchase that is added has where it is written: at most 276. Takes no memory.
+#[tactic(auto, unfolding(crate::specs::Spelling::added, crate::specs::Spelling::purchase))]
+pub fn added_len(one: &AddedPurchase) -> usize
+    ensures value { result ≡ length (added one.now) }
+    ensures few { result ≤ most_added_len }
+{
+    text_len(one.id()) + 16
 }
 
 /// How many bytes a group and its weight have.

@@ -8,6 +8,7 @@
 //! length. The crate above that reads and writes them stands on the same definition.
 #![tactic(auto)]
 
+mod added;
 mod commitment;
 mod copies;
 mod groups;
@@ -16,9 +17,12 @@ mod lengths;
 mod policy;
 mod spelled;
 
+pub use added::AddedPurchase;
 pub use commitment::{Commitment, CommitmentFields, Purchase, Rate, Terms, total_cost};
 pub use groups::{has_double_from, has_target_from};
 pub use laws::a_purchase_adds_its_cost;
-pub use lengths::{commitment_len, policy_len};
+pub use lengths::{added_len, commitment_len, policy_len};
 pub use policy::{Give, Policy, Rule, Target};
-pub use spelled::{commitment_has_spelling, policy_has_spelling, purchase_has_spelling};
+pub use spelled::{
+    added_has_spelling, commitment_has_spelling, policy_has_spelling, purchase_has_spelling,
+};

@@ -4,8 +4,9 @@ ghost use Rattle.std.specs.Str.{IsUtf8};
 ghost use Rattle.fw_charge.specs.Charge.{last_second};
 ghost use Rattle.fw_terms.specs.PolicyView.{give_view};
 ghost use Rattle.fw_terms.specs.TermsView.{terms_view};
-ghost use Rattle.fw_terms.specs.Spelling.{AreTermsUtf8, IsSpelledCommitment, IsSpelledPurchase, IsGiveUtf8, IsRuleUtf8, IsSpelledPolicy};
+ghost use Rattle.fw_terms.specs.Spelling.{AreTermsUtf8, IsSpelledCommitment, IsSpelledPurchase, IsSpelledAdded, IsGiveUtf8, IsRuleUtf8, IsSpelledPolicy};
 
+use crate::added::AddedPurchase;
 use crate::commitment::{Commitment, Purchase, Rate, Terms};
 use crate::policy::{Give, Policy, Rule, Target};
 use fw_charge::{optional_text_has_spelling, tags_have_spelling};
@@ -45,6 +46,14 @@ pub fn purchase_has_spelling(one: &Purchase)
     ensures { IsSpelledPurchase one.now }
 {
     let _nanos = one.nanos();
+}
+
+/// Each purchase that is added has a spelling, so it is read from what is written of it.
+pub fn added_has_spelling(one: &AddedPurchase)
+    ensures { IsSpelledAdded one.now }
+{
+    let _id = one.id();
+    purchase_has_spelling(one.purchase());
 }
 
 /// The group of each target is UTF-8.

@@ -92,10 +92,10 @@ pub record IsSpelledRate (r : RateValue) : Type 0 where
   pub limits : IsRate r
   pub sku : IsUtf8 r.sku
 
-short_is : (bytes : List ℕ) → FitsShortText bytes → IsShortText bytes
+pub short_is : (bytes : List ℕ) → FitsShortText bytes → IsShortText bytes
 short_is bytes h = let p = and_parts _ _ h.1 in record { some = ltb-true _ _ p.0; few = leb-true _ _ p.1 }
 
-short_fits : (bytes : List ℕ) → IsShortText bytes → IsUtf8 bytes → FitsShortText bytes
+pub short_fits : (bytes : List ℕ) → IsShortText bytes → IsUtf8 bytes → FitsShortText bytes
 short_fits bytes h u = (text_fits longest_short_text bytes (omega arith) h.few u, and_from _ _ (lt-ltb _ _ h.some) (le-leb _ _ h.few))
 
 rate_is : (r : RateValue) → FitsPair FitsShortText (FitsChecked is_ppm Fits32) (rate_to r) → IsSpelledRate r

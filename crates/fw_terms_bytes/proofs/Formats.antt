@@ -1,7 +1,7 @@
 -- More formats that are put together from formats: a field whose format the value before it decides.
-use Rattle.std.proofs.Common.{◌≡◌, ℕ, List, [], ◌∷◌, ◌++◌, Option, Some, Result, Ok, refl, sym, ap, ◌∙◌, subst, append_assoc}
-use Rattle.fw_bytes.specs.Reading.{◌>>=◌, code_at, seen}
-use Rattle.fw_bytes.proofs.Laws.{IsFormat, Takes, Takes-then, bind_ok, ok_is, code_format}
+use Rattle.std.proofs.Common.{◌≡◌, ℕ, List, [], ◌∷◌, ◌++◌, Result, Ok, refl, sym, ap, ◌∙◌, subst, append_assoc}
+use Rattle.fw_bytes.specs.Reading.{◌>>=◌, seen}
+use Rattle.fw_bytes.proofs.Laws.{IsFormat, Takes, Takes-then, bind_ok, ok_is}
 use Rattle.fw_terms_bytes.specs.Reading.{then_by, of_kind}
 
 pub then_by_format : {A B : Type 0} {read : List ℕ → Result (A × List ℕ) ℕ} {spell : A → List ℕ} {Fits : A → Type 0} {next : A → List ℕ → Result (B × List ℕ) ℕ} {spells : A → B → List ℕ} {Fit : A → B → Type 0}
@@ -20,20 +20,20 @@ then_by_format {A = A} {B = B} {read = read} {spell = spell} {Fits = Fits} {next
       rw (append_assoc (spell x.0) (spells x.0 x.1) rest, f.again x.0 (spells x.0 x.1 ++ rest) e.0, (g x.0).again x.1 rest e.1) refl;
 }
 
--- what stands behind the byte of its kind, where it has a format for each kind
-pub kind_format : {K A : Type 0} {next : K → List ℕ → Result (A × List ℕ) ℕ} {spell : A → List ℕ} {Fits : A → Type 0} (meaning : ℕ → Option K) (code : K → ℕ) (kind_of : A → K)
-    → ((b : ℕ) (k : K) → meaning b ≡ Some k → code k ≡ b) → ((k : K) → meaning (code k) ≡ Some k) → ((k : K) → IsFormat (next k) spell (λ x. (kind_of x ≡ k) × Fits x))
-    → IsFormat (of_kind meaning next) (λ x. code (kind_of x) ∷ spell x) Fits
-unfolding of_kind code_at
-kind_format {K = K} {A = A} {next = next} {spell = spell} {Fits = Fits} meaning code kind_of back there f = record {
+-- what stands behind the byte of its kind, where the byte has a format and what follows has one for each kind
+pub kind_format : {K A : Type 0} {read : List ℕ → Result (K × List ℕ) ℕ} {Has : K → Type 0} {next : K → List ℕ → Result (A × List ℕ) ℕ} {spell : A → List ℕ} {Fits : A → Type 0} (code : K → ℕ) (kind_of : A → K)
+    → IsFormat read (λ k. code k ∷ []) Has → ((k : K) → IsFormat (next k) spell (λ x. (kind_of x ≡ k) × Fits x))
+    → IsFormat (of_kind read next) (λ x. code (kind_of x) ∷ spell x) (λ x. Has (kind_of x) × Fits x)
+unfolding of_kind
+kind_format {K = K} {A = A} {read = read} {Has = Has} {next = next} {spell = spell} {Fits = Fits} code kind_of g f = record {
   takes = λ bytes x is e.
-      let k = bind_ok (code_at meaning bytes) (λ y. next y.0 y.1) x e in
-      let t = (code_format meaning code back there).takes bytes k.0 is k.1 in
+      let k = bind_ok (read bytes) (λ y. next y.0 y.1) x e in
+      let t = g.takes bytes k.0 is k.1 in
       let u = (f k.0.0).takes k.0.1 x t.0.rest_fits k.2 in
       let whole : Takes bytes (code k.0.0 ∷ spell x.0) x.1 = Takes-then bytes (code k.0.0 ∷ []) k.0.1 (spell x.0) x.1 t.0 u.0 in
-      (subst (λ (y : K). Takes bytes (code y ∷ spell x.0) x.1) (sym u.1.0) whole, u.1.1);
+      (subst (λ (y : K). Takes bytes (code y ∷ spell x.0) x.1) (sym u.1.0) whole, (subst Has (sym u.1.0) t.1, u.1.1));
   again = λ x rest h.
-      rw (there (kind_of x)) ((f (kind_of x)).again x rest (refl, h));
+      rw (g.again (kind_of x) (spell x ++ rest) h.0) ((f (kind_of x)).again x rest (refl, h.1));
 }
 
 -- the same format, of values that are described in other words

@@ -1,3 +1,4 @@
 pub mod Formats
 pub mod PolicyFormat
 pub mod CommitmentFormat
+pub mod AddedFormat

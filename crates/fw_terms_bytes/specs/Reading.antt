@@ -1,4 +1,4 @@
--- Reading commitments and policies.
+-- Reading commitments, purchases that are added to them, and policies.
 use Rattle.std.specs.Prelude.{ℕ, zero, suc, ℤ, pos, negsuc, nat_abs, Bool, true, false, ◌&&◌, not, List, [], ◌∷◌, length, map, Option, Ok, Err, nat_lt, nat_le}
 use Rattle.std.specs.Int.{w32, w64}
 use Rattle.fw_money.specs.Amount.{most_nanos}
@@ -10,6 +10,7 @@ use Rattle.fw_charge.specs.declared.discount.DiscountKind.{DiscountKind}
 use Rattle.fw_charge.specs.declared.discount.DiscountKind.TheVariants as kind
 use Rattle.fw_terms.specs.Commitment.{PurchaseValue, RateValue, TermsValue, CommitmentValue, cost_of, most_skus, most_ppm, most_purchases, most_hours}
 use Rattle.fw_terms.specs.Commitment.TermsValue.{usage, spend}
+use Rattle.fw_terms.specs.Added.{AddedValue}
 use Rattle.fw_terms.specs.Policy.{TargetValue, GiveValue, RuleValue, PolicyValue, most_text, most_rules, most_targets, most_weight, policy_value}
 use Rattle.fw_terms.specs.Policy.GiveValue.{fixed, proportional}
 use Rattle.fw_charge.specs.Spelling.{keys_rise}
@@ -24,10 +25,10 @@ then_by first next bytes = do
   y ← next x.0 x.1
   Ok ((x.0, y.0), y.1)
 
--- a byte for the kind, and what stands behind it for that kind; a byte that stands for none is a fault
-unfoldable pub of_kind : {K A : Type 0} → (ℕ → Option K) → (K → Reading A) → Reading A
-of_kind meaning next bytes = do
-  kind ← code_at meaning bytes
+-- a kind, and what stands behind it for that kind
+unfoldable pub of_kind : {K A : Type 0} → Reading K → (K → Reading A) → Reading A
+of_kind read next bytes = do
+  kind ← read bytes
   next kind.0 kind.1
 
 -- ---- a commitment: single fields, each with its range
@@ -152,6 +153,13 @@ commitment_rules c = keys_rise c.tags && (skus_rise c.terms && nat_le (cost_of c
 -- a commitment; a fault of the rules over several fields is at its first byte
 unfoldable pub commitment_at : Reading CommitmentValue
 commitment_at = checked commitment_rules (seen commitment_from fields_at)
+
+-- ---- a purchase that is added: the id of its commitment, and what was paid
+abbrev pub added_from : List ℕ × PurchaseValue → AddedValue
+added_from f = record { id = f.0; purchase = f.1 }
+
+unfoldable pub added_at : Reading AddedValue
+added_at = seen added_from (both short_text_at purchase_at)
 
 -- ---- a policy
 

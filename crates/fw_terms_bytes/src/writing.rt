@@ -8,11 +8,11 @@ ghost use Rattle.fw_terms.specs.Commitment.{AreSkus, IsRate, AreRates, IsTerms, 
 ghost use Rattle.fw_terms.specs.Policy.{IsTarget, AreTargets, IsGive, IsRule};
 ghost use Rattle.fw_terms.specs.PolicyView.{give_view};
 ghost use Rattle.fw_terms.specs.TermsView.{terms_view};
-ghost use Rattle.fw_terms.specs.Spelling.{rate, purchase, committed, names, term, commitment, target, given, rule, policy};
+ghost use Rattle.fw_terms.specs.Spelling.{rate, purchase, committed, added, names, term, commitment, target, given, rule, policy};
 
 use fw_bytes::{put_byte, put_text, put_u32, put_u64};
 use fw_fields::{put_nanos, put_optional_text, put_tags};
-use fw_terms::{Commitment, Give, Policy, Purchase, Rate, Rule, Target, Terms};
+use fw_terms::{AddedPurchase, Commitment, Give, Policy, Purchase, Rate, Rule, Target, Terms};
 use std::alloc::AllocError;
 
 /// Writes id, kind, account and tags.
@@ -100,6 +100,18 @@ pub fn put_purchase(out: &mut Vec<u8>, one: &Purchase) -> Result<(), AllocError>
     put_u64(out, one.at())?;
     put_nanos(out, one.billed())?;
     Ok(())
+}
+
+/// Writes a purchase that is added to a commitment at the end of the buffer: the commitment's id, and the purchase.
+///
+/// # Errors
+/// [`AllocError`] where the buffer can't grow. Then nothing is promised of what the buffer holds.
+#[tactic(auto, unfolding(fw_terms::specs::Spelling::added))]
+pub fn put_added(out: &mut Vec<u8>, one: &AddedPurchase) -> Result<(), AllocError>
+    ensures { OnOk result (out.new.items ≡ out.old.items ++ added one.now) }
+{
+    put_text(out, one.id())?;
+    put_purchase(out, one.purchase())
 }
 
 /// Writes purchases: their number, and each in turn.

@@ -1,9 +1,9 @@
-use Rattle.std.proofs.Common.{refl}
+use Rattle.std.proofs.Common.{refl, subst, sym}
 use Rattle.std.proofs.lemmas.Result.{err_from_is_err_and}
 use Rattle.fw_toml.specs.Tree.{stated, HasOnly}
 use Rattle.fw_commitment.specs.FieldNames.{added_names}
 use Rattle.fw_commitment.specs.Rules.{id_rules}
-use Rattle.fw_commitment.specs.Added.{added_rules, at_rules, billed_rules, other_rules}
+use Rattle.fw_commitment.specs.Added.{AddedStands, added_rules, at_rules, billed_rules, other_rules}
 use Rattle.fw_commitment.specs.declared.fault.CommitmentField.TheVariants as field
 use Rattle.fw_commitment.specs.declared.fault.CommitmentFault.TheVariants as fault
 use Rattle.fw_commitment.proofs.RuleFacts.{fault-here, fault-later, none-append}
@@ -51,9 +51,9 @@ returns c =
     let none = none-append (id_rules ms) _ c.in_ok-id.ensures.0
     (none-append (at_rules ms) _ c.in_ok-at.ensures.0 (none-append (billed_rules ms) (other_rules ms) c.in_ok-billed.ensures.0 (only-holds ms only))) in (
       none,
-      record {
+      subst (AddedStands ms) (sym c.of_fields.ensures) (record {
         id = rw c.in_ok-id-2.ensures.ok c.in_ok-id.ensures.1.0;
         at = rw c.of_fields-purchase.ensures.at c.in_ok-at.ensures.1.0;
         billed = rw c.of_fields-purchase.ensures.billed c.in_ok-billed.ensures.1.0;
-      },
+      }),
     )
