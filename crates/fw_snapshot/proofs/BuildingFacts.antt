@@ -8,16 +8,18 @@ use Rattle.std.specs.Option.{option_map_or}
 use Rattle.fw_charge.specs.Charge.{Charge, DiscountText}
 use Rattle.fw_persistent.specs.Counts.{Counts, count_of}
 use Rattle.fw_entry.specs.Entry.{EntryValue, is_origin, is_origin_byte, most_origin_bytes}
-use Rattle.fw_entry.specs.Entry.CommandValue.{commit, post}
+use Rattle.fw_entry.specs.Entry.CommandValue.{commit, post, add_purchase}
+use Rattle.fw_terms.specs.Added.{AddedValue}
 use Rattle.fw_entry.specs.Spelling.{entry, most_entry_bytes}
 use Rattle.fw_terms.specs.Commitment.{CommitmentValue}
 use Rattle.fw_terms.specs.Policy.{PolicyValue}
 use Rattle.fw_snapshot.specs.Building.{has_counted_id, rows_before}
+use Rattle.fw_snapshot.specs.Adding.{commitments_after, NoneRefuses}
 use Rattle.fw_snapshot.specs.BuilderView.{singles}
 use Rattle.fw_snapshot.specs.Heads.{ContentValue, command_of, segment_rows}
-use Rattle.fw_snapshot.specs.Heads.ContentValue.{posted_rows, committed_to, policy_set}
-use Rattle.fw_snapshot.specs.History.{committed, commitments_of, policy_after, rows_of, rows_posted}
-use Rattle.fw_snapshot.specs.Judging.{carries, carries_any, command_conflict, commitment_conflict, has_registered_id, is_registered, judged, most_commitments, most_rows, rows_conflict}
+use Rattle.fw_snapshot.specs.Heads.ContentValue.{posted_rows, committed_to, policy_set, purchase_added}
+use Rattle.fw_snapshot.specs.History.{committed, committed_of, commitments_of, policy_after, rows_of, rows_posted}
+use Rattle.fw_snapshot.specs.Judging.{carries, carries_any, command_conflict, commitment_conflict, purchase_conflict, refuses, has_registered_id, is_registered, judged, most_commitments, most_rows, rows_conflict}
 use Rattle.fw_snapshot.specs.declared.state.building.Place.{Place}
 use Rattle.fw_snapshot.specs.Verdicts.{goes_behind, is_accept}
 use Rattle.fw_snapshot.specs.declared.verdict.Conflict.TheVariants as conflict
@@ -93,15 +95,20 @@ there_is segments at left = two_ways (nat_lt at.segment (length segments))
 
 -- ---- why an entry can't follow
 
-pub post_conflict : (es : List EntryValue) (more : List Charge) (rows n : ℕ) (own : Bool) → rows ≡ length (rows_posted es) → length more ≡ n → own ≡ carries_any more (commitments_of es)
+pub post_conflict : (es : List EntryValue) (more : List Charge) (rows n : ℕ) (own : Bool) → rows ≡ length (rows_posted es) → length more ≡ n → own ≡ carries_any more (committed_of es)
     → (if nat_lt most_rows (rows + n) then Some conflict.Full else (if own then Some conflict.OwnCommitment else None)) ≡ command_conflict es (post more)
 unfolding command_conflict rows_conflict
 post_conflict es more rows n own count len carry = rw (count, sym len, carry) refl
 
-pub commit_conflict : (es : List EntryValue) (c : CommitmentValue) (registered carried : Bool) (n : ℕ) → registered ≡ is_registered c.id (commitments_of es) → carried ≡ carries c.id (rows_of es) → n ≡ length (commitments_of es)
+pub commit_conflict : (es : List EntryValue) (c : CommitmentValue) (registered carried : Bool) (n : ℕ) → registered ≡ is_registered c.id (committed_of es) → carried ≡ carries c.id (rows_of es) → n ≡ length (committed_of es)
     → (if registered then Some conflict.DoubleId else (if carried then Some conflict.IdInUse else (if nat_le most_commitments n then Some conflict.TooManyCommitments else None))) ≡ command_conflict es (commit c)
 unfolding command_conflict commitment_conflict
 commit_conflict es c registered carried n is in_use count = rw (is, in_use, count) refl
+
+pub added_conflict : (es : List EntryValue) (a : AddedValue) (registered refused : Bool) → registered ≡ is_registered a.id (commitments_of es) → refused ≡ list_any (refuses a) (commitments_of es)
+    → (if registered then (if refused then Some conflict.PurchaseLimit else None) else Some conflict.NoSuchCommitment) ≡ command_conflict es (add_purchase a)
+unfolding command_conflict purchase_conflict
+added_conflict es a registered refused is also = rw (is, also) refl
 
 -- ---- ids that are counted
 
@@ -144,8 +151,22 @@ pub committed_back : (c : ContentValue) (rows : List Charge) → committed (comm
 committed_back (posted_rows n) rows = refl
 committed_back (committed_to c) rows = refl
 committed_back (policy_set p) rows = refl
+committed_back (purchase_added a) rows = refl
+
+pub after_back : (before : List CommitmentValue) (c : ContentValue) (rows : List Charge) → commitments_after before (command_of c []) ≡ commitments_after before (command_of c rows)
+after_back before (posted_rows n) rows = refl
+after_back before (committed_to c) rows = refl
+after_back before (policy_set p) rows = refl
+after_back before (purchase_added a) rows = refl
+
+pub refuses_back : (before : List CommitmentValue) (c : ContentValue) (rows : List Charge) → NoneRefuses before (command_of c rows) → NoneRefuses before (command_of c [])
+refuses_back before (posted_rows n) rows none = tt
+refuses_back before (committed_to c) rows none = tt
+refuses_back before (policy_set p) rows none = tt
+refuses_back before (purchase_added a) rows none = none
 
 pub policy_back : (before : Option PolicyValue) (c : ContentValue) (rows : List Charge) → policy_after before (command_of c []) ≡ policy_after before (command_of c rows)
 policy_back before (posted_rows n) rows = refl
 policy_back before (committed_to c) rows = refl
 policy_back before (policy_set p) rows = refl
+policy_back before (purchase_added a) rows = refl

@@ -17,7 +17,7 @@ use Rattle.fw_row_table.specs.Names.{Text}
 use Rattle.fw_persistent.specs.Counts.{Counts, count_of}
 use Rattle.fw_terms.specs.Commitment.{CommitmentValue}
 use Rattle.fw_entry.specs.Entry.{EntryValue}
-use Rattle.fw_snapshot.specs.History.{posted, committed, policy_after, rows_posted, rows_of, commitments_of, policy_of, entries_from}
+use Rattle.fw_snapshot.specs.History.{posted, committed, policy_after, rows_posted, rows_of, committed_of, policy_of, entries_from}
 use Rattle.fw_snapshot.specs.Judging.{has_id, carries, is_registered}
 use Rattle.fw_snapshot.specs.Uses.{posts_with, commitments_with}
 
@@ -34,9 +34,9 @@ pub rows_of_more : (es : List EntryValue) (e : EntryValue) → rows_of (es ++ e 
 unfolding rows_of
 rows_of_more es e = rows_posted_more es e
 
-pub commitments_of_more : (es : List EntryValue) (e : EntryValue) → commitments_of (es ++ e ∷ []) ≡ commitments_of es ++ committed e.command
-unfolding commitments_of
-commitments_of_more es e = sym (flat_map_more (λ e. committed e.command) [] es e)
+pub committed_of_more : (es : List EntryValue) (e : EntryValue) → committed_of (es ++ e ∷ []) ≡ committed_of es ++ committed e.command
+unfolding committed_of
+committed_of_more es e = sym (flat_map_more (λ e. committed e.command) [] es e)
 
 pub policy_of_more : (es : List EntryValue) (e : EntryValue) → policy_of (es ++ e ∷ []) ≡ policy_after (policy_of es) e.command
 unfolding policy_of

@@ -4,11 +4,13 @@ use Rattle.std.specs.Str.{bytes_eq}
 use Rattle.std.proofs.lemmas.List.Elements.{All-push, All-nil}
 use Rattle.fw_charge.specs.Charge.{Charge}
 use Rattle.fw_entry.specs.Entry.{CommandValue, EntryValue}
-use Rattle.fw_entry.specs.Entry.CommandValue.{post, commit, set_policy}
+use Rattle.fw_entry.specs.Entry.CommandValue.{post, commit, set_policy, add_purchase}
 use Rattle.fw_terms.specs.Policy.{PolicyValue}
+use Rattle.fw_terms.specs.Commitment.{CommitmentValue}
 use Rattle.fw_entry.specs.Spelling.{IsEntry}
 use Rattle.fw_persistent.specs.Counts.{count_of}
-use Rattle.fw_snapshot.specs.History.{History, posted, committed, policy_after, rows_posted, commitments_of, policy_of, entries_from}
+use Rattle.fw_snapshot.specs.History.{History, posted, committed, policy_after, rows_posted, committed_of, commitments_of, policy_of, entries_from}
+use Rattle.fw_snapshot.specs.Adding.{commitments_after, NoneRefuses}
 use Rattle.fw_snapshot.specs.Judging.{judged, IsLegal, IsLegalAfter, carries, most_rows, most_commitments}
 use Rattle.fw_snapshot.specs.Uses.{posts_with, commitments_with}
 use Rattle.fw_snapshot.specs.Heads.{ContentValue, HeadValue, head_of, content_of, command_of, row_count, row_counts, segment_rows, entries_of}
@@ -16,8 +18,10 @@ use Rattle.fw_snapshot.specs.Held.{held_commitments, held_policy}
 use Rattle.fw_snapshot.specs.StateView.{state_entries, state_view, KeepsState}
 use Rattle.fw_snapshot.specs.declared.state.State.TheInside.{Inside}
 use Rattle.fw_snapshot.specs.declared.verdict.Verdict.TheVariants as verdict
-use Rattle.fw_snapshot.proofs.EntryFacts.{commitments_of_more, policy_of_more, entries_from_more, posts_with_more, commitments_with_append}
+use Rattle.fw_snapshot.proofs.EntryFacts.{committed_of_more, policy_of_more, entries_from_more, posts_with_more, commitments_with_append}
 use Rattle.fw_snapshot.proofs.HeadFacts.{row_counts_cons, rows_posted_entries, heads_of_entries, length_entries, entries_of_more, entry_back, row_count_back}
+use Rattle.fw_snapshot.proofs.AddedFacts.{commitments_count}
+use Rattle.fw_snapshot.proofs.AddingFacts.{commitments_of_more, none_refuses}
 use Rattle.fw_snapshot.proofs.LegalFacts.{legal_more, accepted_rows, few_rows, few_commitments}
 
 -- each part of t is that of s with what an entry brings
@@ -26,7 +30,7 @@ pub record Follows (s t : Inside) (e : EntryValue) : Type 0 where
   pub segments : segment_rows t.segments ≡ segment_rows s.segments ++ posted e.command
   pub filled : length t.segments ≤ length (segment_rows t.segments)
   pub row_count : t.rows ≡ s.rows + length (posted e.command)
-  pub commitments : held_commitments t.commitments ≡ held_commitments s.commitments ++ committed e.command
+  pub commitments : held_commitments t.commitments ≡ commitments_after (held_commitments s.commitments) e.command
   pub policy : held_policy t.policy ≡ policy_after (held_policy s.policy) e.command
   pub origins : (origin : List ℕ) → count_of origin t.origins ≡ count_of origin s.origins + (if bytes_eq origin e.origin then 1 else 0)
   pub registered : (id : List ℕ) → count_of id t.registered ≡ count_of id s.registered + commitments_with id (committed e.command)
@@ -62,10 +66,10 @@ follows_keeps s t e keeps accepted entry follows =
       rows = lengths ∙ ap (λ n. n + length (posted e.command)) keeps.rows ∙ sym (row_counts_more s.heads e) ∙ ap row_counts (sym follows.heads);
       filled = follows.filled;
       row_count = follows.row_count ∙ ap (λ n. n + length (posted e.command)) keeps.row_count ∙ sym lengths;
-      commitments = follows.commitments ∙ ap (λ list. list ++ committed e.command) keeps.commitments ∙ sym (commitments_of_more es e) ∙ ap commitments_of (sym same);
+      commitments = follows.commitments ∙ ap (λ list. commitments_after list e.command) keeps.commitments ∙ sym (commitments_of_more es e keeps.legal accepted) ∙ ap commitments_of (sym same);
       policy = follows.policy ∙ ap (λ before. policy_after before e.command) keeps.policy ∙ sym (policy_of_more es e) ∙ ap policy_of (sym same);
       origins = λ origin. follows.origins origin ∙ ap (λ n. n + (if bytes_eq origin e.origin then 1 else 0)) (keeps.origins origin) ∙ sym (entries_from_more origin es e) ∙ ap (entries_from origin) (sym same);
-      registered = λ id. follows.registered id ∙ ap (λ n. n + commitments_with id (committed e.command)) (keeps.registered id) ∙ sym (commitments_with_append id (commitments_of es) (committed e.command)) ∙ ap (commitments_with id) (sym (commitments_of_more es e) ∙ ap commitments_of (sym same));
+      registered = λ id. follows.registered id ∙ ap (λ n. n + commitments_with id (committed e.command)) (keeps.registered id) ∙ sym (commitments_with_append id (committed_of es) (committed e.command)) ∙ ap (commitments_with id) (sym (committed_of_more es e) ∙ ap committed_of (sym same));
       carried = λ id. follows.carried id ∙ ap (λ n. n + (if carries id (posted e.command) then 1 else 0)) (keeps.carried id) ∙ sym (posts_with_more id es e) ∙ ap (posts_with id) (sym same);
     }
 
@@ -89,9 +93,32 @@ by_content : (before : Option PolicyValue) (c : CommandValue) → policy_after b
 by_content before (post rows) = refl
 by_content before (commit c) = refl
 by_content before (set_policy p) = refl
+by_content before (add_purchase a) = refl
 
 pub policy_by_content : (before : Option PolicyValue) (content : ContentValue) (c : CommandValue) → content ≡ content_of c → policy_after before (command_of content []) ≡ policy_after before c
 policy_by_content before content c same = ap (λ x. policy_after before (command_of x [])) same ∙ by_content before c
+
+-- neither do the commitments after it, nor what they refuse
+after_by_content : (before : List CommitmentValue) (c : CommandValue) → commitments_after before (command_of (content_of c) []) ≡ commitments_after before c
+after_by_content before (post rows) = refl
+after_by_content before (commit c) = refl
+after_by_content before (set_policy p) = refl
+after_by_content before (add_purchase a) = refl
+
+pub commitments_by_content : (before : List CommitmentValue) (content : ContentValue) (c : CommandValue) → content ≡ content_of c → commitments_after before (command_of content []) ≡ commitments_after before c
+commitments_by_content before content c same = ap (λ x. commitments_after before (command_of x [])) same ∙ after_by_content before c
+
+refuses_by_content : (before : List CommitmentValue) (c : CommandValue) → NoneRefuses before c → NoneRefuses before (command_of (content_of c) [])
+refuses_by_content before (post rows) none = tt
+refuses_by_content before (commit c) none = tt
+refuses_by_content before (set_policy p) none = tt
+refuses_by_content before (add_purchase a) none = none
+
+-- a state's commitments refuse nothing that an accepted entry brings
+pub follows_refuses : (s : Inside) (e : EntryValue) (content : ContentValue) → KeepsState s → judged (state_entries s) e ≡ verdict.Accept → content ≡ content_of e.command → NoneRefuses (held_commitments s.commitments) (command_of content [])
+follows_refuses s e content keeps accepted same =
+    subst (λ cs. NoneRefuses cs (command_of content [])) (sym keeps.commitments)
+    (subst (λ x. NoneRefuses (commitments_of (state_entries s)) (command_of x [])) (sym same) (refuses_by_content (commitments_of (state_entries s)) e.command (none_refuses (state_entries s) e accepted)))
 
 -- what a state keeps, as its readers want it
 pub kept_rows : (s : Inside) → KeepsState s → segment_rows s.segments ≡ rows_posted (state_entries s)
@@ -122,7 +149,7 @@ kept_few_segments s keeps =
 pub kept_few_commitments : (s : Inside) → KeepsState s → length (held_commitments s.commitments) ≤ most_commitments
 kept_few_commitments s keeps =
     let few = few_commitments (state_entries s) keeps.legal in
-    let same = ap length keeps.commitments in
+    let same = ap length keeps.commitments ∙ commitments_count (state_entries s) in
     omega arith
 
 -- the rows of an accepted entry are counted within the limit
@@ -149,7 +176,7 @@ unfolding entries_of
 blank_entries t blank = ap (λ heads. entries_of heads (segment_rows t.segments)) blank.heads
 
 pub blank_keeps : (t : Inside) → IsBlank t → KeepsState t
-unfolding IsLegalAfter row_counts rows_posted commitments_of policy_of entries_from posts_with commitments_with
+unfolding IsLegalAfter row_counts rows_posted committed_of commitments_of policy_of entries_from posts_with commitments_with
 blank_keeps t blank =
     let none = blank_entries t blank in
     let rows : segment_rows t.segments ≡ [] = ap segment_rows blank.segments in
@@ -162,6 +189,6 @@ blank_keeps t blank =
       commitments = blank.commitments ∙ ap commitments_of (sym none);
       policy = blank.policy ∙ ap policy_of (sym none);
       origins = λ origin. ap (count_of origin) blank.origins ∙ ap (entries_from origin) (sym none);
-      registered = λ id. ap (count_of id) blank.registered ∙ ap (λ es. commitments_with id (commitments_of es)) (sym none);
+      registered = λ id. ap (count_of id) blank.registered ∙ ap (λ es. commitments_with id (committed_of es)) (sym none);
       carried = λ id. ap (count_of id) blank.carried ∙ ap (posts_with id) (sym none);
     }

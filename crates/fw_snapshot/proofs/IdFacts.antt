@@ -1,5 +1,5 @@
 -- The ids of a legal list: no two commitments have the same, and no row carries one of them.
-use Rattle.std.proofs.Common.{◌≡◌, ◌≢◌, ◌||◌, ◌∙◌, ℕ, zero, suc, List, [], ◌∷◌, ◌++◌, Option, Some, None, Bool, true, false, cond, filter, slice_get, refl, sym, ap}
+use Rattle.std.proofs.Common.{◌≡◌, ◌≢◌, ◌||◌, ◌∙◌, ℕ, zero, suc, List, [], ◌∷◌, ◌++◌, Option, Some, None, Bool, true, false, cond, filter, map, slice_get, refl, sym, ap}
 use Rattle.std.specs.Bool.{⊤}
 use Rattle.std.specs.Option.{option_map_or}
 use Rattle.std.specs.List.{list_any}
@@ -13,12 +13,13 @@ use Rattle.std.proofs.lemmas.Slice.Eq.{bytes_eq-Decides}
 use Rattle.fw_charge.specs.Charge.{Charge, DiscountText}
 use Rattle.fw_terms.specs.Commitment.{CommitmentValue}
 use Rattle.fw_entry.specs.Entry.{CommandValue, EntryValue}
-use Rattle.fw_entry.specs.Entry.CommandValue.{post, commit, set_policy}
-use Rattle.fw_snapshot.specs.History.{posted, committed, rows_posted, rows_of, commitments_of}
+use Rattle.fw_entry.specs.Entry.CommandValue.{post, commit, set_policy, add_purchase}
+use Rattle.fw_snapshot.specs.History.{posted, committed, rows_posted, rows_of, committed_of, with_added, commitments_of}
 use Rattle.fw_snapshot.specs.Ids.{NoneHasIdOf, NoRowHasIdOf}
 use Rattle.fw_snapshot.specs.Judging.{judged, IsLegal, has_id, carries, is_registered, has_registered_id, carries_any, command_conflict}
 use Rattle.fw_snapshot.specs.declared.verdict.Verdict.TheVariants as verdict
-use Rattle.fw_snapshot.proofs.EntryFacts.{rows_of_more, commitments_of_more}
+use Rattle.fw_snapshot.proofs.EntryFacts.{rows_of_more, committed_of_more}
+use Rattle.fw_snapshot.proofs.AddedFacts.{registered_same, carries_same, same_ids}
 use Rattle.fw_snapshot.proofs.LegalFacts.{accepted_command, legal_kept, new_id, unused_id, no_registered_id}
 
 -- tests of texts and of lists
@@ -34,7 +35,7 @@ both_false : (a b : Bool) → a ≡ false → b ≡ false → (a || b) ≡ false
 both_false true b h k = h
 both_false false b h k = k
 
-false_parts : (a b : Bool) → (a || b) ≡ false → (a ≡ false) × (b ≡ false)
+pub false_parts : (a b : Bool) → (a || b) ≡ false → (a ≡ false) × (b ≡ false)
 false_parts true b h = absurd (cc)
 false_parts false b h = (refl, h)
 
@@ -145,31 +146,33 @@ other_row cs (r ∷ rows) zero row none h =
 other_row cs (r ∷ rows) (suc i) row none h = other_row cs rows i row (false_parts (has_registered_id cs r) (carries_any rows cs) none).1 h
 
 -- both stay so with each entry that is accepted
-command_apart : (es : List EntryValue) (c : CommandValue) → command_conflict es c ≡ None → Apart (commitments_of es) → Apart (commitments_of es ++ committed c)
+command_apart : (es : List EntryValue) (c : CommandValue) → command_conflict es c ≡ None → Apart (committed_of es) → Apart (committed_of es ++ committed c)
 command_apart es (post more) h apart = rw append-nil apart
-command_apart es (commit c) h apart = apart_more (commitments_of es) c apart (new_id es c h)
+command_apart es (commit c) h apart = apart_more (committed_of es) c apart (new_id es c h)
 command_apart es (set_policy p) h apart = rw append-nil apart
+command_apart es (add_purchase a) h apart = rw append-nil apart
 
-apart_kept : (es : List EntryValue) (e : EntryValue) → Apart (commitments_of es) → judged es e ≡ verdict.Accept → Apart (commitments_of (es ++ e ∷ []))
-apart_kept es e apart h = rw commitments_of_more (command_apart es e.command (accepted_command es e h) apart)
+apart_kept : (es : List EntryValue) (e : EntryValue) → Apart (committed_of es) → judged es e ≡ verdict.Accept → Apart (committed_of (es ++ e ∷ []))
+apart_kept es e apart h = rw committed_of_more (command_apart es e.command (accepted_command es e h) apart)
 
-first_apart : Apart (commitments_of [])
-unfolding commitments_of
+first_apart : Apart (committed_of [])
+unfolding committed_of
 first_apart = tt
 
-commitments_apart : (es : List EntryValue) → IsLegal es → Apart (commitments_of es)
-commitments_apart es legal = legal_kept (λ es. Apart (commitments_of es)) apart_kept [] es first_apart legal
+commitments_apart : (es : List EntryValue) → IsLegal es → Apart (committed_of es)
+commitments_apart es legal = legal_kept (λ es. Apart (committed_of es)) apart_kept [] es first_apart legal
 
 abbrev NoneCarried : List EntryValue → Type 0
-NoneCarried es = carries_any (rows_of es) (commitments_of es) ≡ false
+NoneCarried es = carries_any (rows_of es) (committed_of es) ≡ false
 
-command_carried : (es : List EntryValue) (c : CommandValue) → command_conflict es c ≡ None → NoneCarried es → carries_any (rows_of es ++ posted c) (commitments_of es ++ committed c) ≡ false
-command_carried es (post more) h none = rw append-nil (rows_apart (rows_of es) more (commitments_of es) none (no_registered_id es more h))
-command_carried es (commit c) h none = rw append-nil (commitment_apart (rows_of es) (commitments_of es) c none (unused_id es c h))
+command_carried : (es : List EntryValue) (c : CommandValue) → command_conflict es c ≡ None → NoneCarried es → carries_any (rows_of es ++ posted c) (committed_of es ++ committed c) ≡ false
+command_carried es (post more) h none = rw append-nil (rows_apart (rows_of es) more (committed_of es) none (no_registered_id es more h))
+command_carried es (commit c) h none = rw append-nil (commitment_apart (rows_of es) (committed_of es) c none (unused_id es c h))
 command_carried es (set_policy p) h none = simp append-nil none
+command_carried es (add_purchase a) h none = simp append-nil none
 
 carried_kept : (es : List EntryValue) (e : EntryValue) → NoneCarried es → judged es e ≡ verdict.Accept → NoneCarried (es ++ e ∷ [])
-carried_kept es e none h = rw (rows_of_more es e, commitments_of_more es e) (command_carried es e.command (accepted_command es e h) none)
+carried_kept es e none h = rw (rows_of_more es e, committed_of_more es e) (command_carried es e.command (accepted_command es e h) none)
 
 first_carried : NoneCarried []
 unfolding rows_of rows_posted carries_any
@@ -178,11 +181,20 @@ first_carried = refl
 none_carried : (es : List EntryValue) → IsLegal es → NoneCarried es
 none_carried es legal = legal_kept NoneCarried carried_kept [] es first_carried legal
 
+-- the same of the commitments with all their purchases, whose ids are those of the commitments
+still_apart : (es : List EntryValue) (cs : List CommitmentValue) → Apart cs → Apart (map (with_added es) cs)
+still_apart es [] apart = tt
+still_apart es (c ∷ cs) apart = (same_ids es c.id cs ∙ apart.0, still_apart es cs apart.1)
+
+all_apart : (es : List EntryValue) → IsLegal es → Apart (commitments_of es)
+unfolding commitments_of
+all_apart es legal = still_apart es (committed_of es) (commitments_apart es legal)
+
 pub own_id : (es : List EntryValue) → IsLegal es → (i j : ℕ) (a b : CommitmentValue) → slice_get (commitments_of es) i ≡ Some a → slice_get (commitments_of es) j ≡ Some b → a.id ≡ b.id → i ≡ j
-own_id es legal = apart_once (commitments_of es) (commitments_apart es legal)
+own_id es legal = apart_once (commitments_of es) (all_apart es legal)
 
 pub alone : (es : List EntryValue) → IsLegal es → (place : ℕ) (c : CommitmentValue) → slice_get (commitments_of es) place ≡ Some c → filter (λ d. bytes_eq d.id c.id) (commitments_of es) ≡ c ∷ []
-alone es legal = apart_alone (commitments_of es) (commitments_apart es legal)
+alone es legal = apart_alone (commitments_of es) (all_apart es legal)
 
 -- no row carries the id of a commitment
 pub apart_ids : (rows : List Charge) (cs : List CommitmentValue) → carries_any rows cs ≡ false → NoRowHasIdOf rows cs
@@ -193,7 +205,7 @@ apart_ids rows cs none i j row discount c hr hd hc same =
     absurd (cc)
 
 pub other_ids : (es : List EntryValue) → IsLegal es → NoRowHasIdOf (rows_of es) (commitments_of es)
-other_ids es legal = apart_ids (rows_of es) (commitments_of es) (none_carried es legal)
+other_ids es legal = apart_ids (rows_of es) (commitments_of es) (carries_same es (rows_of es) ∙ none_carried es legal)
 
 -- and no commitment has that of another
 pub new_among : (cs : List CommitmentValue) (c : CommitmentValue) → is_registered c.id cs ≡ false → NoneHasIdOf cs c

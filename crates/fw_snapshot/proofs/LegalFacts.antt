@@ -9,12 +9,12 @@ use Rattle.std.proofs.lemmas.Bool.Decides.{nat_tests}
 use Rattle.fw_charge.specs.Charge.{Charge}
 use Rattle.fw_terms.specs.Commitment.{CommitmentValue}
 use Rattle.fw_entry.specs.Entry.{CommandValue, EntryValue}
-use Rattle.fw_entry.specs.Entry.CommandValue.{post, commit, set_policy}
-use Rattle.fw_snapshot.specs.History.{posted, committed, rows_posted, rows_of, commitments_of, entries_from}
+use Rattle.fw_entry.specs.Entry.CommandValue.{post, commit, set_policy, add_purchase}
+use Rattle.fw_snapshot.specs.History.{posted, committed, rows_posted, rows_of, committed_of, entries_from}
 use Rattle.fw_snapshot.specs.Judging.{judged, IsLegal, IsLegalAfter, command_conflict, rows_conflict, commitment_conflict, most_rows, most_commitments, verdict_on, carries, carries_any, is_registered}
 use Rattle.fw_snapshot.specs.declared.verdict.Conflict.{Conflict}
 use Rattle.fw_snapshot.specs.declared.verdict.Verdict.TheVariants as verdict
-use Rattle.fw_snapshot.proofs.EntryFacts.{rows_posted_more, commitments_of_more, entries_from_more, entries_from_grows}
+use Rattle.fw_snapshot.proofs.EntryFacts.{rows_posted_more, committed_of_more, entries_from_more, entries_from_grows}
 
 -- nothing stands against the command of an entry that is accepted
 none_stands : (why : Option Conflict) → verdict_on why ≡ verdict.Accept → why ≡ None
@@ -45,19 +45,21 @@ rows_room es (post more) h few =
     at_most _ _ room
 rows_room es (commit c) h few = omega arith
 rows_room es (set_policy p) h few = omega arith
+rows_room es (add_purchase a) h few = omega arith
 
-commitments_room : (es : List EntryValue) (c : CommandValue) → command_conflict es c ≡ None → length (commitments_of es) ≤ most_commitments → length (commitments_of es) + length (committed c) ≤ most_commitments
+commitments_room : (es : List EntryValue) (c : CommandValue) → command_conflict es c ≡ None → length (committed_of es) ≤ most_commitments → length (committed_of es) + length (committed c) ≤ most_commitments
 unfolding command_conflict commitment_conflict
 commitments_room es (post more) h few = omega arith
 commitments_room es (commit c) h few =
-    let list = commitments_of es in
+    let list = committed_of es in
     let full : nat_le most_commitments (length list) ≡ false = grind (arith, h) in
     let room = below most_commitments (length list) full in
     omega arith
 commitments_room es (set_policy p) h few = omega arith
+commitments_room es (add_purchase a) h few = omega arith
 
 -- the ids of an accepted entry: a commitment's is neither registered nor carried, and rows carry none that is registered
-pub new_id : (es : List EntryValue) (c : CommitmentValue) → command_conflict es (commit c) ≡ None → is_registered c.id (commitments_of es) ≡ false
+pub new_id : (es : List EntryValue) (c : CommitmentValue) → command_conflict es (commit c) ≡ None → is_registered c.id (committed_of es) ≡ false
 unfolding command_conflict commitment_conflict
 new_id es c h = grind (arith, h)
 
@@ -65,7 +67,7 @@ pub unused_id : (es : List EntryValue) (c : CommitmentValue) → command_conflic
 unfolding command_conflict commitment_conflict
 unused_id es c h = grind (arith, h)
 
-pub no_registered_id : (es : List EntryValue) (more : List Charge) → command_conflict es (post more) ≡ None → carries_any more (commitments_of es) ≡ false
+pub no_registered_id : (es : List EntryValue) (more : List Charge) → command_conflict es (post more) ≡ None → carries_any more (committed_of es) ≡ false
 unfolding command_conflict rows_conflict
 no_registered_id es more h = grind (arith, h)
 
@@ -73,7 +75,7 @@ no_registered_id es more h = grind (arith, h)
 pub accepted_rows : (es : List EntryValue) (e : EntryValue) → judged es e ≡ verdict.Accept → length (rows_posted es) ≤ most_rows → length (rows_posted es) + length (posted e.command) ≤ most_rows
 accepted_rows es e h few = rows_room es e.command (accepted_command es e h) few
 
-accepted_commitments : (es : List EntryValue) (e : EntryValue) → judged es e ≡ verdict.Accept → length (commitments_of es) ≤ most_commitments → length (commitments_of es) + length (committed e.command) ≤ most_commitments
+accepted_commitments : (es : List EntryValue) (e : EntryValue) → judged es e ≡ verdict.Accept → length (committed_of es) ≤ most_commitments → length (committed_of es) + length (committed e.command) ≤ most_commitments
 accepted_commitments es e h few = commitments_room es e.command (accepted_command es e h) few
 
 -- what stays so with each entry that is accepted holds of each legal list
@@ -101,16 +103,16 @@ legal_at first (x ∷ es) legal (suc place) e h = rw append_assoc at (legal_at (
 rows_kept : (es : List EntryValue) (e : EntryValue) → length (rows_posted es) ≤ most_rows → judged es e ≡ verdict.Accept → length (rows_posted (es ++ e ∷ [])) ≤ most_rows
 rows_kept es e few h = rw rows_posted_more (rw length-append (accepted_rows es e h few))
 
-commitments_kept : (es : List EntryValue) (e : EntryValue) → length (commitments_of es) ≤ most_commitments → judged es e ≡ verdict.Accept → length (commitments_of (es ++ e ∷ [])) ≤ most_commitments
-commitments_kept es e few h = rw commitments_of_more (rw length-append (accepted_commitments es e h few))
+commitments_kept : (es : List EntryValue) (e : EntryValue) → length (committed_of es) ≤ most_commitments → judged es e ≡ verdict.Accept → length (committed_of (es ++ e ∷ [])) ≤ most_commitments
+commitments_kept es e few h = rw committed_of_more (rw length-append (accepted_commitments es e h few))
 
 pub few_rows : (es : List EntryValue) → IsLegal es → length (rows_posted es) ≤ most_rows
 unfolding rows_posted
 few_rows es legal = legal_kept (λ es. length (rows_posted es) ≤ most_rows) rows_kept [] es (omega arith) legal
 
-pub few_commitments : (es : List EntryValue) → IsLegal es → length (commitments_of es) ≤ most_commitments
-unfolding commitments_of
-few_commitments es legal = legal_kept (λ es. length (commitments_of es) ≤ most_commitments) commitments_kept [] es (omega arith) legal
+pub few_commitments : (es : List EntryValue) → IsLegal es → length (committed_of es) ≤ most_commitments
+unfolding committed_of
+few_commitments es legal = legal_kept (λ es. length (committed_of es) ≤ most_commitments) commitments_kept [] es (omega arith) legal
 
 -- each entry has the number that follows those of its origin before it
 pub in_turn : (es : List EntryValue) → IsLegal es → (place : ℕ) (e : EntryValue) → slice_get es place ≡ Some e → e.seq ≡ entries_from e.origin (take place es) + 1

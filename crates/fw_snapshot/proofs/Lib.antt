@@ -1,6 +1,8 @@
 pub mod EntryFacts
 pub mod HeadFacts
 pub mod LegalFacts
+pub mod AddedFacts
+pub mod AddingFacts
 pub mod Following
 pub mod VerdictFacts
 pub mod IdFacts

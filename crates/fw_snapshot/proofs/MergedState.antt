@@ -5,7 +5,7 @@ use Rattle.fw_entry.specs.Spelling.{IsEntry}
 use Rattle.fw_persistent.specs.Counts.{count_of}
 use Rattle.fw_snapshot.specs.Heads.{entries_of, row_counts, segment_rows}
 use Rattle.fw_snapshot.specs.Held.{held_commitments, held_policy}
-use Rattle.fw_snapshot.specs.History.{commitments_of, policy_of, entries_from}
+use Rattle.fw_snapshot.specs.History.{committed_of, commitments_of, policy_of, entries_from}
 use Rattle.fw_snapshot.specs.Judging.{IsLegal}
 use Rattle.fw_snapshot.specs.StateView.{KeepsState}
 use Rattle.fw_snapshot.specs.Uses.{posts_with, commitments_with}
@@ -23,6 +23,6 @@ keeps_other_segments s segments keeps same fewer =
       commitments = keeps.commitments ∙ ap (λ rows. commitments_of (entries_of s.heads rows)) back;
       policy = keeps.policy ∙ ap (λ rows. policy_of (entries_of s.heads rows)) back;
       origins = λ origin. keeps.origins origin ∙ ap (λ rows. entries_from origin (entries_of s.heads rows)) back;
-      registered = λ id. keeps.registered id ∙ ap (λ rows. commitments_with id (commitments_of (entries_of s.heads rows))) back;
+      registered = λ id. keeps.registered id ∙ ap (λ rows. commitments_with id (committed_of (entries_of s.heads rows))) back;
       carried = λ id. keeps.carried id ∙ ap (λ rows. posts_with id (entries_of s.heads rows)) back;
     }

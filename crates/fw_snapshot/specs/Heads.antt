@@ -4,14 +4,16 @@ use Rattle.std.specs.List.{flat_map}
 use Rattle.fw_charge.specs.Charge.{Charge, most_post_rows}
 use Rattle.fw_terms.specs.Commitment.{CommitmentValue}
 use Rattle.fw_terms.specs.Policy.{PolicyValue}
+use Rattle.fw_terms.specs.Added.{AddedValue}
 use Rattle.fw_entry.specs.Entry.{CommandValue, EntryValue}
-use Rattle.fw_entry.specs.Entry.CommandValue.{post, commit, set_policy}
+use Rattle.fw_entry.specs.Entry.CommandValue.{post, commit, set_policy, add_purchase}
 
 -- what a command brings, of a post the number of its rows alone
 pub data ContentValue : Type 0 where
   posted_rows : ℕ → ContentValue
   committed_to : CommitmentValue → ContentValue
   policy_set : PolicyValue → ContentValue
+  purchase_added : AddedValue → ContentValue
 
 -- an entry without its rows
 pub record HeadValue : Type 0 where
@@ -23,6 +25,7 @@ abbrev pub content_of : CommandValue → ContentValue
 content_of (post rows) = posted_rows (length rows)
 content_of (commit c) = committed_to c
 content_of (set_policy p) = policy_set p
+content_of (add_purchase a) = purchase_added a
 
 -- the head of an entry
 abbrev pub head_of : EntryValue → HeadValue
@@ -33,6 +36,7 @@ abbrev pub row_count : ContentValue → ℕ
 row_count (posted_rows n) = n
 row_count (committed_to c) = 0
 row_count (policy_set p) = 0
+row_count (purchase_added a) = 0
 
 unfoldable pub row_counts : List HeadValue → ℕ
 row_counts heads = sum_by (λ h. row_count h.content) heads
@@ -42,6 +46,7 @@ abbrev pub command_of : ContentValue → List Charge → CommandValue
 command_of (posted_rows n) rows = post rows
 command_of (committed_to c) rows = commit c
 command_of (policy_set p) rows = set_policy p
+command_of (purchase_added a) rows = add_purchase a
 
 abbrev pub entry_of : HeadValue → List Charge → EntryValue
 entry_of h rows = record { origin = h.origin; seq = h.seq; command = command_of h.content rows }
@@ -60,3 +65,4 @@ abbrev pub HasRows : ContentValue → Type 0
 HasRows (posted_rows n) = (0 < n) × (n ≤ most_post_rows)
 HasRows (committed_to c) = ⊤
 HasRows (policy_set p) = ⊤
+HasRows (purchase_added a) = ⊤

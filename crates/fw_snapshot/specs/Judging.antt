@@ -1,13 +1,14 @@
 -- Whether an entry goes with those that were accepted before it.
-use Rattle.std.specs.Prelude.{◌≡◌, ◌+◌, ⊤, ℕ, Bool, false, List, [], ◌∷◌, ◌++◌, length, nat_lt, nat_le, Option, Some, None, if◌then◌else◌}
+use Rattle.std.specs.Prelude.{◌≡◌, ◌+◌, ⊤, ◌&&◌, not, ℕ, Bool, false, List, [], ◌∷◌, ◌++◌, length, nat_lt, nat_le, Option, Some, None, if◌then◌else◌}
 use Rattle.std.specs.Str.{bytes_eq}
 use Rattle.std.specs.List.{list_any}
 use Rattle.std.specs.Option.{option_map_or}
 use Rattle.fw_charge.specs.Charge.{Charge}
-use Rattle.fw_terms.specs.Commitment.{CommitmentValue}
+use Rattle.fw_terms.specs.Commitment.{CommitmentValue, takes_purchase}
+use Rattle.fw_terms.specs.Added.{AddedValue}
 use Rattle.fw_entry.specs.Entry.{CommandValue, EntryValue}
-use Rattle.fw_entry.specs.Entry.CommandValue.{post, commit, set_policy}
-use Rattle.fw_snapshot.specs.History.{rows_posted, rows_of, commitments_of, entries_from}
+use Rattle.fw_entry.specs.Entry.CommandValue.{post, commit, set_policy, add_purchase}
+use Rattle.fw_snapshot.specs.History.{rows_posted, rows_of, committed_of, commitments_of, entries_from}
 use Rattle.fw_snapshot.specs.declared.verdict.Conflict.{Conflict}
 use Rattle.fw_snapshot.specs.declared.verdict.Conflict.TheVariants as conflict
 use Rattle.fw_snapshot.specs.declared.verdict.Verdict.{Verdict}
@@ -54,11 +55,23 @@ commitment_conflict rows commitments more =
     else (if carries more.id rows then Some conflict.IdInUse
     else (if nat_le most_commitments (length commitments) then Some conflict.TooManyCommitments else None))
 
--- why what a command brings can't follow these entries, if it can't; a policy always can
+-- whether this is the commitment that is meant, and with the purchase it would have more than 64, or they would cost more than 10^17 nanos
+abbrev pub refuses : AddedValue → CommitmentValue → Bool
+refuses a c = bytes_eq a.id c.id && not (takes_purchase c a.purchase)
+
+-- why a purchase can't be added to one of these commitments: none has the id, or the one that has it can't have this purchase too
+unfoldable pub purchase_conflict : List CommitmentValue → AddedValue → Option Conflict
+purchase_conflict commitments more =
+    if is_registered more.id commitments then (if list_any (refuses more) commitments then Some conflict.PurchaseLimit else None)
+    else Some conflict.NoSuchCommitment
+
+-- why what a command brings can't follow these entries, if it can't; a policy always can. What is added changes neither the ids of commitments nor
+-- their number, so rows and commitments are judged on what was committed to
 unfoldable pub command_conflict : List EntryValue → CommandValue → Option Conflict
-command_conflict entries (post more) = rows_conflict (rows_posted entries) (commitments_of entries) more
-command_conflict entries (commit more) = commitment_conflict (rows_of entries) (commitments_of entries) more
+command_conflict entries (post more) = rows_conflict (rows_posted entries) (committed_of entries) more
+command_conflict entries (commit more) = commitment_conflict (rows_of entries) (committed_of entries) more
 command_conflict entries (set_policy p) = None
+command_conflict entries (add_purchase more) = purchase_conflict (commitments_of entries) more
 
 abbrev pub verdict_on : Option Conflict → Verdict
 verdict_on None = verdict.Accept

@@ -1,6 +1,7 @@
 pub mod History
 pub mod Judging
 pub mod Ids
+pub mod Adding
 pub mod Uses
 pub mod Heads
 pub mod HeadView

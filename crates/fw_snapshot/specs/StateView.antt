@@ -3,7 +3,7 @@ use Rattle.std.specs.Prelude.{◌≡◌, ◌≤◌, ℕ, List, length, All}
 use Rattle.fw_entry.specs.Entry.{EntryValue}
 use Rattle.fw_entry.specs.Spelling.{IsEntry}
 use Rattle.fw_persistent.specs.Counts.{count_of}
-use Rattle.fw_snapshot.specs.History.{History, commitments_of, policy_of, entries_from}
+use Rattle.fw_snapshot.specs.History.{History, committed_of, commitments_of, policy_of, entries_from}
 use Rattle.fw_snapshot.specs.Judging.{IsLegal}
 use Rattle.fw_snapshot.specs.Uses.{posts_with, commitments_with}
 use Rattle.fw_snapshot.specs.Heads.{entries_of, row_counts, segment_rows}
@@ -28,5 +28,5 @@ pub record KeepsState (s : Inside) : Type 0 where
   pub commitments : held_commitments s.commitments ≡ commitments_of (state_entries s)
   pub policy : held_policy s.policy ≡ policy_of (state_entries s)
   pub origins : (origin : List ℕ) → count_of origin s.origins ≡ entries_from origin (state_entries s)
-  pub registered : (id : List ℕ) → count_of id s.registered ≡ commitments_with id (commitments_of (state_entries s))
+  pub registered : (id : List ℕ) → count_of id s.registered ≡ commitments_with id (committed_of (state_entries s))
   pub carried : (id : List ℕ) → count_of id s.carried ≡ posts_with id (state_entries s)

@@ -5,7 +5,7 @@ ghost use Rattle.fw_snapshot.specs.Heads.{command_of, row_count};
 ghost use Rattle.fw_snapshot.specs.History.{committed};
 ghost use Rattle.fw_snapshot.specs.HeadView.{content_view};
 
-use fw_terms::{Commitment, Policy};
+use fw_terms::{AddedPurchase, Commitment, Policy};
 use std::marker::Model;
 use std::sync::Arc;
 
@@ -18,6 +18,8 @@ pub enum Content {
     Commit(Commitment),
     /// A policy, which the state shares where it is the one that holds.
     SetPolicy(Arc<Policy>),
+    /// A purchase that is added to a commitment.
+    AddPurchase(AddedPurchase),
 }
 
 impl Content {
@@ -27,7 +29,7 @@ impl Content {
     {
         match self {
             Content::Post { rows } => *rows as usize,
-            Content::Commit(_) | Content::SetPolicy(_) => 0,
+            Content::Commit(_) | Content::SetPolicy(_) | Content::AddPurchase(_) => 0,
         }
     }
 
@@ -37,7 +39,7 @@ impl Content {
     {
         match self {
             Content::Commit(commitment) => Some(commitment),
-            Content::Post { .. } | Content::SetPolicy(_) => None,
+            Content::Post { .. } | Content::SetPolicy(_) | Content::AddPurchase(_) => None,
         }
     }
 }

@@ -1,8 +1,9 @@
 //! The verdict on an entry.
 ghost use Rattle.std.specs.Prelude.{◌≡◌, ◌+◌, ◌≤◌, if◌then◌else◌, nat_le, nat_lt, None, Some};
+ghost use Rattle.std.specs.List.{list_any};
 ghost use Rattle.fw_entry.specs.View.{command_view};
-ghost use Rattle.fw_snapshot.specs.History.{commitments_of};
-ghost use Rattle.fw_snapshot.specs.Judging.{judged, command_conflict, carries_any, has_registered_id, most_commitments, most_rows};
+ghost use Rattle.fw_snapshot.specs.History.{committed_of};
+ghost use Rattle.fw_snapshot.specs.Judging.{judged, command_conflict, carries_any, has_registered_id, most_commitments, most_rows, refuses};
 ghost use Rattle.fw_snapshot.specs.declared.verdict.Conflict.TheVariants as conflict;
 ghost use Rattle.fw_snapshot.specs.declared.verdict.Verdict.TheVariants as verdict;
 
@@ -10,6 +11,7 @@ use crate::state::State;
 use crate::verdict::{Conflict, Verdict};
 use fw_columns::{Columns, LentRow};
 use fw_entry::{Command, Entry};
+use fw_terms::{AddedPurchase, Commitment};
 
 /// The most rows that a warehouse may ever have had posted.
 const MOST_ROWS: usize = 4_194_304;
@@ -46,7 +48,7 @@ pub(crate) fn out_of_turn(last: u64, seq: u64) -> Option<Verdict>
 }
 
 /// Why what a command brings can't follow what was accepted, if it can't.
-#[tactic(auto, unfolding(crate::specs::Judging::command_conflict, crate::specs::Judging::rows_conflict, crate::specs::Judging::commitment_conflict))]
+#[tactic(auto, unfolding(crate::specs::Judging::command_conflict, crate::specs::Judging::rows_conflict, crate::specs::Judging::commitment_conflict, crate::specs::Judging::purchase_conflict))]
 fn command_conflict(state: &State, command: &Command) -> Option<Conflict>
     ensures { result ≡ command_conflict state.now.entries (command_view command.now) }
 {
@@ -64,6 +66,10 @@ fn command_conflict(state: &State, command: &Command) -> Option<Conflict>
             state.commitments(),
         ),
         Command::SetPolicy(_) => None,
+        Command::AddPurchase(added) => purchase_conflict(
+            state.is_registered(added.id()),
+            is_refused(state.commitment_list(), added),
+        ),
     }
 }
 
@@ -103,9 +109,41 @@ pub(crate) fn commitment_conflict(
     None
 }
 
+/// Why a purchase can't be added, if it can't: there is a commitment of its id or there is none, and this one can have it too or can't.
+pub(crate) fn purchase_conflict(registered: bool, refused: bool) -> Option<Conflict>
+    ensures { result ≡ (if registered then (if refused then Some conflict.PurchaseLimit else None) else Some conflict.NoSuchCommitment) }
+{
+    if !registered {
+        return Some(Conflict::NoSuchCommitment);
+    }
+    if refused {
+        return Some(Conflict::PurchaseLimit);
+    }
+    None
+}
+
+/// Whether the purchase is meant for one of these commitments that can't have it too.
+pub(crate) fn is_refused(commitments: &[Commitment], added: &AddedPurchase) -> bool
+    ensures { result ≡ list_any (refuses added.now) commitments.now }
+{
+    for commitment in commitments {
+        if refuses(commitment, added) {
+            return true;
+        }
+    }
+    false
+}
+
+/// Whether the purchase is meant for this commitment, which can't have it too.
+fn refuses(commitment: &Commitment, added: &AddedPurchase) -> bool
+    ensures { result ≡ refuses added.now commitment.now }
+{
+    added.id() == commitment.id() && !commitment.takes_purchase(added.purchase())
+}
+
 /// Whether one of these rows carries the id of a commitment of the warehouse.
 fn carry_registered(state: &State, rows: &Columns) -> bool
-    ensures { result ≡ carries_any rows.now (commitments_of state.now.entries) }
+    ensures { result ≡ carries_any rows.now (committed_of state.now.entries) }
 {
     let discounts = rows.discount_codes();
     for place in 0..discounts.len() {
@@ -121,7 +159,7 @@ fn carry_registered(state: &State, rows: &Columns) -> bool
 
 /// Whether a row carries the id of a commitment of the warehouse.
 fn carries_registered(state: &State, row: &LentRow<'_>) -> bool
-    ensures { result ≡ has_registered_id (commitments_of state.now.entries) row.now }
+    ensures { result ≡ has_registered_id (committed_of state.now.entries) row.now }
 {
     match row.discount() {
         Some(discount) => state.is_registered(discount.id),

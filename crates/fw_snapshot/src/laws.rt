@@ -1,15 +1,18 @@
 //! What holds of all lists of entries: laws, each the contract of a function that does nothing.
-ghost use Rattle.std.specs.Prelude.{◌≡◌, ◌+◌, ◌≤◌, ◌<◌, ◌++◌, ◌∷◌, [], ℕ, List, All, Some, drop, filter, false, length, map, slice_get, take, true};
+ghost use Rattle.std.specs.Prelude.{◌≡◌, ◌⊎◌, ◌+◌, ◌≤◌, ◌<◌, ◌++◌, ◌∷◌, [], ℕ, List, All, Some, drop, filter, false, length, map, slice_get, take, true};
 ghost use Rattle.std.specs.List.{Contains, flat_map, range_with_len};
 ghost use Rattle.std.specs.Str.{bytes_eq};
 ghost use Rattle.fw_charge.specs.Charge.{Charge};
-ghost use Rattle.fw_terms.specs.Commitment.{CommitmentValue};
+ghost use Rattle.fw_money.specs.Amount.{most_nanos};
+ghost use Rattle.fw_terms.specs.Commitment.{CommitmentValue, IsCommitment, cost_of, most_purchases};
+ghost use Rattle.fw_terms.specs.Added.{AddedValue};
 ghost use Rattle.fw_terms.specs.Policy.{PolicyValue};
 ghost use Rattle.fw_entry.specs.Entry.{EntryValue};
-ghost use Rattle.fw_entry.specs.Entry.CommandValue.{post, commit, set_policy};
+ghost use Rattle.fw_entry.specs.Entry.CommandValue.{post, commit, set_policy, add_purchase};
 ghost use Rattle.fw_entry.specs.Spelling.{IsEntry};
-ghost use Rattle.fw_snapshot.specs.History.{rows_posted, rows_of, commitments_of, entries_from};
-ghost use Rattle.fw_snapshot.specs.Ids.{NoRowHasIdOf, NoneHasIdOf};
+ghost use Rattle.fw_snapshot.specs.History.{rows_posted, rows_of, committed_of, commitments_of, policy_of, entries_from};
+ghost use Rattle.fw_snapshot.specs.Adding.{commitments_after};
+ghost use Rattle.fw_snapshot.specs.Ids.{HasId, NoRowHasIdOf, NoneHasId, NoneHasIdOf};
 ghost use Rattle.fw_snapshot.specs.Judging.{IsLegal, IsLegalAfter, judged, most_commitments, most_rows};
 ghost use Rattle.fw_snapshot.specs.Verdicts.{verdicts_on, accepted_of, chosen, is_accept, is_kept, of_origin, AreNumbered, HasOnly, IsRepeat, IsSending};
 ghost use Rattle.fw_snapshot.specs.declared.verdict.Conflict.{Conflict};
@@ -39,6 +42,21 @@ pub fn rows_and_commitments_are_few()
     ensures posted { (entries : List EntryValue) → IsLegal entries → length (rows_posted entries) ≤ most_rows }
     ensures rows { (entries : List EntryValue) → IsLegal entries → length (rows_of entries) ≤ most_rows }
     ensures commitments { (entries : List EntryValue) → IsLegal entries → length (commitments_of entries) ≤ most_commitments }
+{}
+
+/// What an accepted entry does to the commitments: one that is committed to stands behind the others; a purchase that is added stands
+/// behind those of its commitment, whoever sent it, and changes neither the rows nor the policy.
+pub fn an_entry_adds_to_the_commitments()
+    ensures after { (before : List EntryValue) (e : EntryValue) → IsLegal before → judged before e ≡ verdict.Accept
+        → commitments_of (before ++ e ∷ []) ≡ commitments_after (commitments_of before) e.command }
+    ensures others { (before : List EntryValue) (e : EntryValue) (a : AddedValue) → e.command ≡ add_purchase a
+        → (rows_of (before ++ e ∷ []) ≡ rows_of before) × (policy_of (before ++ e ∷ []) ≡ policy_of before) }
+{}
+
+/// With all the purchases that were added to it, each commitment of a warehouse keeps the limits of a commitment: 64 purchases
+/// at most, which together cost at most 10^17 nanos.
+pub fn commitments_keep_their_limits()
+    ensures { (entries : List EntryValue) → IsLegal entries → All IsEntry entries → All IsCommitment (commitments_of entries) }
 {}
 
 /// Each commitment has an id of its own: two commitments at different places differ in it, and so a commitment is alone
@@ -86,13 +104,17 @@ pub fn accepted_entries_are_legal()
 
 /// An entry is accepted where it is the next of its origin and breaks no rule: a post, where there is room for its rows
 /// and none of them carries the id of a commitment; a commitment, where neither another one nor a row has its id and
-/// there are fewer than 256; a policy always.
+/// there are fewer than 256; a policy always; a purchase that is added to a legal list, whoever sends it, where its id is
+/// registered, its commitment has fewer than 64 purchases, and all of them with this one cost at most 10^17 nanos.
 pub fn what_breaks_no_rule_is_accepted()
     ensures post { (before : List EntryValue) (e : EntryValue) (rows : List Charge) → e.seq ≡ entries_from e.origin before + 1 → e.command ≡ post rows
-        → length (rows_posted before) + length rows ≤ most_rows → NoRowHasIdOf rows (commitments_of before) → judged before e ≡ verdict.Accept }
+        → length (rows_posted before) + length rows ≤ most_rows → NoRowHasIdOf rows (committed_of before) → judged before e ≡ verdict.Accept }
     ensures commit { (before : List EntryValue) (e : EntryValue) (c : CommitmentValue) → e.seq ≡ entries_from e.origin before + 1 → e.command ≡ commit c
-        → length (commitments_of before) < most_commitments → NoneHasIdOf (commitments_of before) c → NoRowHasIdOf (rows_of before) (c ∷ []) → judged before e ≡ verdict.Accept }
+        → length (committed_of before) < most_commitments → NoneHasIdOf (committed_of before) c → NoRowHasIdOf (rows_of before) (c ∷ []) → judged before e ≡ verdict.Accept }
     ensures policy { (before : List EntryValue) (e : EntryValue) (p : PolicyValue) → e.seq ≡ entries_from e.origin before + 1 → e.command ≡ set_policy p
+        → judged before e ≡ verdict.Accept }
+    ensures purchase { (before : List EntryValue) (e : EntryValue) (a : AddedValue) → IsLegal before → e.seq ≡ entries_from e.origin before + 1 → e.command ≡ add_purchase a
+        → (has : HasId (commitments_of before) a.id) → length has.commitment.purchases < most_purchases → cost_of has.commitment.purchases + a.purchase.billed ≤ most_nanos
         → judged before e ≡ verdict.Accept }
 {}
 
@@ -106,26 +128,34 @@ pub fn a_gap_names_the_next_number()
 pub fn what_is_accepted_breaks_no_rule()
     ensures next { (before : List EntryValue) (e : EntryValue) → judged before e ≡ verdict.Accept → e.seq ≡ entries_from e.origin before + 1 }
     ensures post { (before : List EntryValue) (e : EntryValue) (rows : List Charge) → judged before e ≡ verdict.Accept → e.command ≡ post rows
-        → (length (rows_posted before) + length rows ≤ most_rows) × NoRowHasIdOf rows (commitments_of before) }
+        → (length (rows_posted before) + length rows ≤ most_rows) × NoRowHasIdOf rows (committed_of before) }
     ensures commit { (before : List EntryValue) (e : EntryValue) (c : CommitmentValue) → judged before e ≡ verdict.Accept → e.command ≡ commit c
-        → (length (commitments_of before) < most_commitments) × NoneHasIdOf (commitments_of before) c × NoRowHasIdOf (rows_of before) (c ∷ []) }
+        → (length (committed_of before) < most_commitments) × NoneHasIdOf (committed_of before) c × NoRowHasIdOf (rows_of before) (c ∷ []) }
+    ensures purchase { (before : List EntryValue) (e : EntryValue) (a : AddedValue) → judged before e ≡ verdict.Accept → e.command ≡ add_purchase a
+        → (has : HasId (commitments_of before) a.id) × (length has.commitment.purchases < most_purchases) × (cost_of has.commitment.purchases + a.purchase.billed ≤ most_nanos) }
 {}
 
 /// A refusal has its reason: the entry is the next of its origin, and what it brings breaks the rule that the answer names, and none that is looked at
 /// before it. Of a post these are how many rows there are, and then their ids; of a commitment that no other one has its id, that no row carries it, and
-/// how many there are.
+/// how many there are; of a purchase that is added that its id is registered, and
+/// then how many purchases there are and what they cost.
 pub fn a_refusal_has_its_reason()
     ensures next { (before : List EntryValue) (e : EntryValue) (why : Conflict) → judged before e ≡ verdict.Refused why → e.seq ≡ entries_from e.origin before + 1 }
     ensures full { (before : List EntryValue) (e : EntryValue) → judged before e ≡ verdict.Refused conflict.Full
         → (rows : List Charge) × (e.command ≡ post rows) × (most_rows < length (rows_posted before) + length rows) }
     ensures double_id { (before : List EntryValue) (e : EntryValue) → judged before e ≡ verdict.Refused conflict.DoubleId
-        → (c : CommitmentValue) × (e.command ≡ commit c) × (NoneHasIdOf (commitments_of before) c → ⊥) }
+        → (c : CommitmentValue) × (e.command ≡ commit c) × (NoneHasIdOf (committed_of before) c → ⊥) }
     ensures id_in_use { (before : List EntryValue) (e : EntryValue) → judged before e ≡ verdict.Refused conflict.IdInUse
-        → (c : CommitmentValue) × (e.command ≡ commit c) × NoneHasIdOf (commitments_of before) c × (NoRowHasIdOf (rows_of before) (c ∷ []) → ⊥) }
+        → (c : CommitmentValue) × (e.command ≡ commit c) × NoneHasIdOf (committed_of before) c × (NoRowHasIdOf (rows_of before) (c ∷ []) → ⊥) }
     ensures own_commitment { (before : List EntryValue) (e : EntryValue) → judged before e ≡ verdict.Refused conflict.OwnCommitment
-        → (rows : List Charge) × (e.command ≡ post rows) × (length (rows_posted before) + length rows ≤ most_rows) × (NoRowHasIdOf rows (commitments_of before) → ⊥) }
+        → (rows : List Charge) × (e.command ≡ post rows) × (length (rows_posted before) + length rows ≤ most_rows) × (NoRowHasIdOf rows (committed_of before) → ⊥) }
     ensures too_many { (before : List EntryValue) (e : EntryValue) → judged before e ≡ verdict.Refused conflict.TooManyCommitments
-        → (c : CommitmentValue) × (e.command ≡ commit c) × NoneHasIdOf (commitments_of before) c × NoRowHasIdOf (rows_of before) (c ∷ []) × (most_commitments ≤ length (commitments_of before)) }
+        → (c : CommitmentValue) × (e.command ≡ commit c) × NoneHasIdOf (committed_of before) c × NoRowHasIdOf (rows_of before) (c ∷ []) × (most_commitments ≤ length (committed_of before)) }
+    ensures no_such_commitment { (before : List EntryValue) (e : EntryValue) → judged before e ≡ verdict.Refused conflict.NoSuchCommitment
+        → (a : AddedValue) × (e.command ≡ add_purchase a) × NoneHasId (commitments_of before) a.id }
+    ensures purchase_limit { (before : List EntryValue) (e : EntryValue) → judged before e ≡ verdict.Refused conflict.PurchaseLimit
+        → (a : AddedValue) × (e.command ≡ add_purchase a) × (has : HasId (commitments_of before) a.id)
+        × ((most_purchases ≤ length has.commitment.purchases) ⊎ (most_nanos < cost_of has.commitment.purchases + a.purchase.billed)) }
 {}
 
 /// A repeat is answered `Already`, with the last number of its origin. Nothing else is: an entry whose number is at

@@ -1,5 +1,6 @@
 //! The parts of a state, and what each of them is after a command.
-ghost use Rattle.std.specs.Prelude.{◌≡◌, ◌<◌, ◌≤◌, ◌+◌, ◌++◌, ◌∷◌, [], ◌&&◌, ℕ, List, length, nat_le, option_map, string_bytes, IfOk, if◌then◌else◌};
+ghost use Rattle.std.specs.Prelude.{◌≡◌, ◌<◌, ◌≤◌, ◌+◌, ◌++◌, ◌∷◌, [], ◌&&◌, ℕ, List, false, length, map, nat_le, option_map, string_bytes, IfOk, if◌then◌else◌};
+ghost use Rattle.std.specs.List.{list_any};
 ghost use Rattle.std.specs.Str.{bytes_eq};
 ghost use Rattle.std.specs.Option.{option_copied, option_to_list};
 ghost use Rattle.fw_entry.specs.View.{command_view};
@@ -7,7 +8,8 @@ ghost use Rattle.fw_persistent.specs.Counts.{count_of};
 ghost use Rattle.fw_snapshot.specs.Heads.{command_of, content_of, segment_rows};
 ghost use Rattle.fw_snapshot.specs.HeadView.{content_view};
 ghost use Rattle.fw_snapshot.specs.History.{posted, committed, policy_after};
-ghost use Rattle.fw_snapshot.specs.Judging.{carries, has_id};
+ghost use Rattle.fw_snapshot.specs.Adding.{commitments_after, with_added_purchase, NoneRefuses};
+ghost use Rattle.fw_snapshot.specs.Judging.{carries, has_id, refuses};
 ghost use Rattle.fw_snapshot.specs.Uses.{commitments_with};
 ghost use Rattle.fw_snapshot.specs.Held.{held_commitments, held_policy, held_rows};
 ghost use Rattle.fw_row_table.specs.Table.{most_column_rows};
@@ -16,7 +18,7 @@ use crate::head::Content;
 use fw_columns::{Columns, LentRow};
 use fw_entry::Command;
 use fw_persistent::{Counters, Sequence};
-use fw_terms::{Commitment, Policy};
+use fw_terms::{AddedPurchase, Commitment, Policy};
 use std::alloc::{AllocError, Global};
 use std::sync::Arc;
 
@@ -26,7 +28,7 @@ pub(crate) fn posted(command: &Command) -> Option<&Columns>
 {
     match command {
         Command::Post(rows) => Some(rows),
-        Command::Commit(_) | Command::SetPolicy(_) => None,
+        Command::Commit(_) | Command::SetPolicy(_) | Command::AddPurchase(_) => None,
     }
 }
 
@@ -46,7 +48,7 @@ pub(crate) fn committed(command: &Command) -> Option<&Commitment>
 {
     match command {
         Command::Commit(commitment) => Some(commitment),
-        Command::Post(_) | Command::SetPolicy(_) => None,
+        Command::Post(_) | Command::SetPolicy(_) | Command::AddPurchase(_) => None,
     }
 }
 
@@ -61,6 +63,7 @@ pub(crate) fn content_of(alloc: Global, command: &Command) -> Result<Content, Al
         }),
         Command::Commit(commitment) => Ok(Content::Commit(commitment.copy()?)),
         Command::SetPolicy(policy) => Ok(Content::SetPolicy(Arc::new(alloc, policy.copy(alloc)?)?)),
+        Command::AddPurchase(added) => Ok(Content::AddPurchase(added.copy(alloc)?)),
     }
 }
 
@@ -108,17 +111,25 @@ pub(crate) fn commitments_in(list: &Option<Arc<Vec<Commitment>>>) -> &[Commitmen
     }
 }
 
-/// The commitments with one more behind them, if there is one more.
+/// The commitments after a command of this content: one more behind them, or one of them with a purchase more, which it takes.
 pub(crate) fn commitments_after(
     alloc: Global,
     list: &Option<Arc<Vec<Commitment>>>,
-    more: Option<&Commitment>,
+    content: &Content,
 ) -> Result<Option<Arc<Vec<Commitment>>>, AllocError>
-    ensures { IfOk result (λ after. held_commitments after ≡ held_commitments list.now ++ option_to_list (option_copied more.entry)) }
+    requires { NoneRefuses (held_commitments list.now) (command_of (content_view content.now) []) }
+    ensures { IfOk result (λ after. held_commitments after ≡ commitments_after (held_commitments list.now) (command_of (content_view content.now) [])) }
 {
-    match more {
-        Some(more) => Ok(Some(Arc::new(alloc, with_one_more(alloc, commitments_in(list), more)?)?)),
-        None => share_list(list),
+    match content {
+        Content::Commit(more) => {
+            let all = with_one_more(alloc, commitments_in(list), more)?;
+            Ok(Some(Arc::new(alloc, all)?))
+        }
+        Content::AddPurchase(added) => {
+            let all = with_purchase_more(alloc, commitments_in(list), added)?;
+            Ok(Some(Arc::new(alloc, all)?))
+        }
+        Content::Post { .. } | Content::SetPolicy(_) => share_list(list),
     }
 }
 
@@ -150,6 +161,37 @@ fn with_one_more(
     Ok(all)
 }
 
+/// The same commitments, of which the one that is meant has this purchase more. The others are shared.
+fn with_purchase_more(
+    alloc: Global,
+    commitments: &[Commitment],
+    added: &AddedPurchase,
+) -> Result<Vec<Commitment>, AllocError>
+    requires { list_any (refuses added.now) commitments.now ≡ false }
+    ensures { IfOk result (λ all. all.items ≡ map (with_added_purchase added.now) commitments.now) }
+{
+    let mut all = Vec::with_capacity(alloc, commitments.len())?;
+    for commitment in commitments {
+        all.push(with_purchase_if_meant(alloc, commitment, added)?)?;
+    }
+    Ok(all)
+}
+
+/// A commitment with this purchase more, where it is the one that is meant, and else the same, shared.
+fn with_purchase_if_meant(
+    alloc: Global,
+    commitment: &Commitment,
+    added: &AddedPurchase,
+) -> Result<Commitment, AllocError>
+    requires { refuses added.now commitment.now ≡ false }
+    ensures { IfOk result (λ c. c ≡ with_added_purchase added.now commitment.now) }
+{
+    if added.id() != commitment.id() {
+        return commitment.copy();
+    }
+    commitment.with_purchase(alloc, added.purchase().copy())
+}
+
 /// The policy that holds after a command of this content.
 pub(crate) fn policy_after(
     policy: &Option<Arc<Policy>>,
@@ -159,7 +201,7 @@ pub(crate) fn policy_after(
 {
     match content {
         Content::SetPolicy(policy) => Ok(Some(Arc::try_clone(policy)?)),
-        Content::Post { .. } | Content::Commit(_) => share_policy(policy),
+        Content::Post { .. } | Content::Commit(_) | Content::AddPurchase(_) => share_policy(policy),
     }
 }
 

@@ -3,7 +3,7 @@ ghost use Rattle.std.specs.Prelude.{◌≡◌, ◌<◌, ◌≤◌, ◌++◌, ◌
 ghost use Rattle.std.specs.Option.{option_copied};
 ghost use Rattle.fw_entry.specs.Spelling.{IsEntry};
 ghost use Rattle.fw_snapshot.specs.Heads.{head_of, segment_rows};
-ghost use Rattle.fw_snapshot.specs.History.{rows_posted, rows_of, commitments_of, policy_of, entries_from};
+ghost use Rattle.fw_snapshot.specs.History.{rows_posted, rows_of, committed_of, commitments_of, policy_of, entries_from};
 ghost use Rattle.fw_snapshot.specs.Judging.{judged, IsLegal, carries, is_registered, most_rows, most_commitments};
 ghost use Rattle.fw_snapshot.specs.declared.verdict.Verdict.TheVariants as verdict;
 
@@ -93,7 +93,7 @@ impl State {
         let origin = shared_text(alloc, &self.origins, entry.origin())?;
         let content = content_of(alloc, command)?;
         let policy = policy_after(&self.policy, &content)?;
-        let commitments = commitments_after(alloc, &self.commitments, commitment)?;
+        let commitments = commitments_after(alloc, &self.commitments, &content)?;
         let segments = segments_after(alloc, &self.segments, rows)?;
         let origins = self.origins.raised(alloc, &origin)?;
         let registered = registered_after(alloc, &self.registered, commitment)?;
@@ -190,6 +190,7 @@ impl State {
     /// How many commitments there are: at most 256.
     pub fn commitments(&self) -> usize
         ensures count { result ≡ length (commitments_of self.now.entries) }
+        ensures committed { result ≡ length (committed_of self.now.entries) }
         ensures few { result ≤ most_commitments }
     {
         commitments_in(&self.commitments).len()
@@ -220,7 +221,7 @@ impl State {
         &self.segments
     }
 
-    /// The commitment at a place, counted from 0.
+    /// The commitment at a place, counted from 0, with all its purchases.
     pub fn commitment(&self, place: usize) -> &Commitment
         requires { place < length (commitments_of self.now.entries) }
         ensures { slice_get (commitments_of self.now.entries) place ≡ Some result.now }
@@ -228,7 +229,8 @@ impl State {
         &self.commitment_list()[place]
     }
 
-    /// The commitments, in the order in which they were accepted.
+    /// The commitments, in the order in which they were accepted, each with all its purchases: its own, and behind them those that were added
+    /// to it.
     pub fn commitment_list(&self) -> &[Commitment]
         ensures { result.now ≡ commitments_of self.now.entries }
     {
@@ -254,7 +256,8 @@ impl State {
 
     /// Whether there is a commitment of this id.
     pub(crate) fn is_registered(&self, id: &str) -> bool
-        ensures { result ≡ is_registered id.now (commitments_of self.now.entries) }
+        ensures committed { result ≡ is_registered id.now (committed_of self.now.entries) }
+        ensures with_all { result ≡ is_registered id.now (commitments_of self.now.entries) }
     {
         self.registered.count(id) > 0
     }

@@ -15,6 +15,10 @@ pub enum Conflict {
     OwnCommitment,
     /// The warehouse would have more than 256 commitments.
     TooManyCommitments,
+    /// No commitment has the id that the purchase is added to.
+    NoSuchCommitment,
+    /// The commitment would have more than 64 purchases, or they would cost more than 10^17 nanos.
+    PurchaseLimit,
 }
 
 /// What becomes of an entry. The number is looked at first, so an entry that is sent once more is never taken for one

@@ -10,13 +10,15 @@ ghost use Rattle.fw_persistent.specs.Counts.{count_of};
 ghost use Rattle.fw_snapshot.specs.Building.{has_counted_id, left_rows, next_entry, rows_before, with_next, IsInside};
 ghost use Rattle.fw_snapshot.specs.Heads.{command_of, row_count, segment_rows, HasRows};
 ghost use Rattle.fw_snapshot.specs.HeadView.{content_view};
-ghost use Rattle.fw_snapshot.specs.History.{commitments_of, entries_from, rows_of};
+ghost use Rattle.fw_snapshot.specs.History.{committed_of, commitments_of, entries_from, rows_of};
 ghost use Rattle.fw_snapshot.specs.Judging.{carries, carries_any, command_conflict, is_registered, judged};
 ghost use Rattle.fw_snapshot.specs.Uses.{posts_with};
 ghost use Rattle.fw_snapshot.specs.Verdicts.{goes_behind};
 
 use crate::head::{Content, Head};
-use crate::judging::{commitment_conflict, out_of_turn, rows_conflict};
+use crate::judging::{
+    commitment_conflict, is_refused, out_of_turn, purchase_conflict, rows_conflict,
+};
 use crate::parts::{
     carried_with, commitments_after, commitments_in, policy_after, registered_after, shared_text,
 };
@@ -27,7 +29,8 @@ use fw_columns::{Columns, LentRow};
 use fw_entry::Entry;
 use fw_persistent::{Counters, Sequence};
 use fw_terms::{
-    Commitment, Policy, commitment_has_spelling, commitment_len, policy_has_spelling, policy_len,
+    Commitment, Policy, added_has_spelling, added_len, commitment_has_spelling, commitment_len,
+    policy_has_spelling, policy_len,
 };
 use std::alloc::{AllocError, Global};
 use std::marker::Model;
@@ -123,7 +126,7 @@ impl StateBuilder {
         let alloc = self.alloc;
         let origin = shared_text(alloc, &self.origins, origin)?;
         let policy = policy_after(&self.policy, &content)?;
-        let commitments = commitments_after(alloc, &self.commitments, content.commitment())?;
+        let commitments = commitments_after(alloc, &self.commitments, &content)?;
         let origins = self.origins.raised(alloc, &origin)?;
         let registered = registered_after(alloc, &self.registered, content.commitment())?;
         let rows = content.rows();
@@ -178,7 +181,7 @@ impl StateBuilder {
         ensures len { IfOk result (λ b. b.len ≡ length (brought (command_of (content_view content.now) (take (row_count (content_view content.now)) (left_rows self.now))))) }
         ensures valid { IfOk result (λ _. IsCommand (command_of (content_view content.now) (take (row_count (content_view content.now)) (left_rows self.now)))) }
         ensures few { IfOk result (λ b. b.len < 4294967296) }
-        ensures own { IfOk result (λ b. b.own ≡ carries_any (take (row_count (content_view content.now)) (left_rows self.now)) (commitments_of self.now.history.entries)) }
+        ensures own { IfOk result (λ b. b.own ≡ carries_any (take (row_count (content_view content.now)) (left_rows self.now)) (committed_of self.now.history.entries)) }
         ensures carried { IfOk result (λ b. (id : List ℕ) → count_of id b.carried ≡ posts_with id self.now.history.entries + (if carries id (take (row_count (content_view content.now)) (left_rows self.now)) then 1 else 0)) }
         ensures place { IfOk result (λ b. rows_before self.now.segments b.place ≡ self.now.taken + row_count (content_view content.now)) }
         ensures inside { IfOk result (λ b. IsInside self.now.segments b.place) }
@@ -199,6 +202,10 @@ impl StateBuilder {
             Content::SetPolicy(policy) => {
                 policy_has_spelling(policy);
                 self.without_rows(policy_len(policy))
+            }
+            Content::AddPurchase(added) => {
+                added_has_spelling(added);
+                self.without_rows(added_len(added))
             }
         }
     }
@@ -226,7 +233,7 @@ impl StateBuilder {
         requires len { brings.now.len ≡ length (brought (command_of (content_view content.now) (take (row_count (content_view content.now)) (left_rows self.now)))) }
         requires few { brings.now.len < 4294967296 }
         requires origin { length origin.now ≤ most_origin_bytes }
-        requires own { brings.now.own ≡ carries_any (take (row_count (content_view content.now)) (left_rows self.now)) (commitments_of self.now.history.entries) }
+        requires own { brings.now.own ≡ carries_any (take (row_count (content_view content.now)) (left_rows self.now)) (committed_of self.now.history.entries) }
         ensures { result ≡ goes_behind self.now.history.entries (next_entry self.now (record { origin = origin.now; seq = seq; content = content_view content.now })) }
     {
         let len = 13 + origin.len() + brings.len;
@@ -236,7 +243,7 @@ impl StateBuilder {
     // The verdict on an entry, where its rows carry the id of a commitment or don't.
     #[tactic(auto, using(std::proofs::lemmas::Bool::Decides::nat_tests), unfolding(crate::specs::Judging::judged))]
     fn verdict(&self, origin: &str, seq: u64, content: &Content, own: bool) -> Verdict
-        requires own { own ≡ carries_any (take (row_count (content_view content.now)) (left_rows self.now)) (commitments_of self.now.history.entries) }
+        requires own { own ≡ carries_any (take (row_count (content_view content.now)) (left_rows self.now)) (committed_of self.now.history.entries) }
         requires enough { row_count (content_view content.now) ≤ length (left_rows self.now) }
         ensures { result ≡ judged self.now.history.entries (next_entry self.now (record { origin = origin.now; seq = seq; content = content_view content.now })) }
     {
@@ -251,7 +258,7 @@ impl StateBuilder {
 
     // Why what an entry brings can't follow, if it can't, where its rows carry the id of a commitment or don't.
     fn conflict(&self, content: &Content, own: bool) -> Option<Conflict>
-        requires own { own ≡ carries_any (take (row_count (content_view content.now)) (left_rows self.now)) (commitments_of self.now.history.entries) }
+        requires own { own ≡ carries_any (take (row_count (content_view content.now)) (left_rows self.now)) (committed_of self.now.history.entries) }
         requires enough { row_count (content_view content.now) ≤ length (left_rows self.now) }
         ensures { result ≡ command_conflict self.now.history.entries (command_of (content_view content.now) (take (row_count (content_view content.now)) (left_rows self.now))) }
     {
@@ -263,6 +270,10 @@ impl StateBuilder {
                 commitments_in(&self.commitments).len(),
             ),
             Content::SetPolicy(_) => None,
+            Content::AddPurchase(added) => purchase_conflict(
+                self.is_registered(added.id()),
+                is_refused(commitments_in(&self.commitments), added),
+            ),
         }
     }
 
@@ -275,7 +286,8 @@ impl StateBuilder {
 
     // Whether there is a commitment of this id.
     fn is_registered(&self, id: &str) -> bool
-        ensures { result ≡ is_registered id.now (commitments_of self.now.history.entries) }
+        ensures committed { result ≡ is_registered id.now (committed_of self.now.history.entries) }
+        ensures with_all { result ≡ is_registered id.now (commitments_of self.now.history.entries) }
     {
         self.registered.count(id) > 0
     }

@@ -6,7 +6,7 @@ use Rattle.std.proofs.lemmas.List.Folds.{list_any_none}
 use Rattle.std.proofs.lemmas.Option.{slice_get_within, get_or_from_slice_get}
 use Rattle.fw_charge.specs.Charge.{Charge, DiscountText}
 use Rattle.fw_row_table.specs.Texts.{names_of}
-use Rattle.fw_snapshot.specs.History.{commitments_of}
+use Rattle.fw_snapshot.specs.History.{committed_of}
 use Rattle.fw_snapshot.specs.Judging.{carries_any, has_registered_id, is_registered}
 use Rattle.fw_snapshot.proofs.EntryFacts.{any_there, coded_all, passed_over}
 use Rattle.fw_snapshot.proofs.judging.carry_registered.Goals as goal
@@ -23,15 +23,15 @@ returns-then-carries_registered c =
     let rows = c.args.rows.now in
     let i = c.loop-place.place in
     let row = c.lent-row.result in
-    sym (any_there (has_registered_id (commitments_of c.args.state.now.entries)) rows i row (slice_get_within rows i row c.lent-row.ensures)
-    (subst (λ r. has_registered_id (commitments_of c.args.state.now.entries) r ≡ true) (sym (get_or_from_slice_get rows i row row c.lent-row.ensures)) (sym c.carries_registered.ensures ∙ c.if-carries_registered.true)))
+    sym (any_there (has_registered_id (committed_of c.args.state.now.entries)) rows i row (slice_get_within rows i row c.lent-row.ensures)
+    (subst (λ r. has_registered_id (committed_of c.args.state.now.entries) r ≡ true) (sym (get_or_from_slice_get rows i row row c.lent-row.ensures)) (sym c.carries_registered.ensures ∙ c.if-carries_registered.true)))
 
 pub loop-place-preserved : goal.loop-place-preserved
 loop-place-preserved c =
     let rows = c.args.rows.now in
     let i = c.loop-place.place in
     let codes = c.discount_codes-discounts.result.now in
-    let commitments = commitments_of c.args.state.now.entries in
+    let commitments = committed_of c.args.state.now.entries in
     let size = coded_all (names_of rows) rows codes c.discount_codes-discounts.ensures in
     let within : i < length rows = omega (arith, size) in
     let Without : Charge → Type 0 = λ r. has_registered_id commitments r ≡ false in
@@ -51,5 +51,5 @@ unfolding carries_any
 returns c =
     let rows = c.args.rows.now in
     let size = coded_all (names_of rows) rows c.discount_codes-discounts.result.now c.discount_codes-discounts.ensures in
-    let Without : Charge → Type 0 = λ r. has_registered_id (commitments_of c.args.state.now.entries) r ≡ false in
-    sym (list_any_none (has_registered_id (commitments_of c.args.state.now.entries)) rows (subst (λ (rs : List Charge). All Without rs) (take_all c.loop-place.place rows (omega (arith, size, c.loop-place-test.false))) c.loop-place.invariant))
+    let Without : Charge → Type 0 = λ r. has_registered_id (committed_of c.args.state.now.entries) r ≡ false in
+    sym (list_any_none (has_registered_id (committed_of c.args.state.now.entries)) rows (subst (λ (rs : List Charge). All Without rs) (take_all c.loop-place.place rows (omega (arith, size, c.loop-place-test.false))) c.loop-place.invariant))

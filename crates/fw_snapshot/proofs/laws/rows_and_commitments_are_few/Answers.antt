@@ -1,4 +1,5 @@
 use Rattle.fw_snapshot.proofs.LegalFacts.{few_rows, few_commitments}
+use Rattle.fw_snapshot.proofs.AddedFacts.{commitments_count}
 use Rattle.fw_snapshot.proofs.EntryFacts.{rows_count}
 use Rattle.fw_snapshot.proofs.laws.rows_and_commitments_are_few.Goals as goal
 
@@ -9,4 +10,4 @@ pub returns-clause-rows : goal.returns-clause-rows
 returns-clause-rows c = λ es legal. rw (← rows_count) (few_rows es legal)
 
 pub returns-clause-commitments : goal.returns-clause-commitments
-returns-clause-commitments c = few_commitments
+returns-clause-commitments c = λ es legal. rw commitments_count (few_commitments es legal)

@@ -1,5 +1,5 @@
 use Rattle.fw_snapshot.proofs.LegalFacts.{accepted_number}
-use Rattle.fw_snapshot.proofs.RuleFacts.{accepted_post, accepted_commit}
+use Rattle.fw_snapshot.proofs.RuleFacts.{accepted_post, accepted_commit, accepted_added}
 use Rattle.fw_snapshot.proofs.laws.what_is_accepted_breaks_no_rule.Goals as goal
 
 pub returns-clause-next : goal.returns-clause-next
@@ -10,3 +10,6 @@ returns-clause-post c = accepted_post
 
 pub returns-clause-commit : goal.returns-clause-commit
 returns-clause-commit c = accepted_commit
+
+pub returns-clause-purchase : goal.returns-clause-purchase
+returns-clause-purchase c = accepted_added

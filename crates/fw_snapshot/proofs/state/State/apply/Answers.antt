@@ -3,6 +3,7 @@ use Rattle.std.specs.Prelude.{option_copied}
 use Rattle.std.specs.Str.{bytes_eq}
 use Rattle.fw_persistent.specs.Counts.{count_of}
 use Rattle.fw_snapshot.specs.Heads.{content_of, segment_rows}
+use Rattle.fw_snapshot.specs.HeadView.{content_view}
 use Rattle.fw_snapshot.specs.Held.{held_commitments, held_policy, held_rows}
 use Rattle.fw_snapshot.specs.History.{posted, committed}
 use Rattle.fw_snapshot.specs.Judging.{judged, carries}
@@ -10,7 +11,7 @@ use Rattle.fw_snapshot.specs.StateView.{state_entries}
 use Rattle.fw_snapshot.specs.Uses.{commitments_with}
 use Rattle.fw_snapshot.specs.declared.state.State.TheInside.{Inside}
 use Rattle.fw_snapshot.specs.declared.verdict.Verdict.TheVariants as verdict
-use Rattle.fw_snapshot.proofs.Following.{Follows, follows_keeps, follows_view, follows_fits, head_made, policy_by_content}
+use Rattle.fw_snapshot.proofs.Following.{Follows, follows_keeps, follows_view, follows_fits, follows_refuses, head_made, policy_by_content, commitments_by_content}
 use Rattle.fw_snapshot.proofs.state.State.apply.Goals as goal
 use Rattle.fw_snapshot.proofs.state.State.apply.Goals.{After-row_count}
 
@@ -52,12 +53,17 @@ follows c =
       segments = c.in_ok-segments.ensures.rows ∙ ap (λ xs. segment_rows s.segments ++ xs) rows_are;
       filled = c.in_ok-segments.ensures.filled;
       row_count = ap (λ n. s.rows + n) (c.row_count.ensures ∙ ap length rows_are);
-      commitments = c.in_ok-commitments.ensures ∙ ap (λ xs. held_commitments s.commitments ++ xs) committed_is;
+      commitments = c.in_ok-commitments.ensures ∙ commitments_by_content (held_commitments s.commitments) _ e.command content_is;
       policy = c.in_ok-policy.ensures ∙ policy_by_content (held_policy s.policy) _ e.command content_is;
       origins = λ o. c.in_ok-origins.ensures.counts o ∙ ap (λ text. count_of o s.origins + (if bytes_eq o text then 1 else 0)) origin_is;
       registered = λ id. c.in_ok-registered.ensures id ∙ ap (λ xs. count_of id s.registered + commitments_with id xs) committed_is;
       carried = λ id. c.in_ok-carried.ensures id ∙ ap (λ xs. count_of id s.carried + (if carries id xs then 1 else 0)) rows_are;
     }
+
+pub commitments_after-requires : goal.commitments_after-requires
+commitments_after-requires c =
+    let accepted = ap (λ h. judged h.entries c.args.entry.now) c.self.view_is ∙ c.requires in
+    follows_refuses c.self.inside c.args.entry.now (content_view c.in_ok-content.content) c.self.invariant accepted (c.in_ok-content.ensures ∙ ap content_of c.command-command.ensures.command)
 
 pub overflow_add-result : goal.overflow_add-result
 overflow_add-result c =

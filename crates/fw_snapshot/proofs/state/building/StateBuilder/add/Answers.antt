@@ -19,7 +19,9 @@ use Rattle.fw_snapshot.specs.Uses.{commitments_with, posts_with}
 use Rattle.fw_snapshot.specs.Verdicts.{goes_behind}
 use Rattle.fw_snapshot.specs.declared.state.building.StateBuilder.TheInside.{Inside}
 use Rattle.fw_snapshot.specs.declared.verdict.Verdict.TheVariants as verdict
-use Rattle.fw_snapshot.proofs.BuildingFacts.{behind_parts, committed_back, length_singles, policy_back, rows_of_singles, short_origin}
+use Rattle.fw_snapshot.proofs.BuildingFacts.{after_back, refuses_back, behind_parts, committed_back, length_singles, policy_back, rows_of_singles, short_origin}
+use Rattle.fw_snapshot.specs.Adding.{NoneRefuses}
+use Rattle.fw_snapshot.proofs.AddingFacts.{none_refuses}
 use Rattle.fw_snapshot.proofs.Following.{Follows, follows_fits, follows_keeps, follows_view}
 use Rattle.fw_snapshot.proofs.HeadFacts.{head_back, posted_back}
 use Rattle.fw_snapshot.proofs.state.building.StateBuilder.add.Goals as goal
@@ -71,6 +73,18 @@ is_entry c = record {
   size = (behind_parts (state_entries (state_so_far c.self.inside)) (added c) (goes c)).0;
 }
 
+-- none of the commitments refuses what the entry brings
+pub commitments_after-requires : goal.commitments_after-requires
+commitments_after-requires c =
+    let b : Built = builder_view c.self.inside in
+    let h : HeadValue = record { origin = c.args.origin.now; seq = c.args.seq; content = content_view c.args.content } in
+    let es = state_entries (state_so_far c.self.inside) in
+    let so : goes_behind c.args.self.now.history.entries (next_entry c.args.self.now h) ≡ true = sym c.if-not-accepts.ensures in
+    let behind : goes_behind es (next_entry b h) ≡ true = subst (λ (v : Built). goes_behind v.history.entries (next_entry v h) ≡ true) (sym c.self.view_is) so in
+    let none = none_refuses es (next_entry b h) (behind_parts es (next_entry b h) behind).1 in
+    refuses_back (held_commitments c.self.inside.commitments) (content_view c.args.content) (take (row_count (content_view c.args.content)) (left_rows b))
+    (subst (λ cs. NoneRefuses cs (next_entry b h).command) (sym c.self.invariant.state.commitments) none)
+
 -- ---- the builder that is made
 
 abbrev made : (c : After-self-2) → Inside
@@ -109,14 +123,13 @@ follows : (c : After-self-2) → Follows (state_so_far c.self.inside) (state_so_
 follows c =
     let b = c.self.inside in
     let rows = take (b.rows + c.rows-rows.result) (segment_rows b.segments) in
-    let committed_is = c.commitment.ensures ∙ committed_back (content_view c.args.content) (more c) in
-    let committed_too = c.commitment-2.ensures ∙ committed_back (content_view c.args.content) (more c) in
+    let committed_too = c.commitment.ensures ∙ committed_back (content_view c.args.content) (more c) in
     record {
       heads = c.in_ok-heads.ensures ∙ ap (λ h. b.heads ++ h ∷ []) (head_is c);
       segments = taken_is c;
       filled = omega (arith, length_singles rows, ap length (rows_of_singles rows));
       row_count = ap (λ n. b.rows + n) (c.rows-rows.ensures ∙ sym (how_many c));
-      commitments = c.in_ok-commitments.ensures ∙ ap (λ xs. held_commitments b.commitments ++ xs) committed_is;
+      commitments = c.in_ok-commitments.ensures ∙ after_back (held_commitments b.commitments) (content_view c.args.content) (more c);
       policy = c.in_ok-policy.ensures ∙ policy_back (held_policy b.policy) (content_view c.args.content) (more c);
       origins = λ o. c.in_ok-origins.ensures.counts o ∙ ap (λ text. count_of o b.origins + (if bytes_eq o text then 1 else 0)) c.in_ok-origin.ensures;
       registered = λ id. c.in_ok-registered.ensures id ∙ ap (λ xs. count_of id b.registered + commitments_with id xs) committed_too;

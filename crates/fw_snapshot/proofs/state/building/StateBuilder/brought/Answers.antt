@@ -9,7 +9,7 @@ use Rattle.fw_persistent.specs.Counts.{count_of}
 use Rattle.fw_terms.specs.Spelling.{policy}
 use Rattle.fw_snapshot.specs.Building.{Built, has_counted_id, left_rows, rows_before}
 use Rattle.fw_snapshot.specs.Heads.{segment_rows}
-use Rattle.fw_snapshot.specs.History.{commitments_of}
+use Rattle.fw_snapshot.specs.History.{committed_of}
 use Rattle.fw_snapshot.specs.Judging.{carries, carries_any}
 use Rattle.fw_snapshot.specs.Uses.{commitments_with}
 use Rattle.fw_snapshot.proofs.BuildingFacts.{counted_any}
@@ -21,8 +21,8 @@ left_is : (c : After-self) → drop (rows_before c.self.inside.segments c.self.i
 left_is c = ap (λ n. drop n (segment_rows c.self.inside.segments)) c.self.invariant.place ∙ ap (λ (b : Built). left_rows b) c.self.view_is
 
 -- the ids that are counted are those of the commitments
-counts_are : (c : After-self) (id : List ℕ) → count_of id c.self.inside.registered ≡ commitments_with id (commitments_of c.args.self.now.history.entries)
-counts_are c id = c.self.invariant.state.registered id ∙ ap (λ (b : Built). commitments_with id (commitments_of b.history.entries)) c.self.view_is
+counts_are : (c : After-self) (id : List ℕ) → count_of id c.self.inside.registered ≡ commitments_with id (committed_of c.args.self.now.history.entries)
+counts_are c id = c.self.invariant.state.registered id ∙ ap (λ (b : Built). commitments_with id (committed_of b.history.entries)) c.self.view_is
 
 pub returns-in-Post-clause-len : goal.returns-in-Post-clause-len
 unfolding brought
@@ -34,7 +34,7 @@ pub returns-in-Post-clause-own : goal.returns-in-Post-clause-own
 returns-in-Post-clause-own c =
     let at = (goal.at.returns-in-Post-clause-own c).After-self in
     let counts = c.self.inside.registered in
-    rw c.in-Post.is (IfOk-weaker c.posted.result _ _ (λ b own. own ∙ counted_any counts (commitments_of c.args.self.now.history.entries) (counts_are at) (take c.in-Post.rows (left_rows c.args.self.now)))
+    rw c.in-Post.is (IfOk-weaker c.posted.result _ _ (λ b own. own ∙ counted_any counts (committed_of c.args.self.now.history.entries) (counts_are at) (take c.in-Post.rows (left_rows c.args.self.now)))
     (subst (λ (rows : List Charge). IfOk c.posted.result (λ b. b.own ≡ list_any (has_counted_id counts) (take c.in-Post.rows rows))) (left_is at) c.posted.ensures.own))
 
 pub returns-in-Commit-clause-len : goal.returns-in-Commit-clause-len
@@ -60,3 +60,15 @@ returns-in-SetPolicy-clause-own c = rw c.in-SetPolicy.is c.without_rows-in-SetPo
 pub returns-in-SetPolicy-clause-carried : goal.returns-in-SetPolicy-clause-carried
 unfolding carries
 returns-in-SetPolicy-clause-carried c = rw c.in-SetPolicy.is (IfOk-weaker c.without_rows-in-SetPolicy.result _ _ (λ b is id. is id ∙ omega arith) c.without_rows-in-SetPolicy.ensures.carried)
+
+pub returns-in-AddPurchase-clause-len : goal.returns-in-AddPurchase-clause-len
+unfolding brought
+returns-in-AddPurchase-clause-len c = rw c.in-AddPurchase.is (IfOk-weaker c.without_rows-in-AddPurchase.result _ _ (λ b is. is ∙ c.added_len.ensures.value) c.without_rows-in-AddPurchase.ensures.len)
+
+pub returns-in-AddPurchase-clause-own : goal.returns-in-AddPurchase-clause-own
+unfolding carries_any
+returns-in-AddPurchase-clause-own c = rw c.in-AddPurchase.is c.without_rows-in-AddPurchase.ensures.own
+
+pub returns-in-AddPurchase-clause-carried : goal.returns-in-AddPurchase-clause-carried
+unfolding carries
+returns-in-AddPurchase-clause-carried c = rw c.in-AddPurchase.is (IfOk-weaker c.without_rows-in-AddPurchase.result _ _ (λ b is id. is id ∙ omega arith) c.without_rows-in-AddPurchase.ensures.carried)
