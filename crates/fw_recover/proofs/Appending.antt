@@ -6,7 +6,7 @@ use Rattle.fw_disk.specs.declared.volume.Side.{Side}
 use Rattle.fw_disk.specs.Volume.{Image, other}
 use Rattle.fw_entry.specs.Entry.{EntryValue}
 use Rattle.fw_journal.specs.Frames.{spelled, Tells}
-use Rattle.fw_segment.specs.Groups.{group, IsGroup}
+use Rattle.fw_segment.specs.Groups.{group, IsGroupOf}
 use Rattle.fw_snapshot.specs.History.{History}
 use Rattle.fw_snapshot.specs.Judging.{IsLegal, IsLegalAfter}
 use Rattle.fw_snapshot.proofs.VerdictFacts.{legal_append}
@@ -57,7 +57,7 @@ module _ (h : History) (old : Image) (standing : StandsFor h old) (c : Image)
   pub generation : generation_of (c u) ≡ generation_of (old u)
   generation = same_generation standing.tells.form (generation_of (old u)) body (drop start (c u)) standing.tells.log (c u) (old u) is standing.tells.is
 
-  module _ (k : History) (groups : List (List EntryValue)) (each : All IsGroup groups) (tells : Tells (map group groups) (drop start (c u)))
+  module _ (k : History) (groups : List (List EntryValue)) (each : All (IsGroupOf standing.tells.form) groups) (tells : Tells (map group groups) (drop start (c u)))
       (is_history : k ≡ with_more standing.tells.state (joined groups)) (legal : IsLegal k.entries) where
     pub long : 25 + length body < length (c u)
     long = omega (
@@ -95,6 +95,7 @@ module _ (h : History) (old : Image) (standing : StandsFor h old) (c : Image)
         is = is ∙ ap (λ (g : ℕ). 1 ∷ (made_of standing.tells.form g body ++ drop start (c u))) (sym generation);
         state = standing.tells.state;
         spells = standing.tells.spells;
+        of_form = standing.tells.of_form;
         groups = groups;
         each = each;
         tells = tells;
@@ -103,11 +104,11 @@ module _ (h : History) (old : Image) (standing : StandsFor h old) (c : Image)
       };
     }
 
-  pub stands_either : (more : List EntryValue) → IsGroup more → IsLegalAfter h.entries more
+  pub stands_either : (more : List EntryValue) → IsGroupOf standing.tells.form more → IsLegalAfter h.entries more
       → Tells (map group standing.tells.groups) (drop start (c u)) ⊎ Tells (map group (standing.tells.groups ++ more ∷ [])) (drop start (c u)) → StandsForEither h more c
   stands_either more is_group legal (inl as_before) =
       inl (stands_on h standing.tells.groups standing.tells.each as_before standing.tells.is_history standing.tells.legal)
   stands_either more is_group legal (inr with_it) =
-      inr (stands_on (with_more h more) (standing.tells.groups ++ more ∷ []) (All-push IsGroup standing.tells.groups more standing.tells.each is_group) with_it
+      inr (stands_on (with_more h more) (standing.tells.groups ++ more ∷ []) (All-push (IsGroupOf standing.tells.form) standing.tells.groups more standing.tells.each is_group) with_it
       (more_history h standing.tells.state standing.tells.groups more standing.tells.is_history)
       (legal_append [] h.entries more standing.tells.legal legal))

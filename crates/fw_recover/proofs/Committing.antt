@@ -7,9 +7,10 @@ use Rattle.fw_disk.specs.Volume.{Image, View, LeavesOnly, Settled, other}
 use Rattle.fw_disk.proofs.Moments.{started, weakened}
 use Rattle.fw_entry.specs.Entry.{EntryValue}
 use Rattle.fw_entry_bytes.specs.declared.form.Form.{Form}
+use Rattle.fw_entry_bytes.specs.Forms.{IsOfForm}
 use Rattle.fw_journal.specs.Frames.{Tells}
 use Rattle.fw_journal.specs.Log.{LogState, Stands, Appends}
-use Rattle.fw_segment.specs.Groups.{group, IsGroup}
+use Rattle.fw_segment.specs.Groups.{group, IsGroupOf}
 use Rattle.fw_snapshot.specs.History.{History}
 use Rattle.fw_snapshot.specs.Judging.{IsLegal, IsLegalAfter}
 use Rattle.fw_snapshot.specs.Verdicts.{with_more}
@@ -29,12 +30,16 @@ use Rattle.fw_recover.proofs.Standing.{by_side, no_more, stands_same}
 pub each_stands : (form : Form) (g : ℕ) (log : LogState) (h : History) (v : View) → IsFresh form g log h v → EachStandsFor h v
 each_stands form g log h v fresh c now = stands_same h v.seen c fresh.standing (λ s. fresh.settled s c now)
 
-module _ (old new : View) (form : Form) (g : ℕ) (log : LogState) (h next : History) (payload : List ℕ) (fresh : IsFresh form g log h old) (goes : GoesBehind h payload next) where
+module _ (old new : View) (form : Form) (g : ℕ) (log : LogState) (h next : History) (payload : List ℕ) (fresh : IsFresh form g log h old) (goes : GoesBehind form h payload next) where
   abbrev u : Side
   u = fresh.standing.side
 
   abbrev groups : List (List EntryValue)
   groups = fresh.standing.tells.groups
+
+  -- the group is one of the form of the side in use
+  is_group : IsGroupOf fresh.standing.tells.form goes.more
+  is_group = subst (λ (f : Form). IsGroupOf f goes.more) (sym fresh.form_is) goes.is_group
 
   abbrev start : ℕ
   start = log_start_of (old.seen u)
@@ -72,7 +77,7 @@ module _ (old new : View) (form : Form) (g : ℕ) (log : LogState) (h next : His
     either : StandsFor h c ⊎ StandsFor next c
     either =
         subst (λ (k : History). StandsFor h c ⊎ StandsFor k c) (sym goes.is)
-        (stands_either h old.seen fresh.standing c same_other same_before goes.more goes.is_group goes.legal told)
+        (stands_either h old.seen fresh.standing c same_other same_before goes.more is_group goes.legal told)
 
   -- each image of the run stands for the warehouse without the group or with it
   pub either_run : LeavesOnly old new (Appends log (map group groups) payload old) → LeavesOnly old new (λ c. StandsFor h c ⊎ StandsFor next c)
@@ -109,7 +114,7 @@ module _ (old new : View) (form : Form) (g : ℕ) (log : LogState) (h next : His
           settled = settled_after;
           standing =
               stands_on h old.seen used new.seen (same_other new.seen (images new.seen now)) (same_before new.seen (images new.seen now)) (with_more h goes.more) (groups ++ goes.more ∷ [])
-              (All-push IsGroup groups goes.more used.tells.each goes.is_group) tells_after
+              (All-push (IsGroupOf used.tells.form) groups goes.more used.tells.each is_group) tells_after
               (more_history h used.tells.state groups goes.more used.tells.is_history)
               (legal_append [] h.entries goes.more used.tells.legal goes.legal);
           in_use = fresh.in_use ∙ sym side_is;
@@ -132,7 +137,7 @@ module _ {V : Type 0} (tells : Bool) (view : V → View) (s : StoreState V) (kep
 
 -- a payload is appended to the log of a store that goes on; within the call the store is open, and `inside` is what it holds
 module _ {V : Type 0} (tells : Bool) (view : V → View) (inside s : StoreState V) (same : inside ≡ s) (kept : IsKept tells view inside) (going : s.failed ≡ false) (payload : List ℕ) (next : History)
-    (goes : GoesBehind s.history payload next) (new : View) (told : IsTrue tells)
+    (goes : GoesBehind s.form s.history payload next) (new : View) (told : IsTrue tells)
     (moments : inside.log.failed ≡ false → (payloads : List (List ℕ)) → Stands inside.log payloads (view inside.volume) → LeavesOnly (view inside.volume) new (Appends inside.log payloads payload (view inside.volume))) where
   abbrev old : View
   old = view inside.volume
@@ -140,8 +145,8 @@ module _ {V : Type 0} (tells : Bool) (view : V → View) (inside s : StoreState 
   goes_on : inside.failed ≡ false
   goes_on = ap (λ (x : StoreState V). x.failed) same ∙ going
 
-  goes_there : GoesBehind inside.history payload next
-  goes_there = subst (λ (x : StoreState V). GoesBehind x.history payload next) (sym same) goes
+  goes_there : GoesBehind inside.form inside.history payload next
+  goes_there = subst (λ (x : StoreState V). GoesBehind x.form x.history payload next) (sym same) goes
 
   abbrev fresh : IsFresh inside.form inside.generation inside.log inside.history old
   fresh = kept.fresh told goes_on
@@ -210,10 +215,10 @@ module _ (h next : History) (n : ℕ) (payload : List ℕ) (spelled : payload �
       ap (λ (l : List EntryValue). let k : History = record { currency = next.currency; entries = l } in k) (sym (take-append-drop n next.entries))
       ∙ ap (λ (k : History). with_more k (drop n next.entries)) before
 
-  pub goes_behind : 0 < length (drop n next.entries) → IsFrameable (drop n next.entries) → GoesBehind h payload next
-  goes_behind some frameable = record {
+  pub goes_behind : (form : Form) → IsOfForm form (drop n next.entries) → 0 < length (drop n next.entries) → IsFrameable (drop n next.entries) → GoesBehind form h payload next
+  goes_behind form of_form some frameable = record {
     more = drop n next.entries;
-    is_group = frameable.is_group;
+    is_group = (frameable.is_group, of_form);
     spelled = spelled ∙ payload_some (drop n next.entries) some;
     legal =
         let parts = (legal_parts [] (take n next.entries) (drop n next.entries) (subst (λ (l : List EntryValue). IsLegal l) (sym (take-append-drop n next.entries)) legal)).1 in

@@ -178,7 +178,7 @@ legal_or_not first (e ∷ es) = elim (accept_or_not (judged first e)) [
 ]
 
 read_as : (form : Form) (h : History) (payload : List ℕ) → IsBytes payload → (read : Result (List EntryValue) ℕ) → whole (group_at form) payload ≡ read
-    → ((next : History) × GoesBehind h payload next) ⊎ GoesNotBehind form h.entries payload
+    → ((next : History) × GoesBehind form h payload next) ⊎ GoesNotBehind form h.entries payload
 read_as form h payload are (Err left) is = inr (inl (left, is))
 read_as form h payload are (Ok es) is =
     let found = whole_takes (group_format form) payload es are is in
@@ -187,25 +187,25 @@ read_as form h payload are (Ok es) is =
       | inl legal ↦ inl (with_more h es, record { more = es; is_group = found.0; spelled = found.1; legal = legal; is = refl })
     ]
 
-goes_or_not : (form : Form) (h : History) (payload : List ℕ) → IsBytes payload → ((next : History) × GoesBehind h payload next) ⊎ GoesNotBehind form h.entries payload
+goes_or_not : (form : Form) (h : History) (payload : List ℕ) → IsBytes payload → ((next : History) × GoesBehind form h payload next) ⊎ GoesNotBehind form h.entries payload
 goes_or_not form h payload are = read_as form h payload are (whole (group_at form) payload) refl
 
 -- ---- a log
 
 -- a log goes on in groups up to a closed gate
-record Ends (state : History) (start : ℕ) (file : List ℕ) : Type 0 where
+record Ends (form : Form) (state : History) (start : ℕ) (file : List ℕ) : Type 0 where
   now : History
   end : ℕ
-  has : HasGroups state start end file now
+  has : HasGroups form state start end file now
   shut : IsClosedAt end file
 
 module _ (form : Form) (state : History) (start : ℕ) (file : List ℕ) (are : IsBytes file) where
   abbrev Decided : Type 0
-  Decided = Ends state start file ⊎ ((at : ℕ) × LogBreaks form state start at file)
+  Decided = Ends form state start file ⊎ ((at : ℕ) × LogBreaks form state start at file)
 
   -- from one gate to the next
-  one_step : (now : History) (gate : ℕ) → HasGroups state start gate file now
-      → ((payload rest : List ℕ) (next : History) → drop gate file ≡ open_frame payload ++ rest → HasGroups state start (gate + 5 + length payload) file next → Decided)
+  one_step : (now : History) (gate : ℕ) → HasGroups form state start gate file now
+      → ((payload rest : List ℕ) (next : History) → drop gate file ≡ open_frame payload ++ rest → HasGroups form state start (gate + 5 + length payload) file next → Decided)
       → Decided
   one_step now gate has further = elim (at_gate (drop gate file) (IsBytes-drop gate file are)) [
     | inl shut ↦ inl (record { now = now; end = gate; has = has; shut = record { byte = shut.gate; rest = shut.rest; is = shut.is; shut = shut.shut } })
@@ -213,11 +213,11 @@ module _ (form : Form) (state : History) (start : ℕ) (file : List ℕ) (are : 
     | inr (inl frame) ↦ elim (goes_or_not form now frame.payload frame.are_bytes) [
       | inr bad ↦ inr (gate, breaks_there form state now start gate file has (inr (bad_frame form now.entries (drop gate file) frame.payload frame.rest frame.fit frame.is bad)))
       | inl goes ↦ further frame.payload frame.rest goes.0 frame.is
-          (one_group_more state now goes.0 start gate (gate + 5 + length frame.payload) file frame.payload frame.rest has frame.fit frame.is refl goes.1)
+          (one_group_more form state now goes.0 start gate (gate + 5 + length frame.payload) file frame.payload frame.rest has frame.fit frame.is refl goes.1)
     ]
   ]
 
-  walked : (fuel : ℕ) (now : History) (gate : ℕ) → HasGroups state start gate file now → length file ≤ gate + fuel → Decided
+  walked : (fuel : ℕ) (now : History) (gate : ℕ) → HasGroups form state start gate file now → length file ≤ gate + fuel → Decided
   walked zero now gate has within = one_step now gate has (λ payload rest next is more.
       absurd (omega (arith, within, length-drop gate file, ap (λ (l : List ℕ). length l) is, length-append (open_frame payload) rest)))
   walked (suc fuel) now gate has within = one_step now gate has (λ payload rest next is more. walked fuel next (gate + 5 + length payload) more (omega (arith, within)))
@@ -241,15 +241,16 @@ side_decided c side are newest (Ok state) read =
     let n = body_len_of file in
     let form = form_there c side newest in
     let header = header_there file are newest.is_open (newest.sound side newest.is_open) in
-    let spells = state_taken form (take n (drop 25 file)) state (IsBytes-take n (drop 25 file) (IsBytes-drop 25 file are)) read in
-    elim (walked form state (25 + n) file are (length file) state (25 + n) (no_groups_yet state (25 + n) file spells.history.legal) (omega arith)) [
-      | inr breaks ↦ inr (breaks.0, bad_log c side side form (generation_of file) n breaks.0 state file file refl refl newest header spells refl breaks.1)
+    let taken = state_taken form (take n (drop 25 file)) state (IsBytes-take n (drop 25 file) (IsBytes-drop 25 file are)) read in
+    let spells = taken.0 in
+    elim (walked form state (25 + n) file are (length file) state (25 + n) (no_groups_yet form state (25 + n) file spells.history.legal) (omega arith)) [
+      | inr breaks ↦ inr (breaks.0, bad_log c side side form (generation_of file) n breaks.0 state file file refl refl newest header spells taken.1 refl breaks.1)
       | inl ends ↦ inl (
         ends.now,
         record {
           side = side;
           newest = newest;
-          tells = side_tells file form (generation_of file) n header state ends.now ends.end spells ends.has ends.shut (generation_of file) refl (body_len_fits file are);
+          tells = side_tells file form (generation_of file) n header state ends.now ends.end spells taken.1 ends.has ends.shut (generation_of file) refl (body_len_fits file are);
         },
       )
     ]

@@ -14,9 +14,10 @@ use Rattle.fw_journal.specs.declared.fault.LogFault.{LogFault}
 use Rattle.fw_journal.specs.declared.fault.LogFault.TheVariants as log_faults
 use Rattle.fw_journal.proofs.Spelling.{spelled-none, spelled-push, length-spelled-push, length-sized, AllFit-push}
 use Rattle.fw_entry_bytes.specs.Whole.{whole}
+use Rattle.fw_entry_bytes.specs.Forms.{IsOfForm}
 use Rattle.fw_segment.specs.Decoding.{IsAt}
 use Rattle.fw_segment.specs.declared.fault.DecodeFault.TheVariants as faults
-use Rattle.fw_segment.specs.Groups.{group, group_at, IsGroup}
+use Rattle.fw_segment.specs.Groups.{group, group_at, IsGroupOf}
 use Rattle.fw_segment.specs.States.{Spells, state_at}
 use Rattle.fw_segment.proofs.Histories.{state_again}
 use Rattle.fw_snapshot.specs.History.{History}
@@ -85,7 +86,7 @@ no_group form entries payload at is =
     let bad = not_read (length payload) at (whole (group_at form) payload) is in
     inl (bad.0, bad.1)
 
-pub after_group : (form : Form) (h : History) (payload : List ℕ) (es : List EntryValue) (next : Option History) → IsGroup es → payload ≡ group es → whole (group_at form) payload ≡ Ok es → IsAfter h es next
+pub after_group : (form : Form) (h : History) (payload : List ℕ) (es : List EntryValue) (next : Option History) → IsGroupOf form es → payload ≡ group es → whole (group_at form) payload ≡ Ok es → IsAfter h es next
     → IsWithGroup form h payload next
 after_group form h payload es None is_group is read refused = inr (es, read, refused)
 after_group form h payload es (Some next) is_group is read after = record { more = es; is_group = is_group; spelled = is; legal = after.0; is = after.1 }
@@ -101,10 +102,10 @@ bad_body_at form file bytes body_len at place same is bad =
     let there = not_read (length (take body_len (drop 25 file))) at (state_at form (take body_len (drop 25 file))) (subst I same bad) in
     record { left = there.0; read = there.1; place = is ∙ ap (λ (n : ℕ). 25 + n) there.2 }
 
-pub no_groups_yet : (state : History) (start : ℕ) (file : List ℕ) → IsLegal state.entries → HasGroups state start start file state
-no_groups_yet state start file legal = record {
+pub no_groups_yet : (form : Form) (state : History) (start : ℕ) (file : List ℕ) → IsLegal state.entries → HasGroups form state start start file state
+no_groups_yet form state start file legal = record {
   groups = [];
-  each = All-nil IsGroup;
+  each = All-nil (IsGroupOf form);
   is = ap (λ (l : List ℕ). l ++ drop start file) (sym spelled-none);
   fit = tt;
   place = omega (arith, ap (λ (l : List ℕ). length l) spelled-none);
@@ -128,9 +129,9 @@ module _ (start gate behind : ℕ) (file payload rest : List ℕ) (passed : List
       ∙ ap (λ (l : List ℕ). spelled passed ++ l) (frame ∙ ap (λ (l : List ℕ). open_frame payload ++ l) (sym behind_frame))
       ∙ sym (spelled-push passed payload (drop behind file))
 
-pub one_group_more : (state now next : History) (start gate behind : ℕ) (file payload rest : List ℕ) → HasGroups state start gate file now → IsFit payload
-    → drop gate file ≡ open_frame payload ++ rest → behind ≡ gate + 5 + length payload → GoesBehind now payload next → HasGroups state start behind file next
-one_group_more state now next start gate behind file payload rest has fit frame place goes =
+pub one_group_more : (form : Form) (state now next : History) (start gate behind : ℕ) (file payload rest : List ℕ) → HasGroups form state start gate file now → IsFit payload
+    → drop gate file ≡ open_frame payload ++ rest → behind ≡ gate + 5 + length payload → GoesBehind form now payload next → HasGroups form state start behind file next
+one_group_more form state now next start gate behind file payload rest has fit frame place goes =
     let passed = map group has.groups in
     let more : passed ++ payload ∷ [] ≡ map group (has.groups ++ goes.more ∷ []) =
     ap (λ (p : List ℕ). passed ++ p ∷ []) goes.spelled ∙ sym (map_push group has.groups goes.more) in
@@ -138,7 +139,7 @@ one_group_more state now next start gate behind file payload rest has fit frame 
     let there : behind ≡ start + length (spelled (passed ++ payload ∷ [])) = omega (arith, place, has.place, long) in
     record {
       groups = has.groups ++ goes.more ∷ [];
-      each = All-push IsGroup has.groups goes.more has.each goes.is_group;
+      each = All-push (IsGroupOf form) has.groups goes.more has.each goes.is_group;
       is = passed_more start gate behind file payload rest passed has.is frame place ∙ ap (λ (ps : List (List ℕ)). spelled ps ++ drop behind file) more;
       fit = subst (λ (ps : List (List ℕ)). AllFit ps) more (AllFit-push passed payload has.fit fit);
       place = there ∙ ap (λ (ps : List (List ℕ)). start + length (spelled ps)) more;
@@ -146,7 +147,7 @@ one_group_more state now next start gate behind file payload rest has fit frame 
       legal = subst (λ (k : History). IsLegal k.entries) (sym goes.is) (legal_append [] now.entries goes.more has.legal goes.legal);
     }
 
-pub breaks_there : (form : Form) (state now : History) (start at : ℕ) (file : List ℕ) → HasGroups state start at file now → IsBroken (drop at file) ⊎ IsBadFrame form now.entries (drop at file)
+pub breaks_there : (form : Form) (state now : History) (start at : ℕ) (file : List ℕ) → HasGroups form state start at file now → IsBroken (drop at file) ⊎ IsBadFrame form now.entries (drop at file)
     → LogBreaks form state start at file
 breaks_there form state now start at file has breaks = record {
   walked = record { passed = map group has.groups; is = has.is; fit = has.fit; place = has.place };
@@ -184,7 +185,7 @@ module _ (file : List ℕ) (form : Form) (generation body_len : ℕ) (header : H
       ∙ sym (append_assoc (take 25 file) body (drop start file))
       ∙ ap (λ (l : List ℕ). l ++ drop start file) (sym made)
 
-  module _ (state now : History) (end : ℕ) (spells : Spells body state) (has : HasGroups state start end file now) (shut : IsClosedAt end file) where
+  module _ (state now : History) (end : ℕ) (spells : Spells body state) (of_form : IsOfForm form state.entries) (has : HasGroups form state start end file now) (shut : IsClosedAt end file) where
     pub log_told : Tells (map group has.groups) (drop start file)
     log_told = record {
       gate = shut.byte;
@@ -203,6 +204,7 @@ module _ (file : List ℕ) (form : Form) (generation body_len : ℕ) (header : H
       is = side_is ∙ ap (λ (k : ℕ). 1 ∷ (made_of form k body ++ drop start file)) same;
       state = state;
       spells = spells;
+      of_form = of_form;
       groups = has.groups;
       each = has.each;
       tells = log_told;
@@ -212,10 +214,10 @@ module _ (file : List ℕ) (form : Form) (generation body_len : ℕ) (header : H
 
 -- what is in use after all of a side was read
 pub in_use : (c : View) (side : Side) (form : Form) (generation body_len end : ℕ) (state now : History) → AllSettled c → IsNewest c.seen side → HasHeader form generation body_len (c.seen side)
-    → body_len < 2 ^ 64 → Spells (take body_len (drop 25 (c.seen side))) state → HasGroups state (25 + body_len) end (c.seen side) now → IsClosedAt end (c.seen side)
+    → body_len < 2 ^ 64 → Spells (take body_len (drop 25 (c.seen side))) state → IsOfForm form state.entries → HasGroups form state (25 + body_len) end (c.seen side) now → IsClosedAt end (c.seen side)
     → IsFresh form generation (record { side = side; start = 25 + body_len; end = end; failed = false }) now c
 unfolding side_tells
-in_use c side form generation body_len end state now settled newest header fits spells has shut =
+in_use c side form generation body_len end state now settled newest header fits spells of_form has shut =
     let file = c.seen side in
     let same = header.generation_is in
     record {
@@ -223,14 +225,14 @@ in_use c side form generation body_len end state now settled newest header fits 
       standing = record {
         side = side;
         newest = newest;
-        tells = side_tells file form generation body_len header state now end spells has shut (generation_of file) (sym same) fits;
+        tells = side_tells file form generation body_len header state now end spells of_form has shut (generation_of file) (sym same) fits;
       };
       in_use = refl;
       form_is = refl;
       generation_is = same;
       start = omega (arith, long file form generation body_len header);
       stands = record {
-        tells = log_told file form generation body_len header state now end spells has shut;
+        tells = log_told file form generation body_len header state now end spells of_form has shut;
         end = has.place;
         settled = settled side;
       };
@@ -257,8 +259,8 @@ bad_body c side at_side form generation body_len at file is newest header place 
     subst (λ (s : Side). CorruptAt c s at) (sym place) (inr (inr breaks))
 
 pub bad_log : (c : Image) (side at_side : Side) (form : Form) (generation body_len at : ℕ) (state : History) (first file : List ℕ) → first ≡ c side → file ≡ c side → IsNewest c side
-    → HasHeader form generation body_len (c side) → Spells (take body_len (drop 25 first)) state → at_side ≡ side → LogBreaks form state (25 + body_len) at file → CorruptAt c at_side at
-bad_log c side at_side form generation body_len at state first file first_is is newest header spells place bad =
+    → HasHeader form generation body_len (c side) → Spells (take body_len (drop 25 first)) state → IsOfForm form state.entries → at_side ≡ side → LogBreaks form state (25 + body_len) at file → CorruptAt c at_side at
+bad_log c side at_side form generation body_len at state first file first_is is newest header spells of_form place bad =
     let spelled_there = subst (λ (l : List ℕ). Spells (take body_len (drop 25 l)) state) first_is spells in
     let B : List ℕ → Type 0 = λ l. LogBreaks form state (25 + body_len) at l in
     let there = subst B is bad in
@@ -269,7 +271,7 @@ bad_log c side at_side form generation body_len at state first file first_is is 
       magic_is = header.magic_is;
       breaks = inr (record {
         state = state;
-        read = ap (λ (l : List ℕ). state_at form l) body_is ∙ state_again form (take body_len (drop 25 (c side))) state spelled_there;
+        read = ap (λ (l : List ℕ). state_at form l) body_is ∙ state_again form (take body_len (drop 25 (c side))) state spelled_there of_form;
         log = subst (λ (n : ℕ). LogBreaks form state (25 + n) at (c side)) (sym header.body_len_is) there;
       });
     } in
@@ -336,9 +338,9 @@ module _ (old v1 v2 v3 : View) (first : Calm old v1) (second : Calm v1 v2) (thir
   calm_three = calm_through old v2 v3 calm_two third
 
   pub in_use_read : (side : Side) (form : Form) (generation body_len end : ℕ) (body state : History) → AllSettled old → IsNewest old.seen side × HasHeader form generation body_len (old.seen side)
-      → body_len < 2 ^ 64 → Spells (take body_len (drop 25 (v1.seen side))) body → HasGroups body (25 + body_len) end (v2.seen side) state → IsClosedAt end (v2.seen side)
+      → body_len < 2 ^ 64 → Spells (take body_len (drop 25 (v1.seen side))) body → IsOfForm form body.entries → HasGroups form body (25 + body_len) end (v2.seen side) state → IsClosedAt end (v2.seen side)
       → IsFresh form generation (record { side = side; start = 25 + body_len; end = end; failed = false }) state v3
-  in_use_read side form generation body_len end body state settled found fits spells has shut =
+  in_use_read side form generation body_len end body state settled found fits spells of_form has shut =
       let one : v1.seen side ≡ v3.seen side = first.seen side ∙ sym (calm_three.seen side) in
       let two : v2.seen side ≡ v3.seen side = sym (third.seen side) in
       in_use v3 side form generation body_len end body state
@@ -346,8 +348,8 @@ module _ (old v1 v2 v3 : View) (first : Calm old v1) (second : Calm v1 v2) (thir
       (newest_same old.seen v3.seen calm_three.seen side found.0)
       (subst (λ (l : List ℕ). HasHeader form generation body_len l) (sym (calm_three.seen side)) found.1)
       fits
-      (subst (λ (l : List ℕ). Spells (take body_len (drop 25 l)) body) one spells)
-      (subst (λ (l : List ℕ). HasGroups body (25 + body_len) end l state) two has)
+      (subst (λ (l : List ℕ). Spells (take body_len (drop 25 l)) body) one spells) of_form
+      (subst (λ (l : List ℕ). HasGroups form body (25 + body_len) end l state) two has)
       (subst (λ (l : List ℕ). IsClosedAt end l) two shut)
 
 -- ---- the faults of a log

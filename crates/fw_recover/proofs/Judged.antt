@@ -2,7 +2,12 @@
 use Rattle.std.proofs.Common.{◌≡◌, ◌≢◌, ℕ, ◌+◌, ◌<◌, ◌≤◌, List, [], ◌∷◌, ◌++◌, length, take, drop, get_or, refl, sym, ◌∙◌, ap, arith, append_assoc, length-append}
 use Rattle.std.proofs.lemmas.List.{append-nil, take_more, take_at, drop_at}
 use Rattle.std.proofs.lemmas.List.Elements.{All-nil, All-cons}
-use Rattle.std.specs.List.{flat_map}
+use Rattle.std.specs.List.{flat_map, list_all}
+use Rattle.std.specs.Prelude.{◌&&◌, Bool, true, false}
+use Rattle.std.proofs.lemmas.List.Folds.{list_all-append}
+use Rattle.fw_entry_bytes.specs.declared.form.Form.{Form}
+use Rattle.fw_entry_bytes.specs.Forms.{has_entry, IsOfForm}
+use Rattle.std.proofs.lemmas.List.Sums.{list_all-from_AllPass}
 use Rattle.fw_entry.specs.Entry.{EntryValue}
 use Rattle.fw_entry.specs.Spelling.{entry, IsEntry}
 use Rattle.fw_segment.specs.Groups.{group, IsGroup}
@@ -74,6 +79,13 @@ none_of_none : (before es : List EntryValue) → accepted_of before (take 0 es) 
 unfolding accepted_of
 none_of_none before es = refl
 
+and-true : (b : Bool) → (b && true) ≡ b
+and-true true = refl
+and-true false = refl
+
+pub has_each_of_none : (form : Form) (before es : List EntryValue) → true ≡ list_all (has_entry form) (accepted_of before (take 0 es))
+has_each_of_none form before es = sym (ap (list_all (has_entry form)) (none_of_none before es))
+
 pub none_yet : (h : History) (es : List EntryValue) → h ≡ with_more h (accepted_of h.entries (take 0 es))
 none_yet h es = no_more h ∙ ap (λ (l : List EntryValue). with_more h l) (sym (none_of_none h.entries es))
 
@@ -95,6 +107,21 @@ module _ (h now : History) (es : List EntryValue) (i : ℕ) (e : EntryValue) (wi
       ∙ ap (λ (l : List EntryValue). accepted_of h.entries (take i es) ++ l) (one_accepted_of (h.entries ++ accepted_of h.entries (take i es)) e)
       ∙ ap (λ (k : History). accepted_of h.entries (take i es) ++ taken k.entries e) (sym so_far)
 
+  -- whether a form has each accepted one, with one entry more
+  pub has_each_accepted : (form : Form) → judged now.entries e ≡ verdict.Accept
+      → (list_all (has_entry form) (accepted_of h.entries (take i es)) && has_entry form e) ≡ list_all (has_entry form) (accepted_of h.entries (take (i + 1) es))
+  has_each_accepted form accepted =
+      let first = accepted_of h.entries (take i es) in
+      sym
+      (ap (list_all (has_entry form)) (accepted_more ∙ ap (λ (l : List EntryValue). first ++ l) (kept_if (judged now.entries e) e accepted))
+      ∙ list_all-append (has_entry form) first (e ∷ [])
+      ∙ ap (λ b. list_all (has_entry form) first && b) (and-true (has_entry form e)))
+
+  pub has_each_refused : (form : Form) → judged now.entries e ≢ verdict.Accept → list_all (has_entry form) (accepted_of h.entries (take i es)) ≡ list_all (has_entry form) (accepted_of h.entries (take (i + 1) es))
+  has_each_refused form refused =
+      let first = accepted_of h.entries (take i es) in
+      sym (ap (list_all (has_entry form)) (accepted_more ∙ ap (λ (l : List EntryValue). first ++ l) (kept_unless (judged now.entries e) e refused) ∙ append-nil first))
+
   -- the warehouse with one entry more
   pub history_more : with_more now (taken now.entries e) ≡ with_more h (accepted_of h.entries (take (i + 1) es))
   history_more =
@@ -109,6 +136,12 @@ module _ (h now : History) (es : List EntryValue) (i : ℕ) (e : EntryValue) (wi
 
   pub history_refused : judged now.entries e ≢ verdict.Accept → now ≡ with_more h (accepted_of h.entries (take (i + 1) es))
   history_refused refused = no_more now ∙ ap (λ (l : List EntryValue). with_more now l) (sym (kept_unless (judged now.entries e) e refused)) ∙ history_more
+
+-- a form that lacks one of these entries doesn't have each
+pub not_of_form : (form : Form) (es : List EntryValue) → list_all (has_entry form) es ≡ false → IsOfForm form es → ⊥
+not_of_form form es lacks all =
+    let both : false ≡ true = sym lacks ∙ list_all-from_AllPass (has_entry form) es all in
+    cc
 
 -- ---- entries that are prepared
 

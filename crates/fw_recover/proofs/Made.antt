@@ -10,6 +10,7 @@ use Rattle.fw_disk.proofs.Moments.{weakened, calm_before}
 use Rattle.fw_entry.specs.Entry.{EntryValue}
 use Rattle.fw_entry_bytes.specs.declared.form.Form.{Form}
 use Rattle.fw_entry_bytes.specs.declared.form.Form.TheVariants.{Two}
+use Rattle.fw_entry_bytes.proofs.FormFacts.{all_of_two}
 use Rattle.fw_journal.specs.Frames.{Tells}
 use Rattle.fw_journal.specs.Log.{LogState, Stands}
 use Rattle.fw_journal.proofs.Spelling.{spelled-none}
@@ -70,14 +71,14 @@ module _ (h : History) (g : ℕ) (some : 0 < g) (fits : g < 2 ^ 64) (body : List
     body = body;
     spells = spells;
     tail = tail;
-    is = split h Two g some fits body body_fits spells (v.seen side) tail is;
+    is = split h Two g some fits body body_fits spells (all_of_two h.entries) (v.seen side) tail is;
   }
 
   log_stands : Stands (empty_log side (25 + length body)) [] v
   log_stands = record {
     tells =
-        subst (λ (l : List ℕ). Tells [] l) (sym (new_log h Two g some fits body body_fits spells (v.seen side) tail is))
-        (closed_log h Two g some fits body body_fits spells (v.seen side) tail is);
+        subst (λ (l : List ℕ). Tells [] l) (sym (new_log h Two g some fits body body_fits spells (all_of_two h.entries) (v.seen side) tail is))
+        (closed_log h Two g some fits body body_fits spells (all_of_two h.entries) (v.seen side) tail is);
     end = omega (arith, ap (λ (l : List ℕ). length l) spelled-none);
     settled = settled side;
   }
@@ -89,7 +90,7 @@ module _ (h : History) (g : ℕ) (some : 0 < g) (fits : g < 2 ^ 64) (body : List
     standing = standing;
     in_use = in_use;
     form_is = form_is;
-    generation_is = new_generation h Two g some fits body body_fits spells (v.seen side) tail is;
+    generation_is = new_generation h Two g some fits body body_fits spells (all_of_two h.entries) (v.seen side) tail is;
     start = ap (λ (b : List ℕ). 25 + length b) (sym body_is);
     stands = subst (λ (gs : List (List EntryValue)). Stands (empty_log side (25 + length body)) (map group gs) v) (sym none) log_stands;
   }
@@ -120,7 +121,7 @@ module _ (h : History) (bytes body : List ℕ) (bytes_are : bytes ≡ made_of Tw
   first_fresh made =
       let is = first_bytes made.tail made.is in
       fresh_by h 1 (omega arith) one_fits body body_fits spells new made.settled Left made.tail is
-      (first_side h old.seen none Two body body_fits spells new.seen made.other_stays made.tail is) refl refl refl refl
+      (first_side h old.seen none Two body body_fits spells (all_of_two h.entries) new.seen made.other_stays made.tail is) refl refl refl refl
 
   pub first_alone : Made Left bytes old new → HasBodyAlone 1 h (new.seen Left)
   first_alone made = body_alone h 1 (omega arith) one_fits body body_fits spells new made.settled Left made.tail (first_bytes made.tail made.is)
@@ -128,7 +129,7 @@ module _ (h : History) (bytes body : List ℕ) (bytes_are : bytes ≡ made_of Tw
   pub first_moments : LeavesOnly old new (Keeps Left old (Making bytes)) → LeavesOnly old new (StandsForNoneOr h)
   first_moments run =
       weakened old new (Keeps Left old (Making bytes)) (StandsForNoneOr h) run (λ c keeps.
-      stands_or_none h old.seen none Two body body_fits spells c keeps.other_stays
+      stands_or_none h old.seen none Two body body_fits spells (all_of_two h.entries) c keeps.other_stays
       (subst (λ (b : List ℕ). Making b (old.seen Left) (c Left)) bytes_are keeps.this))
 
 -- the first side of an empty warehouse, from before the files were synced on
@@ -162,7 +163,7 @@ module _ (h : History) (g : ℕ) (fits : g < 2 ^ 64) (bytes body : List ℕ) (by
   newer_moments : LeavesOnly old new (Keeps next old (Making bytes)) → LeavesOnly old new (StandsFor h)
   newer_moments run =
       weakened old new (Keeps next old (Making bytes)) (StandsFor h) run (λ c keeps.
-      stands_while h old.seen standing Two g newer fits body body_fits spells c (used_stays c keeps.other_stays)
+      stands_while h old.seen standing Two g newer fits body body_fits spells (all_of_two h.entries) c (used_stays c keeps.other_stays)
       (subst (λ (b : List ℕ). Making b (old.seen next) (c next)) bytes_are keeps.this))
 
   newer_bytes : (tail : List ℕ) → new.seen next ≡ 1 ∷ (bytes ++ tail) → new.seen next ≡ 1 ∷ ((made_of Two g body ++ 0 ∷ []) ++ tail)
@@ -173,7 +174,7 @@ module _ (h : History) (g : ℕ) (fits : g < 2 ^ 64) (bytes body : List ℕ) (by
   newer_fresh made =
       let is = newer_bytes made.tail made.is in
       fresh_by h g (omega (arith, newer)) fits body body_fits spells new made.settled next made.tail is
-      (stands_new h old.seen standing Two g newer fits body body_fits spells new.seen (used_stays new.seen made.other_stays) made.tail is) refl refl refl refl
+      (stands_new h old.seen standing Two g newer fits body body_fits spells (all_of_two h.entries) new.seen (used_stays new.seen made.other_stays) made.tail is) refl refl refl refl
 
   newer_alone : Made next bytes old new → HasBodyAlone g h (new.seen next)
   newer_alone made = body_alone h g (omega (arith, newer)) fits body body_fits spells new made.settled next made.tail (newer_bytes made.tail made.is)

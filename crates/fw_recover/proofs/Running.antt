@@ -12,7 +12,7 @@ use Rattle.fw_snapshot.specs.declared.verdict.Verdict.TheVariants as verdict
 use Rattle.fw_snapshot.specs.Judging.{judged}
 use Rattle.fw_snapshot.proofs.VerdictFacts.{as_many}
 use Rattle.fw_recover.specs.declared.fault.StoreFault.{StoreFault}
-use Rattle.fw_recover.specs.declared.fault.StoreFault.TheVariants.{NoHouse, Corrupt, Device, Failed, Generations, TooLarge, Exists, NoMemory}
+use Rattle.fw_recover.specs.declared.fault.StoreFault.TheVariants.{NoHouse, Corrupt, Device, Failed, Generations, TooLarge, Exists, OldSide, NoMemory}
 use Rattle.fw_recover.specs.Stands.{StandsFor, StandsForNone, StandsForEither}
 use Rattle.fw_recover.specs.Corrupt.{CorruptAt}
 use Rattle.fw_recover.specs.Opening.{IsOpenFault}
@@ -82,6 +82,7 @@ device_or_memory c h Failed stands which none corrupt = absurd which
 device_or_memory c h Generations stands which none corrupt = absurd which
 device_or_memory c h TooLarge stands which none corrupt = absurd which
 device_or_memory c h Exists stands which none corrupt = absurd which
+device_or_memory c h OldSide stands which none corrupt = absurd which
 device_or_memory c h NoMemory stands which none corrupt = inr refl
 
 -- they are opened, unless the device fails or memory runs out

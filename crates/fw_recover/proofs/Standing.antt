@@ -12,7 +12,8 @@ use Rattle.fw_entry.specs.Entry.{EntryValue}
 use Rattle.fw_entry_bytes.specs.declared.form.Form.{Form}
 use Rattle.fw_journal.specs.Frames.{Tells}
 use Rattle.fw_journal.proofs.Spelling.{spelled-none}
-use Rattle.fw_segment.specs.Groups.{IsGroup}
+use Rattle.fw_entry_bytes.specs.Forms.{IsOfForm}
+use Rattle.fw_segment.specs.Groups.{IsGroupOf}
 use Rattle.fw_segment.specs.States.{Spells}
 use Rattle.fw_snapshot.specs.History.{History}
 use Rattle.fw_snapshot.specs.Verdicts.{with_more}
@@ -64,7 +65,7 @@ not_open file closed is = closed is.gate
 
 -- ---- a side that is whole
 
-module _ (h : History) (form : Form) (g : ℕ) (some : 0 < g) (fits : g < 2 ^ 64) (body : List ℕ) (body_fits : length body < 2 ^ 64) (spells : Spells body h) (n tail : List ℕ)
+module _ (h : History) (form : Form) (g : ℕ) (some : 0 < g) (fits : g < 2 ^ 64) (body : List ℕ) (body_fits : length body < 2 ^ 64) (spells : Spells body h) (of_form : IsOfForm form h.entries) (n tail : List ℕ)
     (is : n ≡ 1 ∷ ((made_of form g body ++ 0 ∷ []) ++ tail)) where
   pub split : n ≡ 1 ∷ (made_of form g body ++ 0 ∷ tail)
   split = is ∙ ap (λ (l : List ℕ). 1 ∷ l) (append_assoc (made_of form g body) (0 ∷ []) tail)
@@ -93,8 +94,9 @@ module _ (h : History) (form : Form) (g : ℕ) (some : 0 < g) (fits : g < 2 ^ 64
     is = split ∙ ap (λ (k : ℕ). 1 ∷ (made_of form k body ++ 0 ∷ tail)) (sym new_generation);
     state = h;
     spells = spells;
+    of_form = of_form;
     groups = [];
-    each = All-nil IsGroup;
+    each = All-nil (IsGroupOf form);
     tells = closed_log;
     is_history = no_more h;
     legal = spells.history.legal;
@@ -137,7 +139,7 @@ module _ (h : History) (old : Image) (used : StandsFor h old) where
       (still_sound (old (other u)) n torn was.0, subst (λ (g : ℕ). g < generation_of (old u)) (sym (same_generation (old (other u)) n torn)) was.1)
 
   -- ---- the other side is whole and newer
-  module _ (form : Form) (g : ℕ) (newer : generation_of (old u) < g) (fits : g < 2 ^ 64) (body : List ℕ) (body_fits : length body < 2 ^ 64) (spells : Spells body h) where
+  module _ (form : Form) (g : ℕ) (newer : generation_of (old u) < g) (fits : g < 2 ^ 64) (body : List ℕ) (body_fits : length body < 2 ^ 64) (spells : Spells body h) (of_form : IsOfForm form h.entries) where
     abbrev bytes : List ℕ
     bytes = made_of form g body ++ 0 ∷ []
 
@@ -146,17 +148,17 @@ module _ (h : History) (old : Image) (used : StandsFor h old) where
 
     unfoldable pub stands_new : (c : Image) → c u ≡ old u → (tail : List ℕ) → c (other u) ≡ 1 ∷ (bytes ++ tail) → StandsFor h c
     stands_new c same tail is =
-        let generation = new_generation h form g some fits body body_fits spells (c (other u)) tail is in
+        let generation = new_generation h form g some fits body body_fits spells of_form (c (other u)) tail is in
         record {
           side = other u;
           newest = record {
             sound =
                 by_side (λ s. IsOpen (c s) → IsSound (c s)) u (subst (λ (l : List ℕ). IsOpen l → IsSound l) (sym same) (used.newest.sound u))
-                (λ _. new_sound h form g some fits body body_fits spells (c (other u)) tail is);
-            is_open = new_open h form g some fits body body_fits spells (c (other u)) tail is;
+                (λ _. new_sound h form g some fits body body_fits spells of_form (c (other u)) tail is);
+            is_open = new_open h form g some fits body body_fits spells of_form (c (other u)) tail is;
             newest = λ _. subst (λ (s : Side). generation_of (c s) < generation_of (c (other u))) (sym (other_other u)) (omega (arith, newer, generation, ap (λ (l : List ℕ). generation_of l) same));
           };
-          tells = new_tells h form g some fits body body_fits spells (c (other u)) tail is;
+          tells = new_tells h form g some fits body body_fits spells of_form (c (other u)) tail is;
         }
 
     -- each image of the making stands for the warehouse
@@ -170,7 +172,7 @@ module _ (h : History) (old : Image) (used : StandsFor h old) where
 
 -- ---- the first side of all
 
-module _ (h : History) (old : Image) (none : StandsForNone old) (form : Form) (body : List ℕ) (body_fits : length body < 2 ^ 64) (spells : Spells body h) where
+module _ (h : History) (old : Image) (none : StandsForNone old) (form : Form) (body : List ℕ) (body_fits : length body < 2 ^ 64) (spells : Spells body h) (of_form : IsOfForm form h.entries) where
   pub one_fits : 1 < 2 ^ 64
   one_fits = omega arith
 
@@ -183,12 +185,12 @@ module _ (h : History) (old : Image) (none : StandsForNone old) (form : Form) (b
     side = Left;
     newest = record {
       sound = by_side (λ s. IsOpen (c s) → IsSound (c s)) Left
-          (λ _. new_sound h form 1 (omega arith) one_fits body body_fits spells (c Left) tail is)
+          (λ _. new_sound h form 1 (omega arith) one_fits body body_fits spells of_form (c Left) tail is)
           (λ is_open. absurd (none Right (subst (λ (l : List ℕ). IsOpen l) same is_open)));
-      is_open = new_open h form 1 (omega arith) one_fits body body_fits spells (c Left) tail is;
+      is_open = new_open h form 1 (omega arith) one_fits body body_fits spells of_form (c Left) tail is;
       newest = λ is_open. absurd (none Right (subst (λ (l : List ℕ). IsOpen l) same is_open));
     };
-    tells = new_tells h form 1 (omega arith) one_fits body body_fits spells (c Left) tail is;
+    tells = new_tells h form 1 (omega arith) one_fits body body_fits spells of_form (c Left) tail is;
   }
 
   still_none : (c : Image) → Closing (old Left) (c Left) → IsOpen (c Left) → ⊥

@@ -8,7 +8,7 @@ use Rattle.fw_entry_bytes.specs.Whole.{whole}
 use Rattle.fw_entry_bytes.proofs.WholeFormat.{whole_again}
 use Rattle.fw_journal.specs.Frames.{sized, open_frame, spelled, IsFit, AllFit, IsBroken}
 use Rattle.fw_journal.proofs.Spelling.{sized_one, spelled-cons, shut_no_frame}
-use Rattle.fw_segment.specs.Groups.{group, group_at, IsGroup}
+use Rattle.fw_segment.specs.Groups.{group, group_at, IsGroupOf}
 use Rattle.fw_segment.specs.States.{state_at}
 use Rattle.fw_segment.proofs.SegmentFormat.{group_format}
 use Rattle.fw_segment.proofs.Decoded.{one_spelling}
@@ -38,11 +38,11 @@ frame_one p q a b bytes fp fq is also =
     let both : 1 ∷ (sized p ++ a) ≡ 1 ∷ (sized q ++ b) = sym is ∙ also in
     sized_one p q a b fp fq (ap (λ (l : List ℕ). drop 1 l) both)
 
-group_one : (form : Form) (g h : List EntryValue) → IsGroup g → IsGroup h → group g ≡ group h → g ≡ h
+group_one : (form : Form) (g h : List EntryValue) → IsGroupOf form g → IsGroupOf form h → group g ≡ group h → g ≡ h
 group_one form g h is also same = one_spelling (group_format form) (group_format form) g h is also same
 
 -- a bad frame isn't that of a group that goes behind
-not_bad : (form : Form) (entries g : List EntryValue) (rest bytes : List ℕ) → IsGroup g → IsFit (group g) → IsLegalAfter entries g
+not_bad : (form : Form) (entries g : List EntryValue) (rest bytes : List ℕ) → IsGroupOf form g → IsFit (group g) → IsLegalAfter entries g
     → bytes ≡ open_frame (group g) ++ rest → IsBadFrame form entries bytes → ⊥
 not_bad form entries g rest bytes is fit legal stands bad =
     let same : bad.0 ≡ group g = (frame_one bad.0 (group g) bad.1 rest bytes bad.2 fit bad.3 stands).0 in
@@ -52,7 +52,7 @@ not_bad form entries g rest bytes is fit legal stands bad =
       | inr illegal ↦ (let one : g ≡ illegal.0 = (let both = sym read ∙ illegal.1 in cc) in illegal.2 (subst (λ (es : List EntryValue). IsLegalAfter entries es) one legal))
     ]
 
-goes_on : (form : Form) (entries g : List EntryValue) (rest bytes : List ℕ) → IsGroup g → IsFit (group g) → IsLegalAfter entries g
+goes_on : (form : Form) (entries g : List EntryValue) (rest bytes : List ℕ) → IsGroupOf form g → IsFit (group g) → IsLegalAfter entries g
     → bytes ≡ open_frame (group g) ++ rest → Stops form entries bytes → ⊥
 goes_on form entries g rest bytes is fit legal stands (inl closed) = shut_no_frame closed.gate closed.rest closed.shut (group g) rest fit (sym closed.is ∙ stands)
 goes_on form entries g rest bytes is fit legal stands (inr (inl broken)) = broken.no_frame (group g) rest fit stands
@@ -60,14 +60,14 @@ goes_on form entries g rest bytes is fit legal stands (inr (inr bad)) = not_bad 
 
 -- groups that stand from here on, and go behind the entries, up to where none goes on
 pub record Goes (form : Form) (entries : List EntryValue) (groups : List (List EntryValue)) (end : List ℕ) : Type 0 where
-  pub each : All IsGroup groups
+  pub each : All (IsGroupOf form) groups
   pub fit : AllFit (map group groups)
   pub legal : IsLegalAfter entries (joined groups)
   pub stops : Stops form (entries ++ joined groups) end
 
 goes_tail : (form : Form) (entries g : List EntryValue) (gs : List (List EntryValue)) (end : List ℕ) → Goes form entries (g ∷ gs) end → Goes form (entries ++ g) gs end
 goes_tail form entries g gs end w = record {
-  each = All-tail IsGroup g gs w.each;
+  each = All-tail (IsGroupOf form) g gs w.each;
   fit = w.fit.1;
   legal = (legal_parts entries g (joined gs) w.legal).1;
   stops = subst (λ (es : List EntryValue). Stops form es end) (sym (append_assoc entries g (joined gs))) w.stops;
@@ -77,7 +77,7 @@ goes_tail form entries g gs end w = record {
 no_groups : (form : Form) (entries h : List EntryValue) (hs : List (List EntryValue)) (x y bytes : List ℕ) → Goes form entries [] x → Goes form entries (h ∷ hs) y
     → bytes ≡ x → bytes ≡ spelled (group h ∷ map group hs) ++ y → ⊥
 no_groups form entries h hs x y bytes none some is also =
-    goes_on form entries h (spelled (map group hs) ++ y) x (All-head IsGroup h hs some.each) some.fit.0 (legal_parts entries h (joined hs) some.legal).0
+    goes_on form entries h (spelled (map group hs) ++ y) x (All-head (IsGroupOf form) h hs some.each) some.fit.0 (legal_parts entries h (joined hs) some.legal).0
     (sym is ∙ also ∙ spelled-cons (group h) (map group hs) y)
     (subst (λ (es : List EntryValue). Stops form es x) (append-nil entries) none.stops)
 
@@ -90,7 +90,7 @@ goes_one form entries (g ∷ gs) [] x y bytes a b is also = absurd (no_groups fo
 goes_one form entries (g ∷ gs) (h ∷ hs) x y bytes a b is also =
     let first = frame_one (group g) (group h) (spelled (map group gs) ++ x) (spelled (map group hs) ++ y) bytes a.fit.0 b.fit.0
     (is ∙ spelled-cons (group g) (map group gs) x) (also ∙ spelled-cons (group h) (map group hs) y) in
-    let same : g ≡ h = group_one form g h (All-head IsGroup g gs a.each) (All-head IsGroup h hs b.each) first.0 in
+    let same : g ≡ h = group_one form g h (All-head (IsGroupOf form) g gs a.each) (All-head (IsGroupOf form) h hs b.each) first.0 in
     let others = goes_one form (entries ++ g) gs hs x y (spelled (map group gs) ++ x) (goes_tail form entries g gs x a)
     (subst (λ (es : List EntryValue). Goes form (entries ++ es) hs y) (sym same) (goes_tail form entries h hs y b))
     refl first.1 in
@@ -123,7 +123,7 @@ tells_walks generation h file t =
     let legal : IsLegal (t.state.entries ++ joined t.groups) = subst (λ (k : History). IsLegal k.entries) t.is_history t.legal in
     record {
       magic_is = made_magic t.form generation t.body t.log file t.is;
-      read = ap (λ (l : List ℕ). state_at t.form l) (made_body t.form generation t.body t.log file t.fits t.is) ∙ state_again t.form t.body t.state t.spells;
+      read = ap (λ (l : List ℕ). state_at t.form l) (made_body t.form generation t.body t.log file t.fits t.is) ∙ state_again t.form t.body t.state t.spells t.of_form;
       is = made_log t.form generation t.body t.log file t.fits t.is ∙ t.tells.is;
       goes = record {
         each = t.each;

@@ -7,7 +7,7 @@ use Rattle.fw_snapshot.specs.History.{History}
 use Rattle.fw_snapshot.specs.Verdicts.{verdicts_on, accepted_of, with_more}
 use Rattle.fw_snapshot.specs.declared.verdict.Verdict.{Verdict}
 use Rattle.fw_recover.specs.declared.fault.StoreFault.{StoreFault}
-use Rattle.fw_recover.specs.declared.fault.StoreFault.TheVariants.{Device, Failed, TooLarge, NoMemory}
+use Rattle.fw_recover.specs.declared.fault.StoreFault.TheVariants.{Device, Failed, TooLarge, OldSide, NoMemory}
 use Rattle.fw_recover.specs.Stands.{StandsFor, EachStandsFor}
 use Rattle.fw_recover.specs.Store.{StoreState}
 
@@ -65,7 +65,7 @@ pub record Lost {V : Type 0} (old new : StoreState V) : Type 0 where
 
 -- the faults of the calls that add entries
 abbrev pub IsCommitFault : StoreFault → Type 0
-IsCommitFault fault = (fault ≡ Device) ⊎ ((fault ≡ Failed) ⊎ ((fault ≡ TooLarge) ⊎ (fault ≡ NoMemory)))
+IsCommitFault fault = (fault ≡ Device) ⊎ ((fault ≡ Failed) ⊎ ((fault ≡ OldSide) ⊎ ((fault ≡ TooLarge) ⊎ (fault ≡ NoMemory))))
 
 -- the warehouse with those that it accepts of the first n entries
 abbrev pub with_first : History → ℕ → List EntryValue → History

@@ -9,7 +9,7 @@ use Rattle.fw_entry.specs.Entry.{EntryValue}
 use Rattle.fw_entry_bytes.specs.declared.form.Form.{Form}
 use Rattle.fw_entry_bytes.specs.Whole.{whole}
 use Rattle.fw_journal.specs.Frames.{open_frame, IsFit, IsBroken, Walked}
-use Rattle.fw_segment.specs.Groups.{group, group_at, IsGroup}
+use Rattle.fw_segment.specs.Groups.{group, group_at, IsGroupOf}
 use Rattle.fw_segment.specs.States.{state_at}
 use Rattle.fw_snapshot.specs.History.{History}
 use Rattle.fw_snapshot.specs.Judging.{IsLegal, IsLegalAfter}
@@ -52,7 +52,7 @@ IsBadFrame form entries bytes = (payload : List ℕ) × (rest : List ℕ) × IsF
 pub record LogBreaks (form : Form) (state : History) (start at : ℕ) (file : List ℕ) : Type 0 where
   pub walked : Walked start at file
   pub groups : List (List EntryValue)
-  pub each : All IsGroup groups
+  pub each : All (IsGroupOf form) groups
   pub payloads : walked.passed ≡ map group groups
   pub legal : IsLegal (state.entries ++ joined groups)
   pub breaks : IsBroken (drop at file) ⊎ IsBadFrame form (state.entries ++ joined groups) (drop at file)

@@ -7,13 +7,13 @@ use Rattle.fw_entry_bytes.specs.Whole.{whole}
 use Rattle.fw_journal.specs.Frames.{spelled, AllFit}
 use Rattle.fw_journal.specs.declared.fault.LogFault.{LogFault}
 use Rattle.fw_journal.specs.declared.fault.LogFault.TheVariants as faults
-use Rattle.fw_segment.specs.Groups.{group, group_at, IsGroup}
+use Rattle.fw_segment.specs.Groups.{group, group_at, IsGroupOf}
 use Rattle.fw_segment.specs.States.{state_at}
 use Rattle.fw_snapshot.specs.History.{History}
 use Rattle.fw_snapshot.specs.Judging.{IsLegal, IsLegalAfter}
 use Rattle.fw_snapshot.specs.Verdicts.{with_more}
 use Rattle.fw_recover.specs.declared.fault.StoreFault.{StoreFault}
-use Rattle.fw_recover.specs.declared.fault.StoreFault.TheVariants.{NoHouse, Corrupt, Device, Failed, Generations, TooLarge, Exists, NoMemory}
+use Rattle.fw_recover.specs.declared.fault.StoreFault.TheVariants.{NoHouse, Corrupt, Device, Failed, Generations, TooLarge, Exists, OldSide, NoMemory}
 use Rattle.fw_recover.specs.Stands.{joined}
 
 -- the faults of opening: of reading, of what the files hold, and of memory. The others come from calls that write
@@ -25,6 +25,7 @@ IsOpenFault Failed = ⊥
 IsOpenFault Generations = ⊥
 IsOpenFault TooLarge = ⊥
 IsOpenFault Exists = ⊥
+IsOpenFault OldSide = ⊥
 IsOpenFault NoMemory = ⊤
 
 -- the fault of a log that is read on a side, as that of a store
@@ -46,10 +47,10 @@ GoesNotBehind form entries payload =
     ((left : ℕ) × (whole (group_at form) payload ≡ Err left))
     ⊎ ((es : List EntryValue) × (whole (group_at form) payload ≡ Ok es) × (IsLegalAfter entries es → ⊥))
 
--- the payload is that of a group which goes behind the warehouse, and this is the warehouse with it
-pub record GoesBehind (h : History) (payload : List ℕ) (next : History) : Type 0 where
+-- the payload is that of a group of the form which goes behind the warehouse, and this is the warehouse with it
+pub record GoesBehind (form : Form) (h : History) (payload : List ℕ) (next : History) : Type 0 where
   pub more : List EntryValue
-  pub is_group : IsGroup more
+  pub is_group : IsGroupOf form more
   pub spelled : payload ≡ group more
   pub legal : IsLegalAfter h.entries more
   pub is : next ≡ with_more h more
@@ -57,12 +58,12 @@ pub record GoesBehind (h : History) (payload : List ℕ) (next : History) : Type
 -- the warehouse with the group of a payload, which is of the form
 abbrev pub IsWithGroup : Form → History → List ℕ → Option History → Type 0
 IsWithGroup form h payload None = GoesNotBehind form h.entries payload
-IsWithGroup form h payload (Some next) = GoesBehind h payload next
+IsWithGroup form h payload (Some next) = GoesBehind form h payload next
 
--- from the first gate of a log up to this one stand the frames of the groups that made a state into this warehouse
-pub record HasGroups (state : History) (start gate : ℕ) (file : List ℕ) (now : History) : Type 0 where
+-- from the first gate of a log up to this one stand the frames of the groups, all of the form, that made a state into this warehouse
+pub record HasGroups (form : Form) (state : History) (start gate : ℕ) (file : List ℕ) (now : History) : Type 0 where
   pub groups : List (List EntryValue)
-  pub each : All IsGroup groups
+  pub each : All (IsGroupOf form) groups
   pub is : drop start file ≡ spelled (map group groups) ++ drop gate file
   pub fit : AllFit (map group groups)
   pub place : gate ≡ start + length (spelled (map group groups))

@@ -5,7 +5,8 @@ use Rattle.fw_disk.specs.Volume.{Image, View, other}
 use Rattle.fw_entry.specs.Entry.{EntryValue}
 use Rattle.fw_entry_bytes.specs.declared.form.Form.{Form}
 use Rattle.fw_journal.specs.Frames.{Tells}
-use Rattle.fw_segment.specs.Groups.{group, IsGroup}
+use Rattle.fw_entry_bytes.specs.Forms.{IsOfForm}
+use Rattle.fw_segment.specs.Groups.{group, IsGroupOf}
 use Rattle.fw_segment.specs.States.{Spells}
 use Rattle.fw_snapshot.specs.History.{History}
 use Rattle.fw_snapshot.specs.Judging.{IsLegal}
@@ -18,8 +19,8 @@ joined [] = []
 joined (g ∷ groups) = g ++ joined groups
 
 -- An open side holds a warehouse: its body spells a state, the payloads of its log spell groups, and the warehouse is that
--- state with the entries of all groups after it, each of which was accepted after those before it. Behind the closed gate there
--- may be any bytes.
+-- state with the entries of all groups after it, each of which was accepted after those before it. The form that its magic word
+-- names has each of these entries. Behind the closed gate there may be any bytes.
 pub record SideTells (generation : ℕ) (h : History) (file : List ℕ) : Type 0 where
   pub form : Form
   pub body : List ℕ
@@ -28,8 +29,9 @@ pub record SideTells (generation : ℕ) (h : History) (file : List ℕ) : Type 0
   pub is : file ≡ 1 ∷ (made_of form generation body ++ log)
   pub state : History
   pub spells : Spells body state
+  pub of_form : IsOfForm form state.entries
   pub groups : List (List EntryValue)
-  pub each : All IsGroup groups
+  pub each : All (IsGroupOf form) groups
   pub tells : Tells (map group groups) log
   pub is_history : h ≡ with_more state (joined groups)
   pub legal : IsLegal h.entries

@@ -2,7 +2,7 @@
 ghost use Rattle.std.specs.Prelude.{◌≡◌, ◌⊎◌, ◌↔◌, ◌+◌, ◌-◌, ◌^◌, ◌≤◌, ℕ, length, false, true, IfOk, OnOk, OnErr, IsErrOf, IsTrue};
 ghost use Rattle.fw_disk.specs.declared.volume.Side.{Side};
 ghost use Rattle.fw_disk.specs.Volume.{Rose, LeavesOnly};
-ghost use Rattle.fw_recover.specs.declared.fault.StoreFault.TheVariants.{NoHouse, Corrupt, Device, Failed, Generations, NoMemory, TooLarge, Exists};
+ghost use Rattle.fw_recover.specs.declared.fault.StoreFault.TheVariants.{NoHouse, Corrupt, Device, Failed, Generations, NoMemory, TooLarge, Exists, OldSide};
 ghost use Rattle.fw_recover.specs.Stands.{StandsFor, EachStandsFor};
 ghost use Rattle.fw_recover.specs.Checkpoints.{HasNoRoomFor, IsCheckpointed};
 ghost use Rattle.fw_recover.specs.Making.{SpellsSide};
@@ -40,6 +40,7 @@ impl<V: Volume> Store<V> {
         ensures not_no_house { IsErrOf result NoHouse → ⊥ }
         ensures not_corrupt { (side : Side) (at : ℕ) → IsErrOf result (Corrupt side at) → ⊥ }
         ensures not_exists { IsErrOf result Exists → ⊥ }
+        ensures not_old_side { IsErrOf result OldSide → ⊥ }
         ensures later { (V.view self.old.volume).failures ≤ (V.view self.new.volume).failures }
         ensures limit { (V.view self.new.volume).limit ≡ (V.view self.old.volume).limit }
     {

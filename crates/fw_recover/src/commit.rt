@@ -2,11 +2,12 @@
 ghost use Rattle.std.specs.Prelude.{◌≡◌, ◌⊎◌, ◌↔◌, ◌+◌, ◌<◌, ◌≤◌, true, false, [], ◌∷◌, length, IsSome, IfSome, IfNone, IsOk, IsErr, IfOk, IfErr, OnOk, OnErr, IsErrOf, IsTrue};
 ghost use Rattle.fw_disk.specs.Volume.{LeavesOnly, Rose};
 ghost use Rattle.fw_journal.specs.Frames.{IsFit};
+ghost use Rattle.fw_entry_bytes.specs.Forms.{has_entry, IsOfForm};
 ghost use Rattle.fw_segment.specs.Groups.{group, IsGroup};
 ghost use Rattle.fw_snapshot.specs.Judging.{judged};
 ghost use Rattle.fw_snapshot.specs.Verdicts.{taken, verdicts_on, accepted_of};
 ghost use Rattle.fw_snapshot.specs.declared.verdict.Verdict.TheVariants.{Accept};
-ghost use Rattle.fw_recover.specs.declared.fault.StoreFault.TheVariants.{Device, Failed, TooLarge};
+ghost use Rattle.fw_recover.specs.declared.fault.StoreFault.TheVariants.{Device, Failed, TooLarge, OldSide};
 ghost use Rattle.fw_recover.specs.Stands.{StandsFor, StandsForEither};
 ghost use Rattle.fw_recover.specs.Opening.{GoesBehind};
 ghost use Rattle.fw_recover.specs.Committing.{prepared_on, HasNoRoom, Committed, Appended, Lost, IsCommitFault};
@@ -26,7 +27,8 @@ impl<V: Volume> Store<V> {
     ///
     /// # Errors
     /// `Failed` where an earlier call ended with `Device`, whatever the entry is; then, for an entry that is accepted,
-    /// `TooLarge` where the volume has no room for it, or `NoMemory`. These change nothing. `Device` where a write or a sync
+    /// `OldSide` where the form of the side in use doesn't have it, then `TooLarge` where the volume has no room for it, or
+    /// `NoMemory`. These change nothing. `Device` where a write or a sync
     /// failed: the state is as it was, the files have the entry or not, and every later call that writes is `Failed`.
     pub fn commit(&mut self, alloc: Global, entry: &Entry) -> Result<Verdict, StoreFault>
         ensures any_moment { IsTrue V.tells → self.old.failed ≡ false
@@ -37,6 +39,7 @@ impl<V: Volume> Store<V> {
         ensures lost { IsErrOf result Device → Lost self.old self.new }
 
         ensures failed { IsErrOf result Failed ↔ (self.old.failed ≡ true) }
+        ensures old_side { IsErrOf result OldSide ↔ ((self.old.failed ≡ false) × (judged self.old.history.entries entry.now ≡ Accept) × (has_entry self.old.form entry.now ≡ false)) }
         ensures too_large { IsErrOf result TooLarge → HasNoRoom (V.view self.old.volume).limit self.old (taken self.old.history.entries entry.now) }
         ensures fits { IsOk result → HasNoRoom (V.view self.old.volume).limit self.old (taken self.old.history.entries entry.now) → ⊥ }
         ensures accepted { IsErrOf result Device → judged self.old.history.entries entry.now ≡ Accept }
@@ -51,6 +54,9 @@ impl<V: Volume> Store<V> {
         }
         let verdict = judge(self.snapshot.state(), entry);
         if let Verdict::Accept = verdict {
+            if !self.form.has_entry(entry) {
+                return Err(StoreFault::OldSide);
+            }
             self.add(alloc, entry)?;
         }
         Ok(verdict)
@@ -61,8 +67,9 @@ impl<V: Volume> Store<V> {
     /// be 1 to 64, of at most 8,388,608 bytes as a group. Where none is accepted nothing is written, so `Device` never comes.
     ///
     /// # Errors
-    /// `Failed` where an earlier call ended with `Device`; then `TooLarge` where the volume has no room for the group, or
-    /// `NoMemory`. These change nothing. `Device` where a write or a sync failed: the state is as it was, the files have all
+    /// `Failed` where an earlier call ended with `Device`; then `OldSide` where the form of the side in use doesn't have an
+    /// accepted entry, then `TooLarge` where the volume has no room for the group, or `NoMemory` in place of these two. These
+    /// change nothing. `Device` where a write or a sync failed: the state is as it was, the files have all
     /// accepted entries or none, and every later call that writes is `Failed`.
     pub fn commit_group(
         &mut self,
@@ -80,6 +87,9 @@ impl<V: Volume> Store<V> {
         ensures lost { IsErrOf result Device → Lost self.old self.new }
 
         ensures failed { IsErrOf result Failed ↔ (self.old.failed ≡ true) }
+        ensures old_side { IsErrOf result OldSide → IsOfForm self.old.form (accepted_of self.old.history.entries entries.now) → ⊥ }
+        ensures of_form { IsOk result → IsOfForm self.old.form (accepted_of self.old.history.entries entries.now) }
+        ensures before_too_large { IsErrOf result TooLarge → IsOfForm self.old.form (accepted_of self.old.history.entries entries.now) }
         ensures too_large { IsErrOf result TooLarge → HasNoRoom (V.view self.old.volume).limit self.old (accepted_of self.old.history.entries entries.now) }
         ensures fits { IsOk result → HasNoRoom (V.view self.old.volume).limit self.old (accepted_of self.old.history.entries entries.now) → ⊥ }
         ensures accepted { IsErrOf result Device → 0 < length (accepted_of self.old.history.entries entries.now) }
@@ -98,8 +108,8 @@ impl<V: Volume> Store<V> {
     /// group.
     ///
     /// # Errors
-    /// `Failed` where an earlier call ended with `Device`; then `TooLarge` where the volume has no room for the group, or
-    /// `NoMemory`.
+    /// `Failed` where an earlier call ended with `Device`; then `OldSide` where the form of the side in use doesn't have an
+    /// accepted entry, then `TooLarge` where the volume has no room for the group, or `NoMemory` in place of these two.
     pub fn prepare(&self, alloc: Global, entries: &[Entry]) -> Result<Prepared, StoreFault>
         requires group { IsGroup entries.now }
         requires size { length (group entries.now) ≤ 8388608 }
@@ -107,6 +117,9 @@ impl<V: Volume> Store<V> {
         ensures prepared { IfOk result (λ p. p ≡ prepared_on self.now.history entries.now) }
         ensures room { IfOk result (λ p. HasNoRoom (V.view self.now.volume).limit self.now p.accepted → ⊥) }
         ensures failed { IsErrOf result Failed ↔ (self.now.failed ≡ true) }
+        ensures of_form { IfOk result (λ p. IsOfForm self.now.form p.accepted) }
+        ensures old_side { IsErrOf result OldSide → IsOfForm self.now.form (accepted_of self.now.history.entries entries.now) → ⊥ }
+        ensures before_too_large { IsErrOf result TooLarge → IsOfForm self.now.form (accepted_of self.now.history.entries entries.now) }
         ensures too_large { IsErrOf result TooLarge → HasNoRoom (V.view self.now.volume).limit self.now (accepted_of self.now.history.entries entries.now) }
         ensures not_device { IsErrOf result Device → ⊥ }
         ensures which { IfErr result IsCommitFault }
@@ -114,8 +127,11 @@ impl<V: Volume> Store<V> {
         if self.failed {
             return Err(StoreFault::Failed);
         }
-        let Ok(prepared) = Prepared::new(alloc, self.snapshot.state(), entries) else {
+        let Ok(prepared) = Prepared::new(alloc, self.form, self.snapshot.state(), entries) else {
             return Err(StoreFault::NoMemory);
+        };
+        let Some(prepared) = prepared else {
+            return Err(StoreFault::OldSide);
         };
         let len = prepared.payload.len() as u64;
         if len > 0 && len + 6 > self.volume.limit() - self.log.end() {
@@ -134,6 +150,7 @@ impl<V: Volume> Store<V> {
     pub fn write(&mut self, alloc: Global, prepared: Prepared) -> Result<Vec<Verdict>, StoreFault>
         requires before { prepared.before ≡ self.old.history }
         requires goes_on { self.old.failed ≡ false }
+        requires of_form { IsOfForm self.old.form prepared.accepted }
         requires room { HasNoRoom (V.view self.old.volume).limit self.old prepared.accepted → ⊥ }
 
         ensures any_moment { IsTrue V.tells → LeavesOnly (V.view self.old.volume) (V.view self.new.volume) (StandsForEither self.old.history prepared.accepted) }
@@ -145,6 +162,7 @@ impl<V: Volume> Store<V> {
         ensures device { IsErrOf result Device → Rose (V.view self.old.volume).failures (V.view self.new.volume).failures }
         ensures not_failed { IsErrOf result Failed → ⊥ }
         ensures not_too_large { IsErrOf result TooLarge → ⊥ }
+        ensures not_old_side { IsErrOf result OldSide → ⊥ }
         ensures which { IfErr result IsCommitFault }
         ensures later { (V.view self.old.volume).failures ≤ (V.view self.new.volume).failures }
         ensures limit { (V.view self.new.volume).limit ≡ (V.view self.old.volume).limit }
@@ -163,9 +181,10 @@ impl<V: Volume> Store<V> {
         Ok(verdicts)
     }
 
-    // Adds an entry that is accepted.
+    // Adds an entry that is accepted, and that the form of the side in use has.
     fn add(&mut self, alloc: Global, entry: &Entry) -> Result<(), StoreFault>
         requires goes_on { self.old.failed ≡ false }
+        requires of_form { has_entry self.old.form entry.now ≡ true }
         requires accepted { judged self.old.history.entries entry.now ≡ Accept }
 
         ensures any_moment { IsTrue V.tells → LeavesOnly (V.view self.old.volume) (V.view self.new.volume) (StandsForEither self.old.history (entry.now ∷ [])) }
@@ -174,6 +193,7 @@ impl<V: Volume> Store<V> {
         ensures lost { IsErrOf result Device → Lost self.old self.new }
 
         ensures not_failed { IsErrOf result Failed → ⊥ }
+        ensures not_old_side { IsErrOf result OldSide → ⊥ }
         ensures too_large { IsErrOf result TooLarge → HasNoRoom (V.view self.old.volume).limit self.old (entry.now ∷ []) }
         ensures fits { IsOk result → HasNoRoom (V.view self.old.volume).limit self.old (entry.now ∷ []) → ⊥ }
         ensures device { IsErrOf result Device → Rose (V.view self.old.volume).failures (V.view self.new.volume).failures }
@@ -222,7 +242,7 @@ impl<V: Volume> Store<V> {
     fn append(&mut self, alloc: Global, payload: &[u8], next: Snapshot) -> Result<(), StoreFault>
         requires goes_on { self.old.failed ≡ false }
         requires fit { IsFit payload.now }
-        requires goes { GoesBehind self.old.history payload.now next }
+        requires goes { GoesBehind self.old.form self.old.history payload.now next }
 
         ensures any_moment { IsTrue V.tells → LeavesOnly (V.view self.old.volume) (V.view self.new.volume) (λ c. StandsFor self.old.history c ⊎ StandsFor next c) }
         ensures done { OnOk result (Appended V.tells V.view self.old self.new payload.now next) }
@@ -230,6 +250,7 @@ impl<V: Volume> Store<V> {
         ensures lost { IsErrOf result Device → Lost self.old self.new }
 
         ensures not_failed { IsErrOf result Failed → ⊥ }
+        ensures not_old_side { IsErrOf result OldSide → ⊥ }
         ensures too_large { IsErrOf result TooLarge ↔ ((V.view self.old.volume).limit < self.old.log.end + 6 + length payload.now) }
         ensures device { IsErrOf result Device → Rose (V.view self.old.volume).failures (V.view self.new.volume).failures }
         ensures which { IfErr result IsCommitFault }

@@ -26,6 +26,10 @@ pub enum StoreFault {
     /// A warehouse stands on the volume already.
     #[error("S7 Exists")]
     Exists,
+    /// The side in use is of the first form, which an earlier version of the program wrote, and the form doesn't have an
+    /// entry that would be written. A checkpoint makes a side of the second form, which has each entry.
+    #[error("S8 OldSide")]
+    OldSide,
     /// The allocator refused a growth.
     #[error("NoMemory")]
     NoMemory,

@@ -6,7 +6,8 @@ ghost use Rattle.fw_disk.specs.Volume.{Image, LeavesOnly, Settled, other};
 ghost use Rattle.fw_entry.specs.Entry.{EntryValue};
 ghost use Rattle.fw_entry_bytes.specs.declared.form.Form.{Form};
 ghost use Rattle.fw_journal.specs.Frames.{Tells};
-ghost use Rattle.fw_segment.specs.Groups.{group, IsGroup};
+ghost use Rattle.fw_entry_bytes.specs.Forms.{IsOfForm};
+ghost use Rattle.fw_segment.specs.Groups.{group, IsGroupOf};
 ghost use Rattle.fw_segment.specs.States.{Spells};
 ghost use Rattle.fw_snapshot.specs.History.{History};
 ghost use Rattle.fw_snapshot.specs.Judging.{IsLegalAfter};
@@ -36,7 +37,7 @@ pub fn what_is_settled_stands_as_read<V: Volume>(volume: &V)
 
 /// While a side is made where no warehouse stands, each image stands for none, or for the new one.
 pub fn a_first_side_adds_a_warehouse_or_nothing()
-    ensures { (h : History) (old : Image) → StandsForNone old → (form : Form) (body : List ℕ) → length body < 2 ^ 64 → Spells body h
+    ensures { (h : History) (old : Image) → StandsForNone old → (form : Form) (body : List ℕ) → length body < 2 ^ 64 → Spells body h → IsOfForm form h.entries
         → (c : Image) → c Right ≡ old Right → Making (made_of form 1 body ++ 0 ∷ []) (old Left) (c Left) → StandsForNone c ⊎ StandsFor h c }
 {}
 
@@ -44,15 +45,15 @@ pub fn a_first_side_adds_a_warehouse_or_nothing()
 /// the body, each image stands for that warehouse: by the side in use until the other one is open, and then by the other.
 pub fn making_a_side_keeps_the_warehouse()
     ensures { (h : History) (old : Image) (standing : StandsFor h old) (form : Form) (generation : ℕ) (body : List ℕ)
-        → generation_of (old standing.side) < generation → generation < 2 ^ 64 → length body < 2 ^ 64 → Spells body h
+        → generation_of (old standing.side) < generation → generation < 2 ^ 64 → length body < 2 ^ 64 → Spells body h → IsOfForm form h.entries
         → (c : Image) → c standing.side ≡ old standing.side → Making (made_of form generation body ++ 0 ∷ []) (old (other standing.side)) (c (other standing.side)) → StandsFor h c }
 {}
 
 /// While a group is appended to the log of the side in use, each image stands for the warehouse as it was, or for it with
-/// all entries of the group: whatever else is behind the first gate of the log, and as long as all before it and the other
+/// all entries of the group, which the form of the side has: whatever else is behind the first gate of the log, and as long as all before it and the other
 /// side are as they were.
 pub fn an_append_adds_a_group_or_nothing()
-    ensures { (h : History) (old : Image) (standing : StandsFor h old) (more : List EntryValue) → IsGroup more → IsLegalAfter h.entries more
+    ensures { (h : History) (old : Image) (standing : StandsFor h old) (more : List EntryValue) → IsGroupOf standing.tells.form more → IsLegalAfter h.entries more
         → (c : Image) → c (other standing.side) ≡ old (other standing.side)
         → take (log_start_of (old standing.side)) (c standing.side) ≡ take (log_start_of (old standing.side)) (old standing.side)
         → Tells (map group standing.tells.groups) (drop (log_start_of (old standing.side)) (c standing.side))

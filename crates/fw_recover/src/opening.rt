@@ -2,6 +2,7 @@
 ghost use Rattle.std.specs.Prelude.{◌≡◌, ◌+◌, ◌<◌, ◌≤◌, ℕ, length, take, drop, OnOk, OnErr, IfOk, IfErr, IsErrOf, IsTrue};
 ghost use Rattle.fw_disk.specs.declared.volume.Side.{Side};
 ghost use Rattle.fw_disk.specs.Volume.{Rose, SameSizes, Calm};
+ghost use Rattle.fw_entry_bytes.specs.Forms.{IsOfForm};
 ghost use Rattle.fw_segment.specs.States.{Spells};
 ghost use Rattle.fw_recover.specs.declared.fault.StoreFault.TheVariants.{NoHouse, Corrupt, Device};
 ghost use Rattle.fw_recover.specs.Making.{AllSettled};
@@ -97,6 +98,7 @@ fn body_state<V: Volume>(
     requires { 25 + body_len < (V.view volume.old).size side }
 
     ensures found { IfOk result (λ state. IsTrue V.tells → Spells (take body_len (drop 25 ((V.view volume.old).seen side))) state) }
+    ensures of_form { IfOk result (λ state. IsOfForm form state.entries) }
     ensures corrupt { (at_side : Side) (at : ℕ) → IsErrOf result (Corrupt at_side at)
         → (at_side ≡ side) × (IsTrue V.tells → HasBadBody form body_len at ((V.view volume.old).seen side)) }
     ensures not_no_house { IsErrOf result NoHouse → ⊥ }

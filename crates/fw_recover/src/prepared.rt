@@ -1,9 +1,12 @@
 //! Entries that are judged, and spelled as a group, before anything of them is written.
-ghost use Rattle.std.specs.Prelude.{◌≡◌, ◌<◌, ◌≤◌, [], ◌∷◌, length, IfOk};
+ghost use Rattle.std.specs.Prelude.{◌≡◌, ◌<◌, ◌≤◌, [], ◌∷◌, false, length, true, IfNone, IfOk, IfSome};
+ghost use Rattle.std.specs.List.{list_all};
+ghost use Rattle.fw_entry_bytes.specs.Forms.{has_entry};
 ghost use Rattle.fw_segment.specs.Groups.{group, IsGroup};
 ghost use Rattle.fw_snapshot.specs.Verdicts.{verdicts_on, accepted_of, chosen, with_more};
 ghost use Rattle.fw_recover.specs.Committing.{payload_of, IsFrameable};
 
+use fw_entry_bytes::Form;
 use fw_segment::append_accepted;
 use fw_snapshot::{Entry, Snapshot, State, Verdict, judge};
 use std::alloc::{AllocError, Global};
@@ -37,31 +40,37 @@ impl Model for Prepared {
 impl Prepared {
     ghost use Rattle.fw_recover.specs.Committing.{prepared_on};
 
-    /// Entries that are judged in turn after those of a state, and all that is needed to add the accepted ones. The error
-    /// comes where memory ran out.
+    /// Entries that are judged in turn after those of a state, and all that is needed to add the accepted ones, where the form
+    /// has each of these. The error comes where memory ran out.
     pub(crate) fn new(
         alloc: Global,
+        form: Form,
         state: &State,
         entries: &[Entry],
-    ) -> Result<Prepared, AllocError>
+    ) -> Result<Option<Prepared>, AllocError>
         requires group { IsGroup entries.now }
         requires size { length (group entries.now) ≤ 8388608 }
 
-        ensures { IfOk result (λ p. p ≡ prepared_on state.now entries.now) }
+        ensures prepared { IfOk result (λ found. IfSome found (λ p. p ≡ prepared_on state.now entries.now)) }
+        ensures of_form { IfOk result (λ found. IfSome found (λ _. list_all (has_entry form) (accepted_of state.now.entries entries.now) ≡ true)) }
+        ensures old { IfOk result (λ found. IfNone found (list_all (has_entry form) (accepted_of state.now.entries entries.now) ≡ false)) }
     {
-        let (verdicts, next) = judge_all(alloc, state, entries)?;
+        let (verdicts, next, has_each) = judge_all(alloc, form, state, entries)?;
+        if !has_each {
+            return Ok(None);
+        }
         let before = state.entries();
         let accepted = next.entries() - before;
         let payload = group_of_accepted(alloc, accepted, entries, &verdicts)?;
         let Ok(next) = Snapshot::new(next) else {
             return Err(AllocError);
         };
-        Ok(Prepared {
+        Ok(Some(Prepared {
             entries: before,
             next,
             verdicts,
             payload,
-        })
+        }))
     }
 
     /// The state of the warehouse with the accepted entries. It takes no memory.
@@ -79,25 +88,29 @@ impl Prepared {
     }
 }
 
-/// The verdict on each of these entries, and the state with the accepted ones.
+/// The verdict on each of these entries, the state with the accepted ones, and whether the form has each of these.
 fn judge_all(
     alloc: Global,
+    form: Form,
     state: &State,
     entries: &[Entry],
-) -> Result<(Vec<Verdict>, State), AllocError>
+) -> Result<(Vec<Verdict>, State, bool), AllocError>
     ensures verdicts { IfOk result (λ r. r.0.items ≡ verdicts_on state.now.entries entries.now) }
     ensures next { IfOk result (λ r. r.1 ≡ with_more state.now (accepted_of state.now.entries entries.now)) }
+    ensures has_each { IfOk result (λ r. r.2 ≡ list_all (has_entry form) (accepted_of state.now.entries entries.now)) }
 {
     let mut verdicts = Vec::with_capacity(alloc, entries.len())?;
     let mut next = state.copy()?;
+    let mut has_each = true;
     for entry in entries {
         let verdict = judge(&next, entry);
         if let Verdict::Accept = verdict {
             next = next.apply(entry)?;
+            has_each = has_each && form.has_entry(entry);
         }
         verdicts.push_reserved(verdict);
     }
-    Ok((verdicts, next))
+    Ok((verdicts, next, has_each))
 }
 
 /// The bytes of the group of the entries that their verdicts accept, which are so many; no bytes where there is none.

@@ -1,8 +1,9 @@
 //! Entries that are committed one by one, and what a crash leaves of them.
 ghost use Rattle.std.specs.Prelude.{◌≡◌, ◌⊎◌, ◌↔◌, ◌+◌, ◌<◌, ◌≤◌, ℕ, true, false, length, take, drop, None, IfOk, IfErr, IfSome, IsTrue};
 ghost use Rattle.fw_disk.specs.Volume.{Image, LeavesOnly, Rose};
+ghost use Rattle.fw_entry_bytes.specs.Forms.{IsOfForm};
 ghost use Rattle.fw_snapshot.specs.Verdicts.{verdicts_on, accepted_of};
-ghost use Rattle.fw_recover.specs.declared.fault.StoreFault.TheVariants.{Device, Failed, TooLarge, NoMemory};
+ghost use Rattle.fw_recover.specs.declared.fault.StoreFault.TheVariants.{Device, Failed, TooLarge, OldSide, NoMemory};
 ghost use Rattle.fw_recover.specs.Stands.{EachStandsFor};
 ghost use Rattle.fw_recover.specs.Committing.{HasNoRoom, with_first, StandsForFirst, HasAnswered, IsCommitFault};
 
@@ -19,7 +20,7 @@ impl<V: Volume> Store<V> {
     /// # Errors
     /// The verdicts so far, and the fault of [`Store::commit`] for the next entry. `Failed` comes first, before any entry, and
     /// where there is none too: nothing changes. Then `NoMemory`, before the first entry, where there is no memory for the
-    /// verdicts. After `TooLarge` and `NoMemory` the store goes on: it takes what later calls add. After `Device` every later
+    /// verdicts. After `OldSide`, `TooLarge` and `NoMemory` the store goes on: it takes what later calls add. After `Device` every later
     /// call that writes is `Failed`.
     pub fn run(
         &mut self,
@@ -40,8 +41,10 @@ impl<V: Volume> Store<V> {
 
         ensures failed { IfErr result (λ e. (e.1 ≡ Failed) ↔ (self.old.failed ≡ true)) }
         ensures unchanged { IfErr result (λ e. e.1 ≡ Failed → self.new ≡ self.old) }
-        ensures goes_on { IfErr result (λ e. (e.1 ≡ TooLarge) ⊎ (e.1 ≡ NoMemory) → (self.new.failed ≡ false)
+        ensures goes_on { IfErr result (λ e. (e.1 ≡ OldSide) ⊎ ((e.1 ≡ TooLarge) ⊎ (e.1 ≡ NoMemory)) → (self.new.failed ≡ false)
             × (IsTrue V.tells → EachStandsFor self.new.history (V.view self.new.volume))) }
+        ensures old_side { IfErr result (λ e. e.1 ≡ OldSide
+            → IsOfForm self.new.form (accepted_of self.new.history.entries (take 1 (drop (length e.0.items) entries.now))) → ⊥) }
         ensures too_large { IfErr result (λ e. e.1 ≡ TooLarge
             → HasNoRoom (V.view self.new.volume).limit self.new (accepted_of self.new.history.entries (take 1 (drop (length e.0.items) entries.now)))) }
         ensures lost { IfErr result (λ e. e.1 ≡ Device → self.new.failed ≡ true) }

@@ -30,7 +30,7 @@ pub(crate) fn walk_log<V: Volume>(
 ) -> Result<(State, u64), StoreFault>
     requires legal { IsLegal state.entries }
 
-    ensures groups { IfOk result (λ r. IsTrue V.tells → HasGroups state start r.1 ((V.view volume.old).seen side) r.0) }
+    ensures groups { IfOk result (λ r. IsTrue V.tells → HasGroups form state start r.1 ((V.view volume.old).seen side) r.0) }
     ensures closed { IfOk result (λ r. IsTrue V.tells → IsClosedAt r.1 ((V.view volume.old).seen side)) }
     ensures within { IfOk result (λ r. r.1 < (V.view volume.old).size side) }
     ensures corrupt { (at_side : Side) (at : ℕ) → IsErrOf result (Corrupt at_side at)

@@ -1,27 +1,30 @@
 -- Heads: what is read is spelled so, and what is spelled so is read.
 use Rattle.std.proofs.Common.{◌≡◌, ◌<◌, ◌≤◌, ◌^◌, ℕ, true, List, ◌++◌, length, refl, sym, subst, append_assoc, arith}
-use Rattle.std.specs.Prelude.{nat_lt, nat_le}
+use Rattle.std.specs.Prelude.{nat_lt, nat_le, IsTrue}
 use Rattle.std.specs.Int.{w32, w64, to_le_bytes}
 use Rattle.std.specs.List.{flat_map, AllByRecursion}
 use Rattle.std.proofs.lemmas.Bool.{and_parts, ltb-true, lt-ltb, leb-true, le-leb}
 use Rattle.fw_bytes.specs.Spelling.{number32, number64, text, pair, FitsPair, Fits64}
 use Rattle.fw_bytes.specs.Reading.{number_at, seen, times}
 use Rattle.fw_bytes.proofs.Laws.{IsFormat, Takes, Takes-then, times_takes, times_again, bind_ok, checked_format, seen_format, both_format, number_format, wide32, wide64}
-use Rattle.fw_entry.specs.Kinds.{kind_code, kind_meant}
+use Rattle.fw_entry.specs.Kinds.{kind_code}
 use Rattle.fw_entry.specs.declared.kind.CommandKind.{CommandKind}
 use Rattle.fw_entry.specs.declared.kind.CommandKind.TheVariants as kind
-use Rattle.fw_entry.proofs.KindFacts.{kind_back, kind_there}
 use Rattle.fw_entry_bytes.specs.declared.form.Form.{Form}
+use Rattle.fw_entry_bytes.specs.Forms.{has_kind}
 use Rattle.fw_entry_bytes.specs.Reading.{IsOrigin, IsSeq}
+use Rattle.fw_entry_bytes.proofs.EntryFormat.{kind_byte_format}
 use Rattle.fw_entry_bytes.proofs.Facts.{origin_format, seq_format}
 use Rattle.fw_terms.specs.Commitment.{CommitmentValue}
 use Rattle.fw_terms.specs.Policy.{PolicyValue}
-use Rattle.fw_terms.specs.Spelling.{IsSpelledCommitment, IsSpelledPolicy}
+use Rattle.fw_terms.specs.Added.{AddedValue}
+use Rattle.fw_terms.specs.Spelling.{IsSpelledCommitment, IsSpelledPolicy, IsSpelledAdded}
+use Rattle.fw_terms_bytes.proofs.AddedFormat.{added_format}
 use Rattle.fw_terms_bytes.proofs.Formats.{case_format, kind_format}
 use Rattle.fw_terms_bytes.proofs.CommitmentFormat.{commitment_format}
 use Rattle.fw_terms_bytes.proofs.PolicyFormat.{policy_format}
 use Rattle.fw_snapshot.specs.Heads.{ContentValue, HeadValue}
-use Rattle.fw_snapshot.specs.Heads.ContentValue.{posted_rows, committed_to, policy_set}
+use Rattle.fw_snapshot.specs.Heads.ContentValue.{posted_rows, committed_to, policy_set, purchase_added}
 use Rattle.fw_segment.specs.Heads.{kind_of, brought, content, head, heads, is_post_count, IsContent, IsHead, post_count_at, brought_at, content_at, head_from, head_fields_at, head_at, heads_at}
 use Rattle.fw_charge.specs.Charge.{most_post_rows}
 
@@ -53,56 +56,74 @@ post_back : (c : ContentValue) → IsOfKind kind.Post c → (n : ℕ) × (posted
 post_back (posted_rows n) h = (n, refl, h.1)
 post_back (committed_to c) h = let e = h.0 in absurd cc
 post_back (policy_set p) h = let e = h.0 in absurd cc
+post_back (purchase_added a) h = let e = h.0 in absurd cc
 
 commit_back : (c : ContentValue) → IsOfKind kind.Commit c → (one : CommitmentValue) × (committed_to one ≡ c) × IsSpelledCommitment one
 commit_back (posted_rows n) h = let e = h.0 in absurd cc
 commit_back (committed_to c) h = (c, refl, h.1)
 commit_back (policy_set p) h = let e = h.0 in absurd cc
+commit_back (purchase_added a) h = let e = h.0 in absurd cc
 
 set_policy_back : (c : ContentValue) → IsOfKind kind.SetPolicy c → (one : PolicyValue) × (policy_set one ≡ c) × IsSpelledPolicy one
 set_policy_back (posted_rows n) h = let e = h.0 in absurd cc
 set_policy_back (committed_to c) h = let e = h.0 in absurd cc
 set_policy_back (policy_set p) h = (p, refl, h.1)
+set_policy_back (purchase_added a) h = let e = h.0 in absurd cc
+
+add_purchase_back : (c : ContentValue) → IsOfKind kind.AddPurchase c → (one : AddedValue) × (purchase_added one ≡ c) × IsSpelledAdded one
+add_purchase_back (posted_rows n) h = let e = h.0 in absurd cc
+add_purchase_back (committed_to c) h = let e = h.0 in absurd cc
+add_purchase_back (policy_set p) h = let e = h.0 in absurd cc
+add_purchase_back (purchase_added a) h = (a, refl, h.1)
 
 brought_format : (k : CommandKind) → IsFormat (brought_at k) brought (IsOfKind k)
 unfolding brought_at brought
 brought_format kind.Post = case_format (λ (n : ℕ). posted_rows n) brought (IsOfKind kind.Post) (λ n. refl) (λ n h. (refl, h)) post_back count_format
 brought_format kind.Commit = case_format (λ (c : CommitmentValue). committed_to c) brought (IsOfKind kind.Commit) (λ c. refl) (λ c h. (refl, h)) commit_back commitment_format
 brought_format kind.SetPolicy = case_format (λ (p : PolicyValue). policy_set p) brought (IsOfKind kind.SetPolicy) (λ p. refl) (λ p h. (refl, h)) set_policy_back policy_format
+brought_format kind.AddPurchase = case_format (λ (a : AddedValue). purchase_added a) brought (IsOfKind kind.AddPurchase) (λ a. refl) (λ a h. (refl, h)) add_purchase_back added_format
 
-content_format : (form : Form) → IsFormat (content_at form) content IsContent
+-- what an entry brought, within its limits, of a kind that the form has
+abbrev FitsContent : Form → ContentValue → Type 0
+FitsContent form c = IsTrue (has_kind form (kind_of c)) × IsContent c
+
+content_format : (form : Form) → IsFormat (content_at form) content (FitsContent form)
 unfolding content_at content
-content_format form = kind_format kind_meant kind_code kind_of kind_back kind_there brought_format
+content_format form = kind_format kind_code kind_of (kind_byte_format form) brought_format
 
 -- ---- a head
 
 head_to : HeadValue → List ℕ × (ℕ × ContentValue)
 head_to h = (h.origin, (h.seq, h.content))
 
-fields_format : (form : Form) → IsFormat (head_fields_at form) (pair text (pair number64 content)) (FitsPair IsOrigin (FitsPair IsSeq IsContent))
+fields_format : (form : Form) → IsFormat (head_fields_at form) (pair text (pair number64 content)) (FitsPair IsOrigin (FitsPair IsSeq (FitsContent form)))
 unfolding head_fields_at
 fields_format form = both_format origin_format (both_format seq_format (content_format form))
 
-seen_head_format : (form : Form) → IsFormat (seen head_from (head_fields_at form)) (λ h. pair text (pair number64 content) (head_to h)) (λ h. FitsPair IsOrigin (FitsPair IsSeq IsContent) (head_to h))
+seen_head_format : (form : Form) → IsFormat (seen head_from (head_fields_at form)) (λ h. pair text (pair number64 content) (head_to h)) (λ h. FitsPair IsOrigin (FitsPair IsSeq (FitsContent form)) (head_to h))
 unfolding head_to
 seen_head_format form = seen_format head_from head_to (λ x h. refl) (λ y h. refl) (fields_format form)
 
-pub head_format : (form : Form) → IsFormat (head_at form) head IsHead
+-- a head within its limits, of a kind that the form has
+abbrev pub FitsHead : Form → HeadValue → Type 0
+FitsHead form h = IsHead h × IsTrue (has_kind form (kind_of h.content))
+
+pub head_format : (form : Form) → IsFormat (head_at form) head (FitsHead form)
 unfolding head_at head head_to
 head_format form = record {
   takes = λ bytes x is e.
       let t = (seen_head_format form).takes bytes x is e in
-      (t.0, record { origin = t.1.0; seq = t.1.1.0; content = t.1.1.1 });
+      (t.0, (record { origin = t.1.0; seq = t.1.1.0; content = t.1.1.1.1 }, t.1.1.1.0));
   again = λ h rest is.
-      (seen_head_format form).again h rest (is.origin, (is.seq, is.content));
+      (seen_head_format form).again h rest (is.0.origin, (is.0.seq, (is.1, is.0.content)));
 }
 
 -- ---- heads
 
-abbrev pub AreHeads : List HeadValue → Type 0
-AreHeads hs = Fits64 (length hs) × AllByRecursion IsHead hs
+abbrev pub AreHeads : Form → List HeadValue → Type 0
+AreHeads form hs = Fits64 (length hs) × AllByRecursion (FitsHead form) hs
 
-pub heads_format : (form : Form) → IsFormat (heads_at form) heads AreHeads
+pub heads_format : (form : Form) → IsFormat (heads_at form) heads (AreHeads form)
 unfolding heads_at heads
 heads_format form = record {
   takes = λ bytes x is e.

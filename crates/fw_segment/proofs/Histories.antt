@@ -4,17 +4,21 @@ use Rattle.std.specs.List.{flat_map, AllByRecursion}
 use Rattle.std.proofs.Math.Seq.{take-append_seam, drop-append_seam}
 use Rattle.std.proofs.lemmas.Bool.{eqb-true, eq-eqb, ltb-true}
 use Rattle.std.proofs.lemmas.List.{length-map}
-use Rattle.std.proofs.lemmas.List.Elements.{All-from_recursion, All-get_or, All-nil, All-cons, All-head, All-tail, All-take, All-drop, All-append}
+use Rattle.std.proofs.lemmas.List.Elements.{All-from_recursion, All-get_or, All-nil, All-cons, All-head, All-tail, All-take, All-drop, All-append, All-weaker}
 use Rattle.std.proofs.lemmas.Option.{slice_get_within, get_or_from_slice_get}
 use Rattle.fw_bytes.specs.Spelling.{text, listed, Fits64}
 use Rattle.fw_bytes.proofs.Laws.{IsBytes, bind_ok, ok_is, passed, list_parts, list_fits}
 use Rattle.fw_charge.specs.Charge.{Charge}
 use Rattle.fw_charge.specs.Spelling.{IsRow}
 use Rattle.fw_entry.specs.Entry.{EntryValue, CommandValue}
-use Rattle.fw_entry.specs.Entry.CommandValue.{post, commit, set_policy}
+use Rattle.fw_entry.specs.Entry.CommandValue.{post, commit, set_policy, add_purchase}
+use Rattle.fw_entry.specs.Kinds.{kind_of}
 use Rattle.fw_entry.specs.Spelling.{IsCommand, IsEntry}
+use Rattle.std.specs.Prelude.{IsTrue}
 use Rattle.fw_entry_bytes.specs.declared.form.Form.{Form}
-use Rattle.fw_entry_bytes.specs.declared.form.Form.TheVariants.{One}
+use Rattle.fw_entry_bytes.specs.declared.form.Form.TheVariants.{Two}
+use Rattle.fw_entry_bytes.specs.Forms.{has_kind, has_entry, IsOfForm}
+use Rattle.fw_entry_bytes.proofs.FormFacts.{all_of_two}
 use Rattle.fw_entry_bytes.specs.Whole.{whole}
 use Rattle.fw_entry_bytes.proofs.Facts.{name_fits}
 use Rattle.fw_snapshot.specs.Heads.{HeadValue, head_of, content_of, entries_of, row_counts, segment_rows}
@@ -23,9 +27,10 @@ use Rattle.fw_snapshot.proofs.HeadFacts.{row_counts_cons, row_count_back, rows_p
 use Rattle.fw_segment.specs.declared.layout.SegmentLayout.{SegmentLayout}
 use Rattle.fw_segment.specs.declared.layout.SegmentLayout.TheVariants.{Columns}
 use Rattle.fw_segment.specs.Segments.{segment, IsSegment}
+use Rattle.fw_segment.specs.Heads as head
 use Rattle.fw_segment.specs.Heads.{heads, IsContent, IsHead}
 use Rattle.fw_segment.specs.States.{state, Spells, most_segments, Cut, cut_rows, Parts, parts_at, bytes_before_heads, continued, replayed, replayed_state, state_from, state_at}
-use Rattle.fw_segment.proofs.HeadFormat.{AreHeads}
+use Rattle.fw_segment.proofs.HeadFormat.{AreHeads, FitsHead}
 use Rattle.fw_segment.proofs.StateFormat.{FitsCut, parts_taken, parts_again}
 use Rattle.fw_segment.proofs.Replay.{no_row_counts, replay_taken, replay_again}
 use Rattle.fw_row_table.specs.Table.{most_column_rows}
@@ -36,6 +41,7 @@ content_is : (c : CommandValue) → IsCommand c → IsContent (content_of c)
 content_is (post rows) h = (h.count.some, h.count.few)
 content_is (commit c) h = h
 content_is (set_policy p) h = h
+content_is (add_purchase a) h = h
 
 head_is : (e : EntryValue) → IsEntry e → IsHead (head_of e)
 head_is e h = record { origin = h.origin; seq = (h.some_seq, h.seq); content = content_is e.command h.command }
@@ -44,6 +50,29 @@ heads_are : (es : List EntryValue) → All IsEntry es → AllByRecursion IsHead 
 heads_are [] each = tt
 heads_are (e ∷ es) each = (head_is e (All-head IsEntry e es each), heads_are es (All-tail IsEntry e es each))
 
+-- a head has the kind of its entry
+kind_same : (c : CommandValue) → head.kind_of (content_of c) ≡ kind_of c
+kind_same (post rows) = refl
+kind_same (commit c) = refl
+kind_same (set_policy p) = refl
+kind_same (add_purchase a) = refl
+
+abbrev IsHeadOfForm : Form → HeadValue → Type 0
+IsHeadOfForm form h = IsTrue (has_kind form (head.kind_of h.content))
+
+abbrev IsEntryOfForm : Form → EntryValue → Type 0
+IsEntryOfForm form e = IsTrue (has_entry form e)
+
+heads_fit : (form : Form) (es : List EntryValue) → All IsEntry es → IsOfForm form es → AllByRecursion (FitsHead form) (map head_of es)
+heads_fit form [] each has = tt
+heads_fit form (e ∷ es) each has =
+    ((head_is e (All-head IsEntry e es each), ap (has_kind form) (kind_same e.command) ∙ All-head (IsEntryOfForm form) e es has), heads_fit form es (All-tail IsEntry e es each) (All-tail (IsEntryOfForm form) e es has))
+
+entries_fit : (form : Form) (es : List EntryValue) → All (IsHeadOfForm form) (map head_of es) → IsOfForm form es
+entries_fit form [] has = All-nil (IsEntryOfForm form)
+entries_fit form (e ∷ es) has =
+    All-cons (IsEntryOfForm form) e es (ap (has_kind form) (sym (kind_same e.command)) ∙ All-head (IsHeadOfForm form) (head_of e) (map head_of es) has) (entries_fit form es (All-tail (IsHeadOfForm form) (head_of e) (map head_of es) has))
+
 -- each head of an entry has a name that can be written
 pub head_short : (es : List EntryValue) → All IsEntry es → (place : ℕ) (h : HeadValue) → slice_get (map head_of es) place ≡ Some h → length h.origin < 2 ^ 32
 head_short es each place h e =
@@ -51,8 +80,8 @@ head_short es each place h e =
     let one : IsHead h = subst IsHead (get_or_from_slice_get (map head_of es) place h h e) is in
     ltb-true _ _ (name_fits h.origin one.origin).0
 
-are_heads : (es : List EntryValue) → Fits64 (length es) → All IsEntry es → AreHeads (map head_of es)
-are_heads es count each = (rw (length-map es head_of) count, heads_are es each)
+are_heads : (form : Form) (es : List EntryValue) → Fits64 (length es) → All IsEntry es → IsOfForm form es → AreHeads form (map head_of es)
+are_heads form es count each has = (rw (length-map es head_of) count, heads_fit form es each has)
 
 abbrev pub IsLaid : SegmentLayout × List Charge → Type 0
 IsLaid s = IsSegment s.1
@@ -73,7 +102,7 @@ parts_state total p h e =
     let made : History = record { currency = p.0; entries = r.0 } in
     (eqb-true _ _ q.0, r.0, r.1, sym (ok_is made h r.2))
 
-pub state_taken : (form : Form) (bytes : List ℕ) (h : History) → IsBytes bytes → state_at form bytes ≡ Ok h → Spells bytes h
+pub state_taken : (form : Form) (bytes : List ℕ) (h : History) → IsBytes bytes → state_at form bytes ≡ Ok h → Spells bytes h × IsOfForm form h.entries
 unfolding state_at
 state_taken form bytes h is e =
     let b = bind_ok (whole (parts_at form) bytes) (state_from (length bytes)) h e in
@@ -81,7 +110,9 @@ state_taken form bytes h is e =
     let c = parts_taken form bytes p is b.1 in
     let s = parts_state (length bytes) p h b.2 in
     let fits = list_parts IsLaid 0 most_segments c.cut c.segments in
-    let heads = All-from_recursion IsHead p.1.0 c.heads.1 in
+    let fit = All-from_recursion (FitsHead form) p.1.0 c.heads.1 in
+    let heads = All-weaker (FitsHead form) IsHead (λ head fits. fits.0) p.1.0 fit in
+    let of_form = All-weaker (FitsHead form) (IsHeadOfForm form) (λ head fits. fits.1) p.1.0 fit in
     let rows = subst (All IsRow) c.rows (rows_each c.cut fits.2) in
     let g = replay_taken (length bytes - bytes_before_heads) [] p.1.0 p.1.1 s.1 s.0 heads rows s.2 in
     let es = entries_of p.1.0 p.1.1 in
@@ -89,14 +120,18 @@ state_taken form bytes h is e =
     let same : made ≡ h = sym (s.3 ∙ ap (λ (xs : List EntryValue). let one : History = record { currency = p.0; entries = xs } in one) g.is) in
     let spelled : bytes ≡ state p.0 (map head_of es) c.cut = c.is ∙ ap (λ (hs : List HeadValue). state p.0 hs c.cut) (sym (heads_of_entries p.1.0 p.1.1 s.0)) in
     let count : Fits64 (length es) = rw (length_entries p.1.0 p.1.1 s.0) c.heads.0 in
-    subst (λ (k : History). Spells bytes k) same (record {
-      cut = c.cut;
-      count = c.segments.0;
-      segments = fits.2;
-      rows = c.rows ∙ sym (rows_posted_entries p.1.0 p.1.1 s.0);
-      history = record { currency = c.code; count = count; each = g.each; legal = g.legal };
-      spelled = spelled;
-    })
+    let has : IsOfForm form es = entries_fit form es (subst (All (IsHeadOfForm form)) (sym (heads_of_entries p.1.0 p.1.1 s.0)) of_form) in
+    subst (λ (k : History). Spells bytes k × IsOfForm form k.entries) same (
+      record {
+        cut = c.cut;
+        count = c.segments.0;
+        segments = fits.2;
+        rows = c.rows ∙ sym (rows_posted_entries p.1.0 p.1.1 s.0);
+        history = record { currency = c.code; count = count; each = g.each; legal = g.legal };
+        spelled = spelled;
+      },
+      has,
+    )
 
 -- as many rows as the heads of the entries say
 as_many : (es : List EntryValue) → length (rows_posted es) ≡ row_counts (map head_of es)
@@ -113,11 +148,11 @@ from_parts : (total : ℕ) (currency : List ℕ) (hs : List HeadValue) (rows : L
 unfolding state_from replayed_state continued
 from_parts total currency hs rows es many read = rw (many, eq-eqb _ _ refl, read) refl
 
-pub state_again : (form : Form) (bytes : List ℕ) (h : History) → Spells bytes h → state_at form bytes ≡ Ok h
+pub state_again : (form : Form) (bytes : List ℕ) (h : History) → Spells bytes h → IsOfForm form h.entries → state_at form bytes ≡ Ok h
 unfolding state_at
-state_again form bytes h s =
+state_again form bytes h s has =
     let fits : FitsCut s.cut = list_fits IsLaid 0 most_segments s.cut (omega arith) (omega (arith, ltb-true _ _ s.count)) (omega arith) s.segments in
-    let read = ap (whole (parts_at form)) s.spelled ∙ parts_again form h.currency (map head_of h.entries) s.cut s.history.currency (are_heads h.entries s.history.count s.history.each) fits in
+    let read = ap (whole (parts_at form)) s.spelled ∙ parts_again form h.currency (map head_of h.entries) s.cut s.history.currency (are_heads form h.entries s.history.count s.history.each has) fits in
     let entries = replay_again (length bytes - bytes_before_heads) [] h.entries s.history.each s.history.legal in
     let uncut = segment_rows (cut_rows s.cut) in
     let rows : replayed (length bytes - bytes_before_heads) [] (map head_of h.entries) uncut ≡ Ok h.entries = rw s.rows entries in
@@ -125,7 +160,7 @@ state_again form bytes h s =
     rw read (from_parts (length bytes) h.currency (map head_of h.entries) uncut h.entries many rows)
 
 pub states_one : (bytes : List ℕ) (a b : History) → Spells bytes a → Spells bytes b → a ≡ b
-states_one bytes a b s t = ok_is a b (sym (state_again One bytes a s) ∙ state_again One bytes b t)
+states_one bytes a b s t = ok_is a b (sym (state_again Two bytes a s (all_of_two a.entries)) ∙ state_again Two bytes b t (all_of_two b.entries))
 
 -- ---- writing
 
@@ -171,6 +206,7 @@ posted_each : (c : CommandValue) → IsCommand c → All IsRow (posted c)
 posted_each (post rows) h = h.each
 posted_each (commit c) h = All-nil IsRow
 posted_each (set_policy p) h = All-nil IsRow
+posted_each (add_purchase a) h = All-nil IsRow
 
 pub rows_are : (es : List EntryValue) → All IsEntry es → All IsRow (rows_posted es)
 unfolding rows_posted

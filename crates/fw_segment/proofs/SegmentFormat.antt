@@ -13,23 +13,28 @@ use Rattle.fw_entry.specs.Entry.{EntryValue}
 use Rattle.fw_entry.specs.Spelling.{IsEntry}
 use Rattle.fw_entry_bytes.specs.Whole.{whole}
 use Rattle.fw_entry_bytes.specs.declared.form.Form.{Form}
-use Rattle.fw_entry_bytes.proofs.EntryFormat.{entry_format}
+use Rattle.fw_entry_bytes.specs.Forms.{has_entry}
+use Rattle.fw_entry_bytes.proofs.EntryFormat.{FitsEntry, entry_format}
+use Rattle.std.specs.Prelude.{IsTrue}
+use Rattle.std.proofs.lemmas.List.Elements.{All-weaker}
 use Rattle.fw_entry_bytes.proofs.WholeFormat.{whole_takes, whole_again}
 use Rattle.fw_segment.specs.declared.layout.SegmentLayout.{SegmentLayout}
 use Rattle.fw_segment.specs.declared.layout.SegmentLayout.TheVariants.{Rows, Columns}
-use Rattle.fw_segment.specs.Groups.{group, group_at, IsGroup, most_group_entries}
+use Rattle.fw_segment.specs.Groups.{group, group_at, IsGroupOf, most_group_entries}
 use Rattle.fw_segment.specs.Segments.{segment, segment_at, IsSegment}
 use Rattle.fw_segment.proofs.Viewed.{answered, whole_viewed}
 use Rattle.fw_row_table.specs.Table.{most_column_rows}
 
-is_group : (es : List EntryValue) → FitsList 1 most_group_entries IsEntry es → IsGroup es
-is_group es h = let p = list_parts IsEntry 1 most_group_entries es h in record { some = p.0; few = p.1; each = p.2 }
+is_group : (form : Form) (es : List EntryValue) → FitsList 1 most_group_entries (FitsEntry form) es → IsGroupOf form es
+is_group form es h =
+    let p = list_parts (FitsEntry form) 1 most_group_entries es h in
+    (record { some = p.0; few = p.1; each = All-weaker (FitsEntry form) IsEntry (λ e fits. fits.0) es p.2 }, All-weaker (FitsEntry form) (λ e. IsTrue (has_entry form e)) (λ e fits. fits.1) es p.2)
 
-pub group_format : (form : Form) → IsFormat (group_at form) group IsGroup
+pub group_format : (form : Form) → IsFormat (group_at form) group (IsGroupOf form)
 unfolding group_at group
 group_format form = record {
-  takes = λ bytes x is e. let t = (list_format 1 most_group_entries (entry_format form)).takes bytes x is e in (t.0, is_group x.0 t.1);
-  again = λ es rest h. (list_format 1 most_group_entries (entry_format form)).again es rest (list_fits IsEntry 1 most_group_entries es h.some h.few (omega arith) h.each);
+  takes = λ bytes x is e. let t = (list_format 1 most_group_entries (entry_format form)).takes bytes x is e in (t.0, is_group form x.0 t.1);
+  again = λ es rest h. (list_format 1 most_group_entries (entry_format form)).again es rest (list_fits (FitsEntry form) 1 most_group_entries es h.0.some h.0.few (omega arith) (λ k d lt. (h.0.each k d lt, h.1 k d lt)));
 }
 
 -- ---- segments

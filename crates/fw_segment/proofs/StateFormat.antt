@@ -64,8 +64,8 @@ CutParts = List ℕ × (List HeadValue × Cut)
 abbrev pub FitsCut : Cut → Type 0
 FitsCut cut = FitsList 0 most_segments (λ (s : SegmentLayout × List Charge). IsSegment s.1) cut
 
-abbrev pub FitsParts : CutParts → Type 0
-FitsParts = FitsPair IsCode (FitsPair AreHeads FitsCut)
+abbrev pub FitsParts : Form → CutParts → Type 0
+FitsParts form = FitsPair IsCode (FitsPair (AreHeads form) FitsCut)
 
 cut_parts_at : Form → Reading CutParts
 cut_parts_at form = both currency_at (both (heads_at form) (list_at 0 most_segments laid_out_at))
@@ -73,7 +73,7 @@ cut_parts_at form = both currency_at (both (heads_at form) (list_at 0 most_segme
 spelled : CutParts → List ℕ
 spelled = pair text (pair heads (listed (λ (s : SegmentLayout × List Charge). segment s.0 s.1)))
 
-cut_format : (form : Form) → IsFormat (cut_parts_at form) spelled FitsParts
+cut_format : (form : Form) → IsFormat (cut_parts_at form) spelled (FitsParts form)
 unfolding cut_parts_at spelled
 cut_format form = both_format currency_format (both_format (heads_format form) (list_format 0 most_segments laid_out_format))
 
@@ -106,23 +106,23 @@ whole_parts : (form : Form) (bytes : List ℕ) → whole (parts_at form) bytes �
 whole_parts form bytes = whole_viewed joined (cut_parts_at form) (parts_at form) bytes (parts_joined form bytes)
 
 -- what is read of all the bytes is spelled so, under some cut
-pub record IsCutOf (bytes : List ℕ) (p : Parts) : Type 0 where
+pub record IsCutOf (form : Form) (bytes : List ℕ) (p : Parts) : Type 0 where
   pub cut : Cut
   pub code : IsCode p.0
-  pub heads : AreHeads p.1.0
+  pub heads : AreHeads form p.1.0
   pub segments : FitsCut cut
   pub rows : segment_rows (cut_rows cut) ≡ p.1.1
   pub is : bytes ≡ state p.0 p.1.0 cut
 
-pub parts_taken : (form : Form) (bytes : List ℕ) (p : Parts) → IsBytes bytes → whole (parts_at form) bytes ≡ Ok p → IsCutOf bytes p
+pub parts_taken : (form : Form) (bytes : List ℕ) (p : Parts) → IsBytes bytes → whole (parts_at form) bytes ≡ Ok p → IsCutOf form bytes p
 unfolding joined spelled state
 parts_taken form bytes p is e =
     let read = sym (whole_parts form bytes) ∙ e in
     let b = bind_ok (whole (cut_parts_at form) bytes) (answered joined) p read in
     let t = whole_takes (cut_format form) bytes b.0 is b.1 in
-    subst (λ (q : Parts). IsCutOf bytes q) (ok_is (joined b.0) p b.2) (record { cut = b.0.1.1; code = t.0.0; heads = t.0.1.0; segments = t.0.1.1; rows = refl; is = t.1 })
+    subst (λ (q : Parts). IsCutOf form bytes q) (ok_is (joined b.0) p b.2) (record { cut = b.0.1.1; code = t.0.0; heads = t.0.1.0; segments = t.0.1.1; rows = refl; is = t.1 })
 
-pub parts_again : (form : Form) (currency : List ℕ) (hs : List HeadValue) (cut : Cut) → IsCode currency → AreHeads hs → FitsCut cut → whole (parts_at form) (state currency hs cut) ≡ Ok (currency, (hs, segment_rows (cut_rows cut)))
+pub parts_again : (form : Form) (currency : List ℕ) (hs : List HeadValue) (cut : Cut) → IsCode currency → AreHeads form hs → FitsCut cut → whole (parts_at form) (state currency hs cut) ≡ Ok (currency, (hs, segment_rows (cut_rows cut)))
 unfolding joined spelled state
 parts_again form currency hs cut code are fits =
     let read : whole (cut_parts_at form) (state currency hs cut) ≡ Ok (currency, (hs, cut)) = whole_again (cut_format form) (currency, (hs, cut)) (code, (are, fits)) in

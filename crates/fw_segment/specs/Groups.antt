@@ -5,6 +5,7 @@ use Rattle.fw_bytes.specs.Reading.{Reading, list_at}
 use Rattle.fw_entry.specs.Entry.{EntryValue}
 use Rattle.fw_entry.specs.Spelling.{entry, IsEntry}
 use Rattle.fw_entry_bytes.specs.declared.form.Form.{Form}
+use Rattle.fw_entry_bytes.specs.Forms.{IsOfForm}
 use Rattle.fw_entry_bytes.specs.Reading.{entry_at}
 
 abbrev pub most_group_entries : ℕ
@@ -19,6 +20,10 @@ pub record IsGroup (entries : List EntryValue) : Type 0 where
   pub some : 0 < length entries
   pub few : length entries ≤ most_group_entries
   pub each : All IsEntry entries
+
+-- a group whose entries the form has
+abbrev pub IsGroupOf : Form → List EntryValue → Type 0
+IsGroupOf form entries = IsGroup entries × IsOfForm form entries
 
 unfoldable pub group_at : Form → Reading (List EntryValue)
 group_at form = list_at 1 most_group_entries (entry_at form)

@@ -4,15 +4,15 @@ use Rattle.std.specs.Int.{w32, w64}
 use Rattle.std.specs.List.{flat_map}
 use Rattle.fw_bytes.specs.Spelling.{number32, number64, text}
 use Rattle.fw_bytes.specs.Reading.{Reading, ◌>>=◌, number_at, checked, both, seen, times}
-use Rattle.fw_terms.specs.Spelling.{commitment, policy, IsSpelledCommitment, IsSpelledPolicy}
-use Rattle.fw_terms_bytes.specs.Reading.{of_kind, commitment_at, policy_at}
-use Rattle.fw_entry.specs.Kinds.{kind_code, kind_meant}
+use Rattle.fw_terms.specs.Spelling.{commitment, policy, added, IsSpelledCommitment, IsSpelledPolicy, IsSpelledAdded}
+use Rattle.fw_terms_bytes.specs.Reading.{of_kind, commitment_at, policy_at, added_at}
+use Rattle.fw_entry.specs.Kinds.{kind_code}
 use Rattle.fw_entry.specs.declared.kind.CommandKind.{CommandKind}
 use Rattle.fw_entry.specs.declared.kind.CommandKind.TheVariants as kind
 use Rattle.fw_entry_bytes.specs.declared.form.Form.{Form}
-use Rattle.fw_entry_bytes.specs.Reading.{origin_at, seq_at, IsOrigin, IsSeq}
+use Rattle.fw_entry_bytes.specs.Reading.{origin_at, seq_at, kind_at, IsOrigin, IsSeq}
 use Rattle.fw_snapshot.specs.Heads.{ContentValue, HeadValue}
-use Rattle.fw_snapshot.specs.Heads.ContentValue.{posted_rows, committed_to, policy_set}
+use Rattle.fw_snapshot.specs.Heads.ContentValue.{posted_rows, committed_to, policy_set, purchase_added}
 use Rattle.fw_charge.specs.Charge.{most_post_rows}
 
 -- ---- how a head is written
@@ -22,12 +22,14 @@ abbrev pub kind_of : ContentValue → CommandKind
 kind_of (posted_rows n) = kind.Post
 kind_of (committed_to c) = kind.Commit
 kind_of (policy_set p) = kind.SetPolicy
+kind_of (purchase_added a) = kind.AddPurchase
 
 -- the number of rows of a post, or what else the entry brought
 unfoldable pub brought : ContentValue → List ℕ
 brought (posted_rows n) = number32 n
 brought (committed_to c) = commitment c
 brought (policy_set p) = policy p
+brought (purchase_added a) = added a
 
 -- a byte for the kind, and what the entry brought
 unfoldable pub content : ContentValue → List ℕ
@@ -50,6 +52,7 @@ abbrev pub IsContent : ContentValue → Type 0
 IsContent (posted_rows n) = (0 < n) × (n ≤ most_post_rows)
 IsContent (committed_to c) = IsSpelledCommitment c
 IsContent (policy_set p) = IsSpelledPolicy p
+IsContent (purchase_added a) = IsSpelledAdded a
 
 pub record IsHead (h : HeadValue) : Type 0 where
   pub origin : IsOrigin h.origin
@@ -66,10 +69,11 @@ unfoldable pub brought_at : CommandKind → Reading ContentValue
 brought_at kind.Post = seen posted_rows post_count_at
 brought_at kind.Commit = seen committed_to commitment_at
 brought_at kind.SetPolicy = seen policy_set policy_at
+brought_at kind.AddPurchase = seen purchase_added added_at
 
--- a kind that the form doesn't have is a fault at its byte; both forms have all kinds
+-- the kind, which the form has, and what an entry of this kind brought
 unfoldable pub content_at : Form → Reading ContentValue
-content_at form = of_kind kind_meant brought_at
+content_at form = of_kind (kind_at form) brought_at
 
 abbrev pub head_from : List ℕ × (ℕ × ContentValue) → HeadValue
 head_from f = record { origin = f.0; seq = f.1.0; content = f.1.1 }

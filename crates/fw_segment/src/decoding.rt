@@ -1,9 +1,10 @@
 //! Bytes to values.
-ghost use Rattle.std.specs.Prelude.{◌≡◌, List, length, IfOk, Ok};
+ghost use Rattle.std.specs.Prelude.{◌≡◌, List, length, IfOk, IsTrue, Ok};
 ghost use Rattle.fw_bytes.specs.Reading.{Gives};
 ghost use Rattle.fw_charge.specs.Charge.{Charge};
 ghost use Rattle.fw_entry.specs.Entry.{EntryValue};
 ghost use Rattle.fw_entry.specs.Spelling.{entry, IsEntry};
+ghost use Rattle.fw_entry_bytes.specs.Forms.{has_entry, IsOfForm};
 ghost use Rattle.fw_entry_bytes.specs.Reading.{entry_at};
 ghost use Rattle.fw_entry_bytes.specs.Whole.{whole};
 ghost use Rattle.fw_snapshot.specs.History.{History};
@@ -60,7 +61,7 @@ fn whole_segment(alloc: Global, bytes: &[u8]) -> Result<Columns, ReadError>
     }
 }
 
-/// The entry that the bytes spell. The form says which kinds of entries there are.
+/// The entry that the bytes spell. The form says which kinds of entries there are: any other kind is a fault at its byte.
 ///
 /// Memory is taken as texts and items are read. A length prefix or a count is never trusted.
 ///
@@ -71,8 +72,8 @@ fn whole_segment(alloc: Global, bytes: &[u8]) -> Result<Columns, ReadError>
 /// fault at the first of them. [`DecodeFault::NoMemory`] where there is no memory for what is kept, reported where it runs out: a later fault isn't
 /// looked for.
 pub fn decode_entry(alloc: Global, form: Form, bytes: &[u8]) -> Result<Entry, DecodeFault>
-    ensures found { IfOk result (λ e. IsEntry e × (bytes.now ≡ entry e)) }
-    ensures only { (e : EntryValue) → IsEntry e → bytes.now ≡ entry e → Decodes (λ v. v) (length bytes.now) result (Ok e) }
+    ensures found { IfOk result (λ e. IsEntry e × IsTrue (has_entry form e) × (bytes.now ≡ entry e)) }
+    ensures only { (e : EntryValue) → IsEntry e → IsTrue (has_entry form e) → bytes.now ≡ entry e → Decodes (λ v. v) (length bytes.now) result (Ok e) }
     ensures exact { Decodes (λ v. v) (length bytes.now) result (whole (entry_at form) bytes.now) }
 {
     match whole_entry(alloc, form, bytes) {
@@ -86,8 +87,8 @@ pub fn decode_entry(alloc: Global, form: Form, bytes: &[u8]) -> Result<Entry, De
 /// # Errors
 /// As those of [`decode_entry`]; a number of entries that is 0 or above 64 is a fault at offset 0, found before any entry is read.
 pub fn decode_group(alloc: Global, form: Form, bytes: &[u8]) -> Result<Vec<Entry>, DecodeFault>
-    ensures found { IfOk result (λ v. IsGroup v.items × (bytes.now ≡ group v.items)) }
-    ensures only { (es : List EntryValue) → IsGroup es → bytes.now ≡ group es → Decodes (λ v. v.items) (length bytes.now) result (Ok es) }
+    ensures found { IfOk result (λ v. IsGroup v.items × IsOfForm form v.items × (bytes.now ≡ group v.items)) }
+    ensures only { (es : List EntryValue) → IsGroup es → IsOfForm form es → bytes.now ≡ group es → Decodes (λ v. v.items) (length bytes.now) result (Ok es) }
     ensures exact { Decodes (λ v. v.items) (length bytes.now) result (whole (group_at form) bytes.now) }
 {
     match whole_group(alloc, form, bytes) {
@@ -120,8 +121,8 @@ pub fn decode_segment(alloc: Global, bytes: &[u8]) -> Result<Columns, DecodeFaul
 /// as the heads say, it is a fault at offset 0; and the first head whose entry has more than 4,194,304 bytes, or isn't accepted after those
 /// before it, is a fault at the offset of this head.
 pub fn decode_state(alloc: Global, form: Form, bytes: &[u8]) -> Result<State, DecodeFault>
-    ensures found { IfOk result (λ h. Spells bytes.now h) }
-    ensures only { (h : History) → Spells bytes.now h → Decodes (λ s. s) (length bytes.now) result (Ok h) }
+    ensures found { IfOk result (λ h. Spells bytes.now h × IsOfForm form h.entries) }
+    ensures only { (h : History) → Spells bytes.now h → IsOfForm form h.entries → Decodes (λ s. s) (length bytes.now) result (Ok h) }
     ensures exact { Decodes (λ s. s) (length bytes.now) result (state_at form bytes.now) }
 {
     match state_of(alloc, form, bytes) {

@@ -12,8 +12,8 @@ use fw_charge::MOST_POST_ROWS;
 use fw_entry::{Command, CommandKind};
 use fw_entry_bytes::{Form, kind_of, origin_of, seq_of};
 use fw_snapshot::{Content, Head};
-use fw_terms::{Commitment, Policy, commitment_len, policy_len};
-use fw_terms_bytes::{commitment_of, policy_of, put_commitment, put_policy};
+use fw_terms::{AddedPurchase, Commitment, Policy, added_len, commitment_len, policy_len};
+use fw_terms_bytes::{added_of, commitment_of, policy_of, put_added, put_commitment, put_policy};
 use std::alloc::{AllocError, Global};
 use std::sync::Arc;
 
@@ -26,6 +26,8 @@ pub enum ReadContent {
     Commit(Commitment),
     /// A policy.
     SetPolicy(Policy),
+    /// A purchase that is added to a commitment.
+    AddPurchase(AddedPurchase),
 }
 
 impl ReadContent {
@@ -37,6 +39,7 @@ impl ReadContent {
             ReadContent::Post(rows) => Ok(Content::Post { rows }),
             ReadContent::Commit(commitment) => Ok(Content::Commit(commitment)),
             ReadContent::SetPolicy(policy) => Ok(Content::SetPolicy(Arc::new(alloc, policy)?)),
+            ReadContent::AddPurchase(added) => Ok(Content::AddPurchase(added)),
         }
     }
 }
@@ -72,6 +75,7 @@ impl ReadHead {
             ReadContent::Post(_) => 4,
             ReadContent::Commit(commitment) => commitment_len(commitment),
             ReadContent::SetPolicy(policy) => policy_len(policy),
+            ReadContent::AddPurchase(added) => added_len(added),
         };
         4 + self.origin.len() + 8 + 1 + content
     }
@@ -111,15 +115,19 @@ fn brought_of(
             Ok((policy, rest)) => Ok((ReadContent::SetPolicy(policy), rest)),
             Err(e) => Err(e),
         },
+        CommandKind::AddPurchase => match added_of(alloc, bytes) {
+            Ok((added, rest)) => Ok((ReadContent::AddPurchase(added), rest)),
+            Err(e) => Err(e),
+        },
     }
 }
 
-/// What an entry brought: its kind, and what an entry of this kind brings. Both forms have all kinds.
+/// What an entry brought: its kind, which the form has, and what an entry of this kind brings.
 #[tactic(auto, unfolding(crate::specs::Heads::content_at, fw_terms_bytes::specs::Reading::of_kind))]
-fn content_of(alloc: Global, _form: Form, bytes: &[u8]) -> Result<(ReadContent, &[u8]), ReadError>
-    ensures { Gives (λ x. (content_view x.0, x.1.now)) result (content_at _form bytes.now) }
+fn content_of(alloc: Global, form: Form, bytes: &[u8]) -> Result<(ReadContent, &[u8]), ReadError>
+    ensures { Gives (λ x. (content_view x.0, x.1.now)) result (content_at form bytes.now) }
 {
-    let (kind, rest) = kind_of(bytes)?;
+    let (kind, rest) = kind_of(form, bytes)?;
     brought_of(alloc, kind, rest)
 }
 
@@ -196,6 +204,10 @@ fn put_content(out: &mut Vec<u8>, one: &Content) -> Result<(), AllocError>
         Content::SetPolicy(policy) => {
             put_byte(out, CommandKind::SetPolicy.code())?;
             put_policy(out, policy)
+        }
+        Content::AddPurchase(added) => {
+            put_byte(out, CommandKind::AddPurchase.code())?;
+            put_added(out, added)
         }
     }
 }

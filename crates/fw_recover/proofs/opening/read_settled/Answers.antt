@@ -33,7 +33,7 @@ returns-in_err-state-2-clause-corrupt g c side at is told =
     let bad = c.walk_log.ensures.corrupt side at (c.in_err-state-2.was ∙ ap (λ (f : StoreFault). Err f) fault) in
     let found = c.in_ok-side.ensures.found told in
     bad_log old.seen used side header.form header.generation header.body_len at c.in_ok-state.state (v1.seen used) (v2.seen used) first (second ∙ first) found.0 found.1
-    (c.in_ok-state.ensures.found told) bad.0 (bad.1 told)
+    (c.in_ok-state.ensures.found told) c.in_ok-state.ensures.of_form bad.0 (bad.1 told)
 
 pub returns-clause-found : goal.returns-clause-found
 returns-clause-found g c =
@@ -55,5 +55,5 @@ returns-clause-found g c =
       log_goes_on = refl;
       fresh = λ told.
           in_use_read old v1 v2 v3 (c.in_ok-side.ensures.calm told) (c.in_ok-state.ensures.calm told) (c.in_ok-state-2.ensures.calm told) used header.form header.generation header.body_len end c.in_ok-state.state state
-          (c.requires.settled told) (c.in_ok-side.ensures.found told) fits (c.in_ok-state.ensures.found told) (c.in_ok-state-2.ensures.groups told) (c.in_ok-state-2.ensures.closed told);
+          (c.requires.settled told) (c.in_ok-side.ensures.found told) fits (c.in_ok-state.ensures.found told) c.in_ok-state.ensures.of_form (c.in_ok-state-2.ensures.groups told) (c.in_ok-state-2.ensures.closed told);
     })

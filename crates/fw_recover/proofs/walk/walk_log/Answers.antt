@@ -11,7 +11,7 @@ use Rattle.fw_recover.proofs.walk.walk_log.Goals as goal
 
 pub loop-state-init : goal.loop-state-init
 loop-state-init g c = record {
-  groups = λ told. no_groups_yet c.args.state c.args.start ((g.V.Volume.view c.args.volume.now).seen c.args.side) c.requires.legal;
+  groups = λ told. no_groups_yet c.args.form c.args.state c.args.start ((g.V.Volume.view c.args.volume.now).seen c.args.side) c.requires.legal;
   calm = λ told. calm_start (g.V.Volume.view c.args.volume.now) (g.met.V.Volume.only_now c.args.volume.now);
   sizes = record { limit = refl; size = λ s. refl };
   later = omega arith;
@@ -30,9 +30,9 @@ loop-state-preserved g c =
           let payload = c.in-Ok-Some.payload.items in
           let P : List ℕ → Type 0 = λ l. IsFrameAt c.loop-state.gate (drop c.loop-state.gate l) (Some (c.in-Ok-Some.payload, c.in-Ok-Some.next)) in
           let step = subst P same (rw c.in-Ok-Some.field-0-is at (c.in-Ok-Some.ensures.found told)) in
-          let Q : List ℕ → Type 0 = λ l. GoesBehind c.loop-state.state l c.in-Ok-Some-with_group.after in
+          let Q : List ℕ → Type 0 = λ l. GoesBehind c.args.form c.loop-state.state l c.in-Ok-Some-with_group.after in
           let goes = subst Q c.deref.ensures.value (rw c.in-Ok-Some-with_group.field-0-is at c.in-Ok-Some-with_group.ensures) in
-          one_group_more c.args.state c.loop-state.state c.in-Ok-Some-with_group.after c.args.start c.loop-state.gate c.in-Ok-Some.next file payload step.0 (kept.groups told) step.1 step.2 step.3 goes;
+          one_group_more c.args.form c.args.state c.loop-state.state c.in-Ok-Some-with_group.after c.args.start c.loop-state.gate c.in-Ok-Some.next file payload step.0 (kept.groups told) step.1 step.2 step.3 goes;
       calm = λ told. calm_through old mid new (kept.calm told) (c.in-Ok-Some.ensures.calm told);
       sizes = record { limit = c.in-Ok-Some.ensures.sizes.limit ∙ kept.sizes.limit; size = λ s. c.in-Ok-Some.ensures.sizes.size s ∙ kept.sizes.size s };
       later = omega (arith, kept.later, c.in-Ok-Some.ensures.later);

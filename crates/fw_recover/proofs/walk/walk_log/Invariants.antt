@@ -9,7 +9,7 @@ invariant-loop-state g l =
     let old = g.V.Volume.view l.initial.volume in
     let now = g.V.Volume.view l.volume in
     record {
-      groups : IsTrue g.V.Volume.tells → HasGroups l.initial.state l.start l.gate (old.seen l.side) l.state;
+      groups : IsTrue g.V.Volume.tells → HasGroups l.form l.initial.state l.start l.gate (old.seen l.side) l.state;
       calm : IsTrue g.V.Volume.tells → Calm old now;
       sizes : SameSizes old now;
       later : old.failures ≤ now.failures;

@@ -10,7 +10,7 @@ pub returns-in-Ok-clause-found : goal.returns-in-Ok-clause-found
 returns-in-Ok-clause-found c = state_taken c.args.form c.args.bytes.now c.in-Ok.state (λ i. omega (arith, c.type_inv.bytes i)) c.in-Ok.ensures
 
 pub returns-in-Ok-clause-only : goal.returns-in-Ok-clause-only
-returns-in-Ok-clause-only c = λ h s. subst (λ (r : Result History ℕ). Decodes (λ v. v) (length c.args.bytes.now) (Ok c.in-Ok.state) r) (state_again c.args.form c.args.bytes.now h s) c.in-Ok.ensures
+returns-in-Ok-clause-only c = λ h s has. subst (λ (r : Result History ℕ). Decodes (λ v. v) (length c.args.bytes.now) (Ok c.in-Ok.state) r) (state_again c.args.form c.args.bytes.now h s has) c.in-Ok.ensures
 
 pub returns-in-Err-clause-only : goal.returns-in-Err-clause-only
-returns-in-Err-clause-only c = λ h s. subst (λ (r : Result History ℕ). Decodes (λ (v : History). v) (length c.args.bytes.now) (Err c.of.result) r) (state_again c.args.form c.args.bytes.now h s) (rw c.of.ensures (is_fault (length c.args.bytes.now) c.in-Err.e (state_at c.args.form c.args.bytes.now) c.in-Err.ensures))
+returns-in-Err-clause-only c = λ h s has. subst (λ (r : Result History ℕ). Decodes (λ (v : History). v) (length c.args.bytes.now) (Err c.of.result) r) (state_again c.args.form c.args.bytes.now h s has) (rw c.of.ensures (is_fault (length c.args.bytes.now) c.in-Err.e (state_at c.args.form c.args.bytes.now) c.in-Err.ensures))

@@ -1,5 +1,8 @@
 use Rattle.std.proofs.Common.{◌≡◌, ◌⊎◌, inl, [], ◌∷◌, sym, ◌∙◌, ap, subst, arith, OnOk}
 use Rattle.std.proofs.lemmas.Result.{on_ok_weaker}
+use Rattle.std.specs.Prelude.{IsTrue}
+use Rattle.std.proofs.lemmas.List.Elements.{All-cons, All-nil}
+use Rattle.fw_entry_bytes.specs.Forms.{has_entry}
 use Rattle.fw_disk.specs.Volume.{LeavesOnly}
 use Rattle.fw_snapshot.specs.History.{History}
 use Rattle.fw_recover.specs.Committing.{Appended}
@@ -24,14 +27,14 @@ append-requires-clause-goes g c =
     let s = c.args.self.now in
     let e = c.args.entry.now in
     let same : c.state.result.now ≡ s.history = c.state.ensures ∙ ap (λ (x : StoreState _). x.history) c.self.view_is in
-    let goes : GoesBehind s.history c.deref.result.now c.in-Ok-new.next = record {
+    let goes : GoesBehind s.form s.history c.deref.result.now c.in-Ok-new.next = record {
       more = e ∷ [];
-      is_group = c.group_of_one.ensures.frameable.is_group;
+      is_group = (c.group_of_one.ensures.frameable.is_group, All-cons (λ x. IsTrue (has_entry s.form x)) e [] c.requires.of_form (All-nil (λ x. IsTrue (has_entry s.form x))));
       spelled = c.deref.ensures.value ∙ c.in-Ok-group_of_one.ensures.spelled;
       legal = one_entry s.history.entries e c.requires.accepted;
       is = with_one s.history c.state.result.now c.in-Ok.state c.in-Ok-new.next e same c.in-Ok.ensures c.in-Ok-new.ensures.shared;
     } in
-    subst (λ (x : StoreState _). GoesBehind x.history c.deref.result.now c.in-Ok-new.next) (sym c.in_default-append_length.ensures.declined) goes
+    subst (λ (x : StoreState _). GoesBehind x.form x.history c.deref.result.now c.in-Ok-new.next) (sym c.in_default-append_length.ensures.declined) goes
 
 pub returns-clause-any_moment : goal.returns-clause-any_moment
 returns-clause-any_moment g c told =

@@ -2,6 +2,9 @@ use Rattle.std.proofs.Common.{◌≡◌, ◌⊎◌, false, IsTrue, inl, inr, ◌
 use Rattle.fw_disk.specs.Volume.{LeavesOnly}
 use Rattle.fw_disk.proofs.Moments.{goes_through}
 use Rattle.fw_entry.specs.Entry.{EntryValue}
+use Rattle.std.proofs.lemmas.List.Elements.{All-head}
+use Rattle.fw_entry_bytes.specs.Forms.{has_entry, IsOfForm}
+use Rattle.fw_snapshot.specs.Judging.{judged}
 use Rattle.fw_snapshot.specs.History.{History}
 use Rattle.fw_snapshot.specs.Verdicts.{taken, verdicts_on, accepted_of}
 use Rattle.fw_snapshot.specs.declared.verdict.Verdict.{Verdict}
@@ -11,7 +14,7 @@ use Rattle.fw_recover.specs.Store.{StoreState}
 use Rattle.fw_recover.specs.Stands.{StandsForEither, EachStandsFor}
 use Rattle.fw_recover.specs.Committing.{HasNoRoom, StandsForFirst, HasAnswered}
 use Rattle.fw_recover.proofs.Committing.{each_now, still}
-use Rattle.fw_recover.proofs.Judged.{no_verdicts, none_yet, verdicts_more, history_more}
+use Rattle.fw_recover.proofs.Judged.{kept_if, no_verdicts, none_yet, verdicts_more, history_more}
 use Rattle.fw_recover.proofs.Running.{as_long, answered_all, answered, first_stand, next_taken, next_accepted, none_answered, none_stand}
 use Rattle.fw_recover.proofs.store.Store.run.Given as given
 use Rattle.fw_recover.proofs.store.Store.run.Goals as goal
@@ -56,11 +59,12 @@ never_failed g c is =
     let both = sym set ∙ c.loop-entry.invariant.failed in
     cc
 
-stays : (g : given.Over) (c : In-Err g) → (c.in-Err.fault ≡ fault.TooLarge) ⊎ (c.in-Err.fault ≡ fault.NoMemory) → c.commit.new.self ≡ c.loop-entry.self
+stays : (g : given.Over) (c : In-Err g) → (c.in-Err.fault ≡ fault.OldSide) ⊎ ((c.in-Err.fault ≡ fault.TooLarge) ⊎ (c.in-Err.fault ≡ fault.NoMemory)) → c.commit.new.self ≡ c.loop-entry.self
 stays g c which = elim c.in-Err.ensures.unchanged [
   | inl device ↦ elim which [
-    | inl large ↦ (let both = sym device ∙ ap (λ (f : StoreFault). Err f) large in absurd (cc))
-    | inr memory ↦ (let both = sym device ∙ ap (λ (f : StoreFault). Err f) memory in absurd (cc))
+    | inl old ↦ (let both = sym device ∙ ap (λ (f : StoreFault). Err f) old in absurd (cc))
+    | inr (inl large) ↦ (let both = sym device ∙ ap (λ (f : StoreFault). Err f) large in absurd (cc))
+    | inr (inr memory) ↦ (let both = sym device ∙ ap (λ (f : StoreFault). Err f) memory in absurd (cc))
   ]
   | inr same ↦ same
 ]
@@ -188,4 +192,19 @@ returns-in-Err-clause-too_large g c is =
     let room = c.commit.ensures.too_large (c.in-Err.is ∙ ap (λ (f : StoreFault). Err f) is) in
     let there = subst (λ (l : List EntryValue). HasNoRoom (g.V.Volume.view s.volume).limit s l)
     (sym (next_taken h s.history es c.loop-entry.entry-index c.entry-item.result c.loop-entry-test.true c.entry-item.is c.loop-entry.invariant.history)) room in
-    subst (λ (x : StoreState _). P x (length c.loop-entry.verdicts.items)) (sym (stays g at.In-Err (inl is))) (subst (λ (n : ℕ). P s n) (sym (long g at.After-commit)) there)
+    subst (λ (x : StoreState _). P x (length c.loop-entry.verdicts.items)) (sym (stays g at.In-Err (inr (inl is)))) (subst (λ (n : ℕ). P s n) (sym (long g at.After-commit)) there)
+
+pub returns-in-Err-clause-old_side : goal.returns-in-Err-clause-old_side
+returns-in-Err-clause-old_side g c is all =
+    let h = c.args.self.now.history in
+    let es = c.args.entries.now in
+    let s = c.loop-entry.self in
+    let e = c.entry-item.result in
+    let at = goal.at.returns-in-Err-clause-old_side g c in
+    let P : StoreState _ → ℕ → Type 0 = λ x n. IsOfForm x.form (accepted_of x.history.entries (take 1 (drop n es))) in
+    let old = c.commit.ensures.old_side.0 (c.in-Err.is ∙ ap (λ (f : StoreFault). Err f) is) in
+    let there = subst (λ (n : ℕ). P s n) (long g at.After-commit) (subst (λ (x : StoreState _). P x (length c.loop-entry.verdicts.items)) (stays g at.In-Err (inl is)) all) in
+    let one = next_taken h s.history es c.loop-entry.entry-index e c.loop-entry-test.true c.entry-item.is c.loop-entry.invariant.history ∙ kept_if (judged s.history.entries e) e old.1 in
+    let has = All-head (λ x. IsTrue (has_entry s.form x)) e [] (subst (λ (l : List EntryValue). IsOfForm s.form l) one there) in
+    let both = sym has ∙ old.2 in
+    absurd (cc)

@@ -2,6 +2,7 @@ use Rattle.std.proofs.Common.{◌⊎◌, ◌<◌, IsTrue, length, drop, List, sy
 use Rattle.std.proofs.lemmas.Bool.{eqb-true, eqb-false}
 use Rattle.fw_disk.specs.Volume.{LeavesOnly}
 use Rattle.fw_entry.specs.Entry.{EntryValue}
+use Rattle.fw_entry_bytes.specs.Forms.{IsOfForm}
 use Rattle.fw_snapshot.specs.History.{History}
 use Rattle.fw_snapshot.specs.Verdicts.{with_more}
 use Rattle.fw_recover.specs.Stands.{StandsFor, StandsForEither}
@@ -29,7 +30,8 @@ append-requires-clause-goes g c =
     let spelled = c.deref.ensures.value ∙ c.prepared.invariant.payload in
     let bytes = eqb-false p.payload.len 0 (sym c.is_empty.ensures ∙ c.if-is_empty.false) in
     let some = some_spelled (drop p.entries p.next.entries) p.payload.items c.prepared.invariant.payload (omega (arith, bytes, p.payload.ok.0)) in
-    goes_behind c.args.self.now.history p.next p.entries c.deref.result.now spelled c.prepared.invariant.legal before some (c.prepared.invariant.frameable some)
+    let of_form = subst (λ (l : List EntryValue). IsOfForm c.args.self.now.form l) (sym (ap (λ (x : PreparedState). x.accepted) c.prepared.view_is)) c.requires.of_form in
+    goes_behind c.args.self.now.history p.next p.entries c.deref.result.now spelled c.prepared.invariant.legal before c.args.self.now.form of_form some (c.prepared.invariant.frameable some)
 
 moments : (g : given.Over) (c : goal.After-append g) → IsTrue g.V.Volume.tells
     → LeavesOnly (g.V.Volume.view c.args.self.now.volume) (g.V.Volume.view c.append.new.self.volume) (StandsForEither c.args.self.now.history c.args.prepared.accepted)
