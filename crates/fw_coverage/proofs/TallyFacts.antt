@@ -297,6 +297,6 @@ rows_apart history legal each k d l =
     let cs : List CommitmentValue = commitments_of history in
     let c : CommitmentValue = get_or cs k d in
     let at : slice_get cs k ≡ Some c = slice_get_read cs (length cs) k c refl l (get_or_default cs k d c l) in
-    let some : 0 < length c.id = (commitment_keeps history k c each at).id.some in
+    let some : 0 < length c.id = (commitment_keeps history k c legal each at).id.some in
     let free = rows_free history k c legal at in
     λ i row below. not_shown c.id (get_or (rows_of history) i row).discount some (free i row below)

@@ -43,7 +43,7 @@ impl<'a> Coverage<'a> {
         }
     }
 
-    /// The commitment.
+    /// The commitment, with all its purchases.
     pub fn commitment(&self) -> &'a Commitment
         ensures { result.now ≡ self.now.commitment }
     {
@@ -85,7 +85,7 @@ impl<'a> Coverage<'a> {
         self.unused_cost
     }
 
-    /// The sum of BilledCost over the lines of its purchases.
+    /// The sum of BilledCost over the lines of its purchases, also of those that were added to it later.
     pub fn paid(&self) -> i128
         ensures { result ≡ self.now.paid }
     {

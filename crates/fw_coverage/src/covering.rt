@@ -21,7 +21,9 @@ use fw_terms::Commitment;
 use std::alloc::{AllocError, Global};
 
 /// How well the commitments of a snapshot were used in the hours from `from` up to, and not including, `to`, counted from 1970: those that have a
-/// line there, in the order in which they were accepted. The costs are those of the lines that [`lines_csv`](fw_query::lines_csv) writes.
+/// line there, in the order in which they were accepted. The costs are those of the lines that [`lines_csv`](fw_query::lines_csv) writes. A purchase
+/// that was added to a commitment later is one of its purchases: it is spread over every hour of the term, and so changes the costs of past
+/// hours too.
 ///
 /// It costs as much as the rows and the lines of the hours in which some commitment has a line; the lines of other hours are not made.
 ///

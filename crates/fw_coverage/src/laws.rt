@@ -13,7 +13,8 @@ ghost use Rattle.fw_terms.specs.Commitment.{CommitmentValue, cost_of};
 
 /// Of the capacity of each commitment rows used what nothing left unused. What its Used and its Unused lines of a range cost together are the amounts
 /// of the hours there, and over its term what its purchases cost, to the last nano. What was paid for it is what its purchases in the hours of
-/// the range cost. And the accepted entries and the hours determine the coverage.
+/// the range cost. Purchases that were added to it later are among its purchases: they are spread over every hour of the term, and so
+/// change the amounts of past hours too. And the accepted entries and the hours determine the coverage.
 pub fn coverage_adds_up()
     ensures capacity { (cs : List CommitmentValue) (rows : List Charge) (lines : List LineValue) (from to place : ℕ) (c : CommitmentValue) → slice_get cs place ≡ Some c → (coverage_of cs rows lines from to (place, c)).used + (coverage_of cs rows lines from to (place, c)).unused ≡ (coverage_of cs rows lines from to (place, c)).capacity }
     ensures hours { (history : List entry.EntryValue) (from to : ℕ) (lines : List LineValue) (place : ℕ) (c : CommitmentValue) → IsLegal history → AreLinesOf history from to lines → slice_get (commitments_of history) place ≡ Some c → used_cost c.id lines +ℤ unused_cost c.id lines ≡ pos (amount_between c from to) }

@@ -174,5 +174,5 @@ pub bought_between : (history : List entry.EntryValue) (from to : ℕ) (lines : 
     → billed_by_all (filter (shows_purchase_of c.id) lines) ≡ pos (cost_between c from to)
 bought_between history from to lines place c legal each some are at =
     ap (λ ls. billed_by_all (filter (shows_purchase_of c.id) ls)) are.lines_are
-    ∙ hours_bought (commitments_of history) (rows_of history) place c at (λ k d there same. own_id history legal k place d c there at same) (commitment_keeps history place c each at).id.some (rows_free history place c legal at) (range_with_len from (to - from)) are.hourly are.are_hourly
+    ∙ hours_bought (commitments_of history) (rows_of history) place c at (λ k d there same. own_id history legal k place d c there at same) (commitment_keeps history place c legal each at).id.some (rows_free history place c legal at) (range_with_len from (to - from)) are.hourly are.are_hourly
     ∙ ap pos (range_cost c (to - from) from to (omega arith))

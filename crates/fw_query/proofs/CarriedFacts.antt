@@ -9,7 +9,7 @@ use Rattle.fw_allocate.proofs.Totals.{total_cons}
 use Rattle.std.specs.List.{AllZip, range_with_len}
 use Rattle.std.specs.Str.{bytes_eq}
 use Rattle.std.proofs.lemmas.Bool.Decides.{nat_tests}
-use Rattle.std.proofs.lemmas.List.Elements.{All-append, All-cons, All-nil, filter-append}
+use Rattle.std.proofs.lemmas.List.Elements.{All-append, All-nil, filter-append}
 use Rattle.std.proofs.lemmas.List.Sums.{sum_by-append, sum_by-cons}
 use Rattle.std.proofs.lemmas.Slice.Eq.{bytes_eq-Decides}
 use Rattle.fw_charge.specs.Charge.{Charge, DiscountText}
@@ -20,7 +20,6 @@ use Rattle.fw_charge.specs.declared.discount.DiscountStatus.{DiscountStatus}
 use Rattle.fw_charge.specs.declared.discount.DiscountStatus.TheVariants as status
 use Rattle.fw_terms.specs.Commitment.{CommitmentValue, IsCommitment, cost_of}
 use Rattle.fw_cover.specs.Applies.{is_in_term}
-use Rattle.fw_cover.proofs.Within.{all_flat_map}
 use Rattle.fw_amortise.specs.Amount.{amount_of}
 use Rattle.fw_amortise.specs.Carrying.{IsOnly, cost_of_all, has_id, names_share_of}
 use Rattle.fw_amortise.specs.LineValue.{LineValue}
@@ -30,10 +29,10 @@ use Rattle.fw_amortise.proofs.Carrying.{amount_at, carried_amount}
 use Rattle.fw_amortise.proofs.EachLine.{HoldsOfEach, lines_each}
 use Rattle.fw_amortise.proofs.Named.{CostsNothing, IsFree, named_carried, purchases_of_id}
 use Rattle.fw_entry.specs.Entry as entry
-use Rattle.fw_entry.specs.Entry.CommandValue.{post, commit, set_policy}
-use Rattle.fw_entry.specs.Spelling.{IsCommand, IsEntry}
-use Rattle.fw_snapshot.specs.History.{commitments_of, committed, rows_of}
+use Rattle.fw_entry.specs.Spelling.{IsEntry}
+use Rattle.fw_snapshot.specs.History.{commitments_of, rows_of}
 use Rattle.fw_snapshot.specs.Judging.{IsLegal}
+use Rattle.fw_snapshot.proofs.AddingFacts.{commitments_keep}
 use Rattle.fw_snapshot.proofs.IdFacts.{alone, other_ids}
 use Rattle.fw_query.specs.Carried.{amount_between, shows_share_of}
 use Rattle.fw_query.specs.OfHistory.{AreLinesOf}
@@ -81,19 +80,9 @@ rows_free history place c legal at k row l =
     free_of c.id (get_or (rows_of history) k row).discount
     (λ d is. other_ids history legal k place (get_or (rows_of history) k row) d c (slice_get_read (rows_of history) (length (rows_of history)) k (get_or (rows_of history) k row) refl l (get_or_default (rows_of history) k row (get_or (rows_of history) k row) l)) is at)
 
-command_commits : (c : entry.CommandValue) → IsCommand c → All IsCommitment (committed c)
-command_commits (post rows) known = All-nil IsCommitment
-command_commits (commit c) known = All-cons IsCommitment c [] known.limits (All-nil IsCommitment)
-command_commits (set_policy p) known = All-nil IsCommitment
-
-pub commitments_keep : (history : List entry.EntryValue) → All IsEntry history → All IsCommitment (commitments_of history)
-unfolding commitments_of
-commitments_keep history each =
-    all_flat_map IsCommitment (λ (e : entry.EntryValue). committed e.command) history (λ k d l. command_commits (get_or history k d).command (each k d l).command)
-
-pub commitment_keeps : (history : List entry.EntryValue) (place : ℕ) (c : CommitmentValue) → All IsEntry history → slice_get (commitments_of history) place ≡ Some c → IsCommitment c
-commitment_keeps history place c each at =
-    subst IsCommitment (get_or_from_slice_get (commitments_of history) place c c at) (commitments_keep history each place c (slice_get_within (commitments_of history) place c at))
+pub commitment_keeps : (history : List entry.EntryValue) (place : ℕ) (c : CommitmentValue) → IsLegal history → All IsEntry history → slice_get (commitments_of history) place ≡ Some c → IsCommitment c
+commitment_keeps history place c legal each at =
+    subst IsCommitment (get_or_from_slice_get (commitments_of history) place c c at) (commitments_keep history legal each place c (slice_get_within (commitments_of history) place c at))
 
 -- ---- the shares of a range
 pub cost_append : (xs ys : List LineValue) → cost_of_all (xs ++ ys) ≡ cost_of_all xs +ℤ cost_of_all ys
@@ -189,7 +178,7 @@ amount_of_term c from to some early late =
 pub carried_term : (history : List entry.EntryValue) (from to : ℕ) (lines : List LineValue) (place : ℕ) (c : CommitmentValue) → IsLegal history → All IsEntry history → AreLinesOf history from to lines → slice_get (commitments_of history) place ≡ Some c
     → from ≤ c.start → c.start + c.hours ≤ to → cost_of_all (filter (shows_share_of c.id) lines) ≡ pos (cost_of c.purchases)
 carried_term history from to lines place c legal each are at early late =
-    carried_between history from to lines place c legal are at ∙ ap pos (amount_of_term c from to (commitment_keeps history place c each at).hours_some early late)
+    carried_between history from to lines place c legal are at ∙ ap pos (amount_of_term c from to (commitment_keeps history place c legal each at).hours_some early late)
 
 -- ---- purchases
 purchase_shown : (k : Category) → category_word k ≡ codes "Purchase" → k ≡ category.Purchase
@@ -216,7 +205,7 @@ pub purchases_cost_nothing : (history : List entry.EntryValue) (from to : ℕ) (
 purchases_cost_nothing history from to lines place c legal each are at k d l paid named =
     let all : All (CostsNothing c.id) lines = rw are.lines_are
     (hours_cost_nothing (commitments_of history) (rows_of history) c.id (rows_free history place c legal at) (range_with_len from (to - from)) are.hourly are.are_hourly) in
-    all k d l (purchase_shown (get_or lines k d).category paid) (id_shown c.id (get_or lines k d).commitment (commitment_keeps history place c each at).id.some named)
+    all k d l (purchase_shown (get_or lines k d).category paid) (id_shown c.id (get_or lines k d).commitment (commitment_keeps history place c legal each at).id.some named)
 
 -- ---- what is billed of shares
 -- a line that names the commitment and a status is billed nothing

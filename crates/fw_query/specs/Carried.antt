@@ -1,4 +1,4 @@
--- What the lines of a range carry of a commitment, by what their text has.
+-- What the lines of a range carry of a commitment, by what their text has. Its purchases are its own and those that were added to it later.
 use Rattle.std.specs.Prelude.{◌-◌, ◌&&◌, ℕ, Bool, List, length, nat_lt, sum_by, ℤ, pos, ◌+ℤ◌, codes, filter, fold, map, nat_le}
 use Rattle.std.specs.List.{range_with_len}
 use Rattle.std.specs.Str.{bytes_eq}

@@ -1,4 +1,5 @@
--- Lines and reports of a history: of all rows, commitments and the policy that its entries come to. The laws speak of these.
+-- Lines and reports of a history: of all rows, commitments and the policy that its entries come to. Each commitment has all its purchases, also
+-- those that were added to it later. The laws speak of these.
 use Rattle.std.specs.Prelude.{ℕ, List}
 use Rattle.fw_amortise.specs.LineValue.{LineValue}
 use Rattle.fw_entry.specs.Entry as entry

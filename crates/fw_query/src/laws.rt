@@ -44,7 +44,8 @@ pub fn answers_are_one()
 /// Over the hours of its term a commitment's lines carry what its purchases cost, to the last nano: of the lines that a report sums, those whose text
 /// has its id and a status. In any range they carry the amounts of the hours there. And the lines of its purchases, those whose text has
 /// its id and the category `Purchase`, have an EffectiveCost of 0, and are billed what its purchases in the hours of the range cost; those that carry its
-/// amounts are billed nothing.
+/// amounts are billed nothing. Purchases that were added to the commitment later are among its purchases: they are spread over every hour of the
+/// term, and so change the amounts of past hours too.
 pub fn commitments_are_carried()
     ensures hours { (history : List entry.EntryValue) (from to : ℕ) (lines : List LineValue) (place : ℕ) (c : CommitmentValue) → IsLegal history → AreLinesOf history from to lines → slice_get (commitments_of history) place ≡ Some c → cost_of_all (filter (shows_share_of c.id) lines) ≡ pos (amount_between c from to) }
     ensures term { (history : List entry.EntryValue) (from to : ℕ) (lines : List LineValue) (place : ℕ) (c : CommitmentValue) → IsLegal history → All IsEntry history → AreLinesOf history from to lines → slice_get (commitments_of history) place ≡ Some c → from ≤ c.start → c.start + c.hours ≤ to → cost_of_all (filter (shows_share_of c.id) lines) ≡ pos (cost_of c.purchases) }
@@ -61,7 +62,7 @@ pub fn there_are_lines()
 
 /// No row is left out of the lines of its hour, and none is counted twice. The rows of a range are those of its hours, each in one hour; and of each, in
 /// its hour, either one line is it, as it was given, or the quantities of its lines, used and rest, sum to its quantity. Each purchase of an hour is
-/// one line. Each line comes from one purchase, one row, or one commitment.
+/// one line, also one that was added to its commitment later. Each line comes from one purchase, one row, or one commitment.
 pub fn rows_are_counted_once()
     ensures { (history : List entry.EntryValue) (from to : ℕ) (lines : List LineValue) → from ≤ to → AreLinesOf history from to lines → AreAccountedBetween (commitments_of history) (rows_of history) from to lines }
 {}

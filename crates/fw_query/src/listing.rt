@@ -25,7 +25,8 @@ use std::alloc::{AllocError, Global};
 
 /// The text of the lines that the commitments and the rows of a snapshot have in the hours from `from` up to, and not including, `to`, counted
 /// from 1970, as CSV: a line of names, and a record for each line, hour by hour. What is null is an empty field; costs and quantities have nine
-/// digits after the point.
+/// digits after the point. A purchase that was added to a commitment later is one of its purchases: it has a line in the hour in which it was paid,
+/// and is spread over every hour of the term, so it changes the amounts of past hours too.
 pub fn lines_csv(
     alloc: Global,
     snapshot: &Snapshot,

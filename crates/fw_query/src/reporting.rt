@@ -19,7 +19,8 @@ use std::thread::Threads;
 
 /// The report over the lines of the hours of the query's range: those that the commitments and the rows of the snapshot have there. For each
 /// group that one of the lines is in it has the sums of their costs and what the group is charged. Under a policy for the query's key the
-/// groups that the policy names give their direct costs away; else each group is charged its direct cost. Each worker
+/// groups that the policy names give their direct costs away; else each group is charged its direct cost. A purchase that was added to a
+/// commitment later is one of its purchases: it is spread over every hour of the term, and so changes the amounts of past hours too. Each worker
 /// counts the rows of a piece of the snapshot's segments, in a thread of its own where there are processors for it; their number changes nothing in the
 /// report. Whoever asks for many reports on the same entries is answered faster by [`report_keeping`], and whoever has no leave to start threads asks
 /// [`report_alone`].
