@@ -63,6 +63,9 @@ fn print_advice(rt: &HostRuntime, folder: &str, fault: &Fault) -> io::Result<()>
         Fault::Store(StoreFault::Device) => {
             eprintln!(rt; "{folder}: a read, a write or a sync of its files failed")
         }
+        Fault::Store(StoreFault::OldSide) => eprintln!(rt;
+            "{folder} is in an older form, which can't hold this entry; run focusd checkpoint --dir {folder}, and then this again"
+        ),
         _ => Ok(()),
     }
 }

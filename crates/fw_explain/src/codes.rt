@@ -1,8 +1,20 @@
-//! Each code that the program prints, by its letter and number.
+//! Each code that the program prints, by its letter and number, in the order of the formats' tables.
+//!
+//! They stand in two tables, each behind a function. The proof of a function that names a table contains all the table's words,
+//! and with one table of all codes it is over the prover's step limit.
 use crate::explanation::Explanation;
 
-/// Each code, in the order of the formats' tables.
-pub(crate) const CODES: &[Explanation] = &[
+/// The codes of what is wrong with the content of an entry: with a CSV, a commitment, an added purchase or a policy.
+pub(crate) fn content_codes() -> &'static [Explanation] {
+    CONTENT_CODES
+}
+
+/// The other codes, which come after these: of entries, questions, runs and stores.
+pub(crate) fn command_codes() -> &'static [Explanation] {
+    COMMAND_CODES
+}
+
+const CONTENT_CODES: &[Explanation] = &[
     Explanation {
         code: "H1",
         name: "MissingColumn",
@@ -108,19 +120,19 @@ pub(crate) const CODES: &[Explanation] = &[
     Explanation {
         code: "C1",
         name: "Syntax",
-        meaning: "the commitment is no TOML in UTF-8",
-        remedy: "Texts stand in quotes, and each purchase begins with a line [[purchase]].",
+        meaning: "the commitment, or the purchase that is added to one, is no TOML in UTF-8",
+        remedy: "Texts stand in quotes, and in a commitment each purchase begins with a line [[purchase]].",
     },
     Explanation {
         code: "C2",
         name: "Field",
-        meaning: "a field of the commitment is missing, of another kind, or can't be read; the answer names it. `unknown` is a field that a commitment hasn't",
+        meaning: "a field of the commitment, or of the purchase that is added to one, is missing, of another kind, or can't be read; the answer names it. `unknown` is a field that a commitment, or such a purchase, hasn't",
         remedy: "Compare with the table of commitments in docs/FORMATS.md.",
     },
     Explanation {
         code: "C3",
         name: "Limit",
-        meaning: "a field of the commitment is past its limits; the answer names it",
+        meaning: "a field of the commitment, or of the purchase that is added to one, is past its limits; the answer names it",
         remedy: "Compare with the table of commitments in docs/FORMATS.md.",
     },
     Explanation {
@@ -153,6 +165,9 @@ pub(crate) const CODES: &[Explanation] = &[
         meaning: "a rule gives to a group that a rule gives away",
         remedy: "Give to the groups that are charged in the end: costs move once.",
     },
+];
+
+const COMMAND_CODES: &[Explanation] = &[
     Explanation {
         code: "E1",
         name: "Origin",
@@ -200,6 +215,18 @@ pub(crate) const CODES: &[Explanation] = &[
         name: "TooManyCommitments",
         meaning: "there are 256 commitments already",
         remedy: "Begin another warehouse.",
+    },
+    Explanation {
+        code: "J8",
+        name: "NoSuchCommitment",
+        meaning: "the warehouse has no commitment of the id that the purchase is added to; nothing was changed",
+        remedy: "Correct the id, which must be that of a commitment that was accepted, or send that commitment first. Then send the purchase again.",
+    },
+    Explanation {
+        code: "J9",
+        name: "PurchaseLimit",
+        meaning: "with this purchase the commitment would have more than 64 purchases, or they would come to more than 100,000,000 units; nothing was changed",
+        remedy: "Look for a wrong amount, and for a purchase that was added twice. Purchases that are still to be sent can be joined into one: only their sum counts.",
     },
     Explanation {
         code: "Q1",
@@ -278,6 +305,12 @@ pub(crate) const CODES: &[Explanation] = &[
         name: "Exists",
         meaning: "--create was given, and the folder holds a warehouse already",
         remedy: "Leave --create out to go on with it, or give another folder.",
+    },
+    Explanation {
+        code: "S8",
+        name: "OldSide",
+        meaning: "the warehouse is in an older form, which can't hold a purchase that is added to a commitment; nothing was changed",
+        remedy: "Write it in the present form by focusd checkpoint, or by the line checkpoint in a script. Then send the entry again.",
     },
     Explanation {
         code: "D1",

@@ -1,7 +1,7 @@
 //! A code's explanation.
 ghost use Rattle.std.specs.Prelude.{◌≡◌, IfSome};
 
-use crate::codes::CODES;
+use crate::codes::{command_codes, content_codes};
 
 /// What a code means.
 #[derive(Clone, Copy, Debug)]
@@ -20,7 +20,7 @@ pub struct Explanation {
 pub fn explain(code: &str) -> Option<&'static Explanation>
     ensures { IfSome result (λ e. e.now.code.now ≡ code.now) }
 {
-    find(CODES, code)
+    find(content_codes(), code).or(find(command_codes(), code))
 }
 
 // The explanation of a code among some.

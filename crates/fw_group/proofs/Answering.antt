@@ -16,7 +16,7 @@ use Rattle.fw_group.specs.declared.answer.Answer.{Answer}
 use Rattle.fw_snapshot.specs.History.{History}
 use Rattle.fw_snapshot.proofs.VerdictFacts.{as_many}
 use Rattle.fw_recover.specs.declared.fault.StoreFault.{StoreFault}
-use Rattle.fw_recover.specs.declared.fault.StoreFault.TheVariants.{TooLarge}
+use Rattle.fw_recover.specs.declared.fault.StoreFault.TheVariants.{OldSide, TooLarge}
 use Rattle.fw_recover.specs.Committing.{PreparedState, prepared_on, IsCommitFault}
 use Rattle.fw_group.specs.declared.inbox.Item.{Item}
 use Rattle.fw_group.specs.Items.{entries_of}
@@ -138,17 +138,18 @@ one_more_alike b items n within =
 
 -- ---- what a store answered
 
-group_fault : (fault : StoreFault) → IsCommitFault fault → (fault ≡ TooLarge → ⊥) → IsGroupFault fault
-group_fault fault (inl is) fits = subst IsGroupFault (sym is) tt
-group_fault fault (inr (inl is)) fits = subst IsGroupFault (sym is) tt
-group_fault fault (inr (inr (inl is))) fits = absurd (fits is)
-group_fault fault (inr (inr (inr is))) fits = subst IsGroupFault (sym is) tt
+group_fault : (fault : StoreFault) → IsCommitFault fault → (fault ≡ OldSide → ⊥) → (fault ≡ TooLarge → ⊥) → IsGroupFault fault
+group_fault fault (inl is) of_form fits = subst IsGroupFault (sym is) tt
+group_fault fault (inr (inl is)) of_form fits = subst IsGroupFault (sym is) tt
+group_fault fault (inr (inr (inl is))) of_form fits = absurd (of_form is)
+group_fault fault (inr (inr (inr (inl is)))) of_form fits = absurd (fits is)
+group_fault fault (inr (inr (inr (inr is)))) of_form fits = subst IsGroupFault (sym is) tt
 
 -- the front has the entries that the verdicts accept
 pub group_outcome : (C : Vec Verdict Global → Type 0) (h : History) (items : List Item) (next : History) (p : PreparedState) (result : Result (Vec Verdict Global) StoreFault)
     → p ≡ prepared_on h (entries_of items) → next ≡ with_more h (accepted_of h.entries (entries_of items)) → IfOk result (λ v. (v.items ≡ p.verdicts) × C v)
-    → IfErr result IsCommitFault → (IsErrOf result TooLarge → ⊥) → IsOutcome (λ (k : History). k.entries) items next result
-group_outcome C h items next p (Ok v) prepared next_is done which fits =
+    → IfErr result IsCommitFault → (IsErrOf result OldSide → ⊥) → (IsErrOf result TooLarge → ⊥) → IsOutcome (λ (k : History). k.entries) items next result
+group_outcome C h items next p (Ok v) prepared next_is done which of_form fits =
     let es = entries_of items in
     let are : v.items ≡ verdicts_on h.entries es = done.0 ∙ ap (λ (q : PreparedState). q.verdicts) prepared in (
       ap (λ (l : List Verdict). length l) are ∙ as_many h.entries es ∙ length_entries items,
@@ -160,4 +161,4 @@ group_outcome C h items next p (Ok v) prepared next_is done which fits =
         ap (λ (k : History). length k.entries) next_is,
       ),
     )
-group_outcome C h items next p (Err fault) prepared next_is done which fits = group_fault fault which (λ is. fits (ap Err is))
+group_outcome C h items next p (Err fault) prepared next_is done which of_form fits = group_fault fault which (λ is. of_form (ap Err is)) (λ is. fits (ap Err is))

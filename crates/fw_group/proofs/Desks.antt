@@ -48,7 +48,8 @@ desk_takes d said.Ignored e was h = absurd h
 module _ {V : Type 0} (tells : Bool) (view : V → View) where
   hand_commits : (s : StoreState V) (items : List Item) (a : EventAnswer) (t : StoreState V) (rest : List Item) → Fits items → Commits tells view s items a t rest → Fits rest
   hand_commits s items (said.Committed answers) t rest was h = subst Fits (sym h.0) none_fit
-  hand_commits s items (said.Failed fault.TooLarge) t rest was h = subst Fits (sym h.4) was
+  hand_commits s items (said.Failed fault.OldSide) t rest was h = subst Fits (sym h.4) was
+  hand_commits s items (said.Failed fault.TooLarge) t rest was h = subst Fits (sym h.5) was
   hand_commits s items said.Posted t rest was h = absurd h
   hand_commits s items (said.Took n) t rest was h = absurd h
   hand_commits s items said.Checkpointed t rest was h = absurd h

@@ -65,6 +65,7 @@ grows_commits s (said.Committed answers) t (runs, inl h) = published_same s t _ 
 grows_commits s (said.Committed answers) t (runs, inr (some, inl h)) = (in_hand s, ap (λ (x : State). x.published) h.2)
 grows_commits s (said.Committed answers) t (runs, inr (some, inr (inl h))) = published_same s t _ h.2 refl
 grows_commits s (said.Committed answers) t (runs, inr (some, inr (inr h))) = published_same s t _ h.2 refl
+grows_commits s (said.Failed fault.OldSide) t h = published_same s t _ h.3 refl
 grows_commits s (said.Failed fault.TooLarge) t h = published_same s t _ h.3 refl
 grows_commits s said.Ignored t h = published_same s t _ h.1 refl
 grows_commits s said.Posted t h = absurd h
@@ -99,6 +100,7 @@ grows_checkpoints s (said.Reopened found) t h = absurd h
 grows_checkpoints s (said.Failed fault.NoHouse) t h = absurd h
 grows_checkpoints s (said.Failed (fault.Corrupt side at)) t h = absurd h
 grows_checkpoints s (said.Failed fault.Exists) t h = absurd h
+grows_checkpoints s (said.Failed fault.OldSide) t h = absurd h
 grows_checkpoints s (said.Failed fault.NoMemory) t h = absurd h
 
 grows_views : (s : State) (analyst : ℕ) (a : EventAnswer) (t : State) → Views s analyst a t → Begins s.published t.published
@@ -155,6 +157,7 @@ grows_reopens s (said.Failed fault.Failed) t h = absurd h
 grows_reopens s (said.Failed fault.Generations) t h = absurd h
 grows_reopens s (said.Failed fault.TooLarge) t h = absurd h
 grows_reopens s (said.Failed fault.Exists) t h = absurd h
+grows_reopens s (said.Failed fault.OldSide) t h = absurd h
 grows_reopens s (said.Failed fault.NoMemory) t h = absurd h
 
 -- an event takes nothing from what is published

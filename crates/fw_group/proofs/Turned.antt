@@ -195,6 +195,7 @@ module _ {V : Type 0} (tells : Bool) (told : IsTrue tells) (view : V → View)
         same_turn on.Commit (said.Committed answered) t e seen (refl, inl (h.0, h.1, leaves t e h.2 stays_so)) h.2 (still t _ h.2 (λ c left. inl (was.each c left)))
         (record {
           nothing = λ either. h.2;
+          of_form = λ some. absurd (some h.0);
           done = λ some. absurd (some h.0);
           lost = λ goes_on fails. let same : t.failed ≡ s.failed = ap (λ (x : StoreState V). x.failed) h.2 in absurd (cc);
         })
@@ -231,6 +232,7 @@ module _ {V : Type 0} (tells : Bool) (told : IsTrue tells) (view : V → View)
           between = weakened (view s.volume) (view t.volume) _ (MayStand old_state on.Commit) (h.moment told) (written h.committed.went_on);
           cause = record {
             nothing = λ either. absurd (neither some h.committed.went_on either);
+            of_form = λ has goes_on. h.of_form;
             done = λ has goes_on went_on. subst (λ (b : Bool). Committed b view s t more_of) told h.committed;
             lost = λ goes_on fails. let stored = h.committed.failed in absurd (cc);
           };
@@ -271,6 +273,7 @@ module _ {V : Type 0} (tells : Bool) (told : IsTrue tells) (view : V → View)
           between = weakened (view s.volume) (view t.volume) _ (MayStand old_state on.Commit) moment (written h.went_on);
           cause = record {
             nothing = λ either. absurd (neither some h.went_on either);
+            of_form = λ has goes_on. h.of_form;
             done = λ has goes_on went_on. let lost = h.lost.failed in absurd (cc);
             lost = λ goes_on fails. (h.some, h.cause, h.lost);
           };
@@ -282,13 +285,17 @@ module _ {V : Type 0} (tells : Bool) (told : IsTrue tells) (view : V → View)
         (refl, inr (some, inr (inr (h.had_failed, h.answered, (λ j. state_of (house.Open (h.same j)) (emptied j) p g f seen))))) h.same (still t _ h.same (λ c left. inl (was.each c left)))
         (record {
           nothing = λ either. h.same;
+          of_form = λ has goes_on. let had = h.had_failed in absurd (cc);
           done = λ has goes_on. let had = h.had_failed in absurd (cc);
           lost = λ goes_on. let had = h.had_failed in absurd (cc);
         })
         (ap (λ (x : Desk). x.analysts) emptied ∙ many)
-    commit_turn (said.Failed fault.TooLarge) t e h desk =
+    commit_turn (said.Failed fault.OldSide) t e h desk =
         let stays_so : e ≡ d = desk ∙ (λ j. record d { hand = h.4 j }) in
-        same_turn on.Commit (said.Failed fault.TooLarge) t e seen (refl, h.0, h.1, leaves t e h.3 stays_so) h.3 (still t _ h.3 (λ c left. inl (was.each c left))) (h.2, h.3) (as_many e stays_so)
+        same_turn on.Commit (said.Failed fault.OldSide) t e seen (refl, h.0, h.1, leaves t e h.3 stays_so) h.3 (still t _ h.3 (λ c left. inl (was.each c left))) (h.2, h.3) (as_many e stays_so)
+    commit_turn (said.Failed fault.TooLarge) t e h desk =
+        let stays_so : e ≡ d = desk ∙ (λ j. record d { hand = h.5 j }) in
+        same_turn on.Commit (said.Failed fault.TooLarge) t e seen (refl, h.0, h.1, leaves t e h.4 stays_so) h.4 (still t _ h.4 (λ c left. inl (was.each c left))) (h.2, h.3, h.4) (as_many e stays_so)
     commit_turn said.Posted t e h desk = absurd h
     commit_turn (said.Took n) t e h desk = absurd h
     commit_turn said.Checkpointed t e h desk = absurd h
@@ -363,6 +370,7 @@ module _ {V : Type 0} (tells : Bool) (told : IsTrue tells) (view : V → View)
     checkpoint_turn (said.Failed fault.NoHouse) t e h desk = absurd h
     checkpoint_turn (said.Failed (fault.Corrupt side at)) t e h desk = absurd h
     checkpoint_turn (said.Failed fault.Exists) t e h desk = absurd h
+    checkpoint_turn (said.Failed fault.OldSide) t e h desk = absurd h
     checkpoint_turn (said.Failed fault.NoMemory) t e h desk = absurd h
 
     -- ---- stops
@@ -510,6 +518,7 @@ module _ {V : Type 0} (tells : Bool) (told : IsTrue tells) (view : V → View)
     reopen_turn (said.Failed fault.Generations) k e h desk = absurd h
     reopen_turn (said.Failed fault.TooLarge) k e h desk = absurd h
     reopen_turn (said.Failed fault.Exists) k e h desk = absurd h
+    reopen_turn (said.Failed fault.OldSide) k e h desk = absurd h
     reopen_turn (said.Failed fault.NoMemory) k e h desk = absurd h
 
     pub stopped_turn : (event : Event) (a : EventAnswer) (k : House V) (e : Desk) → Acts tells view (house.Stopped v) d answers event a k e → Turned view (house.Stopped v) stopped_state answers event a k e

@@ -9,7 +9,7 @@ use Rattle.fw_snapshot.specs.Verdicts.{is_accept, taken, verdicts_on, accepted_o
 use Rattle.fw_snapshot.specs.declared.verdict.Verdict.{Verdict}
 use Rattle.fw_snapshot.specs.declared.verdict.Verdict.TheVariants as verdict
 use Rattle.fw_recover.specs.declared.fault.StoreFault.{StoreFault}
-use Rattle.fw_recover.specs.declared.fault.StoreFault.TheVariants.{NoHouse, Corrupt, Device, Failed, Generations, TooLarge, Exists, NoMemory}
+use Rattle.fw_recover.specs.declared.fault.StoreFault.TheVariants.{NoHouse, Corrupt, Device, Failed, Generations, TooLarge, Exists, OldSide, NoMemory}
 use Rattle.fw_group.specs.declared.answer.Answer.{Answer}
 use Rattle.fw_group.specs.declared.answer.Answer.TheVariants as answer
 use Rattle.fw_group.specs.declared.inbox.Item.{Item}
@@ -36,6 +36,7 @@ IsGroupFault Failed = ⊤
 IsGroupFault Generations = ⊥
 IsGroupFault TooLarge = ⊥
 IsGroupFault Exists = ⊥
+IsGroupFault OldSide = ⊥
 IsGroupFault NoMemory = ⊤
 
 -- the answer to each entry of a group by such a fault
@@ -47,6 +48,7 @@ refusal Failed = answer.Closed
 refusal Generations = answer.NoMemory
 refusal TooLarge = answer.NoMemory
 refusal Exists = answer.NoMemory
+refusal OldSide = answer.NoMemory
 refusal NoMemory = answer.NoMemory
 
 -- how many verdicts accept their entry

@@ -3,6 +3,7 @@
 use Rattle.std.specs.Prelude.{◌≡◌, ◌⊎◌, ⊤, ℕ, ◌-◌, ◌^◌, ◌<◌, Bool, true, false, List, [], ◌∷◌, ◌++◌, length, take, replicate}
 use Rattle.fw_disk.specs.Volume.{Image, View, LeavesOnly, Calm, Rose}
 use Rattle.fw_entry.specs.Entry.{EntryValue}
+use Rattle.fw_entry_bytes.specs.Forms.{IsOfForm}
 use Rattle.fw_snapshot.specs.History.{History}
 use Rattle.fw_snapshot.specs.Verdicts.{with_more}
 use Rattle.fw_recover.specs.declared.fault.StoreFault.TheVariants as fault
@@ -87,19 +88,22 @@ module _ {V : Type 0} (view : V → View) where
   abbrev pub DeviceFailed : House V → House V → Type 0
   DeviceFailed h m = Rose (view (volume_of h)).failures (view (volume_of m)).failures
 
-  -- A commit whose items were answered. Nothing happened where nothing was in hand, or the device had failed before. Else the accepted ones are in
-  -- the log; or there were accepted ones, and the device failed while they were written.
+  -- A commit whose items were answered. Nothing happened where nothing was in hand, or the device had failed before. Else the form of the side in use
+  -- has the accepted ones, and they are in the log; or there were accepted ones, and the device failed while they were written.
   pub record GroupLed (store : StoreState V) (s : State) (t : StoreState V) (u : State) : Type 0 where
     pub nothing : (s.hand ≡ []) ⊎ (s.failed ≡ true) → t ≡ store
+    pub of_form : (s.hand ≡ [] → ⊥) → s.failed ≡ false → IsOfForm store.form (in_hand s)
     pub done : (s.hand ≡ [] → ⊥) → s.failed ≡ false → u.failed ≡ false → Committed true view store t (in_hand s)
     pub lost : s.failed ≡ false → u.failed ≡ true → (0 < length (in_hand s)) × DeviceFailed (house.Open store) (house.Open t) × Lost store t
 
   -- What an event did to the store and its device, and why it was answered so, where the states alone don't tell. A fault of the device comes only
-  -- where the count of failures rose, and the other faults only where the store has no room, or no greater generation. What isn't listed changes
-  -- nothing.
+  -- where the count of failures rose. `OldSide` comes only where the form of the side in use doesn't have an accepted entry in hand, and `TooLarge` only
+  -- where there is no room: of a commit, only where the form has all accepted entries in hand. `Generations` comes only where there is no greater
+  -- generation. What isn't listed changes nothing.
   abbrev pub Led : House V → State → Event → EventAnswer → House V → State → Type 0
   Led (house.Open store) s on.Commit (said.Committed answers) (house.Open t) u = GroupLed store s t u
-  Led (house.Open store) s on.Commit (said.Failed fault.TooLarge) (house.Open t) u = HasNoRoom (view store.volume).limit store (in_hand s) × (t ≡ store)
+  Led (house.Open store) s on.Commit (said.Failed fault.OldSide) (house.Open t) u = (IsOfForm store.form (in_hand s) → ⊥) × (t ≡ store)
+  Led (house.Open store) s on.Commit (said.Failed fault.TooLarge) (house.Open t) u = IsOfForm store.form (in_hand s) × HasNoRoom (view store.volume).limit store (in_hand s) × (t ≡ store)
   Led (house.Open store) s on.Checkpoint said.Checkpointed (house.Open t) u = (store.generation ≡ 2 ^ 64 - 1 → ⊥) × IsCheckpointed true view store t
   Led (house.Open store) s on.Checkpoint (said.Failed fault.Generations) (house.Open t) u = (store.generation ≡ 2 ^ 64 - 1) × (t ≡ store)
   Led (house.Open store) s on.Checkpoint (said.Failed fault.TooLarge) (house.Open t) u =

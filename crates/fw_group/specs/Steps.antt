@@ -83,6 +83,7 @@ Shut s answers t = (s.failed ≡ true) × (answers ≡ for_each answer.Closed s.
 abbrev pub Commits : State → EventAnswer → State → Type 0
 Commits s (said.Committed answers) t =
     (s.stopped ≡ false) × (Nothing s answers.items t ⊎ ((s.hand ≡ [] → ⊥) × (Done s answers.items t ⊎ (Lost s answers.items t ⊎ Shut s answers.items t))))
+Commits s (said.Failed fault.OldSide) t = (s.stopped ≡ false) × (s.hand ≡ [] → ⊥) × (s.failed ≡ false) × (t ≡ s)
 Commits s (said.Failed fault.TooLarge) t = (s.stopped ≡ false) × (s.hand ≡ [] → ⊥) × (s.failed ≡ false) × (t ≡ s)
 Commits s said.Ignored t = (s.stopped ≡ true) × (t ≡ s)
 Commits s a t = ⊥

@@ -3,6 +3,7 @@ use Rattle.std.specs.Prelude.{◌≡◌, ◌⊎◌, ⊤, ℕ, ◌+◌, ◌-◌, 
 use Rattle.fw_disk.specs.declared.volume.Side.{Side}
 use Rattle.fw_disk.specs.Volume.{Image, View, LeavesOnly, Calm, Rose}
 use Rattle.fw_entry.specs.Entry.{EntryValue}
+use Rattle.fw_entry_bytes.specs.Forms.{IsOfForm}
 use Rattle.fw_snapshot.specs.History.{History}
 use Rattle.fw_snapshot.specs.Verdicts.{accepted_of, verdicts_on, with_more}
 use Rattle.fw_recover.specs.declared.fault.StoreFault.{StoreFault}
@@ -70,11 +71,16 @@ Learns answers analysts analyst event place a = ⊥
 
 -- ---- commits
 
+-- the form of the side in use has the accepted ones of the items
+abbrev pub AreOfForm : {V : Type 0} → StoreState V → List Item → Type 0
+AreOfForm s items = IsOfForm s.form (accepted_of s.history.entries (entries_of items))
+
 module _ {V : Type 0} (view : V → View) where
   -- a group that was judged: what is ready to be written, the warehouse with it, and a copy of this for each item
   pub record IsJudged (s : StoreState V) (items : List Item) (g : Judged) : Type 0 where
     pub went_on : s.failed ≡ false
     pub prepared : g.prepared ≡ prepared_on s.history (entries_of items)
+    pub of_form : AreOfForm s items
     pub room : HasNoRoom (view s.volume).limit s (accepted_of s.history.entries (entries_of items)) → ⊥
     pub next : g.next ≡ with_more s.history (accepted_of s.history.entries (entries_of items))
     pub count : length g.fronts.items ≡ length items
@@ -83,13 +89,15 @@ module _ {V : Type 0} (view : V → View) where
   -- why a group wasn't judged
   abbrev pub IsRefused : StoreState V → List Item → StoreFault → Type 0
   IsRefused s items fault.Failed = s.failed ≡ true
-  IsRefused s items fault.TooLarge = (s.failed ≡ false) × HasNoRoom (view s.volume).limit s (accepted_of s.history.entries (entries_of items))
+  IsRefused s items fault.OldSide = (s.failed ≡ false) × (AreOfForm s items → ⊥)
+  IsRefused s items fault.TooLarge = (s.failed ≡ false) × AreOfForm s items × HasNoRoom (view s.volume).limit s (accepted_of s.history.entries (entries_of items))
   IsRefused s items fault.NoMemory = ⊤
   IsRefused s items fault = ⊥
 
 module _ {V : Type 0} (tells : Bool) (view : V → View) where
   -- the accepted ones of the items are stored, and each item is answered by its verdict
   pub record IsDone (s : StoreState V) (items : List Item) (answers : List (Answer History)) (t : StoreState V) : Type 0 where
+    pub of_form : AreOfForm s items
     pub committed : Committed tells view s t (accepted_of s.history.entries (entries_of items))
     pub moment : IsTrue tells → LeavesOnly (view s.volume) (view t.volume) (StandsForEither s.history (accepted_of s.history.entries (entries_of items)))
     pub answered : answers ≡ answers_on t.history s.history.entries (entries_of items)
@@ -97,6 +105,7 @@ module _ {V : Type 0} (tells : Bool) (view : V → View) where
   -- the device failed while they were written: they are stored or not, and no item knows
   pub record IsLost (s : StoreState V) (items : List Item) (answers : List (Answer History)) (t : StoreState V) : Type 0 where
     pub went_on : s.failed ≡ false
+    pub of_form : AreOfForm s items
     pub lost : Lost s t
     pub some : 0 < length (accepted_of s.history.entries (entries_of items))
     pub cause : Rose (view s.volume).failures (view t.volume).failures
@@ -115,8 +124,9 @@ module _ {V : Type 0} (tells : Bool) (view : V → View) where
   abbrev pub Commits : StoreState V → List Item → EventAnswer → StoreState V → List Item → Type 0
   Commits s items (said.Committed answers) t rest =
       (rest ≡ []) × (((items ≡ []) × (answers.items ≡ []) × (t ≡ s)) ⊎ ((items ≡ [] → ⊥) × (Stores s items answers.items t ⊎ IsShut s items answers.items t)))
+  Commits s items (said.Failed fault.OldSide) t rest = (items ≡ [] → ⊥) × (s.failed ≡ false) × (AreOfForm s items → ⊥) × (t ≡ s) × (rest ≡ items)
   Commits s items (said.Failed fault.TooLarge) t rest =
-      (items ≡ [] → ⊥) × (s.failed ≡ false) × HasNoRoom (view s.volume).limit s (accepted_of s.history.entries (entries_of items)) × (t ≡ s) × (rest ≡ items)
+      (items ≡ [] → ⊥) × (s.failed ≡ false) × AreOfForm s items × HasNoRoom (view s.volume).limit s (accepted_of s.history.entries (entries_of items)) × (t ≡ s) × (rest ≡ items)
   Commits s items a t rest = ⊥
 
   -- ---- checkpoints

@@ -131,7 +131,8 @@ fn copies(alloc: Global, snapshot: &Snapshot, count: usize) -> Result<Vec<Snapsh
 /// Judges what is in hand, and makes all that its commit takes before anything is written. It changes nothing.
 ///
 /// # Errors
-/// `Failed` where the device had failed before; then `TooLarge` where the volume has no room for the group, or `NoMemory`.
+/// `Failed` where the device had failed before; then `OldSide` where the form of the side in use doesn't have an accepted entry,
+/// then `TooLarge` where the volume has no room for the group, or `NoMemory` in place of these two.
 pub fn judge_hand<V: Volume>(
     alloc: Global,
     store: &Store<V>,

@@ -86,10 +86,11 @@ module _ {V : Type 0} (tells : Bool) (view : V → View) where
   pub failed : (f : Flushed V) (why : CommitFault) (g : Flushed V) → CommitFails tells view f why g → Stops tells view f g
   failed f (commit.Store fault.NoHouse) g fails shown = absurd fails.1
   failed f (commit.Store (fault.Corrupt side at)) g fails shown = absurd fails.1
-  failed f (commit.Store fault.Device) g fails shown = (begins_same f.store.history g.store.history fails.1.1.history, whole f g _ fails.1.4)
+  failed f (commit.Store fault.Device) g fails shown = (begins_same f.store.history g.store.history fails.1.1.history, whole f g _ fails.1.5)
   failed f (commit.Store fault.Failed) g fails shown = same f g fails.1.1 shown
   failed f (commit.Store fault.Generations) g fails shown = absurd fails.1
-  failed f (commit.Store fault.TooLarge) g fails shown = same f g fails.1.2 shown
+  failed f (commit.Store fault.OldSide) g fails shown = same f g fails.1.2 shown
+  failed f (commit.Store fault.TooLarge) g fails shown = same f g fails.1.3 shown
   failed f (commit.Store fault.Exists) g fails shown = absurd fails.1
   failed f (commit.Store fault.NoMemory) g fails shown = same f g fails.1 shown
-  failed f commit.Unpublished g fails shown = ((group_on f.published f.hand, fails.1.1.history), whole f g _ fails.1.2)
+  failed f commit.Unpublished g fails shown = ((group_on f.published f.hand, fails.1.1.history), whole f g _ fails.1.3)

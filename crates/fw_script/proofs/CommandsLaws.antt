@@ -48,10 +48,11 @@ never_both true h k = absurd (cc)
 never_both false h k = absurd (cc)
 
 -- what holds of each kind of entry holds of all
-pub every_kind : (P : EntryKind → Type 0) → P kind.Post → P kind.Commit → P kind.Policy → (k : EntryKind) → P k
-every_kind P post commit policy kind.Post = post
-every_kind P post commit policy kind.Commit = commit
-every_kind P post commit policy kind.Policy = policy
+pub every_kind : (P : EntryKind → Type 0) → P kind.Post → P kind.Commit → P kind.Policy → P kind.AddPurchase → (k : EntryKind) → P k
+every_kind P post commit policy add kind.Post = post
+every_kind P post commit policy add kind.Commit = commit
+every_kind P post commit policy add kind.Policy = policy
+every_kind P post commit policy add kind.AddPurchase = add
 
 -- a report's line, split word by word from its end
 pub report_arguments : (line arguments key : List ℕ) (from to : ℕ) → line ≡ codes "report" ++ space ∷ arguments → (e : IsReportLine line key from to)
@@ -157,36 +158,47 @@ unfolding entry_word
 same_kind kind.Post kind.Post xs ys e = refl
 same_kind kind.Commit kind.Commit xs ys e = refl
 same_kind kind.Policy kind.Policy xs ys e = refl
+same_kind kind.AddPurchase kind.AddPurchase xs ys e = refl
 same_kind kind.Post kind.Commit xs ys e = absurd (apart 99 112 (lit< tt) (sym (heads _ _ _ _ e)))
 same_kind kind.Commit kind.Post xs ys e = absurd (apart 99 112 (lit< tt) (heads _ _ _ _ e))
 same_kind kind.Commit kind.Policy xs ys e = absurd (apart 99 112 (lit< tt) (heads _ _ _ _ e))
 same_kind kind.Policy kind.Commit xs ys e = absurd (apart 99 112 (lit< tt) (sym (heads _ _ _ _ e)))
 same_kind kind.Post kind.Policy xs ys e = absurd (apart 108 115 (lit< tt) (sym (thirds _ _ _ _ _ _ _ _ e)))
 same_kind kind.Policy kind.Post xs ys e = absurd (apart 108 115 (lit< tt) (thirds _ _ _ _ _ _ _ _ e))
+same_kind kind.AddPurchase kind.Post xs ys e = absurd (apart 97 112 (lit< tt) (heads _ _ _ _ e))
+same_kind kind.Post kind.AddPurchase xs ys e = absurd (apart 97 112 (lit< tt) (sym (heads _ _ _ _ e)))
+same_kind kind.AddPurchase kind.Commit xs ys e = absurd (apart 97 99 (lit< tt) (heads _ _ _ _ e))
+same_kind kind.Commit kind.AddPurchase xs ys e = absurd (apart 97 99 (lit< tt) (sym (heads _ _ _ _ e)))
+same_kind kind.AddPurchase kind.Policy xs ys e = absurd (apart 97 112 (lit< tt) (heads _ _ _ _ e))
+same_kind kind.Policy kind.AddPurchase xs ys e = absurd (apart 97 112 (lit< tt) (sym (heads _ _ _ _ e)))
 
 not_report : (k : EntryKind) (xs ys : List ℕ) → entry_word k ++ xs ≡ codes "report" ++ ys → ⊥
 unfolding entry_word
 not_report kind.Post xs ys e = apart 112 114 (lit< tt) (heads _ _ _ _ e)
 not_report kind.Commit xs ys e = apart 99 114 (lit< tt) (heads _ _ _ _ e)
 not_report kind.Policy xs ys e = apart 112 114 (lit< tt) (heads _ _ _ _ e)
+not_report kind.AddPurchase xs ys e = apart 97 114 (lit< tt) (heads _ _ _ _ e)
 
 not_lines : (k : EntryKind) (xs ys : List ℕ) → entry_word k ++ xs ≡ codes "lines" ++ ys → ⊥
 unfolding entry_word
 not_lines kind.Post xs ys e = apart 108 112 (lit< tt) (sym (heads _ _ _ _ e))
 not_lines kind.Commit xs ys e = apart 99 108 (lit< tt) (heads _ _ _ _ e)
 not_lines kind.Policy xs ys e = apart 108 112 (lit< tt) (sym (heads _ _ _ _ e))
+not_lines kind.AddPurchase xs ys e = apart 97 108 (lit< tt) (heads _ _ _ _ e)
 
 not_state : (k : EntryKind) (xs : List ℕ) → entry_word k ++ xs ≡ codes "state" → ⊥
 unfolding entry_word
 not_state kind.Post xs e = apart 112 115 (lit< tt) (heads _ _ _ _ e)
 not_state kind.Commit xs e = apart 99 115 (lit< tt) (heads _ _ _ _ e)
 not_state kind.Policy xs e = apart 112 115 (lit< tt) (heads _ _ _ _ e)
+not_state kind.AddPurchase xs e = apart 97 115 (lit< tt) (heads _ _ _ _ e)
 
 not_checkpoint : (k : EntryKind) (xs : List ℕ) → entry_word k ++ xs ≡ codes "checkpoint" → ⊥
 unfolding entry_word
 not_checkpoint kind.Post xs e = apart 99 112 (lit< tt) (sym (heads _ _ _ _ e))
 not_checkpoint kind.Commit xs e = apart 104 111 (lit< tt) (sym (seconds _ _ _ _ _ _ e))
 not_checkpoint kind.Policy xs e = apart 99 112 (lit< tt) (sym (heads _ _ _ _ e))
+not_checkpoint kind.AddPurchase xs e = apart 97 99 (lit< tt) (heads _ _ _ _ e)
 
 -- a line is of one command
 entry_no_report : (k : EntryKind) (line o s key : List ℕ) (n from to : ℕ) → IsEntryLine (entry_word k) line o s n → IsReportLine line key from to → ⊥

@@ -41,6 +41,7 @@ unfoldable pub entry_word : EntryKind → List ℕ
 entry_word kind.Post = codes "post"
 entry_word kind.Commit = codes "commit"
 entry_word kind.Policy = codes "policy"
+entry_word kind.AddPurchase = codes "add"
 
 -- the line is none of the commands
 pub record IsNoCommand (line : List ℕ) : Type 0 where

@@ -10,6 +10,8 @@ pub enum EntryKind {
     Commit,
     /// A policy, as TOML.
     Policy,
+    /// A purchase that is added to a commitment, as TOML.
+    AddPurchase,
 }
 
 impl EntryKind {
@@ -24,6 +26,7 @@ impl EntryKind {
             EntryKind::Post => "post",
             EntryKind::Commit => "commit",
             EntryKind::Policy => "policy",
+            EntryKind::AddPurchase => "add",
         }
     }
 }
@@ -31,7 +34,7 @@ impl EntryKind {
 /// A command, which borrows from the script that it stands in.
 #[derive(Clone, Copy, Debug, Drop, PartialEq, Eq)]
 pub enum Command<'a> {
-    /// `post ORIGIN SEQUENCE LINES`, `commit ..` or `policy ..`, and the lines that follow it.
+    /// `post ORIGIN SEQUENCE LINES`, `commit ..`, `policy ..` or `add ..`, and the lines that follow it.
     Entry {
         kind: EntryKind,
         /// The origin, as it stands: nothing is checked of it here.

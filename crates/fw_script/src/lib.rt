@@ -3,8 +3,8 @@
 //! A script is lines. A line ends with a line feed or with the script, and a line feed at the end opens no further line. Single
 //! spaces part the words of a line, so a word may be empty. The commands are:
 //!
-//! - `post ORIGIN SEQUENCE LINES`, `commit ORIGIN SEQUENCE LINES` and `policy ORIGIN SEQUENCE LINES`, each followed by that many
-//!   lines of content, at most a million;
+//! - `post ORIGIN SEQUENCE LINES`, `commit ORIGIN SEQUENCE LINES`, `policy ORIGIN SEQUENCE LINES` and
+//!   `add ORIGIN SEQUENCE LINES`, each followed by that many lines of content, at most a million;
 //! - `report KEY FROM TO`, where KEY is the UTF-8 text between the first word and the last two, and FROM and TO are instants on
 //!   whole hours, not before 1970;
 //! - `lines FROM TO`, with the same kind of instants;

@@ -142,6 +142,9 @@ fn entry_line(line: &[u8]) -> Option<EntryLine<'_>>
     if let Some(entry) = entry_of_kind(EntryKind::Policy, line) {
         return Some(entry);
     }
+    if let Some(entry) = entry_of_kind(EntryKind::AddPurchase, line) {
+        return Some(entry);
+    }
     None
 }
 

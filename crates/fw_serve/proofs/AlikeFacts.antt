@@ -1,9 +1,12 @@
 -- Stores that are alike answer alike.
-use Rattle.std.proofs.Common.{◌≡◌, ◌≢◌, ◌⊎◌, ◌∙◌, ◌+◌, ◌∷◌, [], ℕ, List, All, get_or, length, Ok, Err, refl, sym, ap, subst, inl, inr, arith}
+use Rattle.std.proofs.Common.{◌≡◌, ◌≢◌, ◌⊎◌, ◌∙◌, ◌+◌, ◌∷◌, [], ℕ, true, false, List, All, get_or, length, Ok, Err, refl, sym, ap, subst, inl, inr, arith}
 use Rattle.std.specs.Prelude.{Result}
 use Rattle.std.proofs.lemmas.List.Elements.{All-head, All-tail}
 use Rattle.fw_entry.specs.Entry.{CommandValue, EntryValue}
 use Rattle.fw_entry.specs.declared.fault.EntryFault.{EntryFault}
+use Rattle.fw_entry_bytes.specs.Forms.{has_entry}
+use Rattle.fw_entry_bytes.specs.declared.form.Form.{Form}
+use Rattle.fw_entry_bytes.specs.declared.form.Form.TheVariants.{Two}
 use Rattle.fw_script.specs.Plain.{PlainCommand, entry, report, lines, state, checkpoint, bad_command, bad_end}
 use Rattle.fw_script.specs.declared.commands.EntryKind.{EntryKind}
 use Rattle.fw_segment.specs.Groups.{group}
@@ -12,7 +15,7 @@ use Rattle.fw_snapshot.specs.Judging.{judged}
 use Rattle.fw_snapshot.specs.Verdicts.{with_more}
 use Rattle.fw_snapshot.specs.declared.verdict.Verdict.{Verdict}
 use Rattle.fw_snapshot.specs.declared.verdict.Verdict.TheVariants as verdict
-use Rattle.fw_serve.specs.Answers.{Answer, Checkpoints, Entered, HasNoRoom, Judges, Makes, Renews, SequenceReads, Stays, Submits, Takes, entry_made, with_entry}
+use Rattle.fw_serve.specs.Answers.{Answer, Checkpoints, Entered, HasNoRoom, Judges, Makes, Renews, SequenceReads, Stays, Stores, Submits, Takes, entry_made, with_entry}
 use Rattle.fw_serve.specs.Contents.{ContentReads}
 use Rattle.fw_serve.specs.Questions.{LinesAnswer, ReportAnswer, lines_answer, report_answer}
 use Rattle.fw_serve.specs.Replies.{accepted_line, checkpointed_line, no_memory_line, state_line}
@@ -35,7 +38,7 @@ room_too : (a b : Standing) (e : EntryValue) → AreAlike a b → HasNoRoom b e 
 room_too a b e like none = let room = like.room in omega (arith, room, none)
 
 turned : (a b : Standing) → AreAlike a b → AreAlike b a
-turned a b like = record { history = sym like.history; failed = sym like.failed; generation = sym like.generation; room = sym like.room }
+turned a b like = record { history = sym like.history; failed = sym like.failed; form = sym like.form; generation = sym like.generation; room = sym like.room }
 
 more_room : (a b : Standing) (n : ℕ) → a.limit + b.end ≡ b.limit + a.end → a.limit + (b.end + 5 + n) ≡ b.limit + (a.end + 5 + n)
 more_room a b n room = omega (arith, room)
@@ -44,24 +47,35 @@ with_entry_alike : (a b : Standing) (e : EntryValue) → AreAlike a b → AreAli
 with_entry_alike a b e like = record {
   history = ap (λ (h : History). with_more h (e ∷ [])) like.history;
   failed = like.failed;
+  form = like.form;
   generation = like.generation;
   room = more_room a b (length (group (e ∷ []))) like.room;
 }
 
 -- ---- entries
-judges_alike : (a b c d : Standing) (e : EntryValue) (v : Verdict) (s t : List ℕ) → AreAlike a b → Judges a e v s c → Judges b e v t d → AreSame s t c d
-unfolding Judges
-judges_alike a b c d e verdict.Accept s t like (inl p) (inl q) =
+stores_alike : (a b c d : Standing) (e : EntryValue) (s t : List ℕ) → AreAlike a b → Stores a e s c → Stores b e t d → AreSame s t c d
+stores_alike a b c d e s t like (inl p) (inl q) =
     inr (inr (
       p.0 ∙ ap (λ (h : History). accepted_line (length h.entries + 1)) like.history ∙ sym q.0,
       stay_alike (with_entry a e) (with_entry b e) c d (with_entry_alike a b e like) p.1 q.1,
     ))
-judges_alike a b c d e verdict.Accept s t like (inl p) (inr (inl q)) = absurd (p.2 (room_too a b e like q.1))
-judges_alike a b c d e verdict.Accept s t like (inr (inl p)) (inl q) = absurd (q.2 (room_too b a e (turned a b like) p.1))
-judges_alike a b c d e verdict.Accept s t like (inr (inl p)) (inr (inl q)) = both_stay a b c d s t _ like p.0 q.0
-judges_alike a b c d e verdict.Accept s t like (inr (inr p)) q = inl (inr p.0)
-judges_alike a b c d e verdict.Accept s t like (inl p) (inr (inr q)) = inr (inl (inr q.0))
-judges_alike a b c d e verdict.Accept s t like (inr (inl p)) (inr (inr q)) = inr (inl (inr q.0))
+stores_alike a b c d e s t like (inl p) (inr (inl q)) = absurd (p.2 (room_too a b e like q.1))
+stores_alike a b c d e s t like (inr (inl p)) (inl q) = absurd (q.2 (room_too b a e (turned a b like) p.1))
+stores_alike a b c d e s t like (inr (inl p)) (inr (inl q)) = both_stay a b c d s t _ like p.0 q.0
+stores_alike a b c d e s t like (inr (inr p)) q = inl (inr p.0)
+stores_alike a b c d e s t like (inl p) (inr (inr q)) = inr (inl (inr q.0))
+stores_alike a b c d e s t like (inr (inl p)) (inr (inr q)) = inr (inl (inr q.0))
+
+-- the form of one side has an entry that the form of the other one has
+has_too : (a b : Standing) (e : EntryValue) → AreAlike a b → has_entry a.form e ≡ true → has_entry b.form e ≡ true
+has_too a b e like has = subst (λ (f : Form). has_entry f e ≡ true) like.form has
+
+judges_alike : (a b c d : Standing) (e : EntryValue) (v : Verdict) (s t : List ℕ) → AreAlike a b → Judges a e v s c → Judges b e v t d → AreSame s t c d
+unfolding Judges
+judges_alike a b c d e verdict.Accept s t like (inl p) (inl q) = both_stay a b c d s t _ like p.1 q.1
+judges_alike a b c d e verdict.Accept s t like (inl p) (inr q) = absurd (not_both (has_entry a.form e) (has_too b a e (turned a b like) q.0) p.0)
+judges_alike a b c d e verdict.Accept s t like (inr p) (inl q) = absurd (not_both (has_entry b.form e) (has_too a b e like p.0) q.0)
+judges_alike a b c d e verdict.Accept s t like (inr p) (inr q) = stores_alike a b c d e s t like p.1 q.1
 judges_alike a b c d e (verdict.Already last) s t like p q = both_stay a b c d s t _ like p q
 judges_alike a b c d e (verdict.Gap expected) s t like p q = both_stay a b c d s t _ like p q
 judges_alike a b c d e (verdict.Refused why) s t like p q = both_stay a b c d s t _ like p q
@@ -170,29 +184,30 @@ not_memory is =
     let first : 110 ≡ 99 = ap (λ text. get_or text 0 0) is in
     omega (arith, first)
 
--- a checkpoint that was made leaves all as it was, but for the generation and the room
-abbrev IsRenewed : Standing → Standing → Type 0
-IsRenewed a c = (c.history ≡ a.history) × (c.failed ≡ a.failed) × (c.generation ≡ a.generation + 1)
+-- a checkpoint that was made leaves all as it was, but for the form, the generation and the room
+abbrev pub IsRenewed : Standing → Standing → Type 0
+IsRenewed a c = (c.history ≡ a.history) × (c.failed ≡ a.failed) × (c.form ≡ Two) × (c.generation ≡ a.generation + 1)
 
 renewed : (a : Standing) (s : List ℕ) (c : Standing) → s ≡ checkpointed_line → Renews a s c → IsRenewed a c
-renewed a s c made (inl is) = (ap (λ (x : Standing). x.history) is.4, ap (λ (x : Standing). x.failed) is.4, ap (λ (x : Standing). x.generation) is.4)
+renewed a s c made (inl is) =
+    (ap (λ (x : Standing). x.history) is.4, ap (λ (x : Standing). x.failed) is.4, ap (λ (x : Standing). x.form) is.4, ap (λ (x : Standing). x.generation) is.4)
 renewed a s c made (inr (inl full)) = absurd (omega (arith, sym full_code ∙ code_if_made s _ made full.0.0))
 renewed a s c made (inr (inr (inl device))) = absurd (omega (arith, sym device_code ∙ code_if_made s _ made device.0))
 renewed a s c made (inr (inr (inr out))) = absurd (not_memory (sym out.0 ∙ made))
 
-made_leaves : (a : Standing) (s : List ℕ) (c : Standing) → s ≡ checkpointed_line → Checkpoints a s c → IsRenewed a c
+pub made_leaves : (a : Standing) (s : List ℕ) (c : Standing) → s ≡ checkpointed_line → Checkpoints a s c → IsRenewed a c
 unfolding Checkpoints
 made_leaves a s c made (inl failed) = absurd (omega (arith, sym failed_code ∙ code_if_made s _ made failed.1.0))
 made_leaves a s c made (inr (inl last)) = absurd (omega (arith, sym generations_code ∙ code_if_made s _ made last.2.0))
 made_leaves a s c made (inr (inr renews)) = renewed a s c made renews.2
 
 pub checkpoints_made : (a b c d : Standing) → AreAlike a b → Answer a checkpoint checkpointed_line c → Answer b checkpoint checkpointed_line d
-    → (c.history ≡ d.history) × (c.failed ≡ d.failed) × (c.generation ≡ d.generation)
+    → (c.history ≡ d.history) × (c.failed ≡ d.failed) × (c.form ≡ d.form) × (c.generation ≡ d.generation)
 unfolding Answer
 checkpoints_made a b c d like p q =
-    let (held, fails, next) = made_leaves a checkpointed_line c refl p in
-    let (held_other, fails_other, next_other) = made_leaves b checkpointed_line d refl q in
-    (held ∙ like.history ∙ sym held_other, fails ∙ like.failed ∙ sym fails_other, next ∙ ap (λ n. n + 1) like.generation ∙ sym next_other)
+    let (held, fails, form, next) = made_leaves a checkpointed_line c refl p in
+    let (held_other, fails_other, form_other, next_other) = made_leaves b checkpointed_line d refl q in
+    (held ∙ like.history ∙ sym held_other, fails ∙ like.failed ∙ sym fails_other, form ∙ sym form_other, next ∙ ap (λ n. n + 1) like.generation ∙ sym next_other)
 
 -- ---- scripts
 not_cut : (s t : List ℕ) (c d : Standing) → AreSame s t c d → (¬ IsCutShort s) → (¬ IsCutShort t) → (s ≡ t) × AreAlike c d

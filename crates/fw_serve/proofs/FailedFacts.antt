@@ -31,11 +31,11 @@ use Rattle.fw_serve.specs.Answers.{Answer, Checkpoints, Judges, Makes, RanOut, S
 use Rattle.fw_serve.specs.Contents.{ContentReads}
 use Rattle.fw_serve.specs.Questions.{lines_answer, report_answer}
 use Rattle.fw_serve.specs.Replies.{accepted_line, already_line, bad_command_line, bad_end_line, checkpointed_line, commitment_fault_line, conflict_line, counted, counts_line, entry_fault_line, gap_line, no_memory_line, policy_fault_line, query_fault_line, row_fault_line, state_line, store_fault_line, store_line}
-use Rattle.fw_serve.specs.Runs.{AnswersEach, LacksRoom, Sends}
+use Rattle.fw_serve.specs.Runs.{AnswersEach, LacksKind, LacksRoom, Sends}
 use Rattle.fw_serve.specs.Standings.{Standing}
 use Rattle.fw_serve.proofs.MoveFacts.{not_both}
 use Rattle.fw_serve.proofs.OneAnswerFacts.{content_one, number_one}
-use Rattle.fw_serve.proofs.RunFacts.{hindered_leaves, sends_made, step}
+use Rattle.fw_serve.proofs.RunFacts.{sends_made, step}
 use Rattle.fw_serve.proofs.WrittenFacts.{same_currency}
 
 -- ---- the lines that say that the store didn't do it
@@ -70,6 +70,10 @@ full_code = refl
 exists_code : store_code (store_fault_line store_fault.Exists) ≡ 55
 unfolding store_fault_line store_line
 exists_code = refl
+
+old_code : store_code (store_fault_line store_fault.OldSide) ≡ 56
+unfolding store_fault_line store_line
+old_code = refl
 
 -- no other line is one of the store
 memory_silent : store_code no_memory_line ≡ 0
@@ -106,6 +110,7 @@ unfolding ContentReads
 content_silent kind.Post currency content line reads = ap store_code reads.1 ∙ row_silent reads.0
 content_silent kind.Commit currency content line reads = ap store_code reads.1 ∙ commitment_silent reads.0
 content_silent kind.Policy currency content line reads = ap store_code reads.1 ∙ policy_silent reads.0
+content_silent kind.AddPurchase currency content line reads = ap store_code reads.1 ∙ commitment_silent reads.0
 
 entry_silent : (f : EntryFault) → store_code (entry_fault_line f) ≡ 0
 unfolding entry_fault_line no_memory_line
@@ -121,6 +126,8 @@ conflict_silent conflict.DoubleId = refl
 conflict_silent conflict.IdInUse = refl
 conflict_silent conflict.OwnCommitment = refl
 conflict_silent conflict.TooManyCommitments = refl
+conflict_silent conflict.NoSuchCommitment = refl
+conflict_silent conflict.PurchaseLimit = refl
 
 accepted_silent : (n : ℕ) → store_code (accepted_line n) ≡ 0
 unfolding accepted_line
@@ -171,15 +178,16 @@ unfolding bad_end_line
 bad_end_silent = refl
 
 -- ---- why a command is answered so
--- by its code: it is no line of the store; or the device failed; or it had failed before, or there is no further generation, or no room,
--- which changes nothing
+-- by its code: it is no line of the store; or the device failed, and nothing else changes; or it had failed before, or there is no further generation, or no
+-- room, or the form of the side in use doesn't have the entry, and nothing changes
 abbrev IsCaused : Standing → PlainCommand → ℕ → Standing → Type 0
 IsCaused before command code after =
     (code ≡ 0)
-    ⊎ (((code ≡ 51) × (after.failed ≡ true))
+    ⊎ (((code ≡ 51) × (after ≡ lost before))
     ⊎ (((code ≡ 52) × (before.failed ≡ true) × (after ≡ before))
     ⊎ (((code ≡ 53) × (command ≡ checkpoint) × (before.generation ≡ last_generation) × (after ≡ before))
-    ⊎ ((code ≡ 54) × LacksRoom before command × (after ≡ before)))))
+    ⊎ (((code ≡ 54) × LacksRoom before command × (after ≡ before))
+    ⊎ ((code ≡ 56) × LacksKind before command × (after ≡ before))))))
 
 abbrev Caused : Standing → PlainCommand → List ℕ → Standing → Type 0
 Caused before command text after = IsCaused before command (store_code text) after
@@ -188,20 +196,24 @@ by_other : (before : Standing) (command : PlainCommand) (text line : List ℕ) (
 by_other before command text line after is silent = inl (ap store_code is ∙ silent)
 
 by_device : (before : Standing) (command : PlainCommand) (text : List ℕ) (after : Standing) → text ≡ store_fault_line store_fault.Device → after ≡ lost before → Caused before command text after
-by_device before command text after is gone = inr (inl (ap store_code is ∙ device_code, ap (λ (s : Standing). s.failed) gone))
+by_device before command text after is gone = inr (inl (ap store_code is ∙ device_code, gone))
 
 by_failure : (before : Standing) (command : PlainCommand) (text : List ℕ) (after : Standing) → before.failed ≡ true → Stays before (store_fault_line store_fault.Failed) text after → Caused before command text after
 by_failure before command text after fails stays = inr (inr (inl (ap store_code stays.0 ∙ failed_code, fails, stays.1)))
 
 by_limit : (before : Standing) (command : PlainCommand) (text : List ℕ) (after : Standing) → Stays before (store_fault_line store_fault.TooLarge) text after → LacksRoom before command → Caused before command text after
-by_limit before command text after stays full = inr (inr (inr (inr (ap store_code stays.0 ∙ full_code, full, stays.1))))
+by_limit before command text after stays full = inr (inr (inr (inr (inl (ap store_code stays.0 ∙ full_code, full, stays.1)))))
+
+by_form : (before : Standing) (command : PlainCommand) (text : List ℕ) (after : Standing) → Stays before (store_fault_line store_fault.OldSide) text after → LacksKind before command → Caused before command text after
+by_form before command text after stays lacks = inr (inr (inr (inr (inr (ap store_code stays.0 ∙ old_code, lacks, stays.1)))))
 
 judges_caused : (before : Standing) (command : PlainCommand) (e : EntryValue) (v : Verdict) (text : List ℕ) (after : Standing) → Sends before.history.currency command e
     → judged before.history.entries e ≡ v → Judges before e v text after → Caused before command text after
 unfolding Judges
-judges_caused before command e verdict.Accept text after sends is (inl stored) = by_other before command text _ after stored.0 (accepted_silent _)
-judges_caused before command e verdict.Accept text after sends is (inr (inl full)) = by_limit before command text after full.0 (inl (e, sends, is, full.1))
-judges_caused before command e verdict.Accept text after sends is (inr (inr device)) = by_device before command text after device.0 device.1
+judges_caused before command e verdict.Accept text after sends is (inl lacks) = by_form before command text after lacks.1 (e, sends, is, lacks.0)
+judges_caused before command e verdict.Accept text after sends is (inr (has, inl stored)) = by_other before command text _ after stored.0 (accepted_silent _)
+judges_caused before command e verdict.Accept text after sends is (inr (has, inr (inl full))) = by_limit before command text after full.0 (inl (e, sends, is, has, full.1))
+judges_caused before command e verdict.Accept text after sends is (inr (has, inr (inr device))) = by_device before command text after device.0 device.1
 judges_caused before command e (verdict.Already last) text after sends is stays = by_other before command text _ after stays.0 (already_silent last)
 judges_caused before command e (verdict.Gap expected) text after sends is stays = by_other before command text _ after stays.0 (gap_silent expected)
 judges_caused before command e (verdict.Refused why) text after sends is stays = by_other before command text _ after stays.0 (conflict_silent why)
@@ -251,19 +263,21 @@ answer_caused before bad_command text after given = by_other before bad_command 
 answer_caused before bad_end text after given = by_other before bad_end text _ after given.0 bad_end_silent
 
 -- what each code says
-device_says : (before : Standing) (command : PlainCommand) (code : ℕ) (after : Standing) → code ≡ 51 → IsCaused before command code after → after.failed ≡ true
+device_says : (before : Standing) (command : PlainCommand) (code : ℕ) (after : Standing) → code ≡ 51 → IsCaused before command code after → after ≡ lost before
 device_says before command code after is (inl other) = absurd (omega (arith, is, other))
 device_says before command code after is (inr (inl fails)) = fails.1
 device_says before command code after is (inr (inr (inl failed))) = absurd (omega (arith, is, failed.0))
 device_says before command code after is (inr (inr (inr (inl last)))) = absurd (omega (arith, is, last.0))
-device_says before command code after is (inr (inr (inr (inr full)))) = absurd (omega (arith, is, full.0))
+device_says before command code after is (inr (inr (inr (inr (inl full))))) = absurd (omega (arith, is, full.0))
+device_says before command code after is (inr (inr (inr (inr (inr lacks))))) = absurd (omega (arith, is, lacks.0))
 
 failed_says : (before : Standing) (command : PlainCommand) (code : ℕ) (after : Standing) → code ≡ 52 → IsCaused before command code after → (before.failed ≡ true) × (after ≡ before)
 failed_says before command code after is (inl other) = absurd (omega (arith, is, other))
 failed_says before command code after is (inr (inl fails)) = absurd (omega (arith, is, fails.0))
 failed_says before command code after is (inr (inr (inl failed))) = (failed.1, failed.2)
 failed_says before command code after is (inr (inr (inr (inl last)))) = absurd (omega (arith, is, last.0))
-failed_says before command code after is (inr (inr (inr (inr full)))) = absurd (omega (arith, is, full.0))
+failed_says before command code after is (inr (inr (inr (inr (inl full))))) = absurd (omega (arith, is, full.0))
+failed_says before command code after is (inr (inr (inr (inr (inr lacks))))) = absurd (omega (arith, is, lacks.0))
 
 last_says : (before : Standing) (command : PlainCommand) (code : ℕ) (after : Standing) → code ≡ 53 → IsCaused before command code after
     → (command ≡ checkpoint) × (before.generation ≡ last_generation) × (after ≡ before)
@@ -271,46 +285,62 @@ last_says before command code after is (inl other) = absurd (omega (arith, is, o
 last_says before command code after is (inr (inl fails)) = absurd (omega (arith, is, fails.0))
 last_says before command code after is (inr (inr (inl failed))) = absurd (omega (arith, is, failed.0))
 last_says before command code after is (inr (inr (inr (inl last)))) = (last.1, last.2, last.3)
-last_says before command code after is (inr (inr (inr (inr full)))) = absurd (omega (arith, is, full.0))
+last_says before command code after is (inr (inr (inr (inr (inl full))))) = absurd (omega (arith, is, full.0))
+last_says before command code after is (inr (inr (inr (inr (inr lacks))))) = absurd (omega (arith, is, lacks.0))
 
 full_says : (before : Standing) (command : PlainCommand) (code : ℕ) (after : Standing) → code ≡ 54 → IsCaused before command code after → LacksRoom before command × (after ≡ before)
 full_says before command code after is (inl other) = absurd (omega (arith, is, other))
 full_says before command code after is (inr (inl fails)) = absurd (omega (arith, is, fails.0))
 full_says before command code after is (inr (inr (inl failed))) = absurd (omega (arith, is, failed.0))
 full_says before command code after is (inr (inr (inr (inl last)))) = absurd (omega (arith, is, last.0))
-full_says before command code after is (inr (inr (inr (inr full)))) = (full.1, full.2)
+full_says before command code after is (inr (inr (inr (inr (inl full))))) = (full.1, full.2)
+full_says before command code after is (inr (inr (inr (inr (inr lacks))))) = absurd (omega (arith, is, lacks.0))
+
+old_says : (before : Standing) (command : PlainCommand) (code : ℕ) (after : Standing) → code ≡ 56 → IsCaused before command code after → LacksKind before command × (after ≡ before)
+old_says before command code after is (inl other) = absurd (omega (arith, is, other))
+old_says before command code after is (inr (inl fails)) = absurd (omega (arith, is, fails.0))
+old_says before command code after is (inr (inr (inl failed))) = absurd (omega (arith, is, failed.0))
+old_says before command code after is (inr (inr (inr (inl last)))) = absurd (omega (arith, is, last.0))
+old_says before command code after is (inr (inr (inr (inr (inl full))))) = absurd (omega (arith, is, full.0))
+old_says before command code after is (inr (inr (inr (inr (inr lacks))))) = (lacks.1, lacks.2)
 
 -- no other code comes
-known_code : (before : Standing) (command : PlainCommand) (code : ℕ) (after : Standing) → IsCaused before command code after → 0 < code → (50 < code) × (code < 55)
-known_code before command code after (inl other) some = absurd (omega (arith, other, some))
-known_code before command code after (inr (inl fails)) some = (omega (arith, fails.0), omega (arith, fails.0))
-known_code before command code after (inr (inr (inl failed))) some = (omega (arith, failed.0), omega (arith, failed.0))
-known_code before command code after (inr (inr (inr (inl last)))) some = (omega (arith, last.0), omega (arith, last.0))
-known_code before command code after (inr (inr (inr (inr full)))) some = (omega (arith, full.0), omega (arith, full.0))
+abbrev IsKnown : ℕ → Type 0
+IsKnown code = (50 < code) × (code < 57) × (code ≡ 55 → ⊥)
 
-never : (before : Standing) (command : PlainCommand) (text : List ℕ) (after : Standing) (code : ℕ) → store_code text ≡ code → 0 < code → (50 < code → code < 55 → ⊥) → Answer before command text after → ⊥
+known_code : (before : Standing) (command : PlainCommand) (code : ℕ) (after : Standing) → IsCaused before command code after → 0 < code → IsKnown code
+known_code before command code after (inl other) some = absurd (omega (arith, other, some))
+known_code before command code after (inr (inl fails)) some = (omega (arith, fails.0), omega (arith, fails.0), λ is. omega (arith, is, fails.0))
+known_code before command code after (inr (inr (inl failed))) some = (omega (arith, failed.0), omega (arith, failed.0), λ is. omega (arith, is, failed.0))
+known_code before command code after (inr (inr (inr (inl last)))) some = (omega (arith, last.0), omega (arith, last.0), λ is. omega (arith, is, last.0))
+known_code before command code after (inr (inr (inr (inr (inl full))))) some = (omega (arith, full.0), omega (arith, full.0), λ is. omega (arith, is, full.0))
+known_code before command code after (inr (inr (inr (inr (inr lacks))))) some = (omega (arith, lacks.0), omega (arith, lacks.0), λ is. omega (arith, is, lacks.0))
+
+never : (before : Standing) (command : PlainCommand) (text : List ℕ) (after : Standing) (code : ℕ) → store_code text ≡ code → 0 < code → (IsKnown code → ⊥) → Answer before command text after → ⊥
 never before command text after code is some none given =
-    let known = known_code before command code after (subst (λ (n : ℕ). IsCaused before command n after) is (answer_caused before command text after given)) some in
-    none known.0 known.1
+    none (known_code before command code after (subst (λ (n : ℕ). IsCaused before command n after) is (answer_caused before command text after given)) some)
 
 pub store_faults : (before after : Standing) (command : PlainCommand) (why : StoreFault) → Answer before command (store_fault_line why) after
-    → (why ≡ store_fault.Device) ⊎ ((why ≡ store_fault.Failed) ⊎ ((why ≡ store_fault.Generations) ⊎ ((why ≡ store_fault.TooLarge) ⊎ (why ≡ store_fault.NoMemory))))
-store_faults before after command store_fault.NoHouse given = absurd (never before command _ after 49 house_code (omega arith) (λ least most. omega (arith, least)) given)
+    → (why ≡ store_fault.Device) ⊎ ((why ≡ store_fault.Failed) ⊎ ((why ≡ store_fault.Generations) ⊎ ((why ≡ store_fault.TooLarge) ⊎ ((why ≡ store_fault.OldSide) ⊎ (why ≡ store_fault.NoMemory)))))
+store_faults before after command store_fault.NoHouse given = absurd (never before command _ after 49 house_code (omega arith) (λ known. let least = known.0 in omega (arith, least)) given)
 store_faults before after command (store_fault.Corrupt side place) given =
-    absurd (never before command _ after 50 (corrupt_code side place) (omega arith) (λ least most. omega (arith, least)) given)
+    absurd (never before command _ after 50 (corrupt_code side place) (omega arith) (λ known. let least = known.0 in omega (arith, least)) given)
 store_faults before after command store_fault.Device given = inl refl
 store_faults before after command store_fault.Failed given = inr (inl refl)
 store_faults before after command store_fault.Generations given = inr (inr (inl refl))
 store_faults before after command store_fault.TooLarge given = inr (inr (inr (inl refl)))
-store_faults before after command store_fault.Exists given = absurd (never before command _ after 55 exists_code (omega arith) (λ least most. omega (arith, most)) given)
-store_faults before after command store_fault.NoMemory given = inr (inr (inr (inr refl)))
+store_faults before after command store_fault.Exists given = absurd (never before command _ after 55 exists_code (omega arith) (λ known. known.2 refl) given)
+store_faults before after command store_fault.OldSide given = inr (inr (inr (inr (inl refl))))
+store_faults before after command store_fault.NoMemory given = inr (inr (inr (inr (inr refl))))
+
+pub gone_by_answer : (before after : Standing) (command : PlainCommand) → Answer before command (store_fault_line store_fault.Device) after → after ≡ lost before
+gone_by_answer before after command given = device_says before command _ after device_code (answer_caused before command _ after given)
 
 pub lost_by_answer : (before after : Standing) (command : PlainCommand) → Answer before command (store_fault_line store_fault.Device) after
     → (after.failed ≡ true) × (after.history ≡ before.history)
-lost_by_answer before after command given = (
-  device_says before command _ after device_code (answer_caused before command _ after given),
-  hindered_leaves before command (store_fault_line store_fault.Device) after given (inr (store_fault.Device, refl)),
-)
+lost_by_answer before after command given =
+    let gone = gone_by_answer before after command given in
+    (ap (λ (s : Standing). s.failed) gone, ap (λ (s : Standing). s.history) gone)
 
 pub failed_by_answer : (before after : Standing) (command : PlainCommand) → Answer before command (store_fault_line store_fault.Failed) after → (before.failed ≡ true) × (after ≡ before)
 failed_by_answer before after command given = failed_says before command _ after failed_code (answer_caused before command _ after given)
@@ -321,6 +351,9 @@ last_by_answer before after command given = last_says before command _ after gen
 
 pub full_by_answer : (before after : Standing) (command : PlainCommand) → Answer before command (store_fault_line store_fault.TooLarge) after → LacksRoom before command × (after ≡ before)
 full_by_answer before after command given = full_says before command _ after full_code (answer_caused before command _ after given)
+
+pub old_by_answer : (before after : Standing) (command : PlainCommand) → Answer before command (store_fault_line store_fault.OldSide) after → LacksKind before command × (after ≡ before)
+old_by_answer before after command given = old_says before command _ after old_code (answer_caused before command _ after given)
 
 -- ---- then nothing changes
 makes_stays : (before : Standing) (made : Result EntryValue EntryFault) (text : List ℕ) (after : Standing) → before.failed ≡ true → Makes before made text after → after ≡ before

@@ -8,6 +8,7 @@ use Rattle.std.proofs.lemmas.List.Folds.{concat-append}
 use Rattle.std.proofs.lemmas.Option.{get_or_from_slice_get, slice_get_within}
 use Rattle.fw_disk.specs.Volume.{Image, View}
 use Rattle.fw_entry.specs.Entry.{EntryValue}
+use Rattle.fw_entry_bytes.specs.Forms.{has_entry}
 use Rattle.fw_recover.proofs.Committing.{each_stands}
 use Rattle.fw_recover.proofs.Places.{stands_one}
 use Rattle.fw_recover.proofs.Standing.{no_more}
@@ -20,14 +21,14 @@ use Rattle.fw_snapshot.specs.History.{History}
 use Rattle.fw_snapshot.specs.Judging.{judged}
 use Rattle.fw_snapshot.specs.Verdicts.{with_more}
 use Rattle.fw_snapshot.specs.declared.verdict.Verdict.TheVariants as verdict
-use Rattle.fw_serve.specs.Answers.{Answer}
+use Rattle.fw_serve.specs.Answers.{Answer, lost}
 use Rattle.fw_serve.specs.Flight.{FailsOnSent, IsInFlight, IsRun, LeavesWithin, Runs, RunsAt, RunsInTurn, RunsSoFar}
 use Rattle.fw_serve.specs.Replies.{store_fault_line}
 use Rattle.fw_serve.specs.Runs.{AnswersEach, Sends}
 use Rattle.fw_serve.specs.Served.{IsScriptOf}
 use Rattle.fw_serve.specs.Standings.{AreInFlight, LeavesInFlight, Standing, standing_of, Moves}
 use Rattle.fw_serve.specs.Writing.{WritesPart}
-use Rattle.fw_serve.proofs.FailedFacts.{lost_by_answer}
+use Rattle.fw_serve.proofs.FailedFacts.{gone_by_answer}
 use Rattle.fw_serve.proofs.MoveFacts.{Moves-then, by_flag, failed_stays, flight_as, moved_at, moved_failed, not_both}
 use Rattle.fw_serve.proofs.RunFacts.{step}
 use Rattle.fw_serve.proofs.ServedFacts.{StartsWithCommands-more}
@@ -84,6 +85,7 @@ flies_on before middle after commands answers command text e same flies = record
   fails = get_front answers (text ∷ []) flies.place (store_fault_line store_fault.Device) flies.fails;
   sends = flies.sends;
   accepted = subst (λ (s : Standing). judged s.history.entries e ≡ verdict.Accept) (sym same) flies.accepted;
+  of_form = subst (λ (s : Standing). has_entry s.form e ≡ true) (sym same) flies.of_form;
 }
 
 -- the last command sends it
@@ -92,6 +94,7 @@ flies_last : (before middle after : Standing) (commands : List PlainCommand) (an
     → IsInFlight before after (commands ++ command ∷ []) (answers ++ text ∷ []) e
 flies_last before middle after commands answers command text e given answered flies =
     let fails : Answer middle command (store_fault_line store_fault.Device) after = subst (λ (t : List ℕ). Answer middle command t after) flies.1.says answered in
+    let gone : after ≡ lost middle = gone_by_answer middle after command fails in
     let last : slice_get (answers ++ text ∷ []) (length commands) ≡ Some text =
     subst (λ n. slice_get (answers ++ text ∷ []) n ≡ Some text) (same_length commands before middle answers given) (get_last answers text) in
     record {
@@ -100,7 +103,8 @@ flies_last before middle after commands answers command text e given answered fl
       asked = get_last commands command;
       fails = last ∙ ap Some flies.1.says;
       sends = subst (λ (currency : List ℕ). Sends currency command e) (kept_currency commands before middle answers given) flies.0;
-      accepted = subst (λ (h : History). judged h.entries e ≡ verdict.Accept) (sym (lost_by_answer middle after command fails).1) flies.1.accepted;
+      accepted = subst (λ (s : Standing). judged s.history.entries e ≡ verdict.Accept) (sym gone) flies.1.accepted;
+      of_form = subst (λ (s : Standing). has_entry s.form e ≡ true) (sym gone) flies.1.of_form;
     }
 
 moves_more : {V : Type 0} (tells : Bool) (view : V → View) (a b c : StoreState V) (commands : List PlainCommand) (answers : List (List ℕ)) (command : PlainCommand) (text : List ℕ)
@@ -168,16 +172,18 @@ turn_stays tells view (d ∷ commands) old new answers run failed =
 
 -- the first command sent the entry in flight, or a later one
 flies_first : (before next after : Standing) (d : PlainCommand) (commands : List PlainCommand) (first : List ℕ) (answers more : List (List ℕ)) (e : EntryValue) → answers ≡ first ∷ more
-    → Answer before d first next → after.history ≡ next.history → FailsOnSent before d first e → IsInFlight before after (d ∷ commands) answers e
+    → Answer before d first next → after ≡ next → FailsOnSent before d first e → IsInFlight before after (d ∷ commands) answers e
 flies_first before next after d commands first answers more e is answered same flies =
     let fails : Answer before d (store_fault_line store_fault.Device) next = subst (λ (t : List ℕ). Answer before d t next) flies.1.says answered in
+    let left : after ≡ lost before = same ∙ gone_by_answer before next d fails in
     record {
       place = zero;
       command = d;
       asked = refl;
       fails = ap (λ (l : List (List ℕ)). slice_get l zero) is ∙ ap Some flies.1.says;
       sends = flies.0;
-      accepted = subst (λ (h : History). judged h.entries e ≡ verdict.Accept) (sym (same ∙ (lost_by_answer before next d fails).1)) flies.1.accepted;
+      accepted = subst (λ (s : Standing). judged s.history.entries e ≡ verdict.Accept) (sym left) flies.1.accepted;
+      of_form = subst (λ (s : Standing). has_entry s.form e ≡ true) (sym left) flies.1.of_form;
     }
 
 flies_later : (before next after : Standing) (d : PlainCommand) (commands : List PlainCommand) (first : List ℕ) (answers more : List (List ℕ)) (e : EntryValue) → answers ≡ first ∷ more
@@ -189,6 +195,7 @@ flies_later before next after d commands first answers more e is answered flies 
   fails = ap (λ (l : List (List ℕ)). slice_get l (suc flies.place)) is ∙ flies.fails;
   sends = subst (λ (currency : List ℕ). Sends currency flies.command e) (same_currency before d first next (step before d first next answered)) flies.sends;
   accepted = flies.accepted;
+  of_form = flies.of_form;
 }
 
 -- once the device has failed, each image stands for what the commands left, or for this with the entry that the failed one sent
@@ -205,7 +212,7 @@ turn_failed tells view (d ∷ commands) old new answers run told works fails =
     let same : new ≡ run.1 = turn_stays tells view commands run.1 new run.2 run.5 failed in
     let flies =
     flight_as (FailsOnSent (standing_of view old) d run.0) F left.0
-    (λ e. flies_first (standing_of view old) (standing_of view run.1) (standing_of view new) d commands run.0 answers run.2 e run.6 run.3 (ap (λ (s : StoreState _). s.history) same)) left.1 in
+    (λ e. flies_first (standing_of view old) (standing_of view run.1) (standing_of view new) d commands run.0 answers run.2 e run.6 run.3 (ap (standing_of view) same)) left.1 in
     subst (λ (s : StoreState _). LeavesInFlight F s.history (view s.volume)) (sym same) (left.0, flies, left.2))
     (λ goes.
     let left = turn_failed tells view commands run.1 new run.2 run.5 told goes fails in

@@ -5,6 +5,8 @@ use Rattle.fw_disk.specs.declared.volume.Side.{Side}
 use Rattle.fw_disk.specs.Volume.{Image}
 use Rattle.fw_entry.specs.Entry.{EntryValue}
 use Rattle.fw_entry.specs.Spelling.{IsEntry}
+use Rattle.fw_entry_bytes.specs.Forms.{has_entry}
+use Rattle.fw_entry_bytes.specs.declared.form.Form.{Form}
 use Rattle.fw_recover.proofs.Places.{stands_one, stands_not_corrupt, stands_not_none}
 use Rattle.fw_recover.proofs.Running.{answered, answered_all}
 use Rattle.fw_recover.specs.Committing.{HasAnswered, StandsForFirst, with_first}
@@ -13,7 +15,7 @@ use Rattle.fw_recover.specs.Stands.{SideTells, StandsFor, StandsForEither, Stand
 use Rattle.fw_recover.specs.declared.fault.StoreFault.TheVariants as store_fault
 use Rattle.fw_recover.proofs.Standing.{no_more}
 use Rattle.fw_script.specs.Plain.{PlainCommand}
-use Rattle.fw_segment.specs.Groups.{IsGroup}
+use Rattle.fw_segment.specs.Groups.{IsGroupOf}
 use Rattle.fw_snapshot.specs.History.{History}
 use Rattle.fw_snapshot.specs.Judging.{judged}
 use Rattle.fw_snapshot.specs.Verdicts.{taken, with_more}
@@ -29,14 +31,15 @@ use Rattle.fw_serve.proofs.OneAnswerFacts.{entry_one}
 use Rattle.fw_serve.proofs.WholeFacts.{whole_adds_up}
 
 -- ---- files that stand for a warehouse
-joined_each : (groups : List (List EntryValue)) → All IsGroup groups → All IsEntry (joined groups)
-joined_each [] each = All-nil IsEntry
-joined_each (g ∷ groups) each = All-append IsEntry g (joined groups) (All-head IsGroup g groups each).each (joined_each groups (All-tail IsGroup g groups each))
+joined_each : (form : Form) (groups : List (List EntryValue)) → All (IsGroupOf form) groups → All IsEntry (joined groups)
+joined_each form [] each = All-nil IsEntry
+joined_each form (g ∷ groups) each =
+    All-append IsEntry g (joined groups) (All-head (IsGroupOf form) g groups each).0.each (joined_each form groups (All-tail (IsGroupOf form) g groups each))
 
 told_each : (generation : ℕ) (h : History) (file : List ℕ) → SideTells generation h file → All IsEntry h.entries
 told_each generation h file tells =
     subst (λ (k : History). All IsEntry k.entries) (sym tells.is_history)
-    (All-append IsEntry tells.state.entries (joined tells.groups) tells.spells.history.each (joined_each tells.groups tells.each))
+    (All-append IsEntry tells.state.entries (joined tells.groups) tells.spells.history.each (joined_each tells.form tells.groups tells.each))
 
 pub stands_whole : (found : History) (image : Image) → StandsFor found image → IsWhole found.entries
 stands_whole found image stands = record { legal = stands.tells.legal; each = told_each _ found (image stands.side) stands.tells }
@@ -102,11 +105,11 @@ left_group before found more image left stands =
 abbrev HasOneMore : History → Standing → Standing → List PlainCommand → List (List ℕ) → Type 0
 HasOneMore found before after commands answers =
     (place : ℕ) × (command : PlainCommand) × (last : EntryValue) × (slice_get commands place ≡ Some command) × (slice_get answers place ≡ Some (store_fault_line store_fault.Device))
-    × Sends before.history.currency command last × (judged after.history.entries last ≡ verdict.Accept) × (found ≡ with_more after.history (last ∷ []))
+    × Sends before.history.currency command last × (judged after.history.entries last ≡ verdict.Accept) × (has_entry after.form last ≡ true) × (found ≡ with_more after.history (last ∷ []))
 
 one_more : (found : History) (before after : Standing) (commands : List PlainCommand) (answers : List (List ℕ)) (e : EntryValue) → IsInFlight before after commands answers e
     → found ≡ with_more after.history (e ∷ []) → HasOneMore found before after commands answers
-one_more found before after commands answers e flies grows = (flies.place, flies.command, e, flies.asked, flies.fails, flies.sends, flies.accepted, grows)
+one_more found before after commands answers e flies grows = (flies.place, flies.command, e, flies.asked, flies.fails, flies.sends, flies.accepted, flies.of_form, grows)
 
 -- the store has what was found and perhaps more; or its device failed, and one entry more than it has was found
 abbrev IsFrontOf : History → Standing → Standing → List PlainCommand → List (List ℕ) → Type 0

@@ -10,6 +10,7 @@ pub mod OneAnswerFacts
 pub mod AlikeFacts
 pub mod WrittenFacts
 pub mod FailedFacts
+pub mod FormFacts
 pub mod FlightFacts
 pub mod QuestionFacts
 pub mod WholeFacts

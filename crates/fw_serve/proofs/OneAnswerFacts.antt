@@ -5,12 +5,14 @@ use Rattle.std.specs.Str.Parse.{digits_value}
 use Rattle.std.proofs.lemmas.List.Elements.{All-head, All-tail}
 use Rattle.fw_amortise.specs.LineValue.{LineValue}
 use Rattle.fw_charge.specs.Charge.{Charge}
+use Rattle.fw_commitment.specs.Added.{PurchaseReads}
 use Rattle.fw_commitment.specs.Reading.{CommitmentReads}
 use Rattle.fw_commitment.specs.declared.fault.CommitmentFault.{CommitmentFault}
 use Rattle.fw_commitment.specs.declared.fault.CommitmentFault.TheVariants as commitment_fault
+use Rattle.fw_commitment.proofs.AddedFacts.{added-one-reading}
 use Rattle.fw_commitment.proofs.OneReading.{text-one-reading}
 use Rattle.fw_entry.specs.Entry.{CommandValue, EntryValue}
-use Rattle.fw_entry.specs.Entry.CommandValue.{post, commit, set_policy}
+use Rattle.fw_entry.specs.Entry.CommandValue.{post, commit, set_policy, add_purchase}
 use Rattle.fw_entry.specs.declared.fault.EntryFault.{EntryFault}
 use Rattle.fw_policy.specs.Policy.{PolicyReads}
 use Rattle.fw_policy.specs.declared.fault.PolicyFault.{PolicyFault}
@@ -35,9 +37,10 @@ use Rattle.fw_snapshot.specs.Judging.{judged}
 use Rattle.fw_snapshot.specs.Verdicts.{with_more}
 use Rattle.fw_snapshot.specs.declared.verdict.Verdict.{Verdict}
 use Rattle.fw_snapshot.specs.declared.verdict.Verdict.TheVariants as verdict
+use Rattle.fw_terms.specs.Added.{AddedValue}
 use Rattle.fw_terms.specs.Commitment.{CommitmentValue}
 use Rattle.fw_terms.specs.Policy.{PolicyValue}
-use Rattle.fw_serve.specs.Answers.{Answer, Entered, Judges, Makes, SequenceReads, Stays, Submits, Takes, entry_made, parts_entry}
+use Rattle.fw_serve.specs.Answers.{Answer, Entered, Judges, Makes, SequenceReads, Stays, Stores, Submits, Takes, entry_made, parts_entry}
 use Rattle.fw_serve.specs.Contents.{ContentReads}
 use Rattle.fw_serve.specs.Questions.{AreOutcome, IsOutcome, LinesAnswer, ReportAnswer, lines_answer, report_answer}
 use Rattle.fw_serve.specs.Replies.{accepted_line, checkpointed_line, commitment_fault_line, counted, no_memory_line, policy_fault_line, query_fault_line, row_fault_line, state_line}
@@ -128,6 +131,12 @@ unfolding ContentReads
 policy_content currency content (Ok command) given = (Ok given.0, ap Ok given.1, given.2)
 policy_content currency content (Err line) given = (Err given.0, ap Err given.1, given.2)
 
+purchase_content : (currency content : List ℕ) (r : Result CommandValue (List ℕ)) → ContentReads kind.AddPurchase currency content r
+    → (p : Result AddedValue CommitmentFault) × (r ≡ image add_purchase commitment_fault_line p) × PurchaseReads content p
+unfolding ContentReads
+purchase_content currency content (Ok command) given = (Ok given.0, ap Ok given.1, given.2)
+purchase_content currency content (Err line) given = (Err given.0, ap Err given.1, given.2)
+
 pub content_one : (k : EntryKind) (currency content : List ℕ) (r s : Result CommandValue (List ℕ)) → ContentReads k currency content r → ContentReads k currency content s
     → (r ≡ s) ⊎ ((r ≡ Err no_memory_line) ⊎ (s ≡ Err no_memory_line))
 content_one kind.Post currency content r s a b =
@@ -145,6 +154,11 @@ content_one kind.Policy currency content r s a b =
     let q = policy_content currency content s b in
     images_same set_policy policy_fault_line policy_fault.NoMemory policy_no_memory p.0 q.0 r s p.1 q.1
     (reading_same (PolicyReads content) policy_fault.NoMemory policy_out (policy_texts.text-one content) p.0 q.0 p.2 q.2)
+content_one kind.AddPurchase currency content r s a b =
+    let p = purchase_content currency content r a in
+    let q = purchase_content currency content s b in
+    images_same add_purchase commitment_fault_line commitment_fault.NoMemory commitment_no_memory p.0 q.0 r s p.1 q.1
+    (reading_same (PurchaseReads content) commitment_fault.NoMemory commitment_out (added-one-reading content) p.0 q.0 p.2 q.2)
 
 pub number_one : (word : List ℕ) (m n : ℕ) → SequenceReads word m → SequenceReads word n → m ≡ n
 number_one word zero zero a b = refl
@@ -156,17 +170,22 @@ number_one word (suc m) (suc n) a b = sym a.decimal.value ∙ b.decimal.value
 both_stay : (a b c d : Standing) (s t line : List ℕ) → a.history ≡ b.history → Stays a line s c → Stays b line t d → AreOne s t c d
 both_stay a b c d s t line same p q = inr (inr (p.0 ∙ sym q.0, same_history c a p.1 ∙ same ∙ sym (same_history d b q.1)))
 
-judges_one : (a b c d : Standing) (e : EntryValue) (v : Verdict) (s t : List ℕ) → a.history ≡ b.history → Judges a e v s c → Judges b e v t d → AreOne s t c d
-unfolding Judges
-judges_one a b c d e verdict.Accept s t same (inl p) (inl q) =
+stores_one : (a b c d : Standing) (e : EntryValue) (s t : List ℕ) → a.history ≡ b.history → Stores a e s c → Stores b e t d → AreOne s t c d
+stores_one a b c d e s t same (inl p) (inl q) =
     inr (inr (
       p.0 ∙ ap (λ (h : History). accepted_line (length h.entries + 1)) same ∙ sym q.0,
       ap (λ (x : Standing). x.history) p.1 ∙ ap (λ (h : History). with_more h (e ∷ [])) same ∙ sym (ap (λ (x : Standing). x.history) q.1),
     ))
-judges_one a b c d e verdict.Accept s t same (inr (inl p)) q = inl (inr (store_fault.TooLarge, p.0.0))
-judges_one a b c d e verdict.Accept s t same (inr (inr p)) q = inl (inr (store_fault.Device, p.0))
-judges_one a b c d e verdict.Accept s t same (inl p) (inr (inl q)) = inr (inl (inr (store_fault.TooLarge, q.0.0)))
-judges_one a b c d e verdict.Accept s t same (inl p) (inr (inr q)) = inr (inl (inr (store_fault.Device, q.0)))
+stores_one a b c d e s t same (inr (inl p)) q = inl (inr (store_fault.TooLarge, p.0.0))
+stores_one a b c d e s t same (inr (inr p)) q = inl (inr (store_fault.Device, p.0))
+stores_one a b c d e s t same (inl p) (inr (inl q)) = inr (inl (inr (store_fault.TooLarge, q.0.0)))
+stores_one a b c d e s t same (inl p) (inr (inr q)) = inr (inl (inr (store_fault.Device, q.0)))
+
+judges_one : (a b c d : Standing) (e : EntryValue) (v : Verdict) (s t : List ℕ) → a.history ≡ b.history → Judges a e v s c → Judges b e v t d → AreOne s t c d
+unfolding Judges
+judges_one a b c d e verdict.Accept s t same (inl p) q = inl (inr (store_fault.OldSide, p.1.0))
+judges_one a b c d e verdict.Accept s t same (inr p) (inl q) = inr (inl (inr (store_fault.OldSide, q.1.0)))
+judges_one a b c d e verdict.Accept s t same (inr p) (inr q) = stores_one a b c d e s t same p.1 q.1
 judges_one a b c d e (verdict.Already last) s t same p q = both_stay a b c d s t _ same p q
 judges_one a b c d e (verdict.Gap expected) s t same p q = both_stay a b c d s t _ same p q
 judges_one a b c d e (verdict.Refused why) s t same p q = both_stay a b c d s t _ same p q

@@ -62,16 +62,17 @@ unkept before command e text after v sends is unaccepted stays =
 judged_step : (before : Standing) (command : PlainCommand) (e : EntryValue) (text : List ℕ) (after : Standing) (v : Verdict) → Sends before.history.currency command e
     → judged before.history.entries e ≡ v → Judges before e v text after → OneStep before command text after
 unfolding Judges verdict_line
-judged_step before command e text after verdict.Accept sends is (inl stored) =
+judged_step before command e text after verdict.Accept sends is (inl lacks) = by_store before command text after store_fault.OldSide lacks.1.0 (same_history after before lacks.1.1)
+judged_step before command e text after verdict.Accept sends is (inr (has, inl stored)) =
     inr (
       e,
       sends,
       stored.0 ∙ sym (ap (verdict_line (length before.history.entries + 1)) is),
       ap (λ (s : Standing). s.history) stored.1 ∙ sym (ap (λ (v : Verdict). with_more before.history (kept_by v e)) is),
     )
-judged_step before command e text after verdict.Accept sends is (inr (inl full)) =
+judged_step before command e text after verdict.Accept sends is (inr (has, inr (inl full))) =
     by_store before command text after store_fault.TooLarge full.0.0 (same_history after before full.0.1)
-judged_step before command e text after verdict.Accept sends is (inr (inr device)) =
+judged_step before command e text after verdict.Accept sends is (inr (has, inr (inr device))) =
     by_store before command text after store_fault.Device device.0 (ap (λ (s : Standing). s.history) device.1)
 judged_step before command e text after (verdict.Already last) sends is stays = unkept before command e text after (verdict.Already last) sends is refl stays
 judged_step before command e text after (verdict.Gap expected) sends is stays = unkept before command e text after (verdict.Gap expected) sends is refl stays

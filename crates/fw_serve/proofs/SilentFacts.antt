@@ -42,6 +42,8 @@ conflict_speaks conflict.DoubleId = refl
 conflict_speaks conflict.IdInUse = refl
 conflict_speaks conflict.OwnCommitment = refl
 conflict_speaks conflict.TooManyCommitments = refl
+conflict_speaks conflict.NoSuchCommitment = refl
+conflict_speaks conflict.PurchaseLimit = refl
 
 pub verdict_speaks : (count : ℕ) (v : Verdict) → speaks (verdict_line count v) ≡ true
 unfolding verdict_line accepted_line already_line gap_line
@@ -97,6 +99,7 @@ unfolding ContentReads
 content_silent kind.Post currency content line reads = ap speaks reads.1 ∙ row_silent reads.0
 content_silent kind.Commit currency content line reads = ap speaks reads.1 ∙ commitment_silent reads.0
 content_silent kind.Policy currency content line reads = ap speaks reads.1 ∙ policy_silent reads.0
+content_silent kind.AddPurchase currency content line reads = ap speaks reads.1 ∙ commitment_silent reads.0
 
 pub entry_silent : (f : EntryFault) → speaks (entry_fault_line f) ≡ false
 unfolding entry_fault_line no_memory_line
@@ -114,6 +117,7 @@ store_silent store_fault.Failed = refl
 store_silent store_fault.Generations = refl
 store_silent store_fault.TooLarge = refl
 store_silent store_fault.Exists = refl
+store_silent store_fault.OldSide = refl
 store_silent store_fault.NoMemory = refl
 
 memory_silent : speaks no_memory_line ≡ false

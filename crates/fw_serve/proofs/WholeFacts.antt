@@ -46,9 +46,10 @@ same_adds before after same = inl (same_history after before same)
 judges_adds : (before : Standing) (e : EntryValue) (text : List ℕ) (after : Standing) (v : Verdict) → IsEntry e → judged before.history.entries e ≡ v → Judges before e v text after
     → Adds before.history after.history
 unfolding Judges
-judges_adds before e text after verdict.Accept keeps is (inl stored) = inr (e, keeps, is, ap (λ (s : Standing). s.history) stored.1)
-judges_adds before e text after verdict.Accept keeps is (inr (inl full)) = same_adds before after full.0.1
-judges_adds before e text after verdict.Accept keeps is (inr (inr device)) = inl (ap (λ (s : Standing). s.history) device.1)
+judges_adds before e text after verdict.Accept keeps is (inl lacks) = same_adds before after lacks.1.1
+judges_adds before e text after verdict.Accept keeps is (inr (has, inl stored)) = inr (e, keeps, is, ap (λ (s : Standing). s.history) stored.1)
+judges_adds before e text after verdict.Accept keeps is (inr (has, inr (inl full))) = same_adds before after full.0.1
+judges_adds before e text after verdict.Accept keeps is (inr (has, inr (inr device))) = inl (ap (λ (s : Standing). s.history) device.1)
 judges_adds before e text after (verdict.Already last) keeps is stays = same_adds before after stays.1
 judges_adds before e text after (verdict.Gap expected) keeps is stays = same_adds before after stays.1
 judges_adds before e text after (verdict.Refused why) keeps is stays = same_adds before after stays.1

@@ -32,7 +32,12 @@ letter place text = get_or text place 0
 
 -- each conflict has a digit of its own
 conflict_of : ℕ → Conflict
-conflict_of digit = if digit == 49 then conflict.Full else (if digit == 50 then conflict.DoubleId else (if digit == 51 then conflict.IdInUse else (if digit == 52 then conflict.OwnCommitment else conflict.TooManyCommitments)))
+conflict_of digit =
+    if digit == 49 then conflict.Full
+    else (if digit == 50 then conflict.DoubleId
+    else (if digit == 51 then conflict.IdInUse
+    else (if digit == 52 then conflict.OwnCommitment
+    else (if digit == 53 then conflict.TooManyCommitments else (if digit == 56 then conflict.NoSuchCommitment else conflict.PurchaseLimit)))))
 
 conflict_back : (why : Conflict) → conflict_of (letter 9 (conflict_line why)) ≡ why
 unfolding conflict_line conflict_of letter
@@ -41,6 +46,8 @@ conflict_back conflict.DoubleId = refl
 conflict_back conflict.IdInUse = refl
 conflict_back conflict.OwnCommitment = refl
 conflict_back conflict.TooManyCommitments = refl
+conflict_back conflict.NoSuchCommitment = refl
+conflict_back conflict.PurchaseLimit = refl
 
 conflict_begins : (why : Conflict) → letter 0 (conflict_line why) ≡ 114
 unfolding conflict_line letter
@@ -49,6 +56,8 @@ conflict_begins conflict.DoubleId = refl
 conflict_begins conflict.IdInUse = refl
 conflict_begins conflict.OwnCommitment = refl
 conflict_begins conflict.TooManyCommitments = refl
+conflict_begins conflict.NoSuchCommitment = refl
+conflict_begins conflict.PurchaseLimit = refl
 
 accepted_begins : (n : ℕ) → (letter 0 (accepted_line n) ≡ 97) × (letter 1 (accepted_line n) ≡ 99)
 unfolding accepted_line letter

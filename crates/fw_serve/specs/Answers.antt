@@ -5,6 +5,8 @@ use Rattle.fw_entry.specs.Spelling.{IsEntry, most_entry_bytes}
 use Rattle.fw_entry.specs.Spelling as spelling
 use Rattle.fw_entry.specs.declared.fault.EntryFault.{EntryFault}
 use Rattle.fw_entry.specs.declared.fault.EntryFault.TheVariants as fault
+use Rattle.fw_entry_bytes.specs.Forms.{has_entry}
+use Rattle.fw_entry_bytes.specs.declared.form.Form.TheVariants.{Two}
 use Rattle.fw_recover.specs.Checkpoints.{HasNoRoomFor}
 use Rattle.fw_recover.specs.declared.fault.StoreFault.TheVariants as store_fault
 use Rattle.fw_script.specs.Plain.{PlainCommand, entry, report, lines, state, checkpoint, bad_command, bad_end}
@@ -57,16 +59,23 @@ Stays before line text after = (text ≡ line) × (after ≡ before)
 abbrev pub RanOut : Standing → List ℕ → Standing → Type 0
 RanOut before text after = Stays before no_memory_line text after
 
--- an entry that is accepted gets the next number and comes to the volume; or the volume has no room for it, or the device fails
+-- an entry that is accepted, and that the form of the side in use has, gets the next number and comes to the volume; or the volume has no
+-- room for it, or the device fails
 abbrev pub Stores : Standing → EntryValue → List ℕ → Standing → Type 0
 Stores before e text after =
     ((text ≡ accepted_line (length before.history.entries + 1)) × (after ≡ with_entry before e) × (HasNoRoom before e → ⊥))
     ⊎ ((Stays before (store_fault_line store_fault.TooLarge) text after × HasNoRoom before e)
     ⊎ ((text ≡ store_fault_line store_fault.Device) × (after ≡ lost before)))
 
+-- an entry that is accepted changes nothing where the form of the side in use doesn't have it, whatever room there is
+abbrev pub Accepts : Standing → EntryValue → List ℕ → Standing → Type 0
+Accepts before e text after =
+    ((has_entry before.form e ≡ false) × Stays before (store_fault_line store_fault.OldSide) text after)
+    ⊎ ((has_entry before.form e ≡ true) × Stores before e text after)
+
 -- what an entry with this verdict leaves, and what it is answered
 unfoldable pub Judges : Standing → EntryValue → Verdict → List ℕ → Standing → Type 0
-Judges before e verdict.Accept text after = Stores before e text after
+Judges before e verdict.Accept text after = Accepts before e text after
 Judges before e (verdict.Already last) text after = Stays before (already_line last) text after
 Judges before e (verdict.Gap expected) text after = Stays before (gap_line expected) text after
 Judges before e (verdict.Refused why) text after = Stays before (conflict_line why) text after
@@ -100,12 +109,12 @@ pub record Entered (before : Standing) (kind : EntryKind) (origin sequence conte
 abbrev pub last_generation : ℕ
 last_generation = 2 ^ 64 - 1
 
--- a side is made of the warehouse, whose log is empty and begins behind 25 bytes of header and the body; or the volume has no
--- room for it, or the device fails, or memory runs out
+-- a side of the second form is made of the warehouse, whose log is empty and begins behind 25 bytes of header and the body; or the
+-- volume has no room for it, or the device fails, or memory runs out
 abbrev pub Renews : Standing → List ℕ → Standing → Type 0
 Renews before text after =
     ((body : List ℕ) × Spells body before.history × (26 + length body ≤ before.limit) × (text ≡ checkpointed_line)
-    × (after ≡ record before { generation = before.generation + 1; end = 25 + length body }))
+    × (after ≡ record before { form = Two; generation = before.generation + 1; end = 25 + length body }))
     ⊎ ((Stays before (store_fault_line store_fault.TooLarge) text after × HasNoRoomFor before.limit before.history)
     ⊎ (((text ≡ store_fault_line store_fault.Device) × (after ≡ lost before))
     ⊎ RanOut before text after))

@@ -4,6 +4,7 @@ use Rattle.std.specs.Io.KnownBytes.{Appends}
 use Rattle.std.specs.List.{concat}
 use Rattle.fw_disk.specs.Volume.{LeavesOnly, View}
 use Rattle.fw_entry.specs.Entry.{CommandValue, EntryValue}
+use Rattle.fw_entry_bytes.specs.Forms.{has_entry}
 use Rattle.fw_recover.specs.Stands.{EachStandsFor}
 use Rattle.fw_recover.specs.Store.{StoreState}
 use Rattle.fw_recover.specs.declared.fault.StoreFault.TheVariants as store_fault
@@ -18,10 +19,11 @@ use Rattle.fw_serve.specs.Served.{IsScriptOf}
 use Rattle.fw_serve.specs.Standings.{Standing, standing_of, IsBetween, LeavesInFlight, Moves}
 use Rattle.fw_serve.specs.Writing.{WritesPart}
 
--- the entry is accepted after those of the warehouse, and the answer says that the device failed
+-- the entry is accepted after those of the warehouse, the form of the side in use has it, and the answer says that the device failed
 pub record FailsOn (before : Standing) (answer : List ℕ) (e : EntryValue) : Type 0 where
   pub says : answer ≡ store_fault_line store_fault.Device
   pub accepted : judged before.history.entries e ≡ verdict.Accept
+  pub of_form : has_entry before.form e ≡ true
 
 -- this entry is that one
 abbrev pub FailsOnThis : Standing → EntryValue → List ℕ → EntryValue → Type 0
@@ -35,7 +37,8 @@ FailsOnMade before origin number command answer e = (entry_made origin number co
 abbrev pub FailsOnSent : Standing → PlainCommand → List ℕ → EntryValue → Type 0
 FailsOnSent before command answer e = Sends before.history.currency command e × FailsOn before answer e
 
--- The entry in flight when the device failed: the one that a command sends which was answered `store S3 Device`. It would have been accepted.
+-- The entry in flight when the device failed: the one that a command sends which was answered `store S3 Device`. It would have been accepted, and the form of
+-- the side in use has it.
 pub record IsInFlight (before after : Standing) (commands : List PlainCommand) (answers : List (List ℕ)) (e : EntryValue) : Type 0 where
   pub place : ℕ
   pub command : PlainCommand
@@ -43,6 +46,7 @@ pub record IsInFlight (before after : Standing) (commands : List PlainCommand) (
   pub fails : slice_get answers place ≡ Some (store_fault_line store_fault.Device)
   pub sends : Sends before.history.currency command e
   pub accepted : judged after.history.entries e ≡ verdict.Accept
+  pub of_form : has_entry after.form e ≡ true
 
 -- What a crash leaves within one command and after it. At any moment of it the files stand for the warehouse as it was before the command or as it is
 -- after it; or, only where the device failed, with the entry that the command sends, which it may have from then on. Where the device hasn't failed

@@ -48,7 +48,7 @@ row_fault_line fault.NoRows = refused (codes "V14 NoRows")
 row_fault_line fault.TooManyRows = refused (codes "V15 TooManyRows")
 row_fault_line fault.NoMemory = no_memory_line
 
--- why a commitment was not accepted: the code, the name, and the field
+-- why a commitment was not accepted, or a purchase that is added to one: the code, the name, and the field
 unfoldable pub commitment_fault_line : CommitmentFault → List ℕ
 commitment_fault_line commitment_fault.Syntax = refused (codes "C1 Syntax")
 commitment_fault_line (commitment_fault.Field field) = refused (codes "C2 Field" ++ detail (commitment_field.name_of field))
@@ -78,6 +78,8 @@ conflict_line conflict.DoubleId = refused (codes "J2 DoubleId")
 conflict_line conflict.IdInUse = refused (codes "J3 IdInUse")
 conflict_line conflict.OwnCommitment = refused (codes "J4 OwnCommitment")
 conflict_line conflict.TooManyCommitments = refused (codes "J5 TooManyCommitments")
+conflict_line conflict.NoSuchCommitment = refused (codes "J8 NoSuchCommitment")
+conflict_line conflict.PurchaseLimit = refused (codes "J9 PurchaseLimit")
 
 -- why there is no report and there are no lines
 unfoldable pub query_fault_line : QueryFault → List ℕ
@@ -98,6 +100,7 @@ store_fault_line store_fault.Failed = store_line (codes "S4 Failed")
 store_fault_line store_fault.Generations = store_line (codes "S5 Generations")
 store_fault_line store_fault.TooLarge = store_line (codes "S6 TooLarge")
 store_fault_line store_fault.Exists = store_line (codes "S7 Exists")
+store_fault_line store_fault.OldSide = store_line (codes "S8 OldSide")
 store_fault_line store_fault.NoMemory = no_memory_line
 
 unfoldable pub checkpointed_line : List ℕ

@@ -1,7 +1,8 @@
 -- What commands were answered, one by one, and which entries the answers speak of.
-use Rattle.std.specs.Prelude.{◌≡◌, ◌⊎◌, ◌+◌, ⊤, ℕ, All, List, [], ◌∷◌, Some, Ok, Err, length, slice_get, if◌then◌else◌}
+use Rattle.std.specs.Prelude.{◌≡◌, ◌⊎◌, ◌+◌, ⊤, ℕ, true, false, All, List, [], ◌∷◌, Some, Ok, Err, length, slice_get, if◌then◌else◌}
 use Rattle.fw_entry.specs.Entry.{CommandValue, EntryValue}
 use Rattle.fw_entry.specs.declared.fault.EntryFault.{EntryFault}
+use Rattle.fw_entry_bytes.specs.Forms.{has_entry}
 use Rattle.fw_recover.specs.Checkpoints.{HasNoRoomFor}
 use Rattle.fw_recover.specs.declared.fault.StoreFault.{StoreFault}
 use Rattle.fw_recover.specs.declared.fault.StoreFault.TheVariants as store_fault
@@ -48,10 +49,16 @@ SendsNone currency checkpoint answer = ⊤
 SendsNone currency bad_command answer = ⊤
 SendsNone currency bad_end answer = ⊤
 
--- what the command asks for has no room on the volume: the frame of an entry that is accepted, or a side that is made of the warehouse
+-- the command sends an entry that is accepted, and that the form of the side in use doesn't have
+abbrev pub LacksKind : Standing → PlainCommand → Type 0
+LacksKind before command =
+    (e : EntryValue) × Sends before.history.currency command e × (judged before.history.entries e ≡ verdict.Accept) × (has_entry before.form e ≡ false)
+
+-- what the command asks for has no room on the volume: the frame of an entry that is accepted, and that the form of the side in use has, or a side that is
+-- made of the warehouse
 abbrev pub LacksRoom : Standing → PlainCommand → Type 0
 LacksRoom before command =
-    ((e : EntryValue) × Sends before.history.currency command e × (judged before.history.entries e ≡ verdict.Accept) × HasNoRoom before e)
+    ((e : EntryValue) × Sends before.history.currency command e × (judged before.history.entries e ≡ verdict.Accept) × (has_entry before.form e ≡ true) × HasNoRoom before e)
     ⊎ ((command ≡ checkpoint) × HasNoRoomFor before.limit before.history)
 
 -- the answer is `no memory`, or a line that says why the store didn't do what was asked for
@@ -66,11 +73,12 @@ NoneHindered answers = All (λ answer. ¬ IsHindered answer) answers
 abbrev pub AreOne : List ℕ → List ℕ → Standing → Standing → Type 0
 AreOne answer other after after_other = IsHindered answer ⊎ (IsHindered other ⊎ ((answer ≡ other) × (after.history ≡ after_other.history)))
 
--- Two stores of which a client can't tell one from the other: they have the same entries, both have failed or neither has, they are at the same
--- generation, and each has as much room left behind its log.
+-- Two stores of which a client can't tell one from the other: they have the same entries, both have failed or neither has, their sides in use are of the
+-- same form and generation, and each has as much room left behind its log.
 pub record AreAlike (one other : Standing) : Type 0 where
   pub history : one.history ≡ other.history
   pub failed : one.failed ≡ other.failed
+  pub form : one.form ≡ other.form
   pub generation : one.generation ≡ other.generation
   pub room : one.limit + other.end ≡ other.limit + one.end
 

@@ -2,22 +2,24 @@
 use Rattle.std.specs.Prelude.{◌≡◌, ◌⊎◌, ℕ, ◌≤◌, Bool, true, false, IsTrue, List, [], ◌∷◌, ◌++◌}
 use Rattle.fw_disk.specs.Volume.{Image, View, LeavesOnly, Rose}
 use Rattle.fw_entry.specs.Entry.{EntryValue}
+use Rattle.fw_entry_bytes.specs.declared.form.Form.{Form}
 use Rattle.fw_recover.specs.Stands.{StandsFor, StandsForEither}
 use Rattle.fw_recover.specs.Store.{StoreState}
 use Rattle.fw_snapshot.specs.History.{History}
 use Rattle.fw_snapshot.specs.Verdicts.{with_more}
 
--- the warehouse, the generation of the side in use, the offset at which its log ends, the limit of the volume, and whether the
--- device has failed
+-- the warehouse, the form and the generation of the side in use, the offset at which its log ends, the limit of the volume, and
+-- whether the device has failed
 pub record Standing : Type 0 where
   pub history : History
+  pub form : Form
   pub generation : ℕ
   pub end : ℕ
   pub limit : ℕ
   pub failed : Bool
 
 abbrev pub standing_of : {V : Type 0} → (V → View) → StoreState V → Standing
-standing_of view s = record { history = s.history; generation = s.generation; end = s.log.end; limit = (view s.volume).limit; failed = s.failed }
+standing_of view s = record { history = s.history; form = s.form; generation = s.generation; end = s.log.end; limit = (view s.volume).limit; failed = s.failed }
 
 -- the warehouse has all of these entries; or, where the device has failed, all but the last of them, which is the one in flight
 abbrev pub Leads : (EntryValue → Type 0) → History → List EntryValue → Standing → Type 0

@@ -23,7 +23,7 @@ pub record IsWhole (entries : List EntryValue) : Type 0 where
 -- Reports on these entries add up, and so do their lines. What the groups of a report are charged sums to their direct costs, and these to the
 -- EffectiveCost of its lines; what they were billed sums to the BilledCost of these. In any hours the lines of a commitment carry its amounts there, over its
 -- term what its purchases cost, to the last nano, and are billed nothing; the lines of these have an EffectiveCost of 0, and are billed what the
--- purchases in the hours cost. No row is left out of the lines, and none is counted twice.
+-- purchases in the hours cost. Its purchases are its own and those that were added to it. No row is left out of the lines, and none is counted twice.
 pub record ReportsAddUp (entries : List EntryValue) : Type 0 where
   pub charged : (key : List ℕ) (from to : ℕ) (report : List reports.EntryValue) → IsReportOn entries key from to report → total (map (λ e. e.charged) report) ≡ total (map (λ e. e.direct) report)
   pub direct : (key : List ℕ) (from to : ℕ) (lines : List LineValue) (report : List reports.EntryValue) → AreLinesOf entries from to lines → IsReportOn entries key from to report

@@ -27,12 +27,12 @@ use std::thread::Threads;
 
 /// Runs a command, and returns the reply. Only an entry that is accepted changes the warehouse, and it is on the volume, synced,
 /// before this returns. Where the content of an entry is refused, where it was accepted before, leaves a gap or is refused, where the
-/// volume has no room for it, or out of memory, the store stays as it was. Where the device fails the store has failed from then on: it
+/// form of the side in use doesn't have it, where the volume has no room for it, or out of memory, the store stays as it was. Where the device fails the store has failed from then on: it
 /// still answers questions, from the entries that were accepted by then. What a crash leaves from then on has these, and perhaps the entry that the
 /// command sends, and no other one.
 ///
 /// A report is made by so many workers, and by what reports before it kept of what commitments cover. Nothing of this is kept behind an entry, which may bring rows or
-/// commitments. Posts are read by as many workers, ahead of their commands, which has no effect on an answer.
+/// commitments, or add to the purchases of a commitment. Posts are read by as many workers, ahead of their commands, which has no effect on an answer.
 pub(crate) fn answer<V: Volume>(
     rt: &(impl Threads + Sync),
     alloc: Global,

@@ -8,7 +8,7 @@ ghost use Rattle.fw_entry.specs.View.{command_view};
 use crate::refusals::{commitment_reply, policy_reply, row_reply};
 use crate::reply::Reply;
 use fw_ahead::Posts;
-use fw_commitment::read_commitment;
+use fw_commitment::{read_commitment, read_purchase};
 use fw_entry::Command;
 use fw_policy::read_policy;
 use fw_rows::Currency;
@@ -40,6 +40,10 @@ pub(crate) fn read_content(
         EntryKind::Policy => match read_policy(alloc, content) {
             Ok(policy) => Ok(Command::SetPolicy(policy)),
             Err(fault) => Err(policy_reply(fault)),
+        },
+        EntryKind::AddPurchase => match read_purchase(alloc, content) {
+            Ok(added) => Ok(Command::AddPurchase(added)),
+            Err(fault) => Err(commitment_reply(fault)),
         },
     }
 }

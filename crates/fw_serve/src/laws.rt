@@ -6,6 +6,8 @@ ghost use Rattle.fw_amortise.specs.LineValue.{LineValue};
 ghost use Rattle.fw_disk.specs.declared.volume.Side.{Side};
 ghost use Rattle.fw_disk.specs.Volume.{Image};
 ghost use Rattle.fw_entry.specs.Entry.{EntryValue};
+ghost use Rattle.fw_entry_bytes.specs.Forms.{has_entry};
+ghost use Rattle.fw_entry_bytes.specs.declared.form.Form.TheVariants.{Two};
 ghost use Rattle.fw_sums.specs.Limits.{IsRange};
 ghost use Rattle.fw_query.specs.OfHistory.{AreLinesOf, IsReportOn};
 ghost use Rattle.fw_query.specs.Refusals.{AreRefused, IsRefused};
@@ -21,7 +23,7 @@ ghost use Rattle.fw_script.specs.Plain.{PlainCommand, checkpoint, lines, report,
 ghost use Rattle.fw_serve.specs.Answers.{Answer, Answers, last_generation};
 ghost use Rattle.fw_serve.specs.Flight.{FailsOnSent, IsInFlight, RunsAt, RunsInTurn};
 ghost use Rattle.fw_serve.specs.Replies.{accepted_line, already_line, checkpointed_line, conflict_line, counted, gap_line, no_memory_line, query_fault_line, state_line, store_fault_line};
-ghost use Rattle.fw_serve.specs.Runs.{AnswersEach, AreAlike, AreOne, AreSame, AreTold, AreUnhindered, IsHindered, IsOfASide, LacksRoom, NoneCutShort, NoneHindered, Sends, StandsAt};
+ghost use Rattle.fw_serve.specs.Runs.{AnswersEach, AreAlike, AreOne, AreSame, AreTold, AreUnhindered, IsHindered, IsOfASide, LacksKind, LacksRoom, NoneCutShort, NoneHindered, Sends, StandsAt};
 ghost use Rattle.fw_serve.specs.Sessions.{HasKept, IsSessionOf, Opens, PassesThrough, SessionValue};
 ghost use Rattle.fw_serve.specs.Standings.{AreInFlight, IsBetween, Standing, standing_of};
 ghost use Rattle.fw_serve.specs.Whole.{IsWhole, ReportsAddUp};
@@ -62,8 +64,9 @@ pub fn one_command_has_one_answer()
     ensures entry { (currency : List ℕ) (command : PlainCommand) (first second : EntryValue) → Sends currency command first → Sends currency command second → first ≡ second }
 {}
 
-/// Stores that are alike answer alike: where two stores have the same entries, both have failed or neither has, they are at the same generation and have the
-/// same room left, each command but a checkpoint is answered by the same bytes, `store S4 Failed` and `store S6 TooLarge` among them, and leaves stores that are
+/// Stores that are alike answer alike: where two stores have the same entries, both have failed or neither has, their sides in use are of the same form and
+/// generation, and they have the same room left, each command but a checkpoint is answered by the same bytes, `store S4 Failed`, `store S6 TooLarge` and
+/// `store S8 OldSide` among them, and leaves stores that are
 /// alike, unless one of the two answers is `no memory` or `store S3 Device` (`command`). So is a script without checkpoints in which no answer is so (`script`).
 /// Two checkpoints are answered alike too where the device has failed, by `store S4 Failed`, and where there is no further generation, by
 /// `store S5 Generations`. Else each is made, or has no room, or is cut short (`checkpoint`): which of the first two, the length of the side that it would make
@@ -75,7 +78,7 @@ pub fn stores_that_are_alike_answer_alike()
     ensures checkpoint { (before other after after_other : Standing) (answer second : List ℕ) → AreAlike before other
         → Answer before checkpoint answer after → Answer other checkpoint second after_other → AreSame answer second after after_other ⊎ (IsOfASide answer × IsOfASide second) }
     ensures made { (before other after after_other : Standing) → AreAlike before other → Answer before checkpoint checkpointed_line after → Answer other checkpoint checkpointed_line after_other
-        → (after.history ≡ after_other.history) × (after.failed ≡ after_other.failed) × (after.generation ≡ after_other.generation) }
+        → (after.history ≡ after_other.history) × (after.failed ≡ after_other.failed) × (after.form ≡ after_other.form) × (after.generation ≡ after_other.generation) }
     ensures script { (before other after after_other : Standing) (commands : List PlainCommand) (answers second : List (List ℕ)) → AreAlike before other → All (λ command. command ≢ checkpoint) commands
         → AnswersEach before commands answers after → AnswersEach other commands second after_other → NoneCutShort answers → NoneCutShort second
         → (answers ≡ second) × AreAlike after after_other }
@@ -127,16 +130,24 @@ pub fn a_store_that_failed_takes_nothing_more()
 
 /// What the store doesn't do has its cause. `store S4 Failed` is answered only where the device had failed before (`failed`); `store S5 Generations` only to a
 /// checkpoint at the greatest generation (`generations`); `store S6 TooLarge` only where what is to be written would end past the limit of the volume: the
-/// frame of an entry that the command sends and that is accepted, or a side that is made of the warehouse (`too_large`). These three change nothing. Beside
+/// frame of an entry that the command sends and that is accepted, or a side that is made of the warehouse (`too_large`); `store S8 OldSide` only where the form
+/// of the side in use doesn't have the entry that the command sends and that is accepted (`old_side`). These four change nothing. Beside
 /// them there is `store S3 Device`, after which the device has failed ([`a_store_that_failed_takes_nothing_more`]), and `no memory`; no other
-/// fault of a store is an answer (`others`).
+/// fault of a store is an answer (`others`). A side of the second form has each entry, so `store S8 OldSide` never comes while one is in use (`new_side`), nor
+/// behind a checkpoint that was made (`checkpointed`).
 pub fn what_the_store_refuses_has_its_cause()
     ensures failed { (before after : Standing) (command : PlainCommand) → Answer before command (store_fault_line store_fault.Failed) after → (before.failed ≡ true) × (after ≡ before) }
     ensures generations { (before after : Standing) (command : PlainCommand) → Answer before command (store_fault_line store_fault.Generations) after
         → (command ≡ checkpoint) × (before.generation ≡ last_generation) × (after ≡ before) }
     ensures too_large { (before after : Standing) (command : PlainCommand) → Answer before command (store_fault_line store_fault.TooLarge) after → LacksRoom before command × (after ≡ before) }
+    ensures old_side { (before after : Standing) (command : PlainCommand) → Answer before command (store_fault_line store_fault.OldSide) after → LacksKind before command × (after ≡ before) }
     ensures others { (before after : Standing) (command : PlainCommand) (why : StoreFault) → Answer before command (store_fault_line why) after
-        → (why ≡ store_fault.Device) ⊎ ((why ≡ store_fault.Failed) ⊎ ((why ≡ store_fault.Generations) ⊎ ((why ≡ store_fault.TooLarge) ⊎ (why ≡ store_fault.NoMemory)))) }
+        → (why ≡ store_fault.Device) ⊎ ((why ≡ store_fault.Failed) ⊎ ((why ≡ store_fault.Generations) ⊎ ((why ≡ store_fault.TooLarge) ⊎ ((why ≡ store_fault.OldSide) ⊎ (why ≡ store_fault.NoMemory))))) }
+    ensures new_side { (before after : Standing) (commands : List PlainCommand) (answers : List (List ℕ)) (place : ℕ) → before.form ≡ Two → AnswersEach before commands answers after
+        → slice_get answers place ≡ Some (store_fault_line store_fault.OldSide) → ⊥ }
+    ensures checkpointed { (before after : Standing) (commands : List PlainCommand) (answers : List (List ℕ)) (place later : ℕ) → AnswersEach before commands answers after
+        → slice_get commands place ≡ Some checkpoint → slice_get answers place ≡ Some checkpointed_line → place < later
+        → slice_get answers later ≡ Some (store_fault_line store_fault.OldSide) → ⊥ }
 {}
 
 /// A warehouse stays whole: where each of its entries was accepted after those before it and keeps its limits, as it is of every state, the same is
@@ -158,7 +169,8 @@ pub fn a_warehouse_stays_whole()
 /// corrupt (`opens`). What is opened has the accepted ones of the first n entries, where n is `answered` or one more (`run`). After a crash within `Store::run`, which answers all at its end, it has those of some
 /// first entries (`first`). After a crash at any moment of a call that adds a group it is as it was, or has the whole group (`group`). After a crash at
 /// any moment of a script it has what was there before and a front of what the script added, or, only where the device failed, all of this and one
-/// entry more: the one that a command sends which was answered `store S3 Device`, and that would have been accepted (`script`). After a script whose
+/// entry more: the one that a command sends which was answered `store S3 Device`, that would have been accepted, and that the form of the side in use has
+/// (`script`). After a script whose
 /// device failed it is as the script left it, or has this entry as well (`after_script`). There is one such entry at most (`one`).
 pub fn what_a_crash_leaves_is_reported_whole()
     ensures between { (before now : History) (entries : List EntryValue) (answered : ℕ) (image : Image) → now ≡ with_first before answered entries → StandsFor now image → HasAnswered before entries answered image }
@@ -177,13 +189,13 @@ pub fn what_a_crash_leaves_is_reported_whole()
         → (more : List EntryValue) × (found ≡ with_more before.history more)
         × (((rest : List EntryValue) × (after.history ≡ with_more found rest))
         ⊎ ((after.failed ≡ true) × ((place : ℕ) × (command : PlainCommand) × (last : EntryValue) × (slice_get commands place ≡ Some command) × (slice_get answers place ≡ Some (store_fault_line store_fault.Device))
-        × Sends before.history.currency command last × (judged after.history.entries last ≡ verdict.Accept) × (found ≡ with_more after.history (last ∷ [])))))
+        × Sends before.history.currency command last × (judged after.history.entries last ≡ verdict.Accept) × (has_entry after.form last ≡ true) × (found ≡ with_more after.history (last ∷ [])))))
         × IsWhole found.entries × ReportsAddUp found.entries }
     ensures after_script { (before after : Standing) (commands : List PlainCommand) (answers : List (List ℕ)) (more : List EntryValue) (found : History) (image : Image)
         → AreInFlight (IsInFlight before after commands answers) more → StandsForEither after.history more image → StandsFor found image
         → ((found ≡ after.history)
         ⊎ ((place : ℕ) × (command : PlainCommand) × (last : EntryValue) × (slice_get commands place ≡ Some command) × (slice_get answers place ≡ Some (store_fault_line store_fault.Device))
-        × Sends before.history.currency command last × (judged after.history.entries last ≡ verdict.Accept) × (found ≡ with_more after.history (last ∷ []))))
+        × Sends before.history.currency command last × (judged after.history.entries last ≡ verdict.Accept) × (has_entry after.form last ≡ true) × (found ≡ with_more after.history (last ∷ []))))
         × IsWhole found.entries × ReportsAddUp found.entries }
     ensures one { (before after : Standing) (commands : List PlainCommand) (answers : List (List ℕ)) (e f : EntryValue) → AnswersEach before commands answers after
         → IsInFlight before after commands answers e → IsInFlight before after commands answers f → e ≡ f }

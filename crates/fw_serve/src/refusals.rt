@@ -27,7 +27,7 @@ pub fn row_reply(fault: RowFault) -> Reply
     }
 }
 
-/// The reply to a commitment that has a fault.
+/// The reply to a commitment, or to a purchase that is added to one, that has a fault.
 #[tactic(auto, unfolding(crate::specs::Replies::commitment_fault_line, crate::specs::ReplyText::reply_text))]
 pub(crate) fn commitment_reply(fault: CommitmentFault) -> Reply
     ensures { reply_text result ≡ commitment_fault_line fault }
@@ -92,6 +92,8 @@ fn conflict_reply(conflict: Conflict) -> Reply
         Conflict::IdInUse => refused("J3 IdInUse", Detail::None),
         Conflict::OwnCommitment => refused("J4 OwnCommitment", Detail::None),
         Conflict::TooManyCommitments => refused("J5 TooManyCommitments", Detail::None),
+        Conflict::NoSuchCommitment => refused("J8 NoSuchCommitment", Detail::None),
+        Conflict::PurchaseLimit => refused("J9 PurchaseLimit", Detail::None),
     }
 }
 
@@ -120,6 +122,7 @@ pub(crate) fn store_reply(fault: StoreFault) -> Reply
         StoreFault::Generations => Reply::Store("S5 Generations"),
         StoreFault::TooLarge => Reply::Store("S6 TooLarge"),
         StoreFault::Exists => Reply::Store("S7 Exists"),
+        StoreFault::OldSide => Reply::Store("S8 OldSide"),
         StoreFault::NoMemory => Reply::NoMemory,
     }
 }

@@ -12,7 +12,7 @@ use Rattle.fw_recover.specs.declared.fault.StoreFault.{StoreFault}
 use Rattle.fw_recover.specs.declared.fault.StoreFault.TheVariants as fault
 use Rattle.fw_group.specs.declared.inbox.Item.{Item}
 use Rattle.fw_group.specs.Items.{entries_of}
-use Rattle.fw_group.specs.Turns.{IsJudged}
+use Rattle.fw_group.specs.Turns.{AreOfForm, IsJudged}
 use Rattle.fw_threads.specs.declared.flusher.Taken.{Taken}
 use Rattle.fw_threads.specs.declared.flusher.Taken.TheVariants.{Took, Over}
 use Rattle.fw_threads.specs.declared.publisher.CommitFault.{CommitFault}
@@ -48,8 +48,10 @@ abbrev pub IsTaken : List Item → Taken → List Item → Type 0
 IsTaken before (Took n) after = ((before ≡ []) × (length after ≡ n)) ⊎ ((before ≡ [] → ⊥) × (n ≡ 0) × (after ≡ before))
 IsTaken before Over after = (before ≡ []) × (after ≡ [])
 
--- what is in hand after a commit that failed: where the store has no room the group stays, and else each item was answered
+-- what is in hand after a commit that failed: where the form of the side in use doesn't have the group, or there is no room for it, the group stays; else
+-- each item was answered
 abbrev pub StaysInHand : CommitFault → List Item → List Item → Type 0
+StaysInHand (commit.Store fault.OldSide) before after = after ≡ before
 StaysInHand (commit.Store fault.TooLarge) before after = after ≡ before
 StaysInHand why before after = after ≡ []
 
@@ -76,23 +78,27 @@ module _ {V : Type 0} (tells : Bool) (view : V → View) where
   -- the group is stored and published
   pub record Publishes (p : PublisherState V) (items : List Item) (accepted : ℕ) (q : PublisherState V) : Type 0 where
     pub went_on : p.unpublished ≡ false
+    pub of_form : AreOfForm p.store items
     pub committed : Committed tells view p.store q.store (group_on p.published items)
     pub moment : IsTrue tells → LeavesOnly (view p.store.volume) (view q.store.volume) (StandsForEither p.published (group_on p.published items))
     pub published : q.published ≡ with_more p.published (group_on p.published items)
     pub count : accepted ≡ length (group_on p.published items)
     pub goes_on : q.unpublished ≡ false
 
-  -- Nothing is published, and why: the store failed in the call, or before it; it has no room for the group; memory ran out; or the group is stored
-  -- and could not be published.
+  -- Nothing is published, and why: the store failed in the call, or before it; the form of the side in use doesn't have an accepted one of the items; it
+  -- has them all, and there is no room for the group; memory ran out; or the group is stored and could not be published.
   abbrev pub Fails : PublisherState V → List Item → CommitFault → PublisherState V → Type 0
   Fails p items (commit.Store fault.Device) q =
       (q ≡ record p { store = q.store }) × Lost p.store q.store × Rose (view p.store.volume).failures (view q.store.volume).failures
-      × (0 < length (group_on p.published items)) × IsWhole p.store items q.store
+      × (0 < length (group_on p.published items)) × AreOfForm p.store items × IsWhole p.store items q.store
   Fails p items (commit.Store fault.Failed) q = ((p.store.failed ≡ true) ⊎ (p.unpublished ≡ true)) × (q ≡ p)
-  Fails p items (commit.Store fault.TooLarge) q = (p.store.failed ≡ false) × HasNoRoom (view p.store.volume).limit p.store (group_on p.store.history items) × (q ≡ p)
+  Fails p items (commit.Store fault.OldSide) q = (p.store.failed ≡ false) × (AreOfForm p.store items → ⊥) × (q ≡ p)
+  Fails p items (commit.Store fault.TooLarge) q =
+      (p.store.failed ≡ false) × AreOfForm p.store items × HasNoRoom (view p.store.volume).limit p.store (group_on p.store.history items) × (q ≡ p)
   Fails p items (commit.Store fault.NoMemory) q = q ≡ p
   Fails p items commit.Unpublished q =
-      (q ≡ record p { store = q.store; unpublished = true }) × Committed tells view p.store q.store (group_on p.published items) × IsWhole p.store items q.store
+      (q ≡ record p { store = q.store; unpublished = true }) × Committed tells view p.store q.store (group_on p.published items)
+      × AreOfForm p.store items × IsWhole p.store items q.store
   Fails p items fault q = ⊥
 
   -- A commit that was answered a number. Nothing happened where nothing was in hand.

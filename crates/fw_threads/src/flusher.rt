@@ -91,7 +91,8 @@ impl<J: Naming, V: Volume> Flusher<J, V> {
     ///
     /// # Errors
     /// `Store(Failed)` where the device had failed before, or a group was stored and couldn't be published: the importers are answered
-    /// `Closed`. `Store(TooLarge)` where the volume has no room: what is in hand stays there. `Store(NoMemory)`: they are answered so.
+    /// `Closed`. `Store(OldSide)` where the form of the side in use doesn't have an accepted entry, then `Store(TooLarge)` where the
+    /// volume has no room: what is in hand stays there. `Store(NoMemory)`, which may come in place of these two: they are answered so.
     /// `Store(Device)` where the device failed, and `Unpublished` where the group was stored and could not be published: they are
     /// answered `Unknown`, and the inbox is closed. Nothing is published in these cases.
     pub fn commit<R: Wait>(&mut self, rt: &R) -> Result<usize, CommitFault>
@@ -121,7 +122,7 @@ impl<J: Naming, V: Volume> Flusher<J, V> {
         ensures hand { StaysInHand why self.old.hand self.new.hand }
     {
         let fault = match why {
-            CommitFault::Store(StoreFault::TooLarge) => return,
+            CommitFault::Store(StoreFault::OldSide | StoreFault::TooLarge) => return,
             CommitFault::Store(StoreFault::Device) | CommitFault::Unpublished => {
                 self.shared.close(rt);
                 StoreFault::Device

@@ -7,3 +7,4 @@ pub returns : goal.returns
 returns c =
     every_kind (λ k. (origin sequence : List ℕ) (count : ℕ) → ¬ IsEntryLine (entry_word k) c.args.line.now origin sequence count)
     c.in_default.ensures c.in_default-entry_of_kind.ensures c.in_default-entry_of_kind-2.ensures
+    c.in_default-entry_of_kind-3.ensures

@@ -34,6 +34,7 @@ fails g c = record {
   not_no_house = c.in-Err.ensures.not_no_house;
   not_corrupt = c.in-Err.ensures.not_corrupt;
   not_exists = c.in-Err.ensures.not_exists;
+  not_old_side = c.in-Err.ensures.not_old_side;
 }
 
 pub returns-in-Err-clause-checkpoints : goal.returns-in-Err-clause-checkpoints

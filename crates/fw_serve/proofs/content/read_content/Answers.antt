@@ -29,3 +29,12 @@ returns-in-Ok-read_policy-clause-reads g c = rw c.in-Policy.is (c.in-Ok-read_pol
 pub returns-in-Err-read_policy-clause-reads : goal.returns-in-Err-read_policy-clause-reads
 unfolding ContentReads
 returns-in-Err-read_policy-clause-reads g c = rw c.in-Policy.is (c.in-Err-read_policy.fault, c.policy_reply.ensures, rw c.in-Err-read_policy.is at c.read_policy.ensures)
+
+pub returns-in-Ok-read_purchase-clause-reads : goal.returns-in-Ok-read_purchase-clause-reads
+unfolding ContentReads
+returns-in-Ok-read_purchase-clause-reads g c = rw c.in-AddPurchase.is (c.in-Ok-read_purchase.added, refl, rw c.in-Ok-read_purchase.is at c.read_purchase.ensures)
+
+pub returns-in-Err-read_purchase-clause-reads : goal.returns-in-Err-read_purchase-clause-reads
+unfolding ContentReads
+returns-in-Err-read_purchase-clause-reads g c =
+    rw c.in-AddPurchase.is (c.in-Err-read_purchase.fault, c.commitment_reply-in-Err-read_purchase.ensures, rw c.in-Err-read_purchase.is at c.read_purchase.ensures)
