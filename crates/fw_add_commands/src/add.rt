@@ -10,10 +10,11 @@ use crate::matched::warn_unmatched;
 use crate::printing::print_line;
 use crate::texts::{name_text, replaced_text};
 use clap::ArgMatches;
-use fw_adding::{AddFault, Document, Outcome, add_document};
+use fw_adding::{AddFault, Outcome, add_document};
 use fw_command_line::{DIR, DRY_RUN, FILES, ORIGIN, YES};
 use fw_console::{Fault, WRONG_USE, advised};
 use fw_disk::Volume;
+use fw_documents::Document;
 use fw_entry::is_origin;
 use fw_recover::Store;
 use fw_snapshot::State;
@@ -28,7 +29,7 @@ pub fn add_files(rt: &HostRuntime, options: &ArgMatches<'_>) -> Result<ExitCode,
     let job = Job {
         origin,
         is_dry: options.get_flag(DRY_RUN),
-        may_change_key: options.get_flag(YES),
+        says_yes: options.get_flag(YES),
     };
     let folder = options.get_str(DIR).unwrap_or("");
     let done = add_into(rt, folder, &job, options.get_strs(FILES).unwrap_or(&[]));
@@ -63,7 +64,7 @@ fn add_to<V: Volume>(
     job: &Job<'_>,
     files: &[&str],
 ) -> Result<ExitCode, Fault> {
-    let mut trial = Trial::new(rt.alloc(), store.state().state())?;
+    let mut trial = Trial::new(rt.alloc(), store.state().state(), store.form())?;
     if !check_all(rt, job, &mut trial, files)? {
         return Ok(nothing_added(rt));
     }
@@ -104,12 +105,11 @@ fn add_one<V: Volume>(
     document: &Document,
 ) -> Result<bool, Fault> {
     let replaced = replaced_text(rt.alloc(), store.state().state(), document)?;
-    match add_document(rt.alloc(), store, job.origin, document) {
+    match add_document(rt.alloc(), store, job.origin, document, job.says_yes) {
         Ok(outcome) => {
             let state = store.state().state();
             print_outcome(rt, state, job, file, document, outcome, replaced.as_str())
         }
-        Err(AddFault::Store(fault)) => Err(Fault::Store(fault)),
         Err(fault) => say_refusal(rt, store.state().state(), job.origin, file, document, fault),
     }
 }
@@ -130,7 +130,7 @@ fn print_outcome(
             print_added(rt, state, job, file, name.as_str(), replaced)?;
             warn_unmatched(rt, state, file, document)?;
         }
-        Outcome::Same => print_same(rt, file, name.as_str())?,
+        Outcome::Same => print_same(rt, file, document, name.as_str())?,
     }
     Ok(true)
 }

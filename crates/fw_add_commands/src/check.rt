@@ -1,11 +1,15 @@
 //! All files are read and checked before the first is added.
-use crate::faults::{say_fault, say_refusal};
+use crate::bought::print_bought;
+use crate::faults::{say_fault, say_old_side, say_refusal};
 use crate::files::text_of;
 use crate::matched::print_matches;
 use crate::printing::print_line;
 use crate::texts::{document_text, name_text, replaced_text};
-use fw_adding::{AddFault, Document, Outcome, Tried, read_document, try_document};
+use fw_adding::{AddFault, Outcome, Tried, try_document};
 use fw_console::Fault;
+use fw_documents::{Document, read_document};
+use fw_entry::CommandKind;
+use fw_entry_bytes::Form;
 use fw_snapshot::State;
 use std::alloc::{AllocError, Global};
 
@@ -16,8 +20,8 @@ pub(crate) struct Job<'a> {
     pub(crate) origin: &'a str,
     /// Whether nothing is written.
     pub(crate) is_dry: bool,
-    /// Whether a policy may take the place of one by another key.
-    pub(crate) may_change_key: bool,
+    /// Whether a policy may take the place of one by another key, and a purchase of which an equal one is there is added again.
+    pub(crate) says_yes: bool,
 }
 
 /// What a warehouse would become by the files that were checked.
@@ -25,15 +29,18 @@ pub(crate) struct Job<'a> {
 pub(crate) struct Trial {
     /// The warehouse with these files.
     state: State,
+    /// The form of its log.
+    form: Form,
     /// What the files hold, in order.
     documents: Vec<Document>,
 }
 
 impl Trial {
     /// No file was checked yet.
-    pub(crate) fn new(alloc: Global, state: &State) -> Result<Trial, AllocError> {
+    pub(crate) fn new(alloc: Global, state: &State, form: Form) -> Result<Trial, AllocError> {
         Ok(Trial {
             state: state.copy()?,
+            form,
             documents: Vec::new(alloc),
         })
     }
@@ -101,7 +108,7 @@ fn check_document(
     file: &str,
     document: Document,
 ) -> Result<bool, Fault> {
-    match tried(rt, job, &trial.state, file, &document)? {
+    match tried(rt, job, trial, file, &document)? {
         Some(after) => {
             trial.add(document, after)?;
             Ok(true)
@@ -114,24 +121,50 @@ fn check_document(
 fn tried(
     rt: &HostRuntime,
     job: &Job<'_>,
-    state: &State,
+    trial: &Trial,
     file: &str,
     document: &Document,
 ) -> Result<Option<State>, Fault> {
+    let state = &trial.state;
     if job.is_dry {
         print_document(rt, state, file, document)?;
     }
-    if !job.may_change_key && changes_key(state, document) {
+    if !job.says_yes && changes_key(state, document) {
         say_other_key(rt, state, file, document)?;
         return Ok(None);
     }
-    match try_document(rt.alloc(), state, job.origin, document) {
-        Ok(tried) => taken(rt, job, state, file, document, tried),
+    match try_document(rt.alloc(), state, job.origin, document, job.says_yes) {
+        Ok(tried) => in_form(rt, job, trial, file, document, tried),
         Err(AddFault::Store(fault)) => Err(Fault::Store(fault)),
         Err(fault) => {
             let _said = say_refusal(rt, state, job.origin, file, document, fault)?;
             Ok(None)
         }
+    }
+}
+
+// What a warehouse would become; `None` where its log is of a form that doesn't have what would be added, which was said.
+fn in_form(
+    rt: &HostRuntime,
+    job: &Job<'_>,
+    trial: &Trial,
+    file: &str,
+    document: &Document,
+    tried: Tried,
+) -> Result<Option<State>, Fault> {
+    if tried.outcome == Outcome::Added && !has_form(trial.form, document) {
+        let name = name_text(rt.alloc(), document)?;
+        say_old_side(rt, file, name.as_str());
+        return Ok(None);
+    }
+    taken(rt, job, &trial.state, file, document, tried)
+}
+
+// Whether a form has entries of a document.
+fn has_form(form: Form, document: &Document) -> bool {
+    match document {
+        Document::Purchase(_) => form.has_kind(CommandKind::AddPurchase),
+        Document::Commitment(_) | Document::Policy(_) => true,
     }
 }
 
@@ -147,6 +180,7 @@ fn taken(
     if job.is_dry {
         print_tried(rt, job, state, file, document, &tried)?;
         print_matches(rt, state, file, document)?;
+        print_bought(rt, &tried.after, file, document, tried.outcome)?;
     }
     Ok(Some(tried.after))
 }
@@ -186,8 +220,17 @@ fn print_document(
 }
 
 /// Says that a document is there already.
-pub(crate) fn print_same(rt: &HostRuntime, file: &str, name: &str) -> Result<(), Fault> {
-    let line = format!(in rt.alloc(); "{name} is there already, the same")?;
+pub(crate) fn print_same(
+    rt: &HostRuntime,
+    file: &str,
+    document: &Document,
+    name: &str,
+) -> Result<(), Fault> {
+    let more = match document {
+        Document::Purchase(_) => "; give --yes to add it once more",
+        Document::Commitment(_) | Document::Policy(_) => "",
+    };
+    let line = format!(in rt.alloc(); "{name} is there already, the same{more}")?;
     print_line(rt, file, line.as_str())
 }
 
@@ -203,7 +246,7 @@ fn print_tried(
     let name = name_text(rt.alloc(), document)?;
     match tried.outcome {
         Outcome::Added => print_next(rt, job, state, file, document, tried),
-        Outcome::Same => print_same(rt, file, name.as_str()),
+        Outcome::Same => print_same(rt, file, document, name.as_str()),
     }
 }
 

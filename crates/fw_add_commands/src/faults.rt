@@ -1,11 +1,13 @@
 //! Faults of files, as a person reads them.
+use crate::bought::limit_text;
 use crate::texts::name_text;
-use fw_adding::{
-    AddFault, Document, DocumentFault, Kind, Located, agree_in, expected_in_commitment,
-    expected_in_policy, locate, registered, unknown_name,
-};
+use fw_adding::{AddFault, agree_in, committed};
 use fw_commitment::{CommitmentFault, CommitmentField};
 use fw_console::Fault;
+use fw_documents::{
+    Document, DocumentFault, Kind, Located, expected_in_commitment, expected_in_policy,
+    expected_in_purchase, locate, unknown_name,
+};
 use fw_entry::EntryFault;
 use fw_policy::{PolicyFault, PolicyField};
 use fw_recover::StoreFault;
@@ -31,18 +33,21 @@ pub(crate) fn say_fault(
             file,
             "it is no TOML in UTF-8: texts stand in quotes, and each purchase or rule begins with a line [[purchase]] or [[rule]] (C1 Syntax)",
         ),
-        DocumentFault::Neither => say(
+        DocumentFault::NoKind => say(
             rt,
             file,
-            "it is neither a commitment, which has id, category, start, hours, capacity and purchase, nor a policy, which has key and rule",
+            "it is neither a commitment, which has id, category, start, hours, capacity and purchase, nor a policy, which has key and rule, nor a purchase for a commitment that is there, which has id, at and billed",
         ),
-        DocumentFault::Both => say(
+        DocumentFault::TwoKinds => say(
             rt,
             file,
-            "it has fields of a commitment and of a policy: put each into a file of its own",
+            "it has fields of a policy, and of a commitment or a purchase: put each into a file of its own",
         ),
-        DocumentFault::Commitment(fault) => say_commitment(rt, file, text, fault),
+        DocumentFault::Commitment(fault) => {
+            say_commitment(rt, file, text, Kind::Commitment, fault)
+        }
         DocumentFault::Policy(fault) => say_policy(rt, file, text, fault),
+        DocumentFault::Purchase(fault) => say_commitment(rt, file, text, Kind::Purchase, fault),
     }
 }
 
@@ -52,11 +57,20 @@ fn say(rt: &HostRuntime, file: &str, sentence: &str) -> Result<bool, Fault> {
     Ok(false)
 }
 
-// Says why a text is no commitment.
+// What a field must be in a document of a kind that has it.
+fn expected_in(kind: Kind, field: CommitmentField) -> &'static str {
+    match kind {
+        Kind::Purchase => expected_in_purchase(field),
+        Kind::Commitment | Kind::Policy => expected_in_commitment(field),
+    }
+}
+
+// Says why a text is no commitment, or no purchase that is added to one.
 fn say_commitment(
     rt: &HostRuntime,
     file: &str,
     text: &[u8],
+    kind: Kind,
     fault: CommitmentFault,
 ) -> Result<bool, Fault> {
     match fault {
@@ -66,31 +80,17 @@ fn say_commitment(
             rt,
             file,
             text,
-            Kind::Commitment,
-            expected_in_commitment(CommitmentField::Unknown),
+            kind,
+            expected_in(kind, CommitmentField::Unknown),
             "C2 Field",
         ),
         CommitmentFault::Field(field) => {
             let place = Place::of_commitment(field);
-            say_field(
-                rt,
-                file,
-                text,
-                place,
-                expected_in_commitment(field),
-                "C2 Field",
-            )
+            say_field(rt, file, text, place, expected_in(kind, field), "C2 Field")
         }
         CommitmentFault::Limit(field) => {
             let place = Place::of_commitment(field);
-            say_field(
-                rt,
-                file,
-                text,
-                place,
-                expected_in_commitment(field),
-                "C3 Limit",
-            )
+            say_field(rt, file, text, place, expected_in(kind, field), "C3 Limit")
         }
     }
 }
@@ -254,6 +254,10 @@ pub(crate) fn say_refusal(
     let name = name_text(rt.alloc(), document)?;
     match fault {
         AddFault::NoMemory | AddFault::Store(StoreFault::NoMemory) => Err(Fault::NoMemory),
+        AddFault::Store(StoreFault::OldSide) => {
+            say_old_side(rt, file, name.as_str());
+            Ok(false)
+        }
         AddFault::Store(fault) => Err(Fault::Store(fault)),
         AddFault::Conflict(conflict) => {
             say_conflict(rt, state, file, document, name.as_str(), conflict)
@@ -264,6 +268,13 @@ pub(crate) fn say_refusal(
             Ok(false)
         }
     }
+}
+
+/// Says that the log of the warehouse has no such entries before the next checkpoint.
+pub(crate) fn say_old_side(rt: &HostRuntime, file: &str, name: &str) {
+    let _ = eprintln!(rt;
+        "{file}: {name}: an earlier version of focusd wrote the warehouse, in a form without such purchases: run `focusd checkpoint`, which writes it anew, and then add the file again (S8 OldSide)"
+    );
 }
 
 // Says why a document makes no entry.
@@ -297,7 +308,24 @@ fn say_conflict(
         }
         Conflict::Full => "the warehouse would have more than 4,194,304 rows (J1 Full)",
         Conflict::OwnCommitment => "a row carries the id of a commitment (J4 OwnCommitment)",
+        Conflict::NoSuchCommitment => {
+            "the warehouse has no commitment of this id: correct the id, or add the commitment first (J8 NoSuchCommitment)"
+        }
+        Conflict::PurchaseLimit => return say_limit(rt, state, file, document, name),
     };
+    let _ = eprintln!(rt; "{file}: {name}: {reason}");
+    Ok(false)
+}
+
+// Says that a commitment can't have a purchase too.
+fn say_limit(
+    rt: &HostRuntime,
+    state: &State,
+    file: &str,
+    document: &Document,
+    name: &str,
+) -> Result<bool, Fault> {
+    let reason = limit_text(rt.alloc(), state, document)?;
     let _ = eprintln!(rt; "{file}: {name}: {reason}");
     Ok(false)
 }
@@ -312,7 +340,7 @@ fn say_double(
 ) -> Result<bool, Fault> {
     let fields = match document {
         Document::Commitment(commitment) => other_fields(rt.alloc(), state, commitment)?,
-        Document::Policy(_) => String::new(rt.alloc()),
+        Document::Policy(_) | Document::Purchase(_) => String::new(rt.alloc()),
     };
     let _ = eprintln!(rt;
         "{file}: {name} is there already with other terms, and a commitment is never changed; the fields that differ: {fields} (J2 DoubleId)"
@@ -320,13 +348,13 @@ fn say_double(
     Ok(false)
 }
 
-// The names of the fields in which a commitment differs from the one of its id.
+// The names of the fields in which a commitment differs from the one of its id, as that was committed to.
 fn other_fields(
     alloc: Global,
     state: &State,
     commitment: &Commitment,
 ) -> Result<String, AllocError> {
-    match registered(state.commitment_list(), commitment.id()) {
+    match committed(state, commitment.id()) {
         Some(other) => different_fields(alloc, commitment, other),
         None => Ok(String::new(alloc)),
     }

@@ -1,10 +1,11 @@
-//! `focusd add`: commitments and policies are taken from TOML files into a warehouse.
+//! `focusd add`: commitments, policies and purchases are taken from TOML files into a warehouse.
 //!
-//! What a file is and what becomes of it is computed by `fw_adding`. This crate opens the folder, reads the files and
-//! prints: [`add_files`].
+//! What a file is, is computed by `fw_documents`, and what becomes of it by `fw_adding`. This crate opens the folder, reads
+//! the files and prints: [`add_files`].
 #![tactic(auto)]
 
 mod add;
+mod bought;
 mod check;
 mod faults;
 mod files;

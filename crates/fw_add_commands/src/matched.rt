@@ -1,14 +1,15 @@
 //! The rows that a commitment applies to, in words.
 use crate::printing::print_line;
-use fw_adding::{Document, Matches, matches_of};
+use fw_adding::{Matches, matches_of};
 use fw_console::Fault;
+use fw_documents::Document;
 use fw_snapshot::State;
 use fw_table::{count_text, shown_text};
 use fw_terms::{Commitment, Terms};
 use std::alloc::{AllocError, Global};
 
-/// Says how many rows of a warehouse a commitment applies to, and why it doesn't apply to others of its SKUs. Of a
-/// policy nothing is said.
+/// Says how many rows of a warehouse a commitment applies to, and why it doesn't apply to others of its SKUs. Of other
+/// documents nothing is said.
 pub(crate) fn print_matches(
     rt: &HostRuntime,
     state: &State,
@@ -17,7 +18,7 @@ pub(crate) fn print_matches(
 ) -> Result<(), Fault> {
     match document {
         Document::Commitment(commitment) => print_matched(rt, state, file, commitment),
-        Document::Policy(_) => Ok(()),
+        Document::Policy(_) | Document::Purchase(_) => Ok(()),
     }
 }
 
@@ -46,7 +47,7 @@ pub(crate) fn warn_unmatched(
 ) -> Result<(), Fault> {
     match document {
         Document::Commitment(commitment) => warn_units(rt, state, file, commitment),
-        Document::Policy(_) => Ok(()),
+        Document::Policy(_) | Document::Purchase(_) => Ok(()),
     }
 }
 

@@ -1,14 +1,16 @@
 //! What a document is, in words.
-use fw_adding::{Document, policy_entry};
+use fw_adding::policy_entry;
 use fw_calendar::hour_text;
-use fw_charge::Currency;
+use fw_charge::{Currency, SECONDS_PER_HOUR};
+use fw_documents::Document;
 use fw_money::Nanos;
 use fw_snapshot::State;
 use fw_table::{count_text, shown_text};
-use fw_terms::{Commitment, Policy, Terms};
+use fw_terms::{AddedPurchase, Commitment, Policy, Terms};
 use std::alloc::{AllocError, Global};
 
-/// The name of a document: what it is, and the id of a commitment or the key of a policy.
+/// The name of a document: what it is, and the id of a commitment, the key of a policy or the id of the commitment that a
+/// purchase is added to.
 pub(crate) fn name_text(alloc: Global, document: &Document) -> Result<String, AllocError> {
     match document {
         Document::Commitment(commitment) => {
@@ -18,6 +20,10 @@ pub(crate) fn name_text(alloc: Global, document: &Document) -> Result<String, Al
         Document::Policy(policy) => {
             let key = shown_text(alloc, policy.key())?;
             format!(in alloc; "policy by \"{key}\"")
+        }
+        Document::Purchase(added) => {
+            let id = shown_text(alloc, added.id())?;
+            format!(in alloc; "purchase for commitment {id}")
         }
     }
 }
@@ -38,7 +44,7 @@ pub(crate) fn replaced_text(
 }
 
 /// What a document is: of a commitment the id, the category, the term, the capacity and what it was bought for, of a
-/// policy the key and the number of its rules.
+/// policy the key and the number of its rules, of a purchase the id of the commitment, and how much was paid when.
 pub(crate) fn document_text(
     alloc: Global,
     currency: Currency,
@@ -47,6 +53,42 @@ pub(crate) fn document_text(
     match document {
         Document::Commitment(commitment) => commitment_text(alloc, currency, commitment),
         Document::Policy(policy) => policy_text(alloc, policy),
+        Document::Purchase(added) => purchase_text(alloc, currency, added),
+    }
+}
+
+// What a purchase is.
+fn purchase_text(
+    alloc: Global,
+    currency: Currency,
+    added: &AddedPurchase,
+) -> Result<String, AllocError> {
+    let id = shown_text(alloc, added.id())?;
+    let cost = cost_text(alloc, currency, added.purchase().billed())?;
+    let at = instant_text(alloc, added.purchase().at())?;
+    format!(in alloc; "purchase for commitment {id}: {cost} paid at {at}")
+}
+
+/// An amount and its currency.
+pub(crate) fn cost_text(
+    alloc: Global,
+    currency: Currency,
+    amount: Nanos,
+) -> Result<String, AllocError> {
+    let code = str::from_utf8(currency.code()).unwrap_or("");
+    let amount = exact_text(alloc, amount)?;
+    format!(in alloc; "{amount} {code}")
+}
+
+// The instant of a second since 1970, as `2024-01-31T14:00Z`, and with its second where that isn't the first of a minute.
+fn instant_text(alloc: Global, second: u64) -> Result<String, AllocError> {
+    let hour = hour_text(alloc, second / SECONDS_PER_HOUR)?;
+    let front = hour.as_str().strip_suffix("00Z").unwrap_or("");
+    let (minute, second) = (second % SECONDS_PER_HOUR / 60, second % 60);
+    if second == 0 {
+        format!(in alloc; "{front}{minute:02}Z")
+    } else {
+        format!(in alloc; "{front}{minute:02}:{second:02}Z")
     }
 }
 
@@ -70,9 +112,9 @@ fn commitment_text(
     let code = str::from_utf8(currency.code()).unwrap_or("");
     let capacity = exact_text(alloc, commitment.capacity())?;
     let unit = shown_text(alloc, unit_of(commitment.terms(), code))?;
-    let cost = exact_text(alloc, commitment.cost())?;
+    let cost = cost_text(alloc, currency, commitment.cost())?;
     format!(in alloc;
-        "commitment {id} ({category}): {term}; {capacity} {unit} each hour; bought for {cost} {code}"
+        "commitment {id} ({category}): {term}; {capacity} {unit} each hour; bought for {cost}"
     )
 }
 

@@ -1,2 +1,2 @@
-mod KindFacts
+mod HeadFacts
 mod TextFacts

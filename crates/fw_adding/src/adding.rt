@@ -4,13 +4,13 @@ ghost use Rattle.fw_import.specs.Importing.{MayStop};
 ghost use Rattle.fw_snapshot.specs.Judging.{judged};
 ghost use Rattle.fw_snapshot.specs.Verdicts.{with_more};
 ghost use Rattle.fw_snapshot.specs.declared.verdict.Verdict.TheVariants.{Accept};
-ghost use Rattle.fw_adding.specs.Adding.{entry_of, next_entry, next_number, Becomes, Follows};
-ghost use Rattle.fw_adding.specs.Documents.{command_of};
+ghost use Rattle.fw_adding.specs.Adding.{entry_of, next_entry, next_number, Becomes, Follows, Repeats};
+ghost use Rattle.fw_documents.specs.Documents.{command_of};
 
-use crate::document::Document;
 use crate::fault::AddFault;
 use crate::standing::is_there;
 use fw_disk::Volume;
+use fw_documents::Document;
 use fw_entry::Entry;
 use fw_recover::Store;
 use fw_snapshot::{State, Verdict, a_gap_names_the_next_number, judge};
@@ -21,7 +21,7 @@ use std::alloc::Global;
 pub enum Outcome {
     /// It was added as the next entry of the origin.
     Added,
-    /// An equal commitment is there, or an equal policy holds.
+    /// An equal commitment is there, an equal policy holds, or the commitment has an equal purchase.
     Same,
 }
 
@@ -84,7 +84,7 @@ fn next_entry(
 }
 
 /// What a warehouse of this state would become by a document that is added as the next entry of an origin. Nothing
-/// changes.
+/// changes. A purchase of which an equal one is there would be added `again`, or not.
 ///
 /// # Errors
 /// `Entry` where the name of the origin or the size is out of range; `Conflict`; `NoNumber`; `NoMemory`.
@@ -93,12 +93,15 @@ pub fn try_document(
     state: &State,
     origin: &str,
     document: &Document,
+    again: bool,
 ) -> Result<Tried, AddFault>
-    ensures { IfOk result (λ tried.
+    ensures after { IfOk result (λ tried.
         Follows tried.outcome origin.now (command_of document.now) state.now tried.after) }
+    ensures again { IfOk result (λ tried.
+        Repeats again tried.outcome (command_of document.now) state.now.entries) }
 {
     let entry = next_entry(alloc, state, origin, document)?;
-    if is_there(alloc, state, document)? {
+    if is_there(alloc, state, document, again)? {
         return unchanged(state, entry.seq());
     }
     match judge(state, &entry) {
@@ -134,7 +137,8 @@ fn accepted(state: &State, entry: &Entry) -> Result<Tried, AddFault>
 }
 
 /// Adds a document to a store, as the next entry of an origin. It is on the volume, synced, before this returns
-/// `Added`. Where an equal commitment is there, or an equal policy holds, nothing changes, and the answer is `Same`.
+/// `Added`. Where an equal commitment is there, or an equal policy holds, nothing changes, and the answer is `Same`. A
+/// purchase of which an equal one is there is added `again`, or not, and then the answer is `Same` too.
 ///
 /// # Errors
 /// `Entry` where the name of the origin or the size is out of range; `Conflict`; `NoNumber`; `Store`; `NoMemory`. None
@@ -144,14 +148,17 @@ pub fn add_document<V: Volume>(
     store: &mut Store<V>,
     origin: &str,
     document: &Document,
+    again: bool,
 ) -> Result<Outcome, AddFault>
     ensures done { IfOk result (λ outcome.
         Becomes outcome origin.now (command_of document.now) store.old store.new) }
+    ensures again { IfOk result (λ outcome.
+        Repeats again outcome (command_of document.now) store.old.history.entries) }
     ensures refused { OnErr result (store.new.history ≡ store.old.history) }
     ensures any_moment { MayStop V.tells V.view store.old store.new }
 {
     let state = store.state().state();
-    if is_there(alloc, state, document)? {
+    if is_there(alloc, state, document, again)? {
         return Ok(Outcome::Same);
     }
     let entry = next_entry(alloc, state, origin, document)?;

@@ -1,30 +1,11 @@
-//! Why a text is no document, and why a document was not added.
+//! Why a document was not added.
 ghost use Rattle.std.specs.Prelude.{◌≡◌};
 ghost use Rattle.fw_adding.specs.declared.fault.AddFault.TheVariants.{NoMemory};
 
-use fw_commitment::CommitmentFault;
 use fw_entry::EntryFault;
-use fw_policy::PolicyFault;
 use fw_recover::StoreFault;
 use fw_snapshot::Conflict;
 use std::alloc::AllocError;
-
-/// Why a text is no document.
-#[derive(Clone, Copy, Debug, Drop, PartialEq, Eq)]
-pub enum DocumentFault {
-    /// The text is not UTF-8, or no TOML.
-    Syntax,
-    /// It has no name that tells what it is.
-    Neither,
-    /// It has names that only a commitment has, and names that only a policy has.
-    Both,
-    /// It is a commitment with a fault: the first one.
-    Commitment(CommitmentFault),
-    /// It is a policy with a fault: the first one.
-    Policy(PolicyFault),
-    /// Memory ran out.
-    NoMemory,
-}
 
 /// Why a document was not added. The warehouse shows none of it.
 #[derive(Clone, Copy, Debug, Drop, PartialEq, Eq)]

@@ -145,8 +145,8 @@ fn are_same_tags(one: &Tags, other: &Tags) -> bool
     true
 }
 
-// Whether two purchases are equal.
-fn is_same_purchase(one: &Purchase, other: &Purchase) -> bool
+/// Whether two purchases are equal.
+pub(crate) fn is_same_purchase(one: &Purchase, other: &Purchase) -> bool
     ensures { IsTrue result ↔ (one.now ≡ other.now) }
 {
     one.at() == other.at() && one.billed().count() == other.billed().count()

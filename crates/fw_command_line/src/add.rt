@@ -1,4 +1,4 @@
-//! `focusd add`: commitments and policies are taken from TOML files into a warehouse.
+//! `focusd add`: commitments, policies and purchases are taken from TOML files into a warehouse.
 ghost use Rattle.std.specs.Prelude.{◌≡◌, Some};
 ghost use Rattle.clap.specs.declared.builder.action.ArgAction.TheVariants.{SetTrue};
 
@@ -8,17 +8,21 @@ use clap::{Arg, ArgAction, Command};
 use std::alloc::{AllocError, Global};
 
 const HELP: &str =
-    "Each FILE is one commitment or one policy. Its top-level names say which of the two it is: `category`, `start`, `hours`,
-`capacity`, `unit`, `skus`, `rates` or `purchase` make it a commitment, `key` or `rule` a policy. `-` is standard input.
+    "Each FILE is one commitment, one policy, or one purchase that is added to a commitment. Its top-level names say which it is:
+`category`, `start`, `hours`, `capacity`, `unit`, `skus`, `rates` or `purchase` make it a commitment, `key` or `rule` a policy,
+and `at` or `billed` without these a purchase. `-` is standard input.
 
 All files are read and checked first. Where one has a fault, that is printed with its line, and nothing is added. Then each
 file is added in turn, as the next entry of the origin NAME: 1 to 64 ASCII letters, digits, `-`, `_` and `.`.
 
 A file that was added before is known again, and changes nothing. A commitment is never changed: one of the same id with other
-terms is refused. A policy takes the place of the one that holds; where its key is another one, only with --yes.
+terms is refused. A policy takes the place of the one that holds; where its key is another one, only with --yes. A purchase is
+spread over the whole term of its commitment, so reports of hours that are over change too. Where the commitment has one of the
+same instant and amount already, it is added again only with --yes.
 
-With --dry-run nothing is written. It says what each file is, and for a commitment how many rows of the warehouse it applies to,
-and why not to others of its SKUs. So a unit that is misspelled is seen before the commitment is there for good.
+With --dry-run nothing is written. It says what each file is, for a purchase what its commitment would cost with it, and for a
+commitment how many rows of the warehouse it applies to, and why not to others of its SKUs. So a unit that is misspelled is seen
+before the commitment is there for good.
 
 Example: a commitment of two hours of use each hour, bought for September
   printf '%s\\n' 'id = \"cd-1\"' 'category = \"Usage\"' 'start = \"2024-09-01T00:00Z\"' 'hours = 720' \\
@@ -51,14 +55,14 @@ fn dry_run_option<'a>(alloc: Global) -> Arg<'a>
         .help("Writes nothing: says what each file is, and which rows it would apply to")
 }
 
-// The option that lets a policy take the place of one by another key.
+// The option that lets a policy take the place of one by another key, and an equal purchase be added again.
 fn yes_option<'a>(alloc: Global) -> Arg<'a>
     ensures { result.action ≡ Some SetTrue }
 {
     Arg::new(alloc, YES)
         .long("yes")
         .action(ArgAction::SetTrue)
-        .help("Lets a policy take the place of one by another key")
+        .help("Lets a policy take the place of another key's, and adds an equal purchase again")
 }
 
 // The options, in the order in which the help has them.
@@ -70,7 +74,7 @@ fn options<'a>(alloc: Global) -> Result<Vec<Arg<'a>>, AllocError> {
         yes_option(alloc),
         files_argument(
             alloc,
-            "A TOML with a commitment or a policy, or `-` for standard input",
+            "A TOML with a commitment, a policy or a purchase, or `-` for standard input",
         ),
     ]?)
 }
@@ -80,7 +84,7 @@ pub(crate) fn command<'a>(alloc: Global) -> Result<Command<'a>, AllocError> {
     command_with(
         alloc,
         "add",
-        "Takes commitments and policies from TOML files into a warehouse",
+        "Takes commitments, policies and purchases from TOML files into a warehouse",
         HELP,
         options(alloc)?,
     )

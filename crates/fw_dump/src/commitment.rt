@@ -1,10 +1,10 @@
-//! A commitment, as TOML.
+//! A commitment, and a purchase that is added to one, as TOML.
 use crate::values::{
     push_amount, push_comma, push_number, push_quoted, push_second, push_tags, push_text,
 };
 use fw_charge::SECONDS_PER_HOUR;
 use fw_columns::LentTags;
-use fw_terms::{Commitment, Purchase, Rate, Terms};
+use fw_terms::{AddedPurchase, Commitment, Purchase, Rate, Terms};
 use std::alloc::{AllocError, Global};
 
 /// Appends the TOML of a commitment.
@@ -24,6 +24,16 @@ pub(crate) fn push_commitment(
     push_text(out, "\"\n")?;
     push_terms(out, commitment.terms())?;
     push_billing(alloc, out, commitment)
+}
+
+/// Appends the TOML of a purchase that is added to a commitment.
+pub(crate) fn push_added(
+    alloc: Global,
+    out: &mut Vec<u8>,
+    added: &AddedPurchase,
+) -> Result<(), AllocError> {
+    push_text_field(out, "id", added.id())?;
+    push_paid(alloc, out, added.purchase())
 }
 
 // Appends a field that is a text.
@@ -91,9 +101,15 @@ fn push_billing(
     Ok(())
 }
 
-// Appends a purchase.
+// Appends a purchase of a commitment.
 fn push_purchase(alloc: Global, out: &mut Vec<u8>, purchase: &Purchase) -> Result<(), AllocError> {
-    push_text(out, "[[purchase]]\nat = \"")?;
+    push_text(out, "[[purchase]]\n")?;
+    push_paid(alloc, out, purchase)
+}
+
+// Appends when was paid, and how much.
+fn push_paid(alloc: Global, out: &mut Vec<u8>, purchase: &Purchase) -> Result<(), AllocError> {
+    push_text(out, "at = \"")?;
     push_second(alloc, out, purchase.at())?;
     push_text(out, "\"\nbilled = \"")?;
     push_amount(alloc, out, purchase.billed())?;

@@ -95,5 +95,6 @@ fn next_command(
         }
         Content::Commit(commitment) => Ok(Command::Commit(commitment.copy()?)),
         Content::SetPolicy(policy) => Ok(Command::SetPolicy(policy.copy(alloc)?)),
+        Content::AddPurchase(added) => Ok(Command::AddPurchase(added.copy(alloc)?)),
     }
 }

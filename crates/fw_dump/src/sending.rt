@@ -10,7 +10,7 @@ ghost use Rattle.fw_serve.specs.Runs.{Sends};
 
 use fw_charge::Currency;
 use fw_column_rows::read_columns;
-use fw_commitment::{CommitmentFault, read_commitment};
+use fw_commitment::{CommitmentFault, read_commitment, read_purchase};
 use fw_entry::{Command as EntryCommand, Entry, EntryFault};
 use fw_import::same_entry;
 use fw_policy::{PolicyFault, read_policy};
@@ -113,6 +113,11 @@ fn read_content(
         EntryKind::Policy => match read_policy(alloc, content) {
             Ok(policy) => Ok(Some(EntryCommand::SetPolicy(policy))),
             Err(PolicyFault::NoMemory) => Err(AllocError),
+            Err(_) => Ok(None),
+        },
+        EntryKind::AddPurchase => match read_purchase(alloc, content) {
+            Ok(added) => Ok(Some(EntryCommand::AddPurchase(added))),
+            Err(CommitmentFault::NoMemory) => Err(AllocError),
             Err(_) => Ok(None),
         },
     }

@@ -2,7 +2,7 @@
 ghost use Rattle.std.specs.Prelude.{IfOk};
 ghost use Rattle.fw_dump.specs.Dumps.{IsTextOf};
 
-use crate::commitment::push_commitment;
+use crate::commitment::{push_added, push_commitment};
 use crate::fault::TextFault;
 use crate::policy::push_policy;
 use crate::rows::rows_csv;
@@ -64,6 +64,7 @@ fn kind_of(command: &Command) -> EntryKind {
         Command::Post(_) => EntryKind::Post,
         Command::Commit(_) => EntryKind::Commit,
         Command::SetPolicy(_) => EntryKind::Policy,
+        Command::AddPurchase(_) => EntryKind::AddPurchase,
     }
 }
 
@@ -79,6 +80,11 @@ fn content_of(alloc: Global, currency: Currency, command: &Command) -> Result<Ve
         Command::SetPolicy(policy) => {
             let mut content = Vec::new(alloc);
             push_policy(&mut content, policy)?;
+            Ok(content)
+        }
+        Command::AddPurchase(added) => {
+            let mut content = Vec::new(alloc);
+            push_added(alloc, &mut content, added)?;
             Ok(content)
         }
     }

@@ -65,7 +65,7 @@ fn row_count(entry: &Entry) -> u64
 {
     match entry.command() {
         Command::Post(rows) => rows.len() as u64,
-        Command::Commit(_) | Command::SetPolicy(_) => 0,
+        Command::Commit(_) | Command::SetPolicy(_) | Command::AddPurchase(_) => 0,
     }
 }
 

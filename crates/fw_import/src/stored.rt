@@ -20,7 +20,7 @@ pub fn stored_post(
         let head = heads.get(place);
         let rows = match head.content() {
             Content::Post { rows } => *rows as usize,
-            Content::Commit(_) | Content::SetPolicy(_) => 0,
+            Content::Commit(_) | Content::SetPolicy(_) | Content::AddPurchase(_) => 0,
         };
         if head.seq() == number && head.origin() == origin {
             return rows_between(alloc, state, before, before.saturating_add(rows));

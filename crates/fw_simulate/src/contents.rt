@@ -6,7 +6,7 @@ ghost use Rattle.fw_entry.specs.View.{command_view};
 use crate::script::Fault;
 use fw_charge::MOST_POST_ROWS;
 use fw_column_rows::read_columns;
-use fw_commitment::{CommitmentFault, read_commitment};
+use fw_commitment::{CommitmentFault, read_commitment, read_purchase};
 use fw_entry::Command;
 use fw_policy::{PolicyFault, read_policy};
 use fw_rows::{Currency, RowFault};
@@ -99,6 +99,16 @@ pub(crate) fn commitment_of(alloc: Global, id: &str) -> Result<Command, Fault>
 {
     let text = format!(in alloc; "id = \"{id}\"\n{TERMS}")?;
     Ok(Command::Commit(read_commitment(alloc, text.as_bytes())?))
+}
+
+/// A purchase that is added to the commitment of this id, at this cost.
+pub(crate) fn purchase_of(alloc: Global, id: &str, cost: &str) -> Result<Command, Fault>
+    ensures { IfOk result (λ command. HasRowCount (command_view command)) }
+{
+    let text = format!(in alloc;
+        "id = \"{id}\"\nat = \"2024-01-01T00:00Z\"\nbilled = \"{cost}\"\n"
+    )?;
+    Ok(Command::AddPurchase(read_purchase(alloc, text.as_bytes())?))
 }
 
 /// A policy by this key, without rules.

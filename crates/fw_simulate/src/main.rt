@@ -11,6 +11,7 @@
 //! post IMPORTER ORIGIN NUMBER ROWS COST   an importer posts so many rows, each of this BilledCost
 //! use IMPORTER ORIGIN NUMBER ID           an importer posts a row that names a commitment
 //! commitment IMPORTER ORIGIN NUMBER ID    an importer posts a commitment
+//! add IMPORTER ORIGIN NUMBER ID COST      an importer posts a purchase of this cost that is added to a commitment
 //! policy IMPORTER ORIGIN NUMBER KEY       an importer posts a policy
 //! take                                    the next group is taken in hand
 //! commit                                  it is stored and published

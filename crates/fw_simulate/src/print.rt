@@ -77,7 +77,7 @@ fn judged_text(
     format!(in alloc; "{word} {number} at {at} of {entries}")
 }
 
-// The number of a rule, as in J1 to J5.
+// The number of a rule, as in J1 to J9.
 fn conflict_number(why: Conflict) -> u64 {
     match why {
         Conflict::Full => 1,
@@ -85,6 +85,8 @@ fn conflict_number(why: Conflict) -> u64 {
         Conflict::IdInUse => 3,
         Conflict::OwnCommitment => 4,
         Conflict::TooManyCommitments => 5,
+        Conflict::NoSuchCommitment => 8,
+        Conflict::PurchaseLimit => 9,
     }
 }
 
@@ -119,6 +121,10 @@ fn head_text(alloc: Global, head: &Head) -> Result<String, AllocError> {
         Content::SetPolicy(policy) => {
             let key = policy.key();
             format!(in alloc; " {origin}/{number}!{key}")
+        }
+        Content::AddPurchase(added) => {
+            let (id, cost) = (added.id(), added.purchase().billed().count());
+            format!(in alloc; " {origin}/{number}+{id}:{cost}")
         }
     }
 }

@@ -3,7 +3,9 @@ ghost use Rattle.std.specs.Prelude.{IfOk};
 ghost use Rattle.fw_entry.specs.Spelling.{HasRowCount};
 ghost use Rattle.fw_entry.specs.View.{command_view};
 
-use crate::contents::{CURRENCY, commitment_of, policy_of, row_of_commitment, rows_of_cost};
+use crate::contents::{
+    CURRENCY, commitment_of, policy_of, purchase_of, row_of_commitment, rows_of_cost,
+};
 use crate::setup::{Device, Files, read_device};
 use fw_disk::Stoppable;
 use fw_entry::{Command, Entry, EntryFault};
@@ -171,6 +173,7 @@ fn read_command(alloc: Global, kind: &str, content: &[&str]) -> Result<Command, 
         ("post", [rows, cost]) => rows_of_cost(alloc, read_place(rows)?, cost),
         ("use", [id]) => row_of_commitment(alloc, id),
         ("commitment", [id]) => commitment_of(alloc, id),
+        ("add", [id, cost]) => purchase_of(alloc, id, cost),
         ("policy", [key]) => policy_of(alloc, key),
         _ => Err(Fault::Script),
     }

@@ -5,8 +5,10 @@ use fw_disk::Mode;
 use fw_import::{ImportFault, Outcome, import_part};
 use fw_recover::{Store, StoreFault};
 use fw_rows::RowFault;
+use fw_serve::serve;
 use std::alloc::Global;
 use std::test::Fail;
+use std::thread::Threads;
 
 const TEXT: &str =
     "BilledCost,EffectiveCost,BillingCurrency,ChargeCategory,ChargePeriodStart,ChargePeriodEnd,SkuId\n\
@@ -69,8 +71,12 @@ fn letter(
 }
 
 /// The place of the first import that is answered otherwise.
-fn first_wrong(alloc: Global, store: &mut Store<Faulty>) -> Result<Option<usize>, StoreFault> {
-    for (place, (text, number, wanted)) in IMPORTS.iter().enumerate() {
+fn first_wrong(
+    alloc: Global,
+    store: &mut Store<Faulty>,
+    imports: &[(&str, u64, char)],
+) -> Result<Option<usize>, StoreFault> {
+    for (place, (text, number, wanted)) in imports.iter().enumerate() {
         if letter(alloc, store, text, *number)? != *wanted {
             return Ok(Some(place));
         }
@@ -81,10 +87,65 @@ fn first_wrong(alloc: Global, store: &mut Store<Faulty>) -> Result<Option<usize>
 /// The same in a new warehouse.
 fn first_wrong_in_all(alloc: Global) -> Result<Option<usize>, StoreFault> {
     let mut store = created(alloc, ROOM, NEVER, Mode::Once)?;
-    first_wrong(alloc, &mut store)
+    first_wrong(alloc, &mut store, IMPORTS)
 }
 
 #[test]
 fn imports_each_part_once(rt: HostRuntime) -> Result<(), Fail> {
     check_all(&rt, first_wrong_in_all(rt.alloc()))
+}
+
+/// A commitment, and a purchase that is added to it as the first entry of `a`.
+const ADDED: &str = "commit b 1 8
+id = \"cd\"
+category = \"Usage\"
+start = \"2024-01-01T00:00Z\"
+hours = 1
+capacity = \"1\"
+unit = \"Hours\"
+skus = [\"a\"]
+purchase = [{ at = \"2024-01-01T00:00Z\", billed = \"1\" }]
+add a 1 3
+id = \"cd\"
+at = \"2024-01-01T00:00Z\"
+billed = \"1\"
+";
+
+/// What becomes of texts behind it: no post has the number 1.
+const BEHIND_ADDED: &[(&str, u64, char)] = &[
+    (TEXT, 1, 'D'),
+    (TEXT, 3, 'G'),
+    (TEXT, 2, 'A'),
+    (SAME, 2, 'S'),
+    (SHORTER, 2, 'D'),
+];
+
+/// Adds both to a store. An answer that isn't the right one is out of memory.
+fn add_both(
+    rt: &(impl Threads + Sync),
+    alloc: Global,
+    store: &mut Store<Faulty>,
+) -> Result<(), StoreFault> {
+    let mut answers = Vec::new(alloc);
+    let served = serve(rt, alloc, &mut ADDED.as_bytes(), &mut answers, store, 1);
+    if served.is_ok() && answers.as_slice() == b"accepted 1\naccepted 2\n".as_slice() {
+        Ok(())
+    } else {
+        Err(StoreFault::NoMemory)
+    }
+}
+
+/// The place of the first of these imports that is answered otherwise.
+fn first_wrong_behind(
+    rt: &(impl Threads + Sync),
+    alloc: Global,
+) -> Result<Option<usize>, StoreFault> {
+    let mut store = created(alloc, ROOM, NEVER, Mode::Once)?;
+    add_both(rt, alloc, &mut store)?;
+    first_wrong(alloc, &mut store, BEHIND_ADDED)
+}
+
+#[test]
+fn an_added_purchase_is_no_post(rt: HostRuntime) -> Result<(), Fail> {
+    check_all(&rt, first_wrong_behind(&rt, rt.alloc()))
 }

@@ -1,9 +1,9 @@
 //! What the decoders read, and the place of each fault.
 use crate::ended::check_all;
 use crate::vectors::{
-    Change, DEAR, FAULTS, FULL, FULL_CHANGES, FULL_FRONTS, Front, POLICY, POLICY_CHANGES,
-    POLICY_FRONTS, SPEND, SPEND_CHANGES, TAX, TAX_CHANGES, USAGE, USAGE_CHANGES, USAGE_FRONTS,
-    VALUES,
+    ADDED, ADDED_CHANGES, ADDED_FRONTS, Change, DEAR, FAULTS, FULL, FULL_CHANGES, FULL_FRONTS,
+    Front, POLICY, POLICY_CHANGES, POLICY_FRONTS, SPEND, SPEND_CHANGES, TAX, TAX_CHANGES, USAGE,
+    USAGE_CHANGES, USAGE_FRONTS, VALUES,
 };
 use fw_bytes::{ReadError, i64_at, put_byte, str_at, u32_at, u64_at};
 use fw_charge::Row;
@@ -12,8 +12,8 @@ use fw_entry::{Command, Entry};
 use fw_entry_bytes::{Form, entry_of, put_entry};
 use fw_fields::{short_text_of, tag_text_of};
 use fw_row_bytes::{put_row, row_of};
-use fw_terms::{Commitment, Policy, commitment_len, policy_len};
-use fw_terms_bytes::{commitment_of, policy_of, put_commitment, put_policy};
+use fw_terms::{AddedPurchase, Commitment, Policy, added_len, commitment_len, policy_len};
+use fw_terms_bytes::{added_of, commitment_of, policy_of, put_added, put_commitment, put_policy};
 use std::alloc::{AllocError, Global};
 use std::fmt::Debug;
 use std::test::Fail;
@@ -30,7 +30,11 @@ pub(crate) enum What {
     Row,
     Commitment,
     Policy,
+    Added,
+    /// An entry, as the first form has it.
     Entry,
+    /// An entry, as the second form has it.
+    EntryOfTwo,
 }
 
 /// What is written in bytes.
@@ -84,6 +88,20 @@ impl Spelled for Policy {
     }
 }
 
+impl Spelled for AddedPurchase {
+    fn shown(&self, alloc: Global) -> Result<String, AllocError> {
+        printed(alloc, self)
+    }
+
+    fn put(&self, out: &mut Vec<u8>) -> Result<(), AllocError> {
+        put_added(out, self)
+    }
+
+    fn written_len(&self) -> usize {
+        added_len(self)
+    }
+}
+
 impl Spelled for Entry {
     fn shown(&self, alloc: Global) -> Result<String, AllocError> {
         let command = command_shown(alloc, self.command())?;
@@ -129,6 +147,7 @@ fn command_shown(alloc: Global, command: &Command) -> Result<String, AllocError>
         Command::Post(rows) => rows_shown(alloc, rows),
         Command::Commit(commitment) => format!(in alloc; "Commit({commitment:?})"),
         Command::SetPolicy(policy) => format!(in alloc; "SetPolicy({policy:?})"),
+        Command::AddPurchase(added) => format!(in alloc; "AddPurchase({added:?})"),
     }
 }
 
@@ -201,7 +220,9 @@ fn is_decoded(
         What::Row => is_read(alloc, row_of(alloc, bytes), left, own, printed),
         What::Commitment => is_read(alloc, commitment_of(alloc, bytes), left, own, printed),
         What::Policy => is_read(alloc, policy_of(alloc, bytes), left, own, printed),
+        What::Added => is_read(alloc, added_of(alloc, bytes), left, own, printed),
         What::Entry => is_read(alloc, entry_of(alloc, Form::One, bytes), left, own, printed),
+        What::EntryOfTwo => is_read(alloc, entry_of(alloc, Form::Two, bytes), left, own, printed),
         _ => Ok(false),
     }
 }
@@ -270,7 +291,9 @@ fn fault_of(alloc: Global, what: What, bytes: &[u8]) -> Result<Option<usize>, Al
         What::Row => place_of(bytes, row_of(alloc, bytes)),
         What::Commitment => place_of(bytes, commitment_of(alloc, bytes)),
         What::Policy => place_of(bytes, policy_of(alloc, bytes)),
+        What::Added => place_of(bytes, added_of(alloc, bytes)),
         What::Entry => place_of(bytes, entry_of(alloc, Form::One, bytes)),
+        What::EntryOfTwo => place_of(bytes, entry_of(alloc, Form::Two, bytes)),
     }
 }
 
@@ -316,6 +339,7 @@ const CHANGED: &[(What, &[u8], &[Change])] = &[
     (What::Commitment, &DEAR, &[(106, 1, 0)]),
     (What::Commitment, &SPEND, SPEND_CHANGES),
     (What::Policy, &POLICY, POLICY_CHANGES),
+    (What::Added, &ADDED, ADDED_CHANGES),
 ];
 
 /// The first of all changes that makes no fault or makes it elsewhere, and the place of its spelling among those above.
@@ -353,6 +377,7 @@ const FRONTS: &[(What, &[u8], &[Front])] = &[
     (What::Row, &FULL, FULL_FRONTS),
     (What::Commitment, &USAGE, USAGE_FRONTS),
     (What::Policy, &POLICY, POLICY_FRONTS),
+    (What::Added, &ADDED, ADDED_FRONTS),
 ];
 
 /// The first of all fronts that has no fault or has it elsewhere, and the place of its spelling among those above.

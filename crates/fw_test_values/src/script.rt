@@ -198,6 +198,33 @@ const LINES: &[Case] = &[
         ],
     ),
     (
+        "added purchases, and lines that only look like them",
+        b"add a 3 1\nid = 1\nAdd a 3 0\nadds a 3 0\nadd a 3\nadd a 3 0 0\nadd  a 3 0\n add a 3 0\nadd a 3 0\r\n\
+            add b 18446744073709551615 0\nadd c 1 2\n\n",
+        &[
+            Command::Entry {
+                kind: EntryKind::AddPurchase,
+                origin: b"a",
+                sequence: b"3",
+                content: b"id = 1\n",
+            },
+            BAD,
+            BAD,
+            BAD,
+            BAD,
+            BAD,
+            BAD,
+            BAD,
+            Command::Entry {
+                kind: EntryKind::AddPurchase,
+                origin: b"b",
+                sequence: b"18446744073709551615",
+                content: b"",
+            },
+            Command::BadEnd,
+        ],
+    ),
+    (
         "lines",
         b"lines 2024-01-01T00:00Z 2024-01-01T01:00Z\n",
         &[Command::Lines {

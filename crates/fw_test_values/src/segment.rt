@@ -84,32 +84,68 @@ const STORED_ROWS: [u8; 404] = [
     97, 109, 4, 0, 0, 0, 100, 97, 116, 97,
 ];
 
+/// That state with a purchase more for its commitment: as much as goes with the 10 nanos that it cost before.
+const STORED_ADDED: [u8; 469] = [
+    3, 0, 0, 0, 85, 83, 68, 4, 0, 0, 0, 0, 0, 0, 0, 7, 0, 0, 0, 98, 105, 108, 108, 105, 110, 103,
+    1, 0, 0, 0, 0, 0, 0, 0, 2, 4, 0, 0, 0, 99, 100, 45, 49, 1, 0, 1, 0, 0, 0, 4, 0, 0, 0, 116, 101,
+    97, 109, 8, 0, 0, 0, 112, 108, 97, 116, 102, 111, 114, 109, 8, 57, 7, 0, 3, 0, 0, 0, 0, 148,
+    53, 119, 0, 0, 0, 0, 5, 0, 0, 0, 72, 111, 117, 114, 115, 1, 0, 0, 0, 2, 0, 0, 0, 118, 109, 1,
+    0, 0, 0, 128, 0, 146, 101, 0, 0, 0, 0, 10, 0, 0, 0, 0, 0, 0, 0, 7, 0, 0, 0, 98, 105, 108, 108,
+    105, 110, 103, 2, 0, 0, 0, 0, 0, 0, 0, 1, 2, 0, 0, 0, 7, 0, 0, 0, 98, 105, 108, 108, 105, 110,
+    103, 3, 0, 0, 0, 0, 0, 0, 0, 3, 4, 0, 0, 0, 116, 101, 97, 109, 1, 0, 0, 0, 8, 0, 0, 0, 112,
+    108, 97, 116, 102, 111, 114, 109, 1, 2, 0, 0, 0, 4, 0, 0, 0, 100, 97, 116, 97, 1, 0, 0, 0, 0,
+    0, 0, 0, 3, 0, 0, 0, 119, 101, 98, 3, 0, 0, 0, 0, 0, 0, 0, 7, 0, 0, 0, 98, 105, 108, 108, 105,
+    110, 103, 4, 0, 0, 0, 0, 0, 0, 0, 5, 4, 0, 0, 0, 99, 100, 45, 49, 144, 14, 146, 101, 0, 0, 0,
+    0, 246, 255, 137, 93, 120, 69, 99, 1, 1, 0, 0, 0, 2, 2, 0, 0, 0, 5, 0, 0, 0, 5, 0, 0, 0, 72,
+    111, 117, 114, 115, 2, 0, 0, 0, 118, 109, 4, 0, 0, 0, 116, 101, 97, 109, 3, 0, 0, 0, 119, 101,
+    98, 4, 0, 0, 0, 100, 97, 116, 97, 0, 225, 245, 5, 0, 0, 0, 0, 128, 240, 250, 2, 0, 0, 0, 0, 0,
+    225, 245, 5, 0, 0, 0, 0, 128, 240, 250, 2, 0, 0, 0, 0, 1, 1, 0, 0, 128, 0, 146, 101, 0, 0, 0,
+    0, 128, 0, 146, 101, 0, 0, 0, 0, 144, 14, 146, 101, 0, 0, 0, 0, 144, 14, 146, 101, 0, 0, 0, 0,
+    0, 0, 0, 0, 0, 0, 0, 0, 0, 0, 0, 0, 1, 1, 0, 202, 154, 59, 0, 0, 0, 0, 0, 101, 205, 29, 0, 0,
+    0, 0, 1, 0, 0, 0, 1, 0, 0, 0, 2, 0, 0, 0, 2, 0, 0, 0, 0, 0, 0, 0, 0, 0, 0, 0, 1, 0, 0, 0, 3, 0,
+    0, 0, 4, 0, 0, 0, 1, 0, 0, 0, 3, 0, 0, 0, 5, 0, 0, 0,
+];
+
+/// Kind 5, from `billing`, number 4: two nanos that are paid for `cd-1` in second 1,704,070,800, as another program spelled it.
+const ADD: [u8; 44] = [
+    7, 0, 0, 0, 98, 105, 108, 108, 105, 110, 103, 4, 0, 0, 0, 0, 0, 0, 0, 5, 4, 0, 0, 0, 99, 100,
+    45, 49, 144, 14, 146, 101, 0, 0, 0, 0, 2, 0, 0, 0, 0, 0, 0, 0,
+];
+
+/// The group of that entry, and of the one behind it, which adds the same.
+const ADD_TWICE: [u8; 92] = [
+    2, 0, 0, 0, 7, 0, 0, 0, 98, 105, 108, 108, 105, 110, 103, 4, 0, 0, 0, 0, 0, 0, 0, 5, 4, 0, 0,
+    0, 99, 100, 45, 49, 144, 14, 146, 101, 0, 0, 0, 0, 2, 0, 0, 0, 0, 0, 0, 0, 7, 0, 0, 0, 98, 105,
+    108, 108, 105, 110, 103, 5, 0, 0, 0, 0, 0, 0, 0, 5, 4, 0, 0, 0, 99, 100, 45, 49, 144, 14, 146,
+    101, 0, 0, 0, 0, 2, 0, 0, 0, 0, 0, 0, 0,
+];
+
 /// What bytes are read as.
 #[derive(Clone, Copy, Drop)]
 enum What {
-    Entry,
-    Group,
+    Entry(Form),
+    Group(Form),
     Segment,
-    State,
+    State(Form),
 }
 
 /// Reads the bytes and writes what was read.
 fn again(alloc: Global, what: What, bytes: &[u8]) -> Result<Vec<u8>, DecodeFault> {
     match what {
-        What::Entry => entry_again(alloc, bytes),
-        What::Group => group_again(alloc, bytes),
+        What::Entry(form) => entry_again(alloc, form, bytes),
+        What::Group(form) => group_again(alloc, form, bytes),
         What::Segment => segment_again(alloc, bytes),
-        What::State => state_again(alloc, bytes),
+        What::State(form) => state_again(alloc, form, bytes),
     }
 }
 
-fn entry_again(alloc: Global, bytes: &[u8]) -> Result<Vec<u8>, DecodeFault> {
-    let one = decode_entry(alloc, Form::One, bytes)?;
+fn entry_again(alloc: Global, form: Form, bytes: &[u8]) -> Result<Vec<u8>, DecodeFault> {
+    let one = decode_entry(alloc, form, bytes)?;
     encode_entry(alloc, &one).or(Err(DecodeFault::NoMemory))
 }
 
-fn group_again(alloc: Global, bytes: &[u8]) -> Result<Vec<u8>, DecodeFault> {
-    let one = decode_group(alloc, Form::One, bytes)?;
+fn group_again(alloc: Global, form: Form, bytes: &[u8]) -> Result<Vec<u8>, DecodeFault> {
+    let one = decode_group(alloc, form, bytes)?;
     encode_group(alloc, &one).or(Err(DecodeFault::NoMemory))
 }
 
@@ -122,8 +158,8 @@ fn segment_again(alloc: Global, bytes: &[u8]) -> Result<Vec<u8>, DecodeFault> {
     encode_segment(alloc, &one, layout).or(Err(DecodeFault::NoMemory))
 }
 
-fn state_again(alloc: Global, bytes: &[u8]) -> Result<Vec<u8>, DecodeFault> {
-    let one = decode_state(alloc, Form::One, bytes)?;
+fn state_again(alloc: Global, form: Form, bytes: &[u8]) -> Result<Vec<u8>, DecodeFault> {
+    let one = decode_state(alloc, form, bytes)?;
     encode_state(alloc, &one).or(Err(DecodeFault::NoMemory))
 }
 
@@ -167,12 +203,14 @@ fn is_written_as(
 
 /// Bytes by hand, and what they spell.
 const SPELLED: &[(What, &[u8])] = &[
-    (What::Entry, &ENTRY),
-    (What::Group, &GROUP),
+    (What::Entry(Form::One), &ENTRY),
+    (What::Group(Form::One), &GROUP),
     (What::Segment, &SEGMENT),
     (What::Segment, &COLUMNS),
-    (What::State, &EMPTY),
-    (What::State, &STORED_RUN),
+    (What::State(Form::One), &EMPTY),
+    (What::State(Form::One), &STORED_RUN),
+    (What::Entry(Form::Two), &ADD),
+    (What::Group(Form::Two), &ADD_TWICE),
 ];
 
 /// How many fronts of the bytes have a fault: each of them should.
@@ -268,7 +306,7 @@ fn changes_of_all(alloc: Global) -> Result<(Option<usize>, usize), AllocError> {
 /// The same where a change is not noticed, or there are not as many as there are.
 fn wrong_changes(alloc: Global) -> Result<Option<(Option<usize>, usize)>, AllocError> {
     let found = changes_of_all(alloc)?;
-    Ok(if found == (None, 157_590) {
+    Ok(if found == (None, 192_270) {
         None
     } else {
         Some(found)
@@ -283,10 +321,10 @@ fn each_change_of_a_byte_is_noticed(rt: HostRuntime) -> Result<(), Fail> {
 /// Changes of a byte: its place, what it is then, and the place of the fault.
 const CHANGED: &[(What, &[u8], usize, u8, usize)] = &[
     // An origin of another letter, kind 9, no entry, 65 entries.
-    (What::Group, &GROUP, 9, 0, 9),
-    (What::Group, &GROUP, 17, 9, 17),
-    (What::Group, &GROUP, 0, 0, 0),
-    (What::Group, &GROUP, 0, 65, 0),
+    (What::Group(Form::One), &GROUP, 9, 0, 9),
+    (What::Group(Form::One), &GROUP, 17, 9, 17),
+    (What::Group(Form::One), &GROUP, 0, 0, 0),
+    (What::Group(Form::One), &GROUP, 0, 65, 0),
     // Another layout, no rows, a row that ends before it starts.
     (What::Segment, &SEGMENT, 0, 3, 0),
     (What::Segment, &SEGMENT, 1, 0, 1),
@@ -303,34 +341,46 @@ const CHANGED: &[(What, &[u8], usize, u8, usize)] = &[
     (What::Segment, &COLUMNS, 48, 1, 0),
     (What::Segment, &COLUMNS, 50, 1, 0),
     // A small letter in the currency, a head of one row less, a number that was used, a number too great, a segment of another layout.
-    (What::State, &STORED_RUN, 6, b'd', 0),
-    (What::State, &STORED_RUN, 144, 1, 0),
-    (What::State, &STORED_RUN, 135, 1, 124),
-    (What::State, &STORED_RUN, 159, 5, 148),
-    (What::State, &STORED_RUN, 232, 3, 232),
-    (What::State, &STORED_ROWS, 232, 3, 232),
+    (What::State(Form::One), &STORED_RUN, 6, b'd', 0),
+    (What::State(Form::One), &STORED_RUN, 144, 1, 0),
+    (What::State(Form::One), &STORED_RUN, 135, 1, 124),
+    (What::State(Form::One), &STORED_RUN, 159, 5, 148),
+    (What::State(Form::One), &STORED_RUN, 232, 3, 232),
+    (What::State(Form::One), &STORED_ROWS, 232, 3, 232),
+    // The first form has no kind 5, and neither form has the kind 4. The id of no commitment, a nano too much, a number that was used.
+    (What::Entry(Form::One), &ADD, 43, 0, 19),
+    (What::Entry(Form::Two), &ADD, 19, 4, 19),
+    (What::Group(Form::One), &ADD_TWICE, 91, 0, 23),
+    (What::Group(Form::Two), &ADD_TWICE, 67, 4, 67),
+    (What::State(Form::One), &STORED_ADDED, 271, 0, 247),
+    (What::State(Form::Two), &STORED_ADDED, 247, 4, 247),
+    (What::State(Form::Two), &STORED_ADDED, 255, 50, 228),
+    (What::State(Form::Two), &STORED_ADDED, 264, 247, 228),
+    (What::State(Form::Two), &STORED_ADDED, 239, 3, 228),
 ];
 
 /// Bytes that spell nothing, part by part, and the place of the fault.
 const BROKEN: &[(What, &[&[u8]], usize)] = &[
     // The group without its last byte, and a number of entries that no group has.
     (
-        What::Group,
+        What::Group(Form::One),
         &[&[
             1, 0, 0, 0, 1, 0, 0, 0, b'a', 1, 0, 0, 0, 0, 0, 0, 0, 3, 1, 0, 0, 0, b't', 0, 0, 0,
         ]],
         23,
     ),
-    (What::Group, &[&[255, 255, 255, 255]], 0),
+    (What::Group(Form::One), &[&[255, 255, 255, 255]], 0),
     // 65,537 rows.
     (What::Segment, &[&[1, 1, 0, 1, 0], &TAX], 1),
     (What::Segment, &[&[2, 1, 0, 1, 0], &COLUMNS], 1),
     // A byte too many.
-    (What::Group, &[&GROUP, &[0]], 27),
+    (What::Group(Form::One), &[&GROUP, &[0]], 27),
     (What::Segment, &[&SEGMENT, &[0]], 50),
     (What::Segment, &[&COLUMNS, &[0]], 74),
-    (What::State, &[&STORED_RUN, &[0]], 425),
-    (What::State, &[&STORED_ROWS, &[0]], 404),
+    (What::State(Form::One), &[&STORED_RUN, &[0]], 425),
+    (What::State(Form::One), &[&STORED_ROWS, &[0]], 404),
+    (What::Entry(Form::Two), &[&ADD, &[0]], 44),
+    (What::State(Form::Two), &[&STORED_ADDED, &[0]], 469),
 ];
 
 /// The place of the first of the changes that has no fault or has it elsewhere.
@@ -404,7 +454,7 @@ fn two_posts(alloc: Global, segments: &[&[u8]]) -> Result<Vec<u8>, AllocError> {
 fn is_cut_kept(alloc: Global, cut: &[&[u8]], again: &[&[u8]]) -> Result<bool, AllocError> {
     let bytes = two_posts(alloc, cut)?;
     let written = two_posts(alloc, again)?;
-    is_written_as(alloc, What::State, &bytes, &written)
+    is_written_as(alloc, What::State(Form::One), &bytes, &written)
 }
 
 /// The place of the first of the cuts of two posts of one row each that is not read, or not written in the same segments.
@@ -427,6 +477,29 @@ fn rows_are_cut_in_any_way(rt: HostRuntime) -> Result<(), Fail> {
 fn rows_one_by_one_are_read(rt: HostRuntime) -> Result<(), Fail> {
     check(
         &rt,
-        is_written_as(rt.alloc(), What::State, &STORED_ROWS, &STORED_RUN),
+        is_written_as(
+            rt.alloc(),
+            What::State(Form::One),
+            &STORED_ROWS,
+            &STORED_RUN,
+        ),
     )
+}
+
+/// Bytes of states that both forms have, and of one that only the second has.
+const OF_TWO: &[&[u8]] = &[&EMPTY, &STORED_RUN, &STORED_ADDED];
+
+/// The place of the first of these states that the second form doesn't read, or that is written otherwise.
+fn first_lost_of_two(alloc: Global) -> Result<Option<usize>, AllocError> {
+    for (place, bytes) in OF_TWO.iter().enumerate() {
+        if !is_written_as(alloc, What::State(Form::Two), bytes, bytes)? {
+            return Ok(Some(place));
+        }
+    }
+    Ok(None)
+}
+
+#[test]
+fn the_second_form_has_all_states(rt: HostRuntime) -> Result<(), Fail> {
+    check_all(&rt, first_lost_of_two(rt.alloc()))
 }

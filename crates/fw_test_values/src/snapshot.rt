@@ -1,6 +1,6 @@
 //! What a state holds, and that it stays as it was.
 use crate::ended::check;
-use crate::warehouse::{committed, empty, posted, ruled, shared};
+use crate::warehouse::{added, committed, empty, posted, ruled, shared};
 use fw_snapshot::{Snapshot, State};
 use std::alloc::{AllocError, Global};
 use std::test::Fail;
@@ -22,6 +22,12 @@ skus = ['vm']
 [[purchase]]
 at = '1970-01-01T00:00Z'
 billed = '0.000000024'
+";
+
+/// A purchase that is added to it.
+const PURCHASE: &str = "id = 'cd'
+at = '1970-01-01T00:30Z'
+billed = '0.000000006'
 ";
 
 /// How many entries, rows, segments and commitments a state has, and whether a policy holds.
@@ -110,4 +116,25 @@ fn older_stay(alloc: Global) -> Result<bool, AllocError> {
 #[test]
 fn an_older_state_and_a_shared_one_stay(rt: HostRuntime) -> Result<(), Fail> {
     check(&rt, older_stay(rt.alloc()))
+}
+
+/// How many purchases the first commitment of a state has, and what they cost in nanos.
+fn bought(state: &State) -> (usize, i64) {
+    if state.commitments() == 0 {
+        return (0, 0);
+    }
+    let commitment = state.commitment(0);
+    (commitment.purchases().len(), commitment.cost().count())
+}
+
+/// Whether a commitment has the purchase that is added to it, and has it not before.
+fn adds_a_purchase(alloc: Global) -> Result<bool, AllocError> {
+    let before = two(alloc)?;
+    let after = added(alloc, &before, "c", 1, PURCHASE)?;
+    Ok(bought(before.state()) == (1, 24) && bought(after.state()) == (2, 30))
+}
+
+#[test]
+fn a_purchase_is_added_to_its_commitment(rt: HostRuntime) -> Result<(), Fail> {
+    check(&rt, adds_a_purchase(rt.alloc()))
 }

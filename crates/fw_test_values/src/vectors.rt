@@ -256,6 +256,37 @@ pub(crate) const POLICY_FRONTS: &[Front] = &[
     (58, 58),
 ];
 
+/// A purchase that is added to `cd-1`: two nanos in second 1,704,070,800, an hour into the year 2024.
+pub(crate) const ADDED: [u8; 24] = [
+    4, 0, 0, 0, b'c', b'd', b'-', b'1', // the second, at 8
+    0x90, 0x0e, 0x92, 0x65, 0, 0, 0, 0, // the amount, at 16
+    2, 0, 0, 0, 0, 0, 0, 0,
+];
+
+/// Changes of the purchase that is added.
+pub(crate) const ADDED_CHANGES: &[Change] = &[
+    // The id: of no byte, longer than the bytes, no UTF-8.
+    (0, 0, 0),
+    (3, 1, 0),
+    (4, 0xff, 0),
+    // The second: of the year 10054, and later.
+    (12, 0x3b, 8),
+    (15, 1, 8),
+    // The amount: negative, above 10^17.
+    (23, 0x80, 16),
+    (23, 2, 16),
+];
+
+/// Fronts of the purchase that is added.
+pub(crate) const ADDED_FRONTS: &[Front] = &[(0, 0), (7, 0), (8, 8), (15, 8), (16, 16), (23, 16)];
+
+/// Kind 5, from `billing`, number 4: that purchase, as another program spelled it.
+const ADD: [u8; 44] = [
+    0x07, 0x00, 0x00, 0x00, 0x62, 0x69, 0x6c, 0x6c, 0x69, 0x6e, 0x67, 0x04, 0x00, 0x00, 0x00, 0x00,
+    0x00, 0x00, 0x00, 0x05, 0x04, 0x00, 0x00, 0x00, 0x63, 0x64, 0x2d, 0x31, 0x90, 0x0e, 0x92, 0x65,
+    0x00, 0x00, 0x00, 0x00, 0x02, 0x00, 0x00, 0x00, 0x00, 0x00, 0x00, 0x00,
+];
+
 /// The origin `a`.
 const ORIGIN: [u8; 5] = [1, 0, 0, 0, b'a'];
 
@@ -349,9 +380,25 @@ pub(crate) const VALUES: &[(What, &[&[u8]], &str)] = &[
         "Policy { key: \"t\", rules: [] }",
     ),
     (
+        What::Added,
+        &[&ADDED],
+        "AddedPurchase { id: \"cd-1\", purchase: Purchase { at: 1704070800, billed: Nanos { count: 2 } } }",
+    ),
+    (
         What::Entry,
         &[&OUTSIDE],
         "Entry { origin: \"a\", seq: 1, command: SetPolicy(Policy { key: \"t\", rules: [] }) }",
+    ),
+    (
+        What::EntryOfTwo,
+        &[&OUTSIDE],
+        "Entry { origin: \"a\", seq: 1, command: SetPolicy(Policy { key: \"t\", rules: [] }) }",
+    ),
+    (
+        What::EntryOfTwo,
+        &[&ADD],
+        "Entry { origin: \"billing\", seq: 4, command: AddPurchase(AddedPurchase { id: \"cd-1\", purchase: \
+        Purchase { at: 1704070800, billed: Nanos { count: 2 } } }) }",
     ),
     (
         What::Entry,
@@ -441,6 +488,27 @@ pub(crate) const FAULTS: &[(What, &[&[u8]], Option<usize>)] = &[
         What::Entry,
         &[&ORIGIN, &SEQ, &[9, 1, 0, 0, 0, b't', 0, 0, 0, 0]],
         Some(13),
+    ),
+    // The second form has the kind 5, and the first one hasn't.
+    (What::Entry, &[&ADD], Some(19)),
+    (What::EntryOfTwo, &[&ADD], None),
+    (
+        What::EntryOfTwo,
+        &[&ORIGIN, &SEQ, &[0, 1, 0, 0, 0, b't', 0, 0, 0, 0]],
+        Some(13),
+    ),
+    (What::EntryOfTwo, &[&ORIGIN, &SEQ, &[4], &ADDED], Some(13)),
+    (What::EntryOfTwo, &[&ORIGIN, &SEQ, &[6], &ADDED], Some(13)),
+    // A purchase whose amount is cut off, and one that is negative.
+    (
+        What::EntryOfTwo,
+        &[&ORIGIN, &SEQ, &[5, 1, 0, 0, 0, b'c'], &SEQ, &[1, 0, 0]],
+        Some(27),
+    ),
+    (
+        What::EntryOfTwo,
+        &[&ORIGIN, &SEQ, &[5, 1, 0, 0, 0, b'c'], &SEQ, &[255; 8]],
+        Some(27),
     ),
     // No post, or one of far too many rows: a fault at the number of rows.
     (

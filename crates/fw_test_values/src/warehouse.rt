@@ -5,7 +5,7 @@ ghost use Rattle.fw_entry.specs.View.{command_view};
 
 use crate::given::{dollar, rows};
 use fw_columns::Columns;
-use fw_commitment::read_commitment;
+use fw_commitment::{read_commitment, read_purchase};
 use fw_entry::{Command, Entry};
 use fw_policy::read_policy;
 use fw_rows::Row;
@@ -54,6 +54,20 @@ pub(crate) fn committed(
 ) -> Result<Snapshot, AllocError> {
     match read_commitment(alloc, text.as_bytes()) {
         Ok(commitment) => after(alloc, before, origin, seq, Command::Commit(commitment)),
+        Err(_) => Err(AllocError),
+    }
+}
+
+/// The warehouse after a purchase that is added to a commitment, which is accepted.
+pub(crate) fn added(
+    alloc: Global,
+    before: &Snapshot,
+    origin: &str,
+    seq: u64,
+    text: &str,
+) -> Result<Snapshot, AllocError> {
+    match read_purchase(alloc, text.as_bytes()) {
+        Ok(added) => after(alloc, before, origin, seq, Command::AddPurchase(added)),
         Err(_) => Err(AllocError),
     }
 }

@@ -17,3 +17,7 @@ returns-in-Ok-read_commitment-clause-reads c = rw c.in-Commit.is (c.in-Ok-read_c
 pub returns-in-Ok-read_policy-clause-reads : goal.returns-in-Ok-read_policy-clause-reads
 unfolding ContentReads
 returns-in-Ok-read_policy-clause-reads c = rw c.in-Policy.is (c.in-Ok-read_policy.policy, refl, rw c.in-Ok-read_policy.is at c.read_policy.ensures)
+
+pub returns-in-Ok-read_purchase-clause-reads : goal.returns-in-Ok-read_purchase-clause-reads
+unfolding ContentReads
+returns-in-Ok-read_purchase-clause-reads c = rw c.in-AddPurchase.is (c.in-Ok-read_purchase.added, refl, rw c.in-Ok-read_purchase.is at c.read_purchase.ensures)

@@ -1,9 +1,9 @@
 use Rattle.std.proofs.Common.{sym, subst}
 use Rattle.std.specs.Prelude.{MatchResult}
 use Rattle.fw_toml.specs.Tree.{stated}
-use Rattle.fw_adding.specs.Documents.{IsNoDocument, IsOfKind}
-use Rattle.fw_adding.proofs.KindFacts.{kind_found}
-use Rattle.fw_adding.proofs.document.kind_of.Goals as goal
+use Rattle.fw_documents.specs.Documents.{IsNoDocument, IsOfKind}
+use Rattle.fw_documents.proofs.KindFacts.{kind_found}
+use Rattle.fw_documents.proofs.document.kind_of.Goals as goal
 
 pub returns-in-Ok : goal.returns-in-Ok
 returns-in-Ok c =

@@ -1,18 +1,19 @@
 //! Documents: what a person keeps in a TOML file, and adds to a warehouse.
 ghost use Rattle.std.specs.Prelude.{◌≡◌, IfOk, IfErr, Ok, MatchResult};
+ghost use Rattle.fw_commitment.specs.Added.{PurchaseReads};
 ghost use Rattle.fw_commitment.specs.Reading.{CommitmentReads};
 ghost use Rattle.fw_entry.specs.Spelling.{HasRowCount};
 ghost use Rattle.fw_entry.specs.View.{command_view};
 ghost use Rattle.fw_policy.specs.Policy.{PolicyReads};
 ghost use Rattle.fw_toml.specs.Tree.{IsTable, stated};
-ghost use Rattle.fw_adding.specs.Documents.{command_of, IsDocument, IsNoDocument, IsOfKind};
+ghost use Rattle.fw_documents.specs.Documents.{command_of, IsDocument, IsNoDocument, IsOfKind};
 
 use crate::fault::DocumentFault;
 use crate::kind::Kind;
-use fw_commitment::{CommitmentFault, read_commitment};
+use fw_commitment::{CommitmentFault, read_commitment, read_purchase};
 use fw_entry::Command;
 use fw_policy::{PolicyFault, read_policy};
-use fw_terms::{Commitment, Policy};
+use fw_terms::{AddedPurchase, Commitment, Policy};
 use fw_toml::{TableFault, table_of};
 use std::alloc::{AllocError, Global};
 
@@ -23,6 +24,8 @@ pub enum Document {
     Commitment(Commitment),
     /// A policy.
     Policy(Policy),
+    /// A purchase that is added to a commitment.
+    Purchase(AddedPurchase),
 }
 
 impl Document {
@@ -34,6 +37,7 @@ impl Document {
         match self {
             Document::Commitment(commitment) => Ok(Command::Commit(commitment.copy()?)),
             Document::Policy(policy) => Ok(Command::SetPolicy(policy.copy(alloc)?)),
+            Document::Purchase(added) => Ok(Command::AddPurchase(added.copy(alloc)?)),
         }
     }
 }
@@ -41,15 +45,16 @@ impl Document {
 /// Reads a document from a TOML text. Which one it is, is seen from its top-level names.
 ///
 /// # Errors
-/// `Syntax` where the text is not UTF-8 or no TOML; `Neither` where no name tells what it is, `Both` where its names
-/// tell two things; `Commitment` and `Policy` where it is one with a fault, the first one. `NoMemory` comes where
-/// memory runs out, at any place.
+/// `Syntax` where the text is not UTF-8 or no TOML; `NoKind` where no name tells what it is, `TwoKinds` where its names
+/// tell two things; `Commitment`, `Policy` and `Purchase` where it is one with a fault, the first one. `NoMemory` comes
+/// where memory runs out, at any place.
 pub fn read_document(alloc: Global, text: &[u8]) -> Result<Document, DocumentFault>
     ensures { MatchResult result (IsDocument text.now) (IsNoDocument text.now) }
 {
     match kind_of(alloc, text) {
         Ok(Kind::Commitment) => commitment_of(alloc, text),
         Ok(Kind::Policy) => policy_of(alloc, text),
+        Ok(Kind::Purchase) => purchase_of(alloc, text),
         Err(fault) => Err(fault),
     }
 }
@@ -89,5 +94,18 @@ fn policy_of(alloc: Global, text: &[u8]) -> Result<Document, DocumentFault>
         Ok(policy) => Ok(Document::Policy(policy)),
         Err(PolicyFault::NoMemory) => Err(DocumentFault::NoMemory),
         Err(fault) => Err(DocumentFault::Policy(fault)),
+    }
+}
+
+// The purchase of a text whose names say that it is one.
+#[tactic(auto, unfolding(crate::specs::Documents::IsDocument, crate::specs::Documents::IsNoDocument))]
+fn purchase_of(alloc: Global, text: &[u8]) -> Result<Document, DocumentFault>
+    requires { IsOfKind text.now Kind.Purchase }
+    ensures { MatchResult result (IsDocument text.now) (IsNoDocument text.now) }
+{
+    match read_purchase(alloc, text) {
+        Ok(added) => Ok(Document::Purchase(added)),
+        Err(CommitmentFault::NoMemory) => Err(DocumentFault::NoMemory),
+        Err(fault) => Err(DocumentFault::Purchase(fault)),
     }
 }

@@ -43,6 +43,19 @@ pub fn expected_in_commitment(field: CommitmentField) -> &'static str {
     }
 }
 
+/// What a field of a purchase that is added to a commitment must be.
+pub fn expected_in_purchase(field: CommitmentField) -> &'static str {
+    match field {
+        CommitmentField::Id => {
+            "\"id\" must be the id of the commitment that the purchase is added to, a text of 1 to 256 bytes, as \"cd-1\""
+        }
+        CommitmentField::Unknown => {
+            "a purchase that is added to a commitment has the fields id, at and billed"
+        }
+        other => expected_in_commitment(other),
+    }
+}
+
 /// What a field of a policy must be.
 pub fn expected_in_policy(field: PolicyField) -> &'static str {
     match field {

@@ -30,6 +30,9 @@ const SPEND_FIELDS: [&str; 9] = [
     "purchase",
 ];
 
+/// The fields of a purchase that is added to a commitment.
+const PURCHASE_FIELDS: [&str; 3] = ["id", "at", "billed"];
+
 /// The fields of a policy.
 const POLICY_FIELDS: [&str; 2] = ["key", "rule"];
 
@@ -59,6 +62,7 @@ fn unknown_in(alloc: Global, kind: Kind, table: &Table) -> Result<Option<String>
             Some(name) => copied(alloc, Some(name)),
             None => unknown_in_rules(alloc, table),
         },
+        Kind::Purchase => copied(alloc, other_name(table, &PURCHASE_FIELDS)),
     }
 }
 
