@@ -7,8 +7,9 @@ It reads the posts by Python's csv and json, commitments and policies by
 tomllib, and rounds each amount by its decimal: to the nearest 10^-9, ties to
 even. Sums, shares and floors are whole numbers and so exact. It tells entries
 apart that are sent twice, out of turn, or that don't go with those before. It
-knows contents that are all right; at anything else it stops with status 1 and
-says what it met, so that it never makes up an answer.
+knows contents that are all right, and the first wrong field of a purchase that
+is added to a commitment; at anything else it stops with status 1 and says what
+it met, so that it never makes up an answer.
 """
 import csv
 import datetime
@@ -32,6 +33,8 @@ INSTANT = re.compile(r"(\d{4}-\d\d-\d\dT\d\d:\d\d)(:\d\d(?:\.0{1,9})?)?Z", re.AS
 MOST_ROWS = 4_096
 MOST_KEPT = 4_194_304
 MOST_COMMITMENTS = 256
+MOST_PURCHASES = 64
+MOST_ID_BYTES = 256
 MOST_BYTES = 4_194_304
 ENTRY_BYTES = 4 + 8 + 1
 MOST_NANOS = 10**17
@@ -198,8 +201,51 @@ class Commitment:
 
     def amount(self, hour):
         """The part of the purchases that an hour of the term carries."""
-        paid, k = sum(billed for _, billed in self.purchases), hour - self.start
+        paid, k = self.paid(), hour - self.start
         return paid * (k + 1) // self.hours - paid * k // self.hours
+
+    def paid(self):
+        """What all purchases cost, those that were added to it too."""
+        return sum(billed for _, billed in self.purchases)
+
+    def has_room_for(self, billed):
+        """Whether it can have a purchase of this cost more."""
+        return len(self.purchases) < MOST_PURCHASES and self.paid() + billed <= MOST_NANOS
+
+
+class AddedPurchase:
+    """A purchase that is added to a commitment. Its fields are checked in this order, each by itself, and what else there is comes last."""
+
+    def __init__(self, table, times):
+        self.id = self.text(table, "id")
+        if not 1 <= len(self.id.encode()) <= MOST_ID_BYTES:
+            raise Refused("C3 Limit id")
+        at = self.text(table, "at")
+        # No instant is without a digit. Others that Times doesn't know may be instants.
+        seconds = times.seconds(at) if re.search("[0-9]", at) else -1
+        if seconds < 0:
+            raise Refused("C2 Field at")
+        self.hour = seconds // 3_600
+        try:
+            self.billed = nanos(self.text(table, "billed"))
+        except Unknown as why:
+            raise Refused("C2 Field billed") from why
+        if self.billed < 0:
+            raise Refused("C3 Limit billed")
+        if table:
+            raise Refused("C2 Field unknown")
+
+    @staticmethod
+    def text(table, name):
+        """Takes a field out of the table, which has to be a text."""
+        text = table.pop(name, None)
+        if not isinstance(text, str):
+            raise Refused(f"C2 Field {name}")
+        return text
+
+    def size(self):
+        """How many bytes it is stored in: the id, the instant and what was billed."""
+        return 4 + len(self.id.encode()) + 8 + 8
 
 
 def shares(total, weights):
@@ -386,6 +432,16 @@ class Warehouse:
             refusal = "J5 TooManyCommitments"
         return refusal, small(text), lambda: self.commitments.append(commitment)
 
+    def add_purchase(self, text):
+        more = AddedPurchase(tomllib.loads(text.decode()), self.times)
+        commitment = next((c for c in self.commitments if c.id == more.id), None)
+        refusal = None
+        if commitment is None:
+            refusal = "J8 NoSuchCommitment"
+        elif not commitment.has_room_for(more.billed):
+            refusal = "J9 PurchaseLimit"
+        return refusal, more.size(), lambda: commitment.purchases.append((more.hour, more.billed))
+
     def set_policy(self, text):
         policy = tomllib.loads(text.decode())
         policy = {"key": policy["key"], "rule": policy.get("rule", [])}
@@ -454,7 +510,7 @@ class Warehouse:
 def answers(script):
     """The answers to the commands of a script, one after the other."""
     warehouse = Warehouse()
-    entries = {"post": warehouse.post, "commit": warehouse.commit, "policy": warehouse.set_policy}
+    entries = {"post": warehouse.post, "commit": warehouse.commit, "policy": warehouse.set_policy, "add": warehouse.add_purchase}
     for line in script:
         words = line.decode().rstrip("\n").split(" ")
         if words[0] in entries and len(words) == 4:

@@ -4,7 +4,8 @@
     python3 examples/make_limits.py > limits.script
 
 A post that is written in 4,194,304 bytes, which is the most, and one of a byte more; one of 4,096 rows, and one of a row more, which
-is looked at no further, and one whose third row is wrong; 256 commitments, and one more; and entries that are sent twice or out of turn.
+is looked at no further, and one whose third row is wrong; 256 commitments, and one more; as many purchases as may be added to one of
+them, and one more; and entries that are sent twice or out of turn.
 
 Two posts have rows of 256 tags, which is the most: one as many rows as may be, which are read and then too many bytes for an entry,
 and one as many as an entry has room for.
@@ -105,6 +106,13 @@ def widest(number):
     return f"commit ids {number} {len(lines)}\n" + "\n".join(lines) + "\n"
 
 
+def added_purchases():
+    """A purchase to a commitment that has as many as there may be; and to one that has a single one as many more, and one after these."""
+    for number, name in enumerate([1, *[3] * MOST_PURCHASES]):
+        at = f"2024-{number % 12 + 1:02}-01T{number % 24:02}:{number % 60:02}Z"
+        yield f'add paid {max(number, 1)} 3\nid = "cd-{name}"\nat = "{at}"\nbilled = "{number}.000000001"\n'
+
+
 def rows_of_teams(number):
     """A post of rows of many teams with 256 tags each, from the first hour of the longest range to the last."""
     lines = ["BilledCost,EffectiveCost,BillingCurrency,ChargeCategory,ChargePeriodStart,ChargePeriodEnd,ConsumedQuantity,ConsumedUnit,SkuId,Tags"]
@@ -147,7 +155,7 @@ def main():
     script += [*posts_of_many_rows(), *posts_of_wide_rows()]
     script += [widest(1), widest(2)]
     script += [commitment(number) for number in range(3, MOST_COMMITMENTS + 2)]
-    script += [commitment(MOST_COMMITMENTS), commitment(MOST_COMMITMENTS + 2), "state\n"]
+    script += [commitment(MOST_COMMITMENTS), commitment(MOST_COMMITMENTS + 2), *added_purchases(), "state\n"]
     script += at_most_hours()
     sys.stdout.write("".join(script))
     return 0

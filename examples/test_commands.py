@@ -43,7 +43,7 @@ def focusd(*words, given=b""):
 def warehouse_of(script, currency="USD"):
     """The warehouse that expected.py keeps of a script of entries."""
     kept = expected.Warehouse(currency)
-    how = {"post": kept.post, "commit": kept.commit, "policy": kept.set_policy}
+    how = {"post": kept.post, "commit": kept.commit, "policy": kept.set_policy, "add": kept.add_purchase}
     lines = io.BytesIO(script)
     for line in lines:
         words = line.decode().split()
@@ -747,7 +747,7 @@ class Loads(unittest.TestCase):
 
 
 class Additions(unittest.TestCase):
-    """Commitments and policies that are added from files."""
+    """Commitments, policies and purchases that are added from files."""
 
     HEADER = "BilledCost,EffectiveCost,BillingCurrency,ChargeCategory,ChargePeriodStart,ChargePeriodEnd,ConsumedQuantity,ConsumedUnit,SkuId,SubAccountId,Tags,CommitmentDiscountId\n"
     COMMITMENT = """id = "cd-1"
@@ -781,6 +781,10 @@ billed = "0"
 [[rule]]
 from = "platform"
 to = { web = 3, data = 1 }
+"""
+    PURCHASE = """id = "cd-1"
+at = "2024-01-01T02:30Z"
+billed = "1.5"
 """
 
     def setUp(self):
@@ -955,7 +959,15 @@ to = { web = 3, data = 1 }
             self.file("f.toml", text)
             self.refused("f.toml: it is neither a commitment, which has ", file)
         self.file("f.toml", 'key = "team"\n' + self.COMMITMENT)
-        self.refused("f.toml: it has fields of a commitment and of a policy", file)
+        self.refused("f.toml: it has fields of a policy, and of a commitment or a purchase", file)
+        self.file("f.toml", 'key = "team"\nbilled = "1"\n')
+        self.refused("f.toml: it has fields of a policy, and of a commitment or a purchase", file)
+        # What only a purchase has is a fault of a commitment, whose terms are there.
+        self.file("f.toml", self.COMMITMENT.replace("hours = 3", 'hours = 3\nat = "2024-01-01T00:00Z"'))
+        self.refused('f.toml: line 5: at = "2024-01-01T00:00Z": a commitment has the fields id, ', file)
+        for name in ("at", "billed"):
+            self.file("f.toml", f'{name} = "1"\n')
+            self.refused("f.toml: id is missing: ", file)
 
     def test_a_policy_that_takes_the_place_of_another(self):
         first, other = self.file("team.toml", self.POLICY), self.file("cost.toml", self.POLICY.replace("team", "cost-center"))
@@ -968,6 +980,128 @@ to = { web = 3, data = 1 }
         self.refused("give --yes to add it", other)
         line = 'cost.toml: policy by "cost-center" takes the place of the policy by "team" (entry 3): entry 4 (billing 3)\n'
         self.assertEqual(self.add("--yes", other), (0, line, ""))
+
+    def with_a_purchase(self):
+        """A file with a commitment and one with a purchase for it, which are added."""
+        files = self.file("cd.toml", self.COMMITMENT), self.file("paid.toml", self.PURCHASE)
+        lines = "cd.toml: commitment cd-1: entry 2 (billing 1)\npaid.toml: purchase for commitment cd-1: entry 3 (billing 2)\n"
+        self.assertEqual(self.add(*files), (0, lines, ""))
+        return files
+
+    SAME = "paid.toml: purchase for commitment cd-1 is there already, the same; give --yes to add it once more\n"
+
+    def test_a_purchase(self):
+        _, purchase = self.with_a_purchase()
+        self.assertEqual(self.state(), "state 3 4 1 0\n")
+        # What the files became is what a script makes of their lines.
+        kinds = (("commit", self.COMMITMENT), ("add", self.PURCHASE))
+        sent = "".join(f"{kind} billing {at} {text.count(chr(10))}\n{text}" for at, (kind, text) in enumerate(kinds, 1))
+        with tempfile.TemporaryDirectory() as other:
+            self.assertEqual(focusd("run", "--dir", other, "--create", given=(self.script + sent).encode())[0], 0)
+            self.assertEqual(focusd("dump", "--dir", other), self.focusd("dump"))
+        # Any origin adds one.
+        self.file("paid.toml", self.PURCHASE.replace("1.5", "2"))
+        self.assertEqual(self.add(purchase, origin="bank"), (0, "paid.toml: purchase for commitment cd-1: entry 4 (bank 1)\n", ""))
+
+    def test_a_purchase_again(self):
+        commitment, purchase = self.with_a_purchase()
+        before = self.kept()
+        # The commitment's own second one, and the one that was added, in other words.
+        own = self.PURCHASE.replace("T02:30Z", "T01:00Z").replace("1.5", "4.0")
+        for text in (self.PURCHASE, self.PURCHASE.replace("02:30Z", "03:30:00+01:00").replace("1.5", "1.50") + "# twice", own):
+            self.file("paid.toml", text)
+            for origin in ("billing", "bank"):
+                self.assertEqual(self.add(purchase, origin=origin), (0, self.SAME, ""))
+        self.assertEqual(self.kept(), before)
+        # Another second or amount is another purchase, and a commitment is the same whatever was added to it.
+        for number, (old, new) in enumerate((("02:30Z", "02:30:01Z"), ('"1.5"', '"1.500000001"')), 3):
+            self.file("paid.toml", self.PURCHASE.replace(old, new))
+            line = f"paid.toml: purchase for commitment cd-1: entry {number + 1} (billing {number})\n"
+            self.assertEqual(self.add(commitment, purchase), (0, "cd.toml: commitment cd-1 is there already, the same\n" + line, ""))
+        self.file("cd.toml", self.COMMITMENT.replace("hours = 3", "hours = 4"))
+        self.refused("the fields that differ: hours (J2 DoubleId)\n", commitment)
+        # Two equal payments can be right.
+        self.file("paid.toml", self.PURCHASE)
+        self.assertEqual(self.add("--yes", purchase), (0, "paid.toml: purchase for commitment cd-1: entry 6 (billing 5)\n", ""))
+        self.assertEqual(self.add(purchase), (0, self.SAME, ""))
+        self.file("other.toml", self.PURCHASE.replace("1.5", "7"))
+        lines = "other.toml: purchase for commitment cd-1: entry 7 (billing 6)\nother.toml: purchase for commitment cd-1"
+        self.assertEqual(self.add(str(self.top / "other.toml"), str(self.top / "other.toml")), (0, lines + " is there already, the same; give --yes to add it once more\n", ""))
+
+    def test_a_dry_run_says_what_a_commitment_would_have(self):
+        commitment, purchase = self.with_a_purchase()
+        before = self.kept()
+        second = self.file("more.toml", self.PURCHASE.replace("02:30Z", "02:30:07Z").replace('"1.5"', '"0.000000001"'))
+        third = self.file("last.toml", self.PURCHASE.replace("1.5", "2"))
+        lines = """more.toml: purchase for commitment cd-1: 0.000000001 USD paid at 2024-01-01T02:30:07Z
+more.toml: purchase for commitment cd-1: it would be entry 4 (billing 3)
+more.toml: commitment cd-1 would have 4 purchases, for 16.000000001 USD
+last.toml: purchase for commitment cd-1: 2 USD paid at 2024-01-01T02:30Z
+last.toml: purchase for commitment cd-1: it would be entry 5 (billing 4)
+last.toml: commitment cd-1 would have 5 purchases, for 18.000000001 USD
+"""
+        self.assertEqual(self.add("--dry-run", second, third), (0, lines, ""))
+        lines = f"paid.toml: purchase for commitment cd-1: 1.5 USD paid at 2024-01-01T02:30Z\n{self.SAME}paid.toml: commitment cd-1 has 3 purchases, for 16 USD\n"
+        self.assertEqual(self.add("--dry-run", purchase), (0, lines, ""))
+        lines = """paid.toml: purchase for commitment cd-1: 1.5 USD paid at 2024-01-01T02:30Z
+paid.toml: purchase for commitment cd-1: it would be entry 4 (billing 3)
+paid.toml: commitment cd-1 would have 4 purchases, for 17.5 USD
+"""
+        self.assertEqual(self.add("--dry-run", "--yes", purchase), (0, lines, ""))
+        self.assertEqual(self.kept(), before)
+        # A commitment is shown with its own purchases.
+        self.assertIn("; bought for 14.5 USD\n", self.add("--dry-run", commitment)[1])
+
+    def test_purchases_that_are_not_added(self):
+        commitment, purchase = self.file("cd.toml", self.COMMITMENT), self.file("paid.toml", self.PURCHASE)
+        missing = "paid.toml: purchase for commitment cd-1: the warehouse has no commitment of this id: correct the id, or add the commitment first (J8 NoSuchCommitment)\n"
+        self.refused(missing, purchase)
+        self.refused(missing, purchase, commitment)
+        self.assertIn(missing, self.add("--dry-run", purchase)[2])
+        self.assertEqual(self.add(commitment)[0], 0)
+        self.file("paid.toml", self.PURCHASE.replace("1.5", "99999985.500000001"))
+        reason = "the purchases of the commitment cost 14.5 USD, and with this one they would cost more than 100,000,000 (J9 PurchaseLimit)\n"
+        self.refused("paid.toml: purchase for commitment cd-1: " + reason, purchase)
+        self.file("paid.toml", self.PURCHASE.replace("1.5", "99999985.5"))
+        self.assertEqual(self.add(purchase)[0], 0)
+        more = [self.file(f"{second}.toml", self.PURCHASE.replace("30Z", f"30:{second:02}Z").replace("1.5", "0")) for second in range(1, 60)]
+        self.assertEqual(self.add(*more)[0], 0)
+        more = [self.file(f"{minute}.toml", self.PURCHASE.replace("30Z", f"{minute}Z").replace("1.5", "0")) for minute in range(31, 34)]
+        self.refused("33.toml: purchase for commitment cd-1: the commitment has 64 purchases, and takes no more (J9 PurchaseLimit)\n", *more)
+        self.assertEqual(self.add(*more[:2])[0], 0)
+        self.refused("33.toml: purchase for commitment cd-1: the commitment has 64 purchases, and takes no more (J9 PurchaseLimit)\n", more[2])
+
+    def test_faults_of_purchases(self):
+        file = self.file("paid.toml", "")
+        for old, new, said in (
+            ('id = "cd-1"\n', "", 'paid.toml: id is missing: "id" must be the id of the commitment that the purchase is added to, a text of 1 to 256 bytes, as "cd-1" (C2 Field)\n'),
+            ('"cd-1"', '""', 'paid.toml: line 1: id = "": "id" must be the id of the commitment'),
+            ('"2024-01-01T02:30Z"', '"2024-01-01"', 'paid.toml: line 2: at = "2024-01-01": "at" must be a time from 1970 on, as 2024-09-01T00:00Z, in quotes (C2 Field)\n'),
+            ('"1.5"', "1.5", 'paid.toml: line 3: billed = 1.5: "billed" must be an amount of at least 0, as 14.4, in quotes (C2 Field)\n'),
+            ('"1.5"', '"-1"', 'paid.toml: line 3: billed = "-1": "billed" must be an amount of at least 0, as 14.4, in quotes (C3 Limit)\n'),
+            ('"1.5"', '"1.5"\ncolour = 1', "paid.toml: line 4: colour = 1: a purchase that is added to a commitment has the fields id, at and billed (C2 Field)\n"),
+            ('"1.5"', '"1.5', "paid.toml: it is no TOML in UTF-8"),
+        ):
+            self.file("paid.toml", self.PURCHASE.replace(old, new))
+            self.refused(said, file)
+
+    def test_a_purchase_for_a_warehouse_of_an_earlier_version(self):
+        left = self.folder / "left"
+        whole = left.read_bytes()
+        self.assertEqual(whole[1:9], b"FWHOUSE2")
+        left.write_bytes(whole[:8] + b"1" + whole[9:])
+        commitment, purchase, policy = self.file("cd.toml", self.COMMITMENT), self.file("paid.toml", self.PURCHASE), self.file("team.toml", self.POLICY)
+        said = "paid.toml: purchase for commitment cd-1: an earlier version of focusd wrote the warehouse, in a form without such purchases: run `focusd checkpoint`"
+        self.refused(said, commitment, purchase)
+        self.assertEqual(self.add(commitment)[0], 0)
+        self.refused("(S8 OldSide)\n", policy, purchase)
+        self.assertEqual(self.add("--dry-run", purchase)[0], 1)
+        # What is there already asks for nothing.
+        self.file("paid.toml", self.PURCHASE.replace("02:30", "01:00").replace("1.5", "4"))
+        self.assertEqual(self.add(purchase), (0, self.SAME, ""))
+        self.file("paid.toml", self.PURCHASE)
+        self.assertEqual(self.focusd("checkpoint"), (0, "checkpointed\n", ""))
+        self.assertEqual(self.add(purchase), (0, "paid.toml: purchase for commitment cd-1: entry 3 (billing 2)\n", ""))
 
     def test_wrong_origins(self):
         file = self.file("cd.toml", self.COMMITMENT)
@@ -1163,7 +1297,7 @@ class Dumps(unittest.TestCase):
         return dumped
 
     def test_the_shipped_scripts(self):
-        entries = {b"post", b"commit", b"policy"}
+        entries = {b"post", b"commit", b"policy", b"add"}
         for name in ("first-report", "commitments", "providers"):
             script, lines = b"", io.BytesIO((HERE / (name + ".script")).read_bytes())
             for line in lines:
@@ -1225,6 +1359,19 @@ class Dumps(unittest.TestCase):
             number += 1
             script += b"policy c %d %d\n" % (number, content.count(b"\n")) + content
         self.same(script)
+
+    def test_purchases_that_are_added(self):
+        script = b""
+        for place, odd in enumerate(self.ODD, 1):
+            name = json.dumps(odd, ensure_ascii=False).replace("\x7f", "\\u007f")
+            script += f"commit c {place} 7\nid = {name}\ncategory = \"Spend\"\nstart = \"2024-01-01T00:00Z\"\nhours = {place}\ncapacity = \"1\"\n".encode()
+            script += b'rates = { vm = 1 }\npurchase = [{ at = "2024-01-01T00:00Z", billed = "0" }]\n'
+            for number, (time, billed) in enumerate((("1970-01-01T00:00Z", "1e-9"), (f"2024-01-01T01:02:{place:02}Z", f"{place}.5")), 2 * place - 1):
+                script += f"add d {number} 3\nid = {name}\nat = \"{time}\"\nbilled = \"{billed}\"\n".encode()
+        dumped = self.same(script)
+        numbers = [int(line.split()[2]) for line in dumped.splitlines() if line.startswith(b"add d ")]
+        self.assertEqual(numbers, [*range(1, 2 * len(self.ODD) + 1)])
+        self.assertIn(b"2024-01-01T01:02:03Z", dumped)
 
     def test_origins_that_interleave_and_checkpoints(self):
         script = b"".join(self.post(origin, number, self.row(BilledCost=str(number))) for number in range(1, 5) for origin in (b"b", b"a-1", b"a") if number < 4 or origin == b"a")
@@ -1330,13 +1477,18 @@ class Bodies(unittest.TestCase):
         skus = self.text("Hours") + struct.pack("<I", 1) + self.text("vm")
         return self.text("cd-1") + b"\1\0" + tags + term + skus + struct.pack("<IQq", 1, self.FIRST * 3600, 10)
 
+    def added(self):
+        """The kind of an entry and of its head, and a purchase of two nanos in the second hour of the commitment."""
+        return b"\5" + self.text("cd-1") + struct.pack("<Qq", (self.FIRST + 1) * 3600, 2)
+
     def policy(self):
         targets = struct.pack("<I", 2) + self.text("data") + struct.pack("<Q", 1) + self.text("web") + struct.pack("<Q", 3)
         return self.text("team") + struct.pack("<I", 1) + self.text("platform") + b"\1" + targets
 
-    def side(self, form, generation, *segments):
-        """A side of this form and generation whose body has the entries of README's script, with the post's rows in these segments, and whose log is empty."""
-        kinds = b"\2" + self.commitment(), b"\1" + struct.pack("<I", len(self.ROWS)), b"\3" + self.policy()
+    def side(self, form, generation, *segments, more=()):
+        """A side of this form and generation whose body has the entries of README's script, with the post's rows in these segments, and more entries,
+        and whose log is empty."""
+        kinds = b"\2" + self.commitment(), b"\1" + struct.pack("<I", len(self.ROWS)), b"\3" + self.policy(), *more
         heads = b"".join(self.text("billing") + struct.pack("<Q", number) + kind for number, kind in enumerate(kinds, 1))
         body = self.text("USD") + struct.pack("<Q", len(kinds)) + heads + struct.pack("<I", len(segments)) + b"".join(segments)
         return b"\1" + form + struct.pack("<QQ", generation, len(body)) + body + b"\0"
@@ -1368,6 +1520,50 @@ class Bodies(unittest.TestCase):
                     self.assertEqual(focusd("checkpoint", "--dir", folder), (0, "checkpointed\n", ""))
                     self.assertEqual(right.read_bytes(), self.side(b"FWHOUSE2", 2, self.by_column(self.ROWS)))
                     self.says_what_readme_says(folder)
+
+    ADD = b'add billing 4 3\nid = "cd-1"\nat = "2024-01-01T01:00Z"\nbilled = "0.000000002"\n'
+
+    def says_what_was_added(self, folder):
+        """README's script and a purchase behind it, sent again, and what is asked of them."""
+        low, high = self.RANGE
+        asked = f"report team {low} {high}\nlines {low} {high}\nstate\n".encode()
+        kept = warehouse_of(self.script.encode() + self.ADD)
+        again = "".join(line for line in self.script.splitlines(keepends=True) if not line.startswith(("report ", "state")))
+        answers = kept.report("team", low, high) + kept.lines(low, high) + kept.state()
+        self.assertEqual(focusd("run", "--dir", folder, given=again.encode() + self.ADD + asked), (0, "already 4\n" * 4 + answers, ""))
+
+    def log_of_added(self):
+        """A log of one group, of one entry that adds a purchase: from its first gate to the next one."""
+        group = struct.pack("<I", 1) + self.text("billing") + struct.pack("<Q", 4) + self.added()
+        return b"\1" + struct.pack("<I", len(group)) + group + b"\0"
+
+    def test_a_purchase_in_the_log_and_in_the_body(self):
+        """What a script writes, and what a checkpoint makes of it, byte for byte."""
+        segment, form = self.by_column(self.ROWS), b"FWHOUSE2"
+        with tempfile.TemporaryDirectory() as folder:
+            left, right = pathlib.Path(folder) / "left", pathlib.Path(folder) / "right"
+            left.write_bytes(self.side(form, 1, segment))
+            right.write_bytes(b"")
+            self.assertEqual(focusd("run", "--dir", folder, given=self.ADD), (0, "accepted 4\n", ""))
+            self.assertEqual(left.read_bytes(), self.side(form, 1, segment)[:-1] + self.log_of_added())
+            self.says_what_was_added(folder)
+            self.assertEqual(focusd("checkpoint", "--dir", folder), (0, "checkpointed\n", ""))
+            self.assertEqual(right.read_bytes(), self.side(form, 2, segment, more=[self.added()]))
+            self.says_what_was_added(folder)
+
+    def test_the_first_form_has_no_added_purchases(self):
+        segment, form = self.by_column(self.ROWS), b"FWHOUSE1"
+        in_body, in_log = self.side(form, 1, segment, more=[self.added()]), self.side(form, 1, segment)[:-1] + self.log_of_added()
+        # In the body the fault is at the byte of the kind, in the log at the gate in front of the group.
+        for side, at in ((in_body, in_body.index(self.added())), (in_log, len(self.side(form, 1, segment)) - 1)):
+            with self.subTest(at=at), tempfile.TemporaryDirectory() as folder:
+                (pathlib.Path(folder) / "left").write_bytes(side)
+                (pathlib.Path(folder) / "right").write_bytes(b"")
+                self.assertEqual(focusd("run", "--dir", folder, given=b"state\n"), (1, "", "focusd: S2 Corrupt\n"))
+                self.assertEqual(focusd("verify", "--dir", folder), (1, "", f"focusd: S2 Corrupt\n{folder}/left: damaged at byte {at}\n"))
+                # The same bytes are right where the magic word is that of the second form.
+                (pathlib.Path(folder) / "left").write_bytes(side.replace(b"FWHOUSE1", b"FWHOUSE2", 1))
+                self.says_what_was_added(folder)
 
 
 class KeptVolumes(unittest.TestCase):
@@ -1424,6 +1620,32 @@ class KeptVolumes(unittest.TestCase):
             self.assertEqual(focusd("checkpoint", "--dir", folder), (0, "checkpointed\n", ""), name)
             self.assertEqual(self.words(folder), ([b"FWHOUSE2"] * 2, b"FWHOUSE2"), name)
             self.assertEqual(self.done_script(folder, questions), reports, name)
+
+    COMMIT = (
+        b'commit more 1 7\nid = "later"\ncategory = "Spend"\nstart = "2024-01-01T01:00Z"\nhours = 2\ncapacity = "0.25"\nrates = { disk = 500000 }\n'
+        b'purchase = [{ at = "2024-01-01T01:00Z", billed = "0.1" }]\n'
+    )
+    ADD = b'add more 2 3\nid = "later"\nat = "2024-01-01T02:30Z"\nbilled = "0.02"\n'
+
+    def test_each_takes_a_purchase_after_a_checkpoint(self):
+        """A side of the first form takes no added purchase: the answer changes nothing, and holds until the next checkpoint. One that isn't accepted
+        has its own answer."""
+        questions = (HERE / "volumes" / "questions.script").read_bytes()
+        none = self.ADD.replace(b"later", b"none")
+        for name in self.FOLDERS:
+            folder, made = self.copy(name), (HERE / "volumes" / f"{name}.script").read_bytes()
+            answers = "gap 1\n" + self.answers(made, self.COMMIT) + "refused J8 NoSuchCommitment\n"
+            self.assertEqual(self.done_script(folder, none + self.COMMIT + none), answers, name)
+            made += self.COMMIT
+            files = [(pathlib.Path(folder) / file).read_bytes() for file in ("left", "right")]
+            answers = "store S8 OldSide\nalready 1\nrefused J8 NoSuchCommitment\n" + self.answers(made, questions)
+            self.assertEqual(self.done_script(folder, self.ADD + self.COMMIT + none + questions), answers, name)
+            self.assertEqual([(pathlib.Path(folder) / file).read_bytes() for file in ("left", "right")], files, name)
+            answers = f"store S8 OldSide\ncheckpointed\n{self.answers(made, self.ADD + questions)}"
+            self.assertEqual(self.done_script(folder, self.ADD + b"checkpoint\n" + self.ADD + questions), answers, name)
+            made += self.ADD
+            for more in (questions, b"checkpoint\n", questions, self.ADD):
+                self.assertEqual(self.done_script(folder, more), self.answers(made, more), name)
 
     def done_script(self, folder, script):
         """What is answered to a script, which has to end well."""

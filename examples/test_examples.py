@@ -28,6 +28,11 @@ def answers_to(script):
 
 
 class Example(unittest.TestCase):
+    COMMITMENT = (
+        b'commit a 1 10\nid = "c"\ncategory = "Usage"\nstart = "2024-01-01T00:00Z"\nhours = 3\ncapacity = "2"\nunit = "Hours"\n'
+        b'skus = ["vm"]\n[[purchase]]\nat = "2024-01-01T00:00Z"\nbilled = "1e-8"\n'
+    )
+
     def test_the_kept_files_are_what_their_programs_make(self):
         with tempfile.TemporaryDirectory() as folder:
             for part in ["examples", "tools"]:
@@ -93,6 +98,62 @@ class Example(unittest.TestCase):
         )
         answers = "accepted 1\naccepted 2\naccepted 3\n"
         self.assertEqual((ran.returncode, ran.stdout.decode()), (0, f"{answers}bytes {len(wanted)}\n{wanted}"))
+
+    @staticmethod
+    def added(number, name, at, billed):
+        """The command that adds a purchase to a commitment."""
+        return f'add a {number} 3\nid = "{name}"\nat = "{at}"\nbilled = "{billed}"\n'.encode()
+
+    def test_the_oracle_on_an_added_purchase_done_by_hand(self):
+        """Ten nanos over three hours are 3, 3 and 4, and thirteen are 4, 4 and 5: what is paid in the last hour changes those before it too. It is
+        given twice, and counts once."""
+        once = self.added(2, "c", "2024-01-01T02:59:59Z", "0.000000003")
+        lines = b"lines 2024-01-01T00:00Z 2024-01-01T03:00Z\n"
+        ran = answers_to(self.COMMITMENT + lines + once + once + lines + b"state\n")
+        header = (
+            "Hour,ChargeCategory,CommitmentDiscountId,CommitmentDiscountCategory,CommitmentDiscountStatus,BilledCost,EffectiveCost,"
+            "ConsumedQuantity,SkuId,SubAccountId\n"
+        )
+        paid, unused = "{},Purchase,c,Usage,,0.0000000{:02},0.000000000,,,\n", "{},Usage,c,Usage,Unused,0.000000000,0.00000000{},,,\n"
+        first = header + paid.format(473352, 10) + unused.format(473352, 3) + unused.format(473353, 3) + unused.format(473354, 4)
+        then = header + paid.format(473352, 10) + unused.format(473352, 4) + unused.format(473353, 4) + paid.format(473354, 3) + unused.format(473354, 5)
+        wanted = f"accepted 1\nbytes {len(first)}\n{first}accepted 2\nalready 2\nbytes {len(then)}\n{then}state 2 0 1 0\n"
+        self.assertEqual((ran.returncode, ran.stdout.decode()), (0, wanted))
+
+    def test_the_oracle_refuses_a_purchase(self):
+        name, at, billed = 'id = "c"', 'at = "2024-01-01T00:00Z"', 'billed = "1"'
+        for lines, answer in (
+            ([name, at, billed], "accepted 2"),
+            ([name, at, 'billed = "99999999.99999999"'], "accepted 2"),
+            ([name, at, 'billed = "99999999.999999991"'], "refused J9 PurchaseLimit"),
+            (['id = "d"', at, billed], "refused J8 NoSuchCommitment"),
+            ([at, billed], "refused C2 Field id"),
+            (['id = ""', at, billed], "refused C3 Limit id"),
+            ([name, 'at = "1969-12-31T23:59Z"', billed], "refused C2 Field at"),
+            ([name, at, 'billed = "100000000.1"'], "refused C2 Field billed"),
+            ([name, at, 'billed = "-1"', "hours = 3"], "refused C3 Limit billed"),
+            ([name, at, billed, "hours = 3"], "refused C2 Field unknown"),
+        ):
+            with self.subTest(lines=lines):
+                ran = answers_to(self.COMMITMENT + f"add a 2 {len(lines)}\n".encode() + "".join(f"{line}\n" for line in lines).encode())
+                self.assertEqual((ran.returncode, ran.stdout.decode()), (0, f"accepted 1\n{answer}\n"))
+
+    def test_the_oracle_keeps_to_64_purchases(self):
+        script = self.COMMITMENT + b"".join(self.added(number, "c", "2024-01-01T00:00Z", "0") for number in range(2, 66))
+        wanted = "".join(f"accepted {number}\n" for number in range(1, 65)) + "refused J9 PurchaseLimit\n"
+        self.assertEqual(answers_to(script).stdout.decode(), wanted)
+
+    def test_what_the_oracle_says_of_a_case_stands_beside_it(self):
+        """Where it has no answer it stops, and all before it is right."""
+        whole = 0
+        for name in sorted(os.listdir(os.path.join(HERE, "cases"))):
+            if name.endswith(".script"):
+                with self.subTest(name=name):
+                    ran, right = answers_to(read(HERE, "cases", name)), read(HERE, "cases", name.removesuffix(".script") + ".answers")
+                    self.assertTrue(right.startswith(ran.stdout), ran.stdout)
+                    self.assertEqual(ran.returncode, int(ran.stdout != right))
+                    whole += ran.returncode == 0
+        self.assertGreater(whole, 15)
 
     def test_a_checkpoint_changes_no_answer_of_the_oracle(self):
         done = answers_to(b"checkpoint\npolicy a 1 1\nkey = \"t\"\ncheckpoint\nstate\n")

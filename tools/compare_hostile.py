@@ -88,8 +88,8 @@ KEYS = ["team", "", " ", "a b", "x  y ", "t\u00e4g", "\0", "\xff", "report", "20
 ODD_LINES = """
     post post_a post_a_1 post_a_1_1_1 post__1_0 POST_a_1_1 posta_1_1 _post_a_1_1 post_a_1_1_ report report_
     report_team report__ report_team_2024-01-01T00:00Z report_2024-01-01T00:00Z_2024-01-01T01:00Z
-    report_t_2024-01-01T00:00Z_2024-01-01T01:00Z_ checkpoint_ _checkpoint checkpoints state state state_ _state states STATE lines commit_a policy_a
-    withdraw_a_1_1 help quit # --
+    report_t_2024-01-01T00:00Z_2024-01-01T01:00Z_ checkpoint_ _checkpoint checkpoints state state state_ _state states STATE lines commit_a add_a
+    add_a_1 add_a_1_x policy_a withdraw_a_1_1 help quit # --
 """.split()
 ODD_LINES = [line.replace("_", " ").encode() for line in ODD_LINES] + [b"", b" ", b"\r", b"\0", b"\xff", b"post\ta\t1\t1"]
 ODD_LINES += [b"\xef\xbb\xbfpost a 1 1", b"report\tt\t2024-01-01T00:00Z\t2024-01-01T01:00Z"]

@@ -111,7 +111,7 @@ def commands_of(script):
     while lines:
         command = [lines.pop(0)]
         words = command[0].rstrip(b"\n").split(b" ")
-        if words[0] in (b"post", b"commit", b"policy") and len(words) == 4 and re.fullmatch(rb"[0-9]{1,7}", words[3]):
+        if words[0] in (b"post", b"commit", b"add", b"policy") and len(words) == 4 and re.fullmatch(rb"[0-9]{1,7}", words[3]):
             count = int(words[3]) if int(words[3]) <= 1_000_000 else 0
             command, lines = command + lines[:count], lines[count:]
         commands.append(b"".join(command))

@@ -7,10 +7,10 @@
     tools/simulate.py --self-test [CRATE/EDIT ..]         tries wrong bodies: some seed has to show each
 
 PROGRAM is a built `fw_simulate`. A seed makes a script of events: importers post entries, repeated, with gaps and against the rules; groups are
-taken and committed; checkpoints; analysts view and learn; the system stops and is opened again. The device fails at some calls, and a stop leaves
-of what wasn't synced the old bytes, the new ones, or others. Each answer is compared with what docs/DEFINITIONS.md and docs/PROOFS.md say of the
-running system; when the device fails is its own choice, no more often than the script says. A script with a difference is made smaller before it
-is printed.
+taken and committed; checkpoints; analysts view and learn; the system stops and is opened again. Some scripts begin on a warehouse that an earlier
+version wrote, whose log takes no added purchase before a checkpoint. The device fails at some calls, and a stop leaves of what wasn't synced the
+old bytes, the new ones, or others. Each answer is compared with what docs/DEFINITIONS.md and docs/PROOFS.md say of the running system; when the
+device fails is its own choice, no more often than the script says. A script with a difference is made smaller before it is printed.
 
 The self-test takes must-fail edits, those of the list WRONG where none is named. It applies each to a copy of the sources and runs `fw_simulate` from
 there over the first 300 seeds, by `rt try`, which proves nothing. It begins with the sources as they are, by which no answer may differ. Each takes
@@ -32,13 +32,16 @@ import time
 TOP = os.path.dirname(os.path.dirname(os.path.abspath(__file__)))
 
 MOST_ITEMS = 64
+MOST_PURCHASES = 64
+# The most that the purchases of a commitment cost together, and what each commitment of a script was bought for, in units of the currency.
+MOST_COST, BOUGHT_FOR = 10**8, 1
 NANOS = 10**9
 BATCH = 250
 
 # How many calls of the device it takes to make a warehouse.
 CREATING = 8
 # The kinds of entries, as lines begin.
-POSTS = ("post", "use", "commitment", "policy")
+POSTS = ("post", "use", "commitment", "policy", "add")
 # The kinds of events, and how often each comes while the system runs, and while it is stopped.
 EVENTS = ("post", "take", "commit", "checkpoint", "view", "learn", "stop", "reopen")
 WHILE_OPEN = (40, 13, 14, 5, 8, 6, 6, 2)
@@ -58,16 +61,32 @@ WRONG = (
 
 # ---- scripts
 
+# The magic words of both forms of a side. What earlier versions wrote is of the first one, which has no added purchases, and what is written now
+# of the second.
+FORMS = (b"FWHOUSE1", b"FWHOUSE2")
+# A side of an empty warehouse in dollars: the gate, the magic word, the generation, a body of 19 bytes, and a closed gate.
+BODY = "03000000" + b"USD".hex() + "00" * 12
+
+
+def side(generation, form=FORMS[1]):
+    """The bytes of a side of an empty warehouse, of 45 bytes."""
+    return "01" + form.hex() + generation.to_bytes(8, "little").hex() + (19).to_bytes(8, "little").hex() + BODY + "00"
+
+
+# The line before a script that begins on an empty warehouse of an earlier version. The first item of such a script is it and the line `run ..`.
+OLD_FILES = f"files {1 << 20} {side(1, FORMS[0])} -\n"
+
 
 class Sent:
     """What a script has sent so far, as it stands where no call of the device fails. By it most events of a script apply."""
 
-    def __init__(self, importers):
+    def __init__(self, importers, is_old=False):
         self.importers = importers
         self.waiting, self.hand = [], []
         self.stored, self.ahead = [], []
         self.commits = []
-        self.stopped = False
+        # Whether the side in use is of the first form. A warehouse that is there has to be opened.
+        self.is_old = self.stopped = is_old
 
     def free(self):
         """The importers that may post."""
@@ -85,13 +104,17 @@ class Sent:
             self.stopped, self.waiting, self.hand, self.ahead = True, [], [], list(self.stored)
         elif words[0] == "take" and not self.hand:
             self.hand, self.waiting = self.waiting[:MOST_ITEMS], self.waiting[MOST_ITEMS:]
+        elif words[0] == "checkpoint":
+            self.is_old = False
         elif words[0] == "commit" and self.hand:
-            self.commits.append(place)
-            add_accepted(self.stored, [entry for _, entry in self.hand])
-            self.hand = []
+            accepted = accepted_of(self.stored, [entry for _, entry in self.hand])
+            if not (self.is_old and has_added(accepted)):
+                self.commits.append(place)
+                self.stored += accepted
+                self.hand = []
         elif words[0] in POSTS and int(words[1]) in self.free():
             self.waiting.append((int(words[1]), entry_of(words)))
-            add_accepted(self.ahead, [entry_of(words)])
+            self.ahead += accepted_of(self.ahead, [entry_of(words)])
 
 
 def entry_of(words):
@@ -99,11 +122,18 @@ def entry_of(words):
     return words[2], int(words[3]), words[0], *words[4:]
 
 
-def add_accepted(entries, more):
-    """Adds those of more entries that are accepted behind the entries, one after the other."""
+def accepted_of(entries, more):
+    """Those of more entries that are accepted behind the entries, one after the other."""
+    accepted = []
     for entry in more:
-        if judged(entries, entry) == "accepted":
-            entries.append(entry)
+        if judged(entries + accepted, entry) == "accepted":
+            accepted.append(entry)
+    return accepted
+
+
+def has_added(entries):
+    """Whether one of the entries adds a purchase, which a side of the first form can't have."""
+    return any(kind == "add" for _, _, kind, *_ in entries)
 
 
 def last_of(entries, origin):
@@ -125,11 +155,16 @@ def post(chance, sent):
     importer = chance.choice(free) if free and chance.random() < 0.9 else chance.randrange(sent.importers + 1)
     origin = chance.choice("aaabbc")
     words = [str(importer), origin, str(number_for(chance, last_of(sent.ahead, origin)))]
-    kind = chance.choices(POSTS, [12, 3, 3, 1])[0]
+    names = [content[0] for _, _, kind, *content in sent.ahead if kind == "commitment"]
+    # Where there is a commitment, purchases are added to it often.
+    kind = "add" if names and chance.random() < 0.4 else chance.choices(POSTS, [12, 3, 5, 1, 1])[0]
     if kind == "post":
         words += [str(chance.choice([1, 1, 2, 3])), str(chance.randint(-3, 9))]
     else:
-        words.append(chance.choice(["x", "y", "z"]))
+        words.append(chance.choice(names if kind == "add" and names else ["x", "y", "z"]))
+    if kind == "add":
+        # Now and then as much as a commitment may cost, or nearly so.
+        words.append(str(chance.randint(0, 9) if chance.random() < 0.8 else MOST_COST - chance.randint(0, 2)))
     return " ".join([kind, *words])
 
 
@@ -149,20 +184,21 @@ def event(chance, analysts, place, sent):
     return learn(chance, analysts, place, sent) if kind == "learn" else kind
 
 
-def plan(chance):
-    """How many calls of the device pass before each one that fails. Few fail while the warehouse is made."""
+def plan(chance, is_old):
+    """How many calls of the device pass before each one that fails. Few fail while a warehouse is made."""
     passes = [chance.choice([0, 1, 2, chance.randint(0, 12), chance.randint(6, 60)]) for _ in range(chance.choice([0, 1, 1, 2, 3]))]
-    if passes and chance.random() < 0.95:
+    if passes and not is_old and chance.random() < 0.95:
         passes[0] += CREATING
     return [str(calls) for calls in passes]
 
 
 def script_of(seed):
-    """The script of a seed, as lines."""
+    """The script of a seed: how it begins, and its events as lines."""
     chance = random.Random(seed)
     importers, analysts = chance.choice([1, 2, 3, 5, 8, 70]), chance.randint(1, 3)
     left = chance.choice(["old", "new", "0", "1", "7", str(chance.randrange(256))])
-    lines, sent = [], Sent(importers)
+    is_old = chance.random() < 0.25
+    lines, sent = ["reopen"] * is_old, Sent(importers, is_old)
     if importers == 70:
         lines += [f"post {importer} {importer}x 1 1 {importer}" for importer in range(70)] + ["take", "commit", "take", "commit"]
     for place, line in enumerate(lines):
@@ -170,7 +206,8 @@ def script_of(seed):
     for place in range(len(lines), len(lines) + chance.randint(5, 60)):
         lines.append(event(chance, analysts, place, sent))
         sent.note(lines[-1], place)
-    return [" ".join(["run", str(importers), str(analysts), left, *plan(chance)]), *lines, "stop", "reopen", "view 0", "end"]
+    run = " ".join(["run", str(importers), str(analysts), left, *plan(chance, is_old)])
+    return [OLD_FILES * is_old + run, *lines, "stop", "reopen", "view 0", "end"]
 
 
 # ---- what must be answered
@@ -181,15 +218,20 @@ class Wrong(Exception):
 
 
 class System:
-    """The running system: what waits, what is in hand, what is published, and what may be stored behind it."""
+    """The running system: what waits, what is in hand, what is published, and what may be stored behind it. `begin` is how its script begins."""
 
-    def __init__(self, words):
+    def __init__(self, begin):
+        *files, run = begin.split("\n")
+        words = run.split(" ")[1:]
         self.importers, self.analysts = int(words[0]), int(words[1])
         self.fails_left = {"once": 1, "ever": math.inf}.get(words[3], len(words) - 3) if len(words) > 3 else 0
         self.has_failed = False
         self.waiting, self.hand, self.published, self.group = [], [], [], []
-        self.failed = self.stopped = False
+        self.failed = False
+        self.stopped = self.is_there = bool(files)
         self.is_made = True
+        # The forms that the side in use may have.
+        self.forms = {FORMS[0] if files else FORMS[1]}
         self.receipts = []
 
     def fails(self):
@@ -200,7 +242,10 @@ class System:
             raise Wrong("the device failed more often than the script says")
 
     def create(self, answer):
-        """The warehouse is made, or not."""
+        """The warehouse is made, or not. One that is there is stopped."""
+        if self.is_there:
+            expect(answer, "stopped")
+            return
         if answer == "created":
             return
         if answer != "not created S3 Device":
@@ -250,7 +295,7 @@ class System:
             self.hand, self.waiting = self.waiting[:count], self.waiting[count:]
 
     def commit(self, answer):
-        """What is in hand is judged in turn and published; or it may be stored; or nothing is."""
+        """What is in hand is judged in turn and published; or it may be stored; or nothing is, and perhaps it stays in hand."""
         hand, self.hand = self.hand, []
         if self.failed and hand:
             expect(answer, "; ".join(["committed", *["closed"] * len(hand)]))
@@ -264,6 +309,9 @@ class System:
                 answers.append((f"accepted {len(now)}", True))
             else:
                 answers.append((f"{verdict} at {len(now)}", False))
+        if has_added(accepted) and not self.is_of_second_form(answer):
+            self.hand = hand
+            return []
         if accepted and answer == "; ".join(["committed", *["unknown"] * len(hand)]):
             self.fails()
             self.failed, self.group = True, accepted
@@ -272,15 +320,25 @@ class System:
         self.published = now
         return [is_receipt for _, is_receipt in answers]
 
+    def is_of_second_form(self, answer):
+        """Whether the side in use is of the second form, by what is answered to a group that adds a purchase."""
+        if len(self.forms) > 1:
+            self.forms = {FORMS[0] if answer == "failed S8 OldSide" else FORMS[1]}
+        if FORMS[0] in self.forms:
+            expect(answer, "failed S8 OldSide")
+        return FORMS[1] in self.forms
+
     def checkpoint(self, answer):
-        """The warehouse is written anew, which changes no list."""
+        """The warehouse is written anew, as a side of the second form, which changes no list. Where the device fails, either side may be in use."""
         if self.failed:
             expect(answer, "failed S4 Failed")
         elif answer == "failed S3 Device":
             self.fails()
             self.failed = True
+            self.forms = self.forms | {FORMS[1]}
         else:
             expect(answer, "checkpointed")
+            self.forms = {FORMS[1]}
 
     def learn(self, answer, analyst, at, place):
         """An analyst learns of a receipt, if there is one."""
@@ -319,6 +377,8 @@ def judged(entries, entry):
         return f"already {last}"
     if number > last + 1:
         return f"gap {last + 1}"
+    if kind == "add":
+        return judged_purchase(entries, *content)
     commitments = {other[3] for other in entries if other[2] == "commitment"}
     used = {other[3] for other in entries if other[2] == "use"}
     if kind == "commitment" and content[0] in commitments:
@@ -328,6 +388,14 @@ def judged(entries, entry):
     if kind == "use" and content[0] in commitments:
         return "refused 4"
     return "accepted"
+
+
+def judged_purchase(entries, name, cost):
+    """The verdict on a purchase that is added to a commitment, behind entries."""
+    if not any(kind == "commitment" and content[0] == name for _, _, kind, *content in entries):
+        return "refused 8"
+    paid = [BOUGHT_FOR, *(int(content[1]) for _, _, kind, *content in entries if kind == "add" and content[0] == name)]
+    return "refused 9" if len(paid) >= MOST_PURCHASES or sum(paid) + int(cost) > MOST_COST else "accepted"
 
 
 def shown(entries):
@@ -340,6 +408,8 @@ def shown(entries):
         elif kind == "use":
             heads.append(f" {origin}/{number}:1")
             costs.append(NANOS)
+        elif kind == "add":
+            heads.append(f" {origin}/{number}+{content[0]}:{int(content[1]) * NANOS}")
         else:
             heads.append(f" {origin}/{number}{'=' if kind == 'commitment' else '!'}{content[0]}")
     return "".join(heads) + " |" + "".join(f" {cost}" for cost in costs)
@@ -352,7 +422,7 @@ def fault_of(script, answers):
 
 def after(script, answers):
     """The running system after a script with these answers, up to the first one that is wrong, and that one as `fault_of` has it."""
-    system = System(script[0].split(" ")[1:])
+    system = System(script[0])
     for place, line in enumerate(script):
         answer = answers[place] if place < len(answers) else "nothing"
         try:
@@ -407,8 +477,9 @@ def smaller(program, script):
 def tell(script, answers):
     """Prints a script beside its answers, up to the first that is wrong."""
     fault = fault_of(script, answers)
-    for place, line in enumerate(script):
-        print(f"{line:40} {answers[place] if place < len(answers) else ''}")
+    for place, lines in enumerate(script):
+        *files, line = lines.split("\n")
+        print(*files, f"{line:40} {answers[place] if place < len(answers) else ''}", sep="\n")
         if fault and place == fault[0]:
             print(f"{'':40} EXPECTED {fault[1]}")
             break

@@ -80,6 +80,12 @@ def commitment(choice, origin, number, name):
     return entry("commit", origin, number, lines)
 
 
+def added(choice, origin, number, name):
+    """A purchase that is added to the commitment of this name, paid within its term or not."""
+    at = f"2024-01-01T{choice.randrange(HOURS):02}:{choice.randrange(60):02}Z"
+    return entry("add", origin, number, [f'id = "{name}"', f'at = "{at}"', f'billed = "{choice.randrange(10**6) / 10**6}"'])
+
+
 def policy(choice, origin, number):
     shares = "proportional = true" if choice.random() < 0.5 else "to = { web = 3, data = 1 }"
     return entry("policy", origin, number, ['key = "team"', "[[rule]]", 'from = "platform"', shares])
@@ -88,16 +94,20 @@ def policy(choice, origin, number):
 def commands(seed, entries):
     """A script of so many entries that are accepted, with checkpoints, repeated and refused entries, and questions between them."""
     choice = random.Random(seed)
-    made, numbers = [], {"billing": 0, "ops.eu-1": 0, "a_b": 0}
-    pair = choice.randrange(1, max(2, entries))
+    made, numbers, names = [], {"billing": 0, "ops.eu-1": 0, "a_b": 0}, []
+    pair, paid = (choice.randrange(1, max(2, entries)) for _ in range(2))
     for place in range(entries):
         origin = choice.choice(list(numbers))
         number = numbers[origin] = numbers[origin] + 1
         kind = choice.random()
-        if kind < 0.7:
+        # One purchase at least is added, to a commitment that comes right before it or earlier.
+        if names and (place == paid or 0.8 <= kind < 0.9):
+            made.append(added(choice, origin, number, choice.choice(names)))
+        elif place == paid - 1 or 0.7 <= kind < 0.85:
+            names.append(f"cd-{place}")
+            made.append(commitment(choice, origin, number, names[-1]))
+        elif kind < 0.7:
             made.append(post(choice, origin, number))
-        elif kind < 0.85:
-            made.append(commitment(choice, origin, number, f"cd-{place}"))
         else:
             made.append(policy(choice, origin, number))
         if choice.random() < 0.1:
@@ -105,8 +115,10 @@ def commands(seed, entries):
         if choice.random() < 0.05:
             made.append(post(choice, origin, number + 2))
         if choice.random() < 0.05:
-            made.append(post(choice, origin, number + 1).replace(b"Usage", b"Usagf"))
-        if choice.random() < 0.1:
+            made.append(re.sub(rb"(,USD,)\w+", rb"\1Usagf", post(choice, origin, number + 1)))
+        if choice.random() < 0.05:
+            made.append(added(choice, "nobody", 1, "none"))
+        if choice.random() < 0.2:
             made.append(choice.choice(QUESTIONS))
         if place == pair:
             made += [CHECKPOINT, CHECKPOINT]

@@ -13,7 +13,7 @@ Exit status: 0 no answer is wrong, 1 one is, 2 the program could not be run.
 import argparse
 import sys
 
-from simulate import CREATING, after, answers_of
+from simulate import CREATING, FORMS, after, answers_of, side
 
 # What a stop leaves of what wasn't synced.
 CHOICES = ("old", "new", "0", "1", "7")
@@ -21,16 +21,6 @@ CHOICES = ("old", "new", "0", "1", "7")
 TOGETHER = 16
 # The most calls of the device that a run makes.
 MOST_CALLS = 999
-
-# The magic words of both forms of a side. What earlier versions wrote is of the first one, and what is written now of the second.
-FORMS = (b"FWHOUSE1", b"FWHOUSE2")
-# A side of an empty warehouse in dollars: the gate, the magic word, the generation, a body of 19 bytes, and a closed gate.
-BODY = "03000000" + b"USD".hex() + "00" * 12
-
-
-def side(generation, form=FORMS[1]):
-    """The bytes of a side of an empty warehouse, of 45 bytes."""
-    return "01" + form.hex() + generation.to_bytes(8, "little").hex() + (19).to_bytes(8, "little").hex() + BODY + "00"
 
 
 class Wrong(Exception):
@@ -74,13 +64,25 @@ SEVERAL = [
     *["policy 3 c 3 t", "stop", "policy 0 c 2 t", "view 0", *REOPEN, "view 0", "learn 0 5 0", "policy 3 c 2 t", "policy 1 a 1 t"],
     *["take", "commit", "stop", *REOPEN, "view 1"],
 ]
+# A commitment, purchases that are added to it, one to another that isn't there, and a checkpoint between them.
+ADDING = [
+    *["commitment 0 a 1 x", "take", "commit", "add 0 a 2 x 3", "add 1 b 1 y 4", "add 2 c 1 x 5", "take", "commit", "checkpoint"],
+    *["add 0 a 3 x 99999990", "add 1 b 1 x 2", "add 2 c 2 x 1", "take", "commit", "view 0", "stop", *REOPEN, "view 0"],
+]
+# The same on a warehouse of an earlier version, whose log takes no added purchase: what is in hand stays there until a checkpoint.
+OLD = f"files 4096 {side(1, FORMS[0])} -\n"
+ADDING_TO_OLD = [
+    *[*REOPEN, "commitment 0 a 1 x", "add 1 b 1 y 2", "take", "commit", "add 0 a 2 x 3", "policy 1 b 1 t", "take", "commit", "take", "commit"],
+    *["view 0", "checkpoint", "commit", "view 0", "stop", *REOPEN, "view 0", "add 0 a 3 x 4", "take", "commit", "checkpoint", "commit"],
+    *["stop", *REOPEN, "view 0"],
+]
 # A group that changes nothing is no call of the device.
 NOTHING = ["policy 0 a 2 t", "policy 1 b 9 t", "take", "commit", "stop", "reopen", "view 0"]
 
 
-def run_script(device, events):
-    """The script of events with 64 importers and two analysts."""
-    return [f"run 64 2 {device}", *events, "end"]
+def run_script(device, events, files=""):
+    """The script of events with 64 importers and two analysts, on these files."""
+    return [f"{files}run 64 2 {device}", *events, "end"]
 
 
 def is_quiet(script, answers):
@@ -90,14 +92,15 @@ def is_quiet(script, answers):
     return not system.has_failed
 
 
-def runs_of_events(program, plan, events):
-    """How many runs of events there are with a plan, over all that a stop may leave."""
-    return sum(swept(program, lambda calls, left=left: run_script(f"{left} {plan.format(calls)}", events), is_quiet, first=CREATING) for left in CHOICES)
+def runs_of_events(program, plan, events, files=""):
+    """How many runs of events there are with a plan, over all that a stop may leave. A warehouse is made where there are no files."""
+    first = 0 if files else CREATING
+    return sum(swept(program, lambda calls, left=left: run_script(f"{left} {plan.format(calls)}", events, files), is_quiet, first=first) for left in CHOICES)
 
 
-def runs_of_plans(program, events, least):
+def runs_of_plans(program, events, least, files=""):
     """How many runs of events there are with each plan, so many at least."""
-    counts = {name: runs_of_events(program, plan, events) for name, plan in PLANS.items()}
+    counts = {name: runs_of_events(program, plan, events, files) for name, plan in PLANS.items()}
     require(min(counts.values()) >= least, counts)
     return ", ".join(f"{name}: {count} runs" for name, count in counts.items())
 
@@ -110,6 +113,17 @@ def one_importer(program):
 def several_importers(program):
     """A stop leaves what several importers were answered."""
     return runs_of_plans(program, SEVERAL, 125)
+
+
+def added_purchases(program):
+    """A stop leaves the purchases that were added to a commitment."""
+    return runs_of_plans(program, ADDING, 95)
+
+
+def added_to_an_old_side(program):
+    """To a side of the first form no purchase is added, which is no call of the device and changes nothing; and after a checkpoint it is. A warehouse
+    is opened in five calls."""
+    return runs_of_plans(program, ADDING_TO_OLD, 100, OLD)
 
 
 def none_accepted(program):
@@ -340,11 +354,12 @@ def checkpoints(program):
 # A run of each kind, in which a call fails, for tools/refuse_allocations.py.
 SAMPLES = (
     *[run_script("old 19 0 1 2", ONE), run_script("1 40 0 1 2", SEVERAL), run_script("7 25 0 1 2", two_groups(7))],
+    *[run_script("1 25 0 1 2", ADDING), run_script("new 15 0 1 2", ADDING_TO_OLD, OLD)],
     *[store_script(f"{left} {calls} 0 1 2", STORE_CALLS) for left, calls in (("old", 4), ("1", 30), ("7", 99))],
 )
 
 SWEEPS = (
-    *[one_importer, several_importers, none_accepted, groups, sizes, the_65th, last_generation],
+    *[one_importer, several_importers, added_purchases, added_to_an_old_side, none_accepted, groups, sizes, the_65th, last_generation],
     *[stops, stops_over_a_byte, entries, making_a_side, checkpoints],
 )
 

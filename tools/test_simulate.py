@@ -6,7 +6,7 @@ import unittest
 
 TOP = os.path.dirname(os.path.dirname(os.path.abspath(__file__)))
 sys.path.insert(0, os.path.join(TOP, "tools"))
-from simulate import WRONG, changes_of, fault_of, script_of, split_answers  # noqa: E402
+from simulate import OLD_FILES, WRONG, changes_of, fault_of, script_of, split_answers  # noqa: E402
 
 
 def lines_of(name):
@@ -28,18 +28,41 @@ def scripts_and_answers():
     return found
 
 
+# Purchases that are added to commitments: each line with its answer. The commitment costs 1 from the beginning, and 100,000,000 in the end.
+ADDED = [
+    *[("run 3 1 old", "created"), ("commitment 0 a 1 x", "posted"), ("add 1 b 1 y 4", "posted"), ("take", "took 2")],
+    *[("commit", "committed; accepted 1 of 1; refused 8 at 1 of 1"), ("learn 0 3 0", "learned"), ("learn 0 3 1", "ignored")],
+    *[("add 0 a 2 x 99999990", "posted"), ("add 1 b 1 x 10", "posted"), ("add 2 c 1 x 9", "posted"), ("take", "took 3")],
+    *[("commit", "committed; accepted 2 of 3; refused 9 at 2 of 3; accepted 3 of 3")],
+    *[("view 0", "viewed a/1=x a/2+x:99999990000000000 c/1+x:9000000000 |"), ("stop", "stopped")],
+    *[("reopen", "reopened a/1=x a/2+x:99999990000000000 c/1+x:9000000000 |"), ("end", "end")],
+]
+# The same on a warehouse of an earlier version, to whose log none can be added before a checkpoint.
+OLD = [
+    *[(OLD_FILES + "run 2 1 old", "stopped"), ("view 0", "ignored"), ("reopen", "reopened |"), ("commitment 0 a 1 x", "posted"), ("take", "took 1")],
+    *[("commit", "committed; accepted 1 of 1"), ("add 0 a 2 x 0", "posted"), ("use 1 b 1 z", "posted"), ("take", "took 2")],
+    *[("commit", "failed S8 OldSide"), ("use 1 b 1 z", "ignored"), ("take", "took 0"), ("view 0", "viewed a/1=x |"), ("checkpoint", "checkpointed")],
+    *[("commit", "committed; accepted 2 of 3; accepted 3 of 3"), ("view 0", "viewed a/1=x a/2+x:0 b/1:1 | 1000000000"), ("end", "end")],
+]
+
+
+def all_scripts_and_answers():
+    """Those that the gate runs first, and those above."""
+    return [*scripts_and_answers(), *(tuple(map(list, zip(*pairs))) for pairs in (ADDED, OLD))]
+
+
 # Answers of other kinds, of which none can come in place of another.
 OTHERS = ("posted", "took 3", "committed", "committed; accepted 9 of 9", "committed; closed", "checkpointed", "viewed |", "learned", "reopened z/9:1 | 5", "end", "")
 
 
 class Simulate(unittest.TestCase):
     def test_right_answers_are_right(self):
-        for script, answers in scripts_and_answers():
+        for script, answers in all_scripts_and_answers():
             self.assertIsNone(fault_of(script, answers))
 
     def test_each_wrong_answer_is_found(self):
         tried = 0
-        for script, answers in scripts_and_answers():
+        for script, answers in all_scripts_and_answers():
             for place, answer in enumerate(answers):
                 for other in OTHERS:
                     if other != answer:
@@ -50,7 +73,7 @@ class Simulate(unittest.TestCase):
         self.assertGreater(tried, 200)
 
     def test_an_answer_too_few_or_too_many_is_found(self):
-        for script, answers in scripts_and_answers():
+        for script, answers in all_scripts_and_answers():
             self.assertIsNotNone(fault_of(script, answers[:-1]))
             self.assertIsNotNone(fault_of(script, [*answers, "end"]))
 
@@ -59,6 +82,35 @@ class Simulate(unittest.TestCase):
         place = next(at for at, answer in enumerate(answers) if answer.startswith("reopened"))
         fault = fault_of(script, [*answers[:place], answers[place].rsplit(" ", 1)[0], *answers[place + 1 :]])
         self.assertEqual(fault[0], place)
+
+    def test_a_commitment_has_64_purchases(self):
+        script, answers = ["run 1 1 old", "commitment 0 a 1 x", "take", "commit"], ["created", "posted", "took 1", "committed; accepted 1 of 1"]
+        for number in range(2, 66):
+            script += [f"add 0 a {number} x 0", "take", "commit"]
+            answers += ["posted", "took 1", f"committed; accepted {number} of {number}" if number < 65 else "committed; refused 9 at 64 of 64"]
+        self.assertIsNone(fault_of([*script, "end"], [*answers, "end"]))
+
+    def test_after_a_checkpoint_that_failed_the_side_in_use_is_of_either_form(self):
+        script = [OLD_FILES + "run 1 1 old 9", "reopen", "commitment 0 a 1 x", "take", "commit", "checkpoint", "stop", "reopen"]
+        script += ["add 0 a 2 x 1", "take", "commit", "commit", "end"]
+        answers = ["stopped", "reopened |", "posted", "took 1", "committed; accepted 1 of 1", "failed S3 Device", "stopped", "reopened a/1=x |"]
+        answers += ["posted", "took 1"]
+        accepted, old = "committed; accepted 2 of 2", "failed S8 OldSide"
+        for first, second in ((accepted, "committed"), (old, old)):
+            self.assertIsNone(fault_of(script, [*answers, first, second, "end"]))
+        self.assertEqual(fault_of(script, [*answers, old, accepted, "end"]), (11, old))
+        self.assertEqual(fault_of(script, [*answers, "committed", "committed", "end"]), (10, accepted))
+
+    def test_a_side_of_the_second_form_takes_purchases(self):
+        script, answers = map(list, zip(*ADDED))
+        place = answers.index("committed; accepted 2 of 3; refused 9 at 2 of 3; accepted 3 of 3")
+        self.assertEqual(fault_of(script, [*answers[:place], "failed S8 OldSide", *answers[place + 1 :]])[0], place)
+
+    def test_seeds_add_purchases_to_both_forms(self):
+        scripts = [script_of(seed) for seed in range(1, 200)]
+        adding = [script for script in scripts if any(line.startswith("add ") for line in script)]
+        for is_old in (False, True):
+            self.assertGreater(sum(script[0].startswith("files ") == is_old for script in adding), 10)
 
     def test_a_device_fails_no_more_often_than_the_script_says(self):
         script = ["run 1 1 old", "post 0 a 1 1 1", "take", "commit", "end"]

@@ -55,6 +55,14 @@ class Scripts(unittest.TestCase):
         self.assertTrue(case.histories[0].startswith(b"state 0 0 0 0\n"))
         self.assertTrue(case.histories[20].startswith(b"state 20 "))
 
+    def test_a_script_of_any_seed_has_so_many_entries_and_an_added_purchase(self):
+        for seed in range(1, 40):
+            for entries in (2, 6, 24):
+                case = Case(commands(seed, entries))
+                self.assertEqual(case.entries, entries)
+                done = zip(case.commands, case.answers)
+                self.assertTrue(any(command.startswith(b"add ") and answer.startswith(b"accepted ") for command, answer in done), (seed, entries))
+
     def test_a_script_has_two_checkpoints_in_a_row(self):
         made = commands(7, 20)
         self.assertIn((CHECKPOINT, CHECKPOINT), list(zip(made, made[1:])))

@@ -1,12 +1,12 @@
 //! The yardstick of reports: the reports of `focusd run` as a plain Rust program, without proofs.
 //!
-//! It reads a script of commitments, posts, policies and reports from standard input, and writes the answers of `focusd`. Rows are
-//! read by the modules of the yardstick of ingest (`../expert`). What a report needs is made once for all rows and commitments, when
-//! the first report after a change asks for it: rows clustered by hour, with those that a commitment may take first (`index`).
-//! A report is then one pass over the hours of its range (`cover`).
+//! It reads a script of commitments, added purchases, posts, policies and reports from standard input, and writes the answers of
+//! `focusd`. Rows are read by the modules of the yardstick of ingest (`../expert`). What a report needs is made once for all rows and
+//! commitments, when the first report after a change asks for it: rows clustered by hour, with those that a commitment may take first
+//! (`index`). A report is then one pass over the hours of its range (`cover`).
 //!
-//! It trusts the script: entries in turn, commitments and policies that break no rule, and sums that fit 64 bits. Where one doesn't,
-//! it stops with status 101.
+//! It trusts the script: entries in turn, commitments, purchases and policies that break no rule, and sums that fit 64 bits. Where one
+//! doesn't, it stops with status 101.
 #[path = "../../expert/src/fields.rs"]
 mod fields;
 #[allow(dead_code)] // the yardstick of ingest has more of it
@@ -28,7 +28,7 @@ use rows::Row;
 use std::collections::BTreeMap;
 use std::fmt;
 use std::io::{self, BufRead, BufReader, BufWriter, Write};
-use terms::Commitment;
+use terms::{Commitment, Purchase};
 
 const BUFFER: usize = 1 << 18;
 
@@ -56,6 +56,13 @@ impl Warehouse {
             }
             "commit" => {
                 self.commitments.push(Commitment::read(text, &mut self.names));
+                self.index = None;
+            }
+            "add" => {
+                let (id, purchase) = Purchase::read(text);
+                let commitment = self.commitments.iter_mut().find(|it| it.id == id).expect("a commitment of this id");
+                commitment.purchases.push(purchase);
+                // It has the sum of all purchases checked.
                 self.index = None;
             }
             _ => self.policy = Some(Policy::read(text)),
@@ -107,7 +114,7 @@ fn main() -> io::Result<()> {
     while input.read_line(&mut line)? > 0 {
         let words: Vec<&str> = line.trim_end_matches('\n').split(' ').collect();
         match words[..] {
-            [kind @ ("post" | "commit" | "policy"), _, _, lines] => {
+            [kind @ ("post" | "commit" | "add" | "policy"), _, _, lines] => {
                 text.clear();
                 for _ in 0..lines.parse::<usize>().expect("a number of lines") {
                     input.read_until(b'\n', &mut text)?;

@@ -1,4 +1,4 @@
-//! Commitments, as their TOML says.
+//! Commitments and purchases that are added to them, as their TOML says.
 use crate::fields;
 use crate::names::Names;
 use toml::Value;
@@ -7,6 +7,18 @@ pub struct Purchase {
     /// Counted from 1970.
     pub hour: i64,
     pub billed: u64,
+}
+
+impl Purchase {
+    fn of(table: &Value) -> Purchase {
+        Purchase { hour: hour(&table["at"]), billed: nanos(&table["billed"]) }
+    }
+
+    /// A purchase that is added, and the id of its commitment.
+    pub fn read(text: &[u8]) -> (String, Purchase) {
+        let table: Value = toml::from_slice(text).expect("TOML");
+        (table["id"].as_str().expect("an id").to_string(), Purchase::of(&table))
+    }
 }
 
 pub struct Commitment {
@@ -51,7 +63,7 @@ impl Commitment {
             sub_account: names.number(word("sub_account").unwrap_or("")),
             skus,
             tags: tags.into_iter().flatten().map(|(key, text)| (key.clone(), text.as_str().expect("a text").to_string())).collect(),
-            purchases: purchases.iter().map(|it| Purchase { hour: hour(&it["at"]), billed: nanos(&it["billed"]) }).collect(),
+            purchases: purchases.iter().map(Purchase::of).collect(),
         }
     }
 
