@@ -10,7 +10,7 @@ complete -c focusd -f
 complete -c focusd -n __fish_use_subcommand -a run -d 'Reads a script from standard input and prints the answers'
 complete -c focusd -n __fish_use_subcommand -a import -d 'Takes CSV exports of any length into a warehouse'
 complete -c focusd -n __fish_use_subcommand -a load -d 'Takes up to 64 CSV files into a warehouse side by side'
-complete -c focusd -n __fish_use_subcommand -a add -d 'Takes commitments and policies from TOML files into a warehouse'
+complete -c focusd -n __fish_use_subcommand -a add -d 'Takes commitments, policies and purchases from TOML files into a warehouse'
 complete -c focusd -n __fish_use_subcommand -a check -d 'Lists all faults of CSV exports, and what is in them'
 complete -c focusd -n __fish_use_subcommand -a report -d 'Sums the costs of a range of time by the values of a tag'
 complete -c focusd -n __fish_use_subcommand -a lines -d 'Lists what a range of time cost, line by line, as CSV'
@@ -45,7 +45,7 @@ complete -c focusd -n '__focusd_runs load' -F
 complete -c focusd -n '__focusd_runs add' -l dir -x -a '(__fish_complete_directories)' -d 'The folder of the warehouse'
 complete -c focusd -n '__focusd_runs add' -l origin -x -d 'Who sends the files'
 complete -c focusd -n '__focusd_runs add' -l dry-run -d 'Writes nothing: says what each file is, and which rows it would apply to'
-complete -c focusd -n '__focusd_runs add' -l yes -d 'Lets a policy take the place of one by another key'
+complete -c focusd -n '__focusd_runs add' -l yes -d 'Lets a policy take the place of another key\'s, and adds an equal purchase again'
 complete -c focusd -n '__focusd_runs add' -l help -d 'Print help'
 complete -c focusd -n '__focusd_runs add' -F
 complete -c focusd -n '__focusd_runs check' -l format -x -a 'text json' -d 'How the answer is written'
