@@ -306,8 +306,11 @@ fn say_conflict(
         Conflict::TooManyCommitments => {
             "the warehouse has 256 commitments, and takes no more (J5 TooManyCommitments)"
         }
-        Conflict::Full => "the warehouse would have more than 4,194,304 rows (J1 Full)",
+        Conflict::Full =>
+            "more than 4,194,304 rows would have been posted to the warehouse (J1 Full)",
         Conflict::OwnCommitment => "a row carries the id of a commitment (J4 OwnCommitment)",
+        Conflict::NoSuchPost => "the origin has no post of this number (J6 NoSuchPost)",
+        Conflict::Withdrawn => "the post is withdrawn already (J7 Withdrawn)",
         Conflict::NoSuchCommitment => {
             "the warehouse has no commitment of this id: correct the id, or add the commitment first (J8 NoSuchCommitment)"
         }

@@ -8,8 +8,8 @@ use fw_table::{count_text, shown_text};
 use fw_terms::{Commitment, Terms};
 use std::alloc::{AllocError, Global};
 
-/// Says how many rows of a warehouse a commitment applies to, and why it doesn't apply to others of its SKUs. Of other
-/// documents nothing is said.
+/// Says how many rows of a warehouse that count a commitment applies to, and why it doesn't apply to others of its SKUs. Of
+/// other documents nothing is said.
 pub(crate) fn print_matches(
     rt: &HostRuntime,
     state: &State,
@@ -30,7 +30,8 @@ fn print_matched(
     commitment: &Commitment,
 ) -> Result<(), Fault> {
     let alloc = rt.alloc();
-    let matches = matches_of(alloc, commitment, state.segments())?;
+    let segments = state.counting_segments(alloc)?;
+    let matches = matches_of(alloc, commitment, segments.as_slice())?;
     let lines = match_lines(alloc, commitment, &matches)?;
     for line in lines.iter() {
         print_line(rt, file, line.as_str())?;
@@ -59,7 +60,8 @@ fn warn_units(
     commitment: &Commitment,
 ) -> Result<(), Fault> {
     let alloc = rt.alloc();
-    let matches = matches_of(alloc, commitment, state.segments())?;
+    let segments = state.counting_segments(alloc)?;
+    let matches = matches_of(alloc, commitment, segments.as_slice())?;
     if matches.applies == 0 && is_in_other_units(&matches) {
         let line = unit_line(alloc, commitment, &matches)?;
         let _ = eprintln!(rt; "{file}: {line}");

@@ -3,9 +3,9 @@ use Rattle.std.proofs.Common.{◌≡◌, ◌++◌, ℕ, zero, suc, List, [], ◌
 use Rattle.std.specs.List.{Contains}
 use Rattle.std.proofs.lemmas.List.Elements.{Contains-append_left, Contains-append_right}
 use Rattle.fw_entry.specs.Entry.{CommandValue, EntryValue}
-use Rattle.fw_entry.specs.Entry.CommandValue.{post, commit, set_policy, add_purchase}
+use Rattle.fw_entry.specs.Entry.CommandValue.{post, commit, set_policy, withdraw, add_purchase}
 use Rattle.fw_snapshot.specs.Heads.{ContentValue, HeadValue, content_of, head_of}
-use Rattle.fw_snapshot.specs.Heads.ContentValue.{posted_rows, committed_to, policy_set, purchase_added}
+use Rattle.fw_snapshot.specs.Heads.ContentValue.{posted_rows, committed_to, policy_set, post_withdrawn, purchase_added}
 use Rattle.fw_snapshot.specs.History.{committed, committed_of}
 use Rattle.fw_terms.specs.Commitment.{CommitmentValue}
 
@@ -14,6 +14,7 @@ brings : (command : CommandValue) (c : CommitmentValue) → content_of command �
 brings (post rows) c is = absurd (cc)
 brings (commit d) c is = let same : d ≡ c = cc in (0, omega arith, same)
 brings (set_policy p) c is = absurd (cc)
+brings (withdraw n) c is = absurd (cc)
 brings (add_purchase a) c is = absurd (cc)
 
 -- the commitment of a head was committed to

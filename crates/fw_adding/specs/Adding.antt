@@ -2,7 +2,7 @@
 use Rattle.std.specs.Prelude.{◌≡◌, ◌+◌, ⊤, ℕ, Bool, true, false, List, [], ◌∷◌, Some}
 use Rattle.std.specs.List.{Any, Contains}
 use Rattle.fw_entry.specs.Entry.{CommandValue, EntryValue}
-use Rattle.fw_entry.specs.Entry.CommandValue.{post, commit, set_policy, add_purchase}
+use Rattle.fw_entry.specs.Entry.CommandValue.{post, commit, set_policy, withdraw, add_purchase}
 use Rattle.fw_recover.specs.Store.{StoreState}
 use Rattle.fw_terms.specs.Added.{AddedValue}
 use Rattle.fw_terms.specs.Commitment.{CommitmentValue}
@@ -37,6 +37,7 @@ unfoldable pub IsThere : CommandValue → List EntryValue → Type 0
 IsThere (post rows) entries = ⊥
 IsThere (commit c) entries = Contains (committed_of entries) c
 IsThere (set_policy p) entries = policy_of entries ≡ Some p
+IsThere (withdraw n) entries = ⊥
 IsThere (add_purchase a) entries = HasPurchase a (commitments_of entries)
 
 -- a purchase that is added is new: its commitment has no equal one. Of other commands nothing is said
@@ -44,6 +45,7 @@ unfoldable pub IsNewPurchase : CommandValue → List EntryValue → Type 0
 IsNewPurchase (post rows) entries = ⊤
 IsNewPurchase (commit c) entries = ⊤
 IsNewPurchase (set_policy p) entries = ⊤
+IsNewPurchase (withdraw n) entries = ⊤
 IsNewPurchase (add_purchase a) entries = ¬ HasPurchase a (commitments_of entries)
 
 -- a command adds no purchase
@@ -51,6 +53,7 @@ unfoldable pub IsNoPurchase : CommandValue → Type 0
 IsNoPurchase (post rows) = ⊤
 IsNoPurchase (commit c) = ⊤
 IsNoPurchase (set_policy p) = ⊤
+IsNoPurchase (withdraw n) = ⊤
 IsNoPurchase (add_purchase a) = ⊥
 
 -- a purchase of which an equal one is there is added just where it is to be added again

@@ -6,7 +6,6 @@ ghost use Rattle.fw_adding.specs.Matching.{match_of};
 
 use fw_columns::{Columns, LentRow};
 use fw_cover::{is_eligible, is_in_term};
-use fw_persistent::Sequence;
 use fw_terms::{Commitment, Rate, Terms};
 use indexmap::IndexMap;
 use std::alloc::{AllocError, Global};
@@ -44,12 +43,13 @@ pub struct Matches<'s> {
     pub other_units: IndexMap<&'s str, u64>,
 }
 
-/// How many rows of segments a commitment applies to, and why not to others of its SKUs. It goes over the rows once,
-/// and takes memory for each segment and for each unit, and none for a row. The error comes where memory ran out.
+/// How many rows of segments a commitment applies to, and why not to others of its SKUs: of the rows that count, where
+/// these are the segments that have them. It goes over the rows once, and takes memory for each segment and for each
+/// unit, and none for a row. The error comes where memory ran out.
 pub fn matches_of<'s>(
     alloc: Global,
     commitment: &Commitment,
-    segments: &'s Sequence<Columns>,
+    segments: &[&'s Columns],
 ) -> Result<Matches<'s>, AllocError> {
     let mut matches = Matches {
         applies: 0,
@@ -59,8 +59,8 @@ pub fn matches_of<'s>(
         no_unit: 0,
         other_units: IndexMap::new(alloc),
     };
-    for place in 0..segments.len() {
-        add_segment(alloc, commitment, segments.get(place), &mut matches)?;
+    for columns in segments {
+        add_segment(alloc, commitment, columns, &mut matches)?;
     }
     Ok(matches)
 }

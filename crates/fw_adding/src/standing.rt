@@ -55,6 +55,7 @@ fn brought<'a>(head: &'a Head, id: &str) -> Option<&'a Commitment>
         Content::Commit(_)
         | Content::Post { .. }
         | Content::SetPolicy(_)
+        | Content::Withdraw(_)
         | Content::AddPurchase(_) => None,
     }
 }

@@ -60,7 +60,7 @@ fn coverage_on(
 {
     // each entry was accepted, so no row has the id of a commitment
     let _entries = state.entries();
-    let segments = state.segments().references(alloc)?;
+    let segments = state.counting_segments(alloc)?;
     coverage_of(
         alloc,
         segments.as_slice(),

@@ -59,17 +59,20 @@ pub entry_behind : (text rest : List ℕ) (k : EntryKind) (origin sequence conte
 unfolding IsCommand
 entry_behind text rest k origin sequence content h ends =
     let is = line_ends text h.line h.following h.begins.unbroken h.begins.in_turn ends in
-    let whole : h.following ≡ content = h.reads.given.in_turn ∙ append-nil content in
+    let whole : h.following ≡ h.reads.taken = h.reads.given.in_turn ∙ append-nil h.reads.taken in
     record {
       line = h.line;
       following = h.following ++ rest;
       begins = line_behind text h.line h.following rest h.begins is;
       reads = record {
+        last = h.reads.last;
         count = h.reads.count;
+        taken = h.reads.taken;
         asked = h.reads.asked;
         given = record {
           in_turn = ap (λ l. l ++ rest) whole;
           follows = lines_behind h.reads.count h.following rest h.reads.given.follows (rest_ends h.line h.following ends.0 (sym is ∙ ends.1));
         };
+        brought = h.reads.brought;
       };
     }

@@ -7,7 +7,8 @@ use Rattle.std.proofs.lemmas.Option.{slice_get_within, get_or_from_slice_get, sl
 use Rattle.std.proofs.lemmas.List.Elements.{All-get_or}
 use Rattle.fw_charge.specs.Charge.{Charge}
 use Rattle.fw_entry.specs.Entry.{EntryValue}
-use Rattle.fw_snapshot.specs.Heads.{HeadValue, entries_of, entry_of, row_count, segment_rows}
+use Rattle.fw_posted.specs.Rows.{segment_rows}
+use Rattle.fw_snapshot.specs.Heads.{HeadValue, entries_of, entry_of, row_count}
 use Rattle.fw_dump.specs.RowsLeft.{rows_behind}
 
 -- what is left of a list from a place on begins with the item there

@@ -1,7 +1,7 @@
 -- The rows of segments that aren't taken yet.
 use Rattle.std.specs.Prelude.{ℕ, List, [], ◌∷◌, ◌++◌, drop}
 use Rattle.fw_charge.specs.Charge.{Charge}
-use Rattle.fw_snapshot.specs.Heads.{segment_rows}
+use Rattle.fw_posted.specs.Rows.{segment_rows}
 use Rattle.fw_dump.specs.declared.rows_left.RowsLeft.{RowsLeft}
 
 -- the rows of segments without so many of the first segment

@@ -17,7 +17,8 @@ use fw_snapshot::{Content, Head, State};
 use std::alloc::{AllocError, Global};
 use std::io::Write;
 
-/// Writes the entries of a warehouse in their order, each as the command of a script that sends it, and nothing else. The
+/// Writes the entries of a warehouse in their order, each as the command of a script that sends it, and nothing else: also
+/// posts that were withdrawn, with their rows, and what withdraws them. The
 /// currency stands in no command: a script is served by a warehouse that was made in it. Beside the warehouse it holds one entry at a
 /// time: its rows, its text, and what is read from that.
 ///
@@ -95,6 +96,7 @@ fn next_command(
         }
         Content::Commit(commitment) => Ok(Command::Commit(commitment.copy()?)),
         Content::SetPolicy(policy) => Ok(Command::SetPolicy(policy.copy(alloc)?)),
+        Content::Withdraw(target) => Ok(Command::Withdraw(*target)),
         Content::AddPurchase(added) => Ok(Command::AddPurchase(added.copy(alloc)?)),
     }
 }

@@ -1,6 +1,6 @@
 //! The rows of a warehouse, taken from the front.
 ghost use Rattle.std.specs.Prelude.{◌≡◌, ◌≤◌, IfOk, length, take, drop};
-ghost use Rattle.fw_snapshot.specs.Heads.{segment_rows};
+ghost use Rattle.fw_posted.specs.Rows.{segment_rows};
 ghost use Rattle.fw_dump.specs.RowsLeft.{rows_left};
 ghost use Rattle.fw_row_table.specs.Table.{most_column_rows};
 

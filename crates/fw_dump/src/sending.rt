@@ -115,6 +115,10 @@ fn read_content(
             Err(PolicyFault::NoMemory) => Err(AllocError),
             Err(_) => Ok(None),
         },
+        EntryKind::Withdraw => match sequence_number(content) {
+            Some(target) => Ok(Some(EntryCommand::Withdraw(target))),
+            None => Ok(None),
+        },
         EntryKind::AddPurchase => match read_purchase(alloc, content) {
             Ok(added) => Ok(Some(EntryCommand::AddPurchase(added))),
             Err(CommitmentFault::NoMemory) => Err(AllocError),

@@ -32,20 +32,29 @@ pub fn entry_text(alloc: Global, currency: Currency, entry: &Entry) -> Result<Ve
     }
 }
 
-// What is written of an entry: its line, and its content.
+// What is written of an entry: its line, and its content, of which a withdrawal has none.
 fn written(alloc: Global, currency: Currency, entry: &Entry) -> Result<Vec<u8>, TextFault> {
     let content = content_of(alloc, currency, entry.command())?;
     let lines = line_feeds(content.as_slice());
     if lines > MOST_LINES {
         return Err(TextFault::TooManyLines);
     }
-    let mut text = line_of(alloc, entry, lines as u64)?;
+    let mut text = line_of(alloc, entry, last_number(entry.command(), lines as u64))?;
     text.extend_from_slice(content.as_slice())?;
     Ok(text)
 }
 
-// The line of an entry, whose content has so many lines.
-fn line_of(alloc: Global, entry: &Entry, lines: u64) -> Result<Vec<u8>, AllocError> {
+// The number that ends the line of an entry, whose content has so many lines: these, but of a withdrawal the number of the post.
+fn last_number(command: &Command, lines: u64) -> u64 {
+    match command {
+        Command::Withdraw(target) => *target,
+        Command::Post(_) | Command::Commit(_) | Command::SetPolicy(_) | Command::AddPurchase(_) =>
+            lines,
+    }
+}
+
+// The line of an entry, which this number ends.
+fn line_of(alloc: Global, entry: &Entry, last: u64) -> Result<Vec<u8>, AllocError> {
     let mut line = Vec::new(alloc);
     push_text(&mut line, kind_of(entry.command()).word())?;
     push_text(&mut line, " ")?;
@@ -53,7 +62,7 @@ fn line_of(alloc: Global, entry: &Entry, lines: u64) -> Result<Vec<u8>, AllocErr
     push_text(&mut line, " ")?;
     push_number(&mut line, entry.seq())?;
     push_text(&mut line, " ")?;
-    push_number(&mut line, lines)?;
+    push_number(&mut line, last)?;
     push_text(&mut line, "\n")?;
     Ok(line)
 }
@@ -64,11 +73,12 @@ fn kind_of(command: &Command) -> EntryKind {
         Command::Post(_) => EntryKind::Post,
         Command::Commit(_) => EntryKind::Commit,
         Command::SetPolicy(_) => EntryKind::Policy,
+        Command::Withdraw(_) => EntryKind::Withdraw,
         Command::AddPurchase(_) => EntryKind::AddPurchase,
     }
 }
 
-// The content of an entry: CSV or TOML, each line with its line feed.
+// The content of an entry: CSV or TOML, each line with its line feed; nothing of a withdrawal.
 fn content_of(alloc: Global, currency: Currency, command: &Command) -> Result<Vec<u8>, AllocError> {
     match command {
         Command::Post(rows) => rows_csv(alloc, currency, rows),
@@ -82,6 +92,7 @@ fn content_of(alloc: Global, currency: Currency, command: &Command) -> Result<Ve
             push_policy(&mut content, policy)?;
             Ok(content)
         }
+        Command::Withdraw(_) => Ok(Vec::new(alloc)),
         Command::AddPurchase(added) => {
             let mut content = Vec::new(alloc);
             push_added(alloc, &mut content, added)?;

@@ -7,12 +7,13 @@ use Rattle.fw_terms.specs.Commitment.{CommitmentValue}
 use Rattle.fw_terms.specs.Policy.{PolicyValue}
 use Rattle.fw_terms.specs.Added.{AddedValue}
 
--- what an entry asks for: these rows are charged, this is committed to, this policy holds from now on, or this purchase is added to a commitment that
--- was made before
+-- what an entry asks for: these rows are charged, this is committed to, this policy holds from now on, the post with this number of the same sender
+-- counts no more, or this purchase is added to a commitment that was made before
 pub data CommandValue : Type 0 where
   post : List Charge → CommandValue
   commit : CommitmentValue → CommandValue
   set_policy : PolicyValue → CommandValue
+  withdraw : ℕ → CommandValue
   add_purchase : AddedValue → CommandValue
 
 -- a command, who sent it, and its number among those of this sender, counted from 1

@@ -5,7 +5,7 @@ use Rattle.fw_charge.specs.Charge.{Charge, most_post_rows}
 use Rattle.fw_charge.specs.Spelling.{row, IsRow}
 use Rattle.fw_terms.specs.Spelling.{commitment, policy, added, IsSpelledCommitment, IsSpelledPolicy, IsSpelledAdded}
 use Rattle.fw_entry.specs.Entry.{CommandValue, EntryValue, is_origin}
-use Rattle.fw_entry.specs.Entry.CommandValue.{post, commit, set_policy, add_purchase}
+use Rattle.fw_entry.specs.Entry.CommandValue.{post, commit, set_policy, withdraw, add_purchase}
 use Rattle.fw_entry.specs.Kinds.{kind_of, kind_code}
 
 -- what a command brings
@@ -13,6 +13,7 @@ unfoldable pub brought : CommandValue → List ℕ
 brought (post rows) = listed row rows
 brought (commit c) = commitment c
 brought (set_policy p) = policy p
+brought (withdraw n) = number64 n
 brought (add_purchase a) = added a
 
 -- a command: one byte for its kind, and what it brings
@@ -35,6 +36,7 @@ abbrev pub HasRowCount : CommandValue → Type 0
 HasRowCount (post rows) = IsRowCount rows
 HasRowCount (commit c) = ⊤
 HasRowCount (set_policy p) = ⊤
+HasRowCount (withdraw n) = ⊤
 HasRowCount (add_purchase a) = ⊤
 
 -- 1 to 4,096 rows, each of which has a spelling
@@ -46,6 +48,7 @@ abbrev pub IsCommand : CommandValue → Type 0
 IsCommand (post rows) = IsPost rows
 IsCommand (commit c) = IsSpelledCommitment c
 IsCommand (set_policy p) = IsSpelledPolicy p
+IsCommand (withdraw n) = n < 2 ^ 64
 IsCommand (add_purchase a) = IsSpelledAdded a
 
 -- what each entry keeps: its origin is a name, its number is from 1 on, its command keeps the limits, and all of it is written in at most

@@ -1,6 +1,6 @@
 //! Entries and their commands.
 ghost use Rattle.std.specs.Prelude.{◌≡◌, ◌≤◌, ◌<◌, ◌^◌, ◌-◌, length, All, IfOk, IfErr, string_bytes};
-ghost use Rattle.fw_bytes.specs.Spelling.{listed};
+ghost use Rattle.fw_bytes.specs.Spelling.{listed, number64};
 ghost use Rattle.std.specs.List.{list_all};
 ghost use Rattle.fw_charge.specs.Spelling.{row, IsRow};
 ghost use Rattle.fw_entry.specs.Entry.{is_origin, is_origin_byte};
@@ -28,6 +28,8 @@ pub enum Command {
     Commit(Commitment),
     /// This policy holds from now on.
     SetPolicy(Policy),
+    /// The rows of the post with this number, of the same sender, count no more.
+    Withdraw(u64),
     /// This was paid for a commitment that there is.
     AddPurchase(AddedPurchase),
 }
@@ -45,6 +47,7 @@ impl Command {
             Command::Post(_) => CommandKind::Post,
             Command::Commit(_) => CommandKind::Commit,
             Command::SetPolicy(_) => CommandKind::SetPolicy,
+            Command::Withdraw(_) => CommandKind::Withdraw,
             Command::AddPurchase(_) => CommandKind::AddPurchase,
         }
     }
@@ -57,6 +60,7 @@ impl Command {
             Command::Post(rows) => Ok(Command::Post(rows.copy()?)),
             Command::Commit(commitment) => Ok(Command::Commit(commitment.copy()?)),
             Command::SetPolicy(policy) => Ok(Command::SetPolicy(policy.copy(alloc)?)),
+            Command::Withdraw(seq) => Ok(Command::Withdraw(*seq)),
             Command::AddPurchase(added) => Ok(Command::AddPurchase(added.copy(alloc)?)),
         }
     }
@@ -79,12 +83,21 @@ impl Command {
                 policy_has_spelling(policy);
                 1 + policy_len(policy)
             }
+            Command::Withdraw(target) => 1 + number_len(*target),
             Command::AddPurchase(added) => {
                 added_has_spelling(added);
                 1 + added_len(added)
             }
         }
     }
+}
+
+// How many bytes a number is written in.
+fn number_len(_number: u64) -> usize
+    ensures length { result ≡ length (number64 _number) }
+    ensures valid { _number < 2 ^ 64 }
+{
+    8
 }
 
 // How many bytes rows are written in, their number included.

@@ -10,6 +10,8 @@ pub enum CommandKind {
     Commit,
     /// A policy is set.
     SetPolicy,
+    /// A post is withdrawn.
+    Withdraw,
     /// A purchase is added to a commitment.
     AddPurchase,
 }
@@ -17,7 +19,7 @@ pub enum CommandKind {
 impl CommandKind {
     ghost use Rattle.fw_entry.specs.Kinds.{kind_code, kind_meant};
 
-    /// The byte that stands for the kind: 1, 2, 3 or 5.
+    /// The byte that stands for the kind: 1 to 5, in this order.
     pub fn code(self) -> u8
         ensures { result ≡ kind_code self }
     {
@@ -25,6 +27,7 @@ impl CommandKind {
             CommandKind::Post => 1,
             CommandKind::Commit => 2,
             CommandKind::SetPolicy => 3,
+            CommandKind::Withdraw => 4,
             CommandKind::AddPurchase => 5,
         }
     }
@@ -37,6 +40,7 @@ impl CommandKind {
             1 => Some(CommandKind::Post),
             2 => Some(CommandKind::Commit),
             3 => Some(CommandKind::SetPolicy),
+            4 => Some(CommandKind::Withdraw),
             5 => Some(CommandKind::AddPurchase),
             _ => None,
         }

@@ -1,5 +1,5 @@
 -- What is read of an entry is spelled so, and what is spelled so is read.
-use Rattle.std.proofs.Common.{◌≡◌, List, [], ◌∷◌, refl, arith}
+use Rattle.std.proofs.Common.{◌≡◌, ◌<◌, ◌^◌, ℕ, List, [], ◌∷◌, refl, arith}
 use Rattle.std.specs.Prelude.{IsTrue}
 use Rattle.std.proofs.lemmas.Bool.{leb-true, le-leb}
 use Rattle.fw_bytes.specs.Spelling.{number64, text, listed, pair, FitsPair, FitsChecked, FitsList}
@@ -17,7 +17,7 @@ use Rattle.fw_terms_bytes.proofs.AddedFormat.{added_format}
 use Rattle.fw_terms_bytes.proofs.CommitmentFormat.{commitment_format}
 use Rattle.fw_terms_bytes.proofs.PolicyFormat.{policy_format}
 use Rattle.fw_entry.specs.Entry.{CommandValue, EntryValue}
-use Rattle.fw_entry.specs.Entry.CommandValue.{post, commit, set_policy, add_purchase}
+use Rattle.fw_entry.specs.Entry.CommandValue.{post, commit, set_policy, withdraw, add_purchase}
 use Rattle.fw_entry.specs.Kinds.{kind_of, kind_code, kind_meant}
 use Rattle.fw_entry.specs.declared.kind.CommandKind.{CommandKind}
 use Rattle.fw_entry.specs.declared.kind.CommandKind.TheVariants as kind
@@ -26,7 +26,7 @@ use Rattle.fw_entry.specs.Spelling.{brought, command, entry, IsPost, IsCommand, 
 use Rattle.fw_entry_bytes.specs.declared.form.Form.{Form}
 use Rattle.fw_entry_bytes.specs.Forms.{has_kind, has_entry}
 use Rattle.fw_entry_bytes.specs.Reading.{IsOrigin, IsSeq, rows_at, kind_at, brought_at, command_at, Fields, fields_at, entry_from, is_small, entry_at}
-use Rattle.fw_entry_bytes.proofs.Facts.{origin_format, seq_format}
+use Rattle.fw_entry_bytes.proofs.Facts.{origin_format, seq_format, target_format}
 
 -- ---- the rows of a post
 
@@ -53,24 +53,35 @@ post_back : (c : CommandValue) → IsOfKind kind.Post c → (rows : List Charge)
 post_back (post rows) h = (rows, refl, h.1)
 post_back (commit c) h = let e = h.0 in absurd cc
 post_back (set_policy p) h = let e = h.0 in absurd cc
+post_back (withdraw n) h = let e = h.0 in absurd cc
 post_back (add_purchase a) h = let e = h.0 in absurd cc
 
 commit_back : (c : CommandValue) → IsOfKind kind.Commit c → (one : CommitmentValue) × (commit one ≡ c) × IsSpelledCommitment one
 commit_back (post rows) h = let e = h.0 in absurd cc
 commit_back (commit c) h = (c, refl, h.1)
 commit_back (set_policy p) h = let e = h.0 in absurd cc
+commit_back (withdraw n) h = let e = h.0 in absurd cc
 commit_back (add_purchase a) h = let e = h.0 in absurd cc
 
 set_policy_back : (c : CommandValue) → IsOfKind kind.SetPolicy c → (one : PolicyValue) × (set_policy one ≡ c) × IsSpelledPolicy one
 set_policy_back (post rows) h = let e = h.0 in absurd cc
 set_policy_back (commit c) h = let e = h.0 in absurd cc
 set_policy_back (set_policy p) h = (p, refl, h.1)
+set_policy_back (withdraw n) h = let e = h.0 in absurd cc
 set_policy_back (add_purchase a) h = let e = h.0 in absurd cc
+
+withdraw_back : (c : CommandValue) → IsOfKind kind.Withdraw c → (n : ℕ) × (withdraw n ≡ c) × (n < 2 ^ 64)
+withdraw_back (post rows) h = let e = h.0 in absurd cc
+withdraw_back (commit c) h = let e = h.0 in absurd cc
+withdraw_back (set_policy p) h = let e = h.0 in absurd cc
+withdraw_back (withdraw n) h = (n, refl, h.1)
+withdraw_back (add_purchase a) h = let e = h.0 in absurd cc
 
 add_purchase_back : (c : CommandValue) → IsOfKind kind.AddPurchase c → (one : AddedValue) × (add_purchase one ≡ c) × IsSpelledAdded one
 add_purchase_back (post rows) h = let e = h.0 in absurd cc
 add_purchase_back (commit c) h = let e = h.0 in absurd cc
 add_purchase_back (set_policy p) h = let e = h.0 in absurd cc
+add_purchase_back (withdraw n) h = let e = h.0 in absurd cc
 add_purchase_back (add_purchase a) h = (a, refl, h.1)
 
 brought_format : (k : CommandKind) → IsFormat (brought_at k) brought (IsOfKind k)
@@ -78,6 +89,7 @@ unfolding brought_at brought
 brought_format kind.Post = case_format (λ (rows : List Charge). post rows) brought (IsOfKind kind.Post) (λ rows. refl) (λ rows h. (refl, h)) post_back rows_format
 brought_format kind.Commit = case_format (λ (c : CommitmentValue). commit c) brought (IsOfKind kind.Commit) (λ c. refl) (λ c h. (refl, h)) commit_back commitment_format
 brought_format kind.SetPolicy = case_format (λ (p : PolicyValue). set_policy p) brought (IsOfKind kind.SetPolicy) (λ p. refl) (λ p h. (refl, h)) set_policy_back policy_format
+brought_format kind.Withdraw = case_format (λ (n : ℕ). withdraw n) brought (IsOfKind kind.Withdraw) (λ n. refl) (λ n h. (refl, h)) withdraw_back target_format
 brought_format kind.AddPurchase = case_format (λ (a : AddedValue). add_purchase a) brought (IsOfKind kind.AddPurchase) (λ a. refl) (λ a h. (refl, h)) add_purchase_back added_format
 
 -- the byte of a kind that the form has

@@ -6,7 +6,7 @@ use Rattle.fw_charge.specs.Charge.{Charge, most_post_rows}
 use Rattle.fw_row_bytes.specs.Reading.{row_at}
 use Rattle.fw_terms_bytes.specs.Reading.{of_kind, commitment_at, policy_at, added_at}
 use Rattle.fw_entry.specs.Entry.{CommandValue, EntryValue, is_origin}
-use Rattle.fw_entry.specs.Entry.CommandValue.{post, commit, set_policy, add_purchase}
+use Rattle.fw_entry.specs.Entry.CommandValue.{post, commit, set_policy, withdraw, add_purchase}
 use Rattle.fw_entry.specs.Kinds.{kind_meant}
 use Rattle.fw_entry.specs.Spelling.{entry, most_entry_bytes}
 use Rattle.fw_entry.specs.declared.kind.CommandKind.{CommandKind}
@@ -48,6 +48,7 @@ unfoldable pub brought_at : CommandKind → Reading CommandValue
 brought_at kind.Post = seen post rows_at
 brought_at kind.Commit = seen commit commitment_at
 brought_at kind.SetPolicy = seen set_policy policy_at
+brought_at kind.Withdraw = seen withdraw (number_at w64)
 brought_at kind.AddPurchase = seen add_purchase added_at
 
 -- the kind, and what a command of this kind brings

@@ -9,7 +9,7 @@ use fw_entry::{CommandKind, Entry};
 pub enum Form {
     /// What earlier versions of the program wrote: a side with the magic word FWHOUSE1. It has the kinds 1 to 3: rows, commitments and policies.
     One,
-    /// What is written now: a side with the magic word FWHOUSE2. It has all kinds, those of the first form and purchases that are added.
+    /// What is written now: a side with the magic word FWHOUSE2. It has all kinds: those of the first form, withdrawals, and purchases that are added.
     Two,
 }
 

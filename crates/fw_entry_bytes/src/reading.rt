@@ -6,7 +6,7 @@ ghost use Rattle.fw_entry_bytes.specs.Reading.{brought_at, command_at, fields_at
 
 use crate::fields::{kind_of, origin_of, seq_of};
 use crate::form::Form;
-use fw_bytes::ReadError;
+use fw_bytes::{ReadError, u64_at};
 use fw_charge::MOST_POST_ROWS;
 use fw_entry::{Command, CommandKind, Entry};
 use fw_row_bytes::rows_of;
@@ -29,6 +29,10 @@ fn brought_of(alloc: Global, kind: CommandKind, bytes: &[u8]) -> Result<(Command
         },
         CommandKind::SetPolicy => match policy_of(alloc, bytes) {
             Ok((policy, rest)) => Ok((Command::SetPolicy(policy), rest)),
+            Err(e) => Err(e),
+        },
+        CommandKind::Withdraw => match u64_at(bytes) {
+            Ok((seq, rest)) => Ok((Command::Withdraw(seq), rest)),
             Err(e) => Err(e),
         },
         CommandKind::AddPurchase => match added_of(alloc, bytes) {

@@ -22,6 +22,7 @@ fn put_brought(out: &mut Vec<u8>, one: &Command) -> Result<(), AllocError>
         Command::Post(rows) => put_rows(out, rows),
         Command::Commit(commitment) => put_commitment(out, commitment),
         Command::SetPolicy(policy) => put_policy(out, policy),
+        Command::Withdraw(seq) => put_u64(out, *seq),
         Command::AddPurchase(added) => put_added(out, added),
     }
 }

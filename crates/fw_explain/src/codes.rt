@@ -201,7 +201,7 @@ const COMMAND_CODES: &[Explanation] = &[
     Explanation {
         code: "J3",
         name: "IdInUse",
-        meaning: "a row that was accepted carries the commitment's id",
+        meaning: "a row that counts carries the commitment's id",
         remedy: "The provider has amortised that commitment already in its rows: don't add it again.",
     },
     Explanation {
@@ -215,6 +215,18 @@ const COMMAND_CODES: &[Explanation] = &[
         name: "TooManyCommitments",
         meaning: "there are 256 commitments already",
         remedy: "Begin another warehouse.",
+    },
+    Explanation {
+        code: "J6",
+        name: "NoSuchPost",
+        meaning: "the sender has had no post of this number accepted, so there is none to withdraw; nothing was changed",
+        remedy: "Give the number of a post of the same origin: an origin withdraws its own posts alone, and neither commitments nor policies.",
+    },
+    Explanation {
+        code: "J7",
+        name: "Withdrawn",
+        meaning: "the post is withdrawn already; nothing was changed",
+        remedy: "Nothing is to be done: its rows count no more. To bring them back, post them again under the origin's next number.",
     },
     Explanation {
         code: "J8",
@@ -309,7 +321,7 @@ const COMMAND_CODES: &[Explanation] = &[
     Explanation {
         code: "S8",
         name: "OldSide",
-        meaning: "the warehouse is in an older form, which can't hold a purchase that is added to a commitment; nothing was changed",
+        meaning: "the warehouse is in an older form, which can hold neither a withdrawal nor a purchase that is added to a commitment; nothing was changed",
         remedy: "Write it in the present form by focusd checkpoint, or by the line checkpoint in a script. Then send the entry again.",
     },
     Explanation {

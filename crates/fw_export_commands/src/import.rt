@@ -294,12 +294,20 @@ fn explain(
                 "The file has changed or grown since, or the files are in another order, or another export was imported as {origin}. Nothing more was imported. Give each export an --origin of its own."
             );
         }
+        ImportFault::Withdrawn => {
+            let _ = eprintln!(rt;
+                "focusd: {name}:{line}: post {number} of {origin} was withdrawn: its rows count no more, and the file has them from record {record} on."
+            );
+            let _ = eprintln!(rt;
+                "Nothing more was imported. To have the file's rows count again, withdraw the other posts of {origin} too, and import the file under another --origin."
+            );
+        }
         ImportFault::Gap { expected } => {
             let _ = eprintln!(rt; "focusd: {name}:{line}: entry {expected} of {origin} is missing");
         }
         ImportFault::Conflict(Conflict::Full) => {
             let _ = eprintln!(rt;
-                "focusd: {name}:{line}: the warehouse would have more than 4,194,304 rows"
+                "focusd: {name}:{line}: more than 4,194,304 rows would have been posted to the warehouse"
             );
         }
         ImportFault::Conflict(_) => {

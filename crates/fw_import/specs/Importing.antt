@@ -7,6 +7,7 @@ use Rattle.fw_entry.specs.Entry.CommandValue.{post}
 use Rattle.fw_recover.specs.Stands.{StandsForEither}
 use Rattle.fw_recover.specs.Store.{StoreState}
 use Rattle.fw_rows.specs.Rows.{RowsRead}
+use Rattle.fw_snapshot.specs.History.{is_withdrawn}
 use Rattle.fw_snapshot.specs.Verdicts.{with_more}
 use Rattle.fw_import.specs.declared.importing.Outcome.{Outcome}
 use Rattle.fw_import.specs.declared.importing.Outcome.TheVariants as outcome
@@ -19,10 +20,10 @@ post_of origin number rows = record { origin = origin; seq = number; command = p
 abbrev pub IsPostOf : List ℕ → List ℕ → ℕ → List ℕ → EntryValue → Type 0
 IsPostOf currency origin number text e = (rows : List Charge) × RowsRead currency text (Ok rows) × (e ≡ post_of origin number rows)
 
--- the warehouse has the entry more; or it is as it was
+-- the warehouse has the entry more; or it is as it was, and what it accepted under the number of the entry wasn't withdrawn
 abbrev pub Becomes : {V : Type 0} → Outcome → EntryValue → StoreState V → StoreState V → Type 0
 Becomes outcome.Added e old new = new.history ≡ with_more old.history (e ∷ [])
-Becomes outcome.Same e old new = new ≡ old
+Becomes outcome.Same e old new = (new ≡ old) × (is_withdrawn old.history.entries e.origin e.seq ≡ false)
 
 -- the store is as it was; or whatever a crash leaves since then stands for the warehouse as it was, or with one entry more at most
 abbrev pub MayStop : {V : Type 0} → Bool → (V → View) → StoreState V → StoreState V → Type 0

@@ -16,6 +16,8 @@ pub enum ImportFault {
     Conflict(Conflict),
     /// Something else was accepted from this origin under this number.
     Differs,
+    /// The post that was accepted from this origin under this number was withdrawn: its rows count no more.
+    Withdrawn,
     /// An entry before this one is missing: the origin's next number is `expected`.
     Gap { expected: u64 },
     /// The store refused the entry, or its device failed.

@@ -1,8 +1,8 @@
 //! A part of a text as the post of an origin.
-ghost use Rattle.std.specs.Prelude.{◌≡◌, length, List, Ok, IfOk, OnErr};
+ghost use Rattle.std.specs.Prelude.{◌≡◌, false, length, List, Ok, IfOk, OnErr};
 ghost use Rattle.fw_charge.specs.Charge.{Charge};
 ghost use Rattle.fw_rows.specs.Rows.{RowsRead};
-ghost use Rattle.fw_snapshot.specs.History.{posted};
+ghost use Rattle.fw_snapshot.specs.History.{is_withdrawn, posted};
 ghost use Rattle.fw_import.specs.Importing.{post_of, Becomes, MayStop, IsPostOf};
 
 use crate::comparing::same_entry;
@@ -22,7 +22,7 @@ use std::alloc::Global;
 pub enum Outcome {
     /// Its rows were added as a post.
     Added,
-    /// The post of the origin under this number has the same rows.
+    /// The post of the origin under this number has the same rows, and wasn't withdrawn.
     Same,
 }
 
@@ -36,11 +36,12 @@ pub struct Taken {
 }
 
 /// Takes the rows of a CSV text into a store, as the post of an origin under a number. It is on the volume, synced, before this returns
-/// `Added`. A post that was accepted before under this number has to have the same rows, else the answer is `Differs`.
+/// `Added`. A post that was accepted before under this number has to have the same rows, else the answer is `Differs`; where it was
+/// withdrawn, the answer is `Withdrawn`, whatever rows it has.
 ///
 /// # Errors
 /// `Rows` where the text has a fault, the first one; `Entry` where the name of the origin, the number or the size is out of range; `Gap`
-/// where the number isn't the origin's next one; `Conflict`; `Store`; `NoMemory`. None changes what the store shows.
+/// where the number isn't the origin's next one; `Differs`; `Withdrawn`; `Conflict`; `Store`; `NoMemory`. None changes what the store shows.
 pub fn import_part<V: Volume>(
     alloc: Global,
     store: &mut Store<V>,
@@ -65,7 +66,10 @@ fn row_count(entry: &Entry) -> u64
 {
     match entry.command() {
         Command::Post(rows) => rows.len() as u64,
-        Command::Commit(_) | Command::SetPolicy(_) | Command::AddPurchase(_) => 0,
+        Command::Commit(_)
+        | Command::SetPolicy(_)
+        | Command::Withdraw(_)
+        | Command::AddPurchase(_) => 0,
     }
 }
 
@@ -114,8 +118,13 @@ fn submit<V: Volume>(
     }
 }
 
-// Compares an entry with the one that was accepted under its number.
-fn compare(alloc: Global, state: &State, entry: &Entry) -> Result<(), ImportFault> {
+// Compares an entry with the one that was accepted under its number, which has to count.
+fn compare(alloc: Global, state: &State, entry: &Entry) -> Result<(), ImportFault>
+    ensures { IfOk result (λ _. is_withdrawn state.now.entries entry.now.origin entry.now.seq ≡ false) }
+{
+    if state.is_withdrawn(entry.origin(), entry.seq()) {
+        return Err(ImportFault::Withdrawn);
+    }
     let Some(rows) = stored_post(alloc, state, entry.origin(), entry.seq())? else {
         return Err(ImportFault::Differs);
     };

@@ -6,8 +6,8 @@ use fw_persistent::Sequence;
 use fw_snapshot::{Content, State};
 use std::alloc::{AllocError, Global};
 
-/// The rows of the post that was accepted from an origin under a number; `None` where another entry was, or none. It reads the heads
-/// of the entries up to this one.
+/// The rows of the post that was accepted from an origin under a number, also of one that was withdrawn; `None` where another entry was,
+/// or none. It reads the heads of the entries up to this one.
 pub fn stored_post(
     alloc: Global,
     state: &State,
@@ -20,7 +20,10 @@ pub fn stored_post(
         let head = heads.get(place);
         let rows = match head.content() {
             Content::Post { rows } => *rows as usize,
-            Content::Commit(_) | Content::SetPolicy(_) | Content::AddPurchase(_) => 0,
+            Content::Commit(_)
+            | Content::SetPolicy(_)
+            | Content::Withdraw(_)
+            | Content::AddPurchase(_) => 0,
         };
         if head.seq() == number && head.origin() == origin {
             return rows_between(alloc, state, before, before.saturating_add(rows));

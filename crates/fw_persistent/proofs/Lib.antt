@@ -1,1 +1,2 @@
 mod Middle
+mod Places

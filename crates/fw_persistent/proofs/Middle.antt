@@ -6,9 +6,11 @@ use Rattle.std.specs.declared.cmp.Ordering.TheVariants.{Less, Equal, Greater}
 use Rattle.std.specs.Cmp.{IsTotalOrder}
 use Rattle.std.specs.Cmp.Lexicographic.{slice_cmp, nat_list_cmp_total, texts_ties, bytes_decides}
 use Rattle.std.specs.FinMap.{find, put, is_sorted}
+use Rattle.std.proofs.lemmas.List.{append_assoc}
 use Rattle.std.specs.FinMap.Entries.{by_order, below_all, find-put, is_sorted-put}
 use Rattle.std.specs.Str.{bytes_eq}
-use Rattle.fw_persistent.specs.Counts.{Counts, IsRising, AreCounted, count_of, counted_once_more}
+use Rattle.fw_persistent.specs.Counts.{Counts, AreCounted, count_of, counted_once_more}
+use Rattle.fw_persistent.specs.Values.{Values, IsRising, value_at, with_value}
 
 both : (a b : Bool) → T a → T b → T (a && b)
 both true b p q = q
@@ -106,68 +108,71 @@ module _ {K X : Type 0} (R : K → K → Ordering) where
         ap (λ o. by_order o ((x, v) ∷ f ∷ l ++ e ∷ r) ((f.0, v) ∷ l ++ e ∷ r) (f ∷ put R x v (l ++ e ∷ r))) (past R o x e.0 f.0 (below_middle f.0 l e r (first _ _ h)) p)
         ∙ ap (λ es. f ∷ es) (put_after x v l e r (second _ _ h) p)
 
--- what a text counted once more comes to, and its counts
-module _ (x : List ℕ) (l : Counts) (e : List ℕ × ℕ) (r : Counts) where
-  pub raised_before : IsRising (l ++ e ∷ r) → slice_cmp nat_cmp x e.0 ≡ Less → counted_once_more x (l ++ e ∷ r) ≡ counted_once_more x l ++ e ∷ r
-  raised_before h p =
-      ap (λ n. put (slice_cmp nat_cmp) x (unwrap_or n 0 + 1) (l ++ e ∷ r)) (find_before (slice_cmp nat_cmp) nat_list_cmp_total x l e r (held _ h) p)
-      ∙ put_before (slice_cmp nat_cmp) x _ l e r p
-
-  pub raised_middle : IsRising (l ++ e ∷ r) → slice_cmp nat_cmp x e.0 ≡ Equal → counted_once_more x (l ++ e ∷ r) ≡ l ++ (e.0, e.1 + 1) ∷ r
-  raised_middle h p =
-      ap (λ n. put (slice_cmp nat_cmp) x (unwrap_or n 0 + 1) (l ++ e ∷ r)) (find_middle (slice_cmp nat_cmp) nat_list_cmp_total x l e r (held _ h) p)
-      ∙ put_middle (slice_cmp nat_cmp) nat_list_cmp_total x _ l e r (held _ h) p
-
-  pub raised_after : IsRising (l ++ e ∷ r) → slice_cmp nat_cmp x e.0 ≡ Greater → counted_once_more x (l ++ e ∷ r) ≡ l ++ e ∷ counted_once_more x r
-  raised_after h p =
-      ap (λ n. put (slice_cmp nat_cmp) x (unwrap_or n 0 + 1) (l ++ e ∷ r)) (find_after (slice_cmp nat_cmp) nat_list_cmp_total x l e r (held _ h) p)
-      ∙ put_after (slice_cmp nat_cmp) nat_list_cmp_total x _ l e r (held _ h) p
-
-pub rising_raised : (x : List ℕ) (counts : Counts) → IsRising counts → IsRising (counted_once_more x counts)
-rising_raised x counts h = told _ (is_sorted-put (slice_cmp nat_cmp) nat_list_cmp_total x _ counts (held _ h))
-
-count_cases : (b : Bool) (n : ℕ) (found : Option ℕ) → (b ≡ true → n ≡ unwrap_or found 0) → unwrap_or (cond b (Some (n + 1)) found) 0 ≡ unwrap_or found 0 + (if b then 1 else 0)
-count_cases true n found same = ap (λ k. k + 1) (same refl)
-count_cases false n found same = omega arith
-
-pub count_raised : (x : List ℕ) (counts : Counts) (other : List ℕ) → count_of other (counted_once_more x counts) ≡ count_of other counts + (if bytes_eq other x then 1 else 0)
-count_raised x counts other =
-    ap (λ n. unwrap_or n 0) (find-put (slice_cmp nat_cmp) nat_list_cmp_total other x (count_of x counts + 1) counts)
-    ∙ ap (λ b. unwrap_or (cond b (Some (count_of x counts + 1)) (find (slice_cmp nat_cmp) other counts)) 0) (sym (texts_ties other x))
-    ∙ count_cases (bytes_eq other x) (count_of x counts) (find (slice_cmp nat_cmp) other counts) (λ e. ap (λ t. count_of t counts) (sym ((bytes_decides other x).0 e)))
-
--- what rises does so on both sides of an entry
-module _ (l : Counts) (e : List ℕ × ℕ) (r : Counts) where
+module _ {V : Type 0} (l : Values V) (e : List ℕ × V) (r : Values V) where
+  -- what rises does so on both sides of an entry
   pub rising_before : IsRising (l ++ e ∷ r) → IsRising l
   rising_before h = told _ (sorted_front (slice_cmp nat_cmp) l (e ∷ r) (held _ h))
 
   pub rising_after : IsRising (l ++ e ∷ r) → IsRising r
   rising_after h = told _ (sorted_back (slice_cmp nat_cmp) l e r (held _ h))
 
--- where a text is found
-module _ (x : List ℕ) (l : Counts) (e : List ℕ × ℕ) (r : Counts) where
-  pub found_before : IsRising (l ++ e ∷ r) → slice_cmp nat_cmp x e.0 ≡ Less → find (slice_cmp nat_cmp) x (l ++ e ∷ r) ≡ find (slice_cmp nat_cmp) x l
-  found_before h p = find_before (slice_cmp nat_cmp) nat_list_cmp_total x l e r (held _ h) p
+  -- an entry's sides have fewer values than all
+  pub sides_fewer : (length l < length (l ++ e ∷ r)) × (length r < length (l ++ e ∷ r))
+  sides_fewer = omega (arith, length-append l (e ∷ r))
 
-  pub found_middle : IsRising (l ++ e ∷ r) → slice_cmp nat_cmp x e.0 ≡ Equal → find (slice_cmp nat_cmp) x (l ++ e ∷ r) ≡ Some e.1
-  found_middle h p = find_middle (slice_cmp nat_cmp) nat_list_cmp_total x l e r (held _ h) p
+  module _ (x : List ℕ) where
+    -- where a text is found
+    pub found_before : IsRising (l ++ e ∷ r) → slice_cmp nat_cmp x e.0 ≡ Less → value_at x (l ++ e ∷ r) ≡ value_at x l
+    found_before h p = find_before (slice_cmp nat_cmp) nat_list_cmp_total x l e r (held _ h) p
 
-  pub found_after : IsRising (l ++ e ∷ r) → slice_cmp nat_cmp x e.0 ≡ Greater → find (slice_cmp nat_cmp) x (l ++ e ∷ r) ≡ find (slice_cmp nat_cmp) x r
-  found_after h p = find_after (slice_cmp nat_cmp) nat_list_cmp_total x l e r (held _ h) p
+    pub found_middle : IsRising (l ++ e ∷ r) → slice_cmp nat_cmp x e.0 ≡ Equal → value_at x (l ++ e ∷ r) ≡ Some e.1
+    found_middle h p = find_middle (slice_cmp nat_cmp) nat_list_cmp_total x l e r (held _ h) p
+
+    pub found_after : IsRising (l ++ e ∷ r) → slice_cmp nat_cmp x e.0 ≡ Greater → value_at x (l ++ e ∷ r) ≡ value_at x r
+    found_after h p = find_after (slice_cmp nat_cmp) nat_list_cmp_total x l e r (held _ h) p
+
+    -- where a value is put
+    pub with_before : (v : V) → slice_cmp nat_cmp x e.0 ≡ Less → with_value x v (l ++ e ∷ r) ≡ with_value x v l ++ e ∷ r
+    with_before v p = put_before (slice_cmp nat_cmp) x v l e r p
+
+    pub with_middle : (v : V) → IsRising (l ++ e ∷ r) → slice_cmp nat_cmp x e.0 ≡ Equal → with_value x v (l ++ e ∷ r) ≡ l ++ (e.0, v) ∷ r
+    with_middle v h p = put_middle (slice_cmp nat_cmp) nat_list_cmp_total x v l e r (held _ h) p
+
+    pub with_after : (v : V) → IsRising (l ++ e ∷ r) → slice_cmp nat_cmp x e.0 ≡ Greater → with_value x v (l ++ e ∷ r) ≡ l ++ e ∷ with_value x v r
+    with_after v h p = put_after (slice_cmp nat_cmp) nat_list_cmp_total x v l e r (held _ h) p
+
+module _ {V : Type 0} (x : List ℕ) (v : V) (values : Values V) where
+  pub rising_with : IsRising values → IsRising (with_value x v values)
+  rising_with h = told _ (is_sorted-put (slice_cmp nat_cmp) nat_list_cmp_total x v values (held _ h))
+
+  pub value_with : (other : List ℕ) → value_at other (with_value x v values) ≡ (if bytes_eq other x then Some v else value_at other values)
+  value_with other =
+      find-put (slice_cmp nat_cmp) nat_list_cmp_total other x v values
+      ∙ ap (λ b. cond b (Some v) (value_at other values)) (sym (texts_ties other x))
+
+-- entries between three sides that are turned
+pub turned : {X : Type 0} (a : List X) (x : X) (b : List X) (y : X) (c : List X) (z : X) (d : List X) → (a ++ x ∷ b) ++ y ∷ (c ++ z ∷ d) ≡ a ++ x ∷ ((b ++ y ∷ c) ++ z ∷ d)
+turned a x b y c z d = append_assoc a (x ∷ b) (y ∷ (c ++ z ∷ d)) ∙ ap (λ l. a ++ x ∷ l) (sym (append_assoc b (y ∷ c) (z ∷ d)))
 
 -- texts that tie are the same
 pub same_text : (x y : List ℕ) → slice_cmp nat_cmp x y ≡ Equal → x ≡ y
 same_text x y p = (bytes_decides x y).0 (texts_ties x y ∙ ap is_eq p)
 
--- a node's sides have fewer counts than it
-pub sides_fewer : (l : Counts) (e : List ℕ × ℕ) (r : Counts) → (length l < length (l ++ e ∷ r)) × (length r < length (l ++ e ∷ r))
-sides_fewer l e r = omega (arith, length-append l (e ∷ r))
+-- what a text counted once more comes to, and its counts
+count_cases : (b : Bool) (n : ℕ) (found : Option ℕ) → (b ≡ true → n ≡ unwrap_or found 0) → unwrap_or (if b then Some (n + 1) else found) 0 ≡ unwrap_or found 0 + (if b then 1 else 0)
+count_cases true n found same = ap (λ k. k + 1) (same refl)
+count_cases false n found same = omega arith
+
+pub count_raised : (x : List ℕ) (counts : Counts) (other : List ℕ) → count_of other (counted_once_more x counts) ≡ count_of other counts + (if bytes_eq other x then 1 else 0)
+count_raised x counts other =
+    ap (λ found. unwrap_or found 0) (value_with x (count_of x counts + 1) counts other)
+    ∙ count_cases (bytes_eq other x) (count_of x counts) (value_at other counts) (λ e. ap (λ t. count_of t counts) (sym ((bytes_decides other x).0 e)))
 
 -- each text stays counted once one is counted once more
-counted_put : (x : List ℕ) (n : ℕ) (counts : Counts) → AreCounted counts → AreCounted (put (slice_cmp nat_cmp) x (n + 1) counts)
+counted_put : (x : List ℕ) (n : ℕ) (counts : Counts) → AreCounted counts → AreCounted (with_value x (n + 1) counts)
 counted_put x n [] h = (omega arith, tt)
 counted_put x n (e ∷ counts) h =
-    elim (slice_cmp nat_cmp x e.0) as (λ o. AreCounted (by_order o ((x, n + 1) ∷ e ∷ counts) ((e.0, n + 1) ∷ counts) (e ∷ put (slice_cmp nat_cmp) x (n + 1) counts))) [
+    elim (slice_cmp nat_cmp x e.0) as (λ o. AreCounted (by_order o ((x, n + 1) ∷ e ∷ counts) ((e.0, n + 1) ∷ counts) (e ∷ with_value x (n + 1) counts))) [
       | Less ↦ (omega arith, h)
       | Equal ↦ (omega arith, h.1)
       | Greater ↦ (h.0, counted_put x n counts h.1)
@@ -176,14 +181,14 @@ counted_put x n (e ∷ counts) h =
 pub counted_raised : (x : List ℕ) (counts : Counts) → AreCounted counts → AreCounted (counted_once_more x counts)
 counted_raised x counts h = counted_put x (count_of x counts) counts h
 
-counted_find : (x : List ℕ) (counts : Counts) → AreCounted counts → 0 < unwrap_or (find (slice_cmp nat_cmp) x counts) 1
+counted_find : (x : List ℕ) (counts : Counts) → AreCounted counts → 0 < unwrap_or (value_at x counts) 1
 counted_find x [] h = omega arith
 counted_find x (e ∷ counts) h =
-    elim (eq_by_cmp (slice_cmp nat_cmp) x e.0) as (λ b. 0 < unwrap_or (cond b (Some e.1) (find (slice_cmp nat_cmp) x counts)) 1) [
+    elim (eq_by_cmp (slice_cmp nat_cmp) x e.0) as (λ b. 0 < unwrap_or (cond b (Some e.1) (value_at x counts)) 1) [
       | true ↦ h.0
       | false ↦ counted_find x counts h.1
     ]
 
 -- the count that is found for a text isn't 0
-pub found_counted : (x : List ℕ) (counts : Counts) (n : ℕ) → AreCounted counts → find (slice_cmp nat_cmp) x counts ≡ Some n → 0 < n
+pub found_counted : (x : List ℕ) (counts : Counts) (n : ℕ) → AreCounted counts → value_at x counts ≡ Some n → 0 < n
 found_counted x counts n h is = subst (λ found. 0 < unwrap_or found 1) is (counted_find x counts h)

@@ -13,7 +13,7 @@ use std::sync::Arc;
 /// `raised` takes.
 #[derive(Drop)]
 pub struct Counters {
-    root: Branch,
+    root: Branch<u64>,
 }
 
 impl Model for Counters {
@@ -42,9 +42,9 @@ impl Counters {
     pub fn count(&self, text: &str) -> u64
         ensures { result ≡ count_of text.now self.now }
     {
-        match self.root.tally(text) {
+        match self.root.entry(text) {
             None => 0,
-            Some(tally) => tally.count,
+            Some(entry) => entry.value,
         }
     }
 
@@ -53,22 +53,25 @@ impl Counters {
     pub fn key(&self, text: &str) -> Option<&Arc<String>>
         ensures { MatchOption result (count_of text.now self.now ≡ 0) (λ key. (string_bytes key.now.value ≡ text.now) × (0 < count_of text.now self.now)) }
     {
-        match self.root.tally(text) {
+        match self.root.entry(text) {
             None => None,
-            Some(tally) => Some(&tally.text),
+            Some(entry) => Some(&entry.text),
         }
     }
 
     /// The counters with a text counted once more. The text is shared, unless an equal one is there, which then stays.
     /// The error comes where memory ran out, where what is shared has as many owners as can be counted, and where the
     /// text was counted `u64::MAX` times. The old counters stay as they were in any case.
-    #[tactic(auto, using(crate::proofs::Middle::count_raised, crate::proofs::Middle::rising_raised, crate::proofs::Middle::counted_raised))]
+    #[tactic(auto, using(crate::proofs::Middle::count_raised, crate::proofs::Middle::rising_with, crate::proofs::Middle::counted_raised))]
     pub fn raised(&self, alloc: Global, text: &Arc<String>) -> Result<Counters, AllocError>
         ensures exact { IfOk result (λ counters. counters ≡ counted_once_more (string_bytes text.now.value) self.now) }
         ensures counts { IfOk result (λ counters. (other : List ℕ) → count_of other counters ≡ count_of other self.now + (if bytes_eq other (string_bytes text.now.value) then 1 else 0)) }
     {
+        let Some(count) = self.count(text.as_str()).checked_add(1) else {
+            return Err(AllocError);
+        };
         Ok(Counters {
-            root: self.root.raised(alloc, text)?,
+            root: self.root.put(alloc, text, count)?,
         })
     }
 

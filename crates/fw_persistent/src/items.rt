@@ -1,7 +1,8 @@
 //! A sequence's items in complete trees, and the row of trees that a sequence is.
-ghost use Rattle.std.specs.Prelude.{◌≡◌, ◌<◌, ◌+◌, ◌^◌, ◌∷◌, ◌++◌, [], length, IfOk, Some, slice_get};
+ghost use Rattle.std.specs.Prelude.{◌≡◌, ◌<◌, ◌+◌, ◌^◌, ◌∷◌, ◌++◌, [], length, set, IfOk, Some, slice_get};
 ghost use Rattle.fw_persistent.specs.Items.{tree_items, row_items, IsEven, IsRow};
 
+use crate::share::Share;
 use std::alloc::{AllocError, Global};
 use std::sync::Arc;
 
@@ -34,6 +35,48 @@ impl<T> Tree<T> {
                     newer.item(half, place - half)
                 } else {
                     item
+                }
+            }
+        }
+    }
+}
+
+impl<T: Share> Tree<T> {
+    /// The tree of `size` items with another item at a place, which shares the trees that aren't on the way to the place.
+    fn set(&self, alloc: Global, size: usize, place: usize, item: T) -> Result<Tree<T>, AllocError>
+        requires even { IsEven self.now }
+        requires size { size ≡ length (tree_items self.now) }
+        requires inside { place < size }
+        ensures { IfOk result (λ tree. (tree_items tree ≡ set (tree_items self.now) place item) × IsEven tree) }
+    {
+        match self {
+            Tree::Leaf(_) => Ok(Tree::Leaf(item)),
+            Tree::Fork {
+                older: older_side,
+                newer: newer_side,
+                item: newest,
+            } => {
+                let half = size / 2;
+                if place < half {
+                    let tree = older_side.set(alloc, half, place, item)?;
+                    Ok(Tree::Fork {
+                        older: Arc::new(alloc, tree)?,
+                        newer: Arc::try_clone(newer_side)?,
+                        item: newest.share()?,
+                    })
+                } else if place - half < half {
+                    let tree = newer_side.set(alloc, half, place - half, item)?;
+                    Ok(Tree::Fork {
+                        older: Arc::try_clone(older_side)?,
+                        newer: Arc::new(alloc, tree)?,
+                        item: newest.share()?,
+                    })
+                } else {
+                    Ok(Tree::Fork {
+                        older: Arc::try_clone(older_side)?,
+                        newer: Arc::try_clone(newer_side)?,
+                        item,
+                    })
                 }
             }
         }
@@ -134,5 +177,47 @@ impl<T: Drop> Row<T> {
             size: 1,
             newest: Arc::new(alloc, Tree::Leaf(item))?,
         })
+    }
+}
+
+impl<T: Share> Row<T> {
+    /// The row of `len` items with another item at a place, which shares the trees that aren't on the way to the place.
+    pub(crate) fn set(
+        &self,
+        alloc: Global,
+        len: usize,
+        place: usize,
+        item: T,
+    ) -> Result<Row<T>, AllocError>
+        requires row { IsRow self.now }
+        requires len { len ≡ length (row_items self.now) }
+        requires inside { place < len }
+        ensures { IfOk result (λ row. (row_items row ≡ set (row_items self.now) place item) × IsRow row) }
+    {
+        match self {
+            Row::Empty => unreachable!(),
+            Row::More {
+                older,
+                size,
+                newest,
+            } => {
+                let before = len - *size;
+                if place < before {
+                    let row = older.set(alloc, before, place, item)?;
+                    Ok(Row::More {
+                        older: Arc::new(alloc, row)?,
+                        size: *size,
+                        newest: Arc::try_clone(newest)?,
+                    })
+                } else {
+                    let tree = newest.set(alloc, *size, place - before, item)?;
+                    Ok(Row::More {
+                        older: Arc::try_clone(older)?,
+                        size: *size,
+                        newest: Arc::new(alloc, tree)?,
+                    })
+                }
+            }
+        }
     }
 }

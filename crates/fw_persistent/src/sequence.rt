@@ -1,7 +1,8 @@
 //! A list that is added to at its end, and never changed.
-ghost use Rattle.std.specs.Prelude.{◌≡◌, ◌<◌, ◌∷◌, ◌++◌, [], length, map, IfOk, Some, slice_get};
+ghost use Rattle.std.specs.Prelude.{◌≡◌, ◌<◌, ◌∷◌, ◌++◌, [], length, map, set, IfOk, Some, slice_get};
 
 use crate::items::Row;
+use crate::share::Share;
 use std::alloc::{AllocError, Global};
 use std::marker::Model;
 
@@ -86,6 +87,22 @@ impl<T: Drop> Sequence<T> {
         Ok(Sequence {
             len: self.len,
             row: self.row.copy()?,
+        })
+    }
+}
+
+impl<T: Share> Sequence<T> {
+    /// The sequence with another item at a place. It shares all trees of items but those on the way to the place, and its
+    /// own items on that way by [`Share`]. The time, and the number of blocks of memory, grow with the logarithm of the
+    /// number of items. The error comes where memory ran out, and where what is shared has as many owners as can be
+    /// counted. Then the item is dropped. The old sequence stays as it was in any case.
+    pub fn set(&self, alloc: Global, place: usize, item: T) -> Result<Sequence<T>, AllocError>
+        requires { place < length self.now }
+        ensures { IfOk result (λ sequence. sequence ≡ set self.now place item) }
+    {
+        Ok(Sequence {
+            len: self.len,
+            row: self.row.set(alloc, self.len, place, item)?,
         })
     }
 }

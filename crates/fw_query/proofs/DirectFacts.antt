@@ -6,7 +6,7 @@ use Rattle.std.specs.Str.{bytes_eq}
 use Rattle.std.proofs.lemmas.List.Elements.{All-head, All-tail, Contains-append_left}
 use Rattle.std.proofs.lemmas.Simd.{map-map}
 use Rattle.fw_entry.specs.Entry as entry
-use Rattle.fw_entry.specs.Entry.CommandValue.{post, commit, set_policy, add_purchase}
+use Rattle.fw_entry.specs.Entry.CommandValue.{post, commit, set_policy, withdraw, add_purchase}
 use Rattle.fw_entry.specs.Spelling.{IsCommand, IsEntry}
 use Rattle.fw_snapshot.specs.History.{policy_after, policy_of}
 use Rattle.fw_allocate.specs.Charges.{AreCharges, charged_to}
@@ -27,6 +27,7 @@ after_keeps : (before : Option PolicyValue) (c : entry.CommandValue) → IfSome 
 after_keeps before (post rows) is known = is
 after_keeps before (commit c) is known = is
 after_keeps before (set_policy p) is known = known.limits
+after_keeps before (withdraw n) is known = is
 after_keeps before (add_purchase a) is known = is
 
 all_keep : (before : Option PolicyValue) (history : List entry.EntryValue) → IfSome before IsPolicy → All IsEntry history → IfSome (fold (λ before (e : entry.EntryValue). policy_after before e.command) before history) IsPolicy

@@ -12,7 +12,7 @@ use Rattle.fw_amortise.proofs.Split.{weights_are_the_capacity}
 use Rattle.fw_amortise.specs.LineValue.{LineValue}
 use Rattle.fw_amortise.specs.Lines.{AreHourLines, AreLines, AreLinesAt, amount_in, given_lines, purchase_lines, rest_lines, rows_in, running, shared_lines, weights_of}
 use Rattle.fw_entry.specs.Entry as entry
-use Rattle.fw_entry.specs.Entry.CommandValue.{post, commit, set_policy, add_purchase}
+use Rattle.fw_entry.specs.Entry.CommandValue.{post, commit, set_policy, withdraw, add_purchase}
 use Rattle.fw_entry.specs.Spelling.{IsCommand, IsEntry}
 use Rattle.fw_snapshot.specs.History.{commitments_of, committed, committed_of, rows_of, with_added}
 use Rattle.fw_terms.specs.Commitment.{CommitmentValue}
@@ -36,6 +36,7 @@ command_has : (c : entry.CommandValue) → IsCommand c → All HasCapacity (comm
 command_has (post rows) known = All-nil HasCapacity
 command_has (commit c) known = All-cons HasCapacity c [] known.limits.capacity_some (All-nil HasCapacity)
 command_has (set_policy p) known = All-nil HasCapacity
+command_has (withdraw n) known = All-nil HasCapacity
 command_has (add_purchase a) known = All-nil HasCapacity
 
 committed_have : (history : List entry.EntryValue) → All IsEntry history → All HasCapacity (committed_of history)

@@ -10,3 +10,4 @@ pub mod AccountedFacts
 pub mod BoughtFacts
 mod ShareFacts
 mod ExistFacts
+mod ElsewhereFacts

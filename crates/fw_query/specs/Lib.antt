@@ -10,3 +10,4 @@ pub mod OfHistory
 pub mod OneAnswer
 pub mod Carried
 pub mod Accounted
+pub mod Elsewhere

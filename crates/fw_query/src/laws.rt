@@ -1,20 +1,23 @@
 //! What holds of every report, and of the lines that it sums: laws, each the contract of a function that does nothing.
-ghost use Rattle.std.specs.Prelude.{◌≡◌, ◌≤◌, ◌+◌, All, IfSome, List, Option, Result, Some, codes, filter, map, pos, slice_get, true, ℕ};
+ghost use Rattle.std.specs.Prelude.{◌≡◌, ◌≤◌, ◌↔◌, ◌+◌, ◌++◌, ◌∷◌, [], All, IfSome, List, Option, Result, Some, codes, filter, map, pos, slice_get, true, ℕ};
 ghost use Rattle.fw_allocate.specs.Costs.{total};
 ghost use Rattle.fw_amortise.specs.Carrying.{cost_of_all};
 ghost use Rattle.fw_amortise.specs.LineValue.{LineValue};
 ghost use Rattle.fw_charge.specs.Codes.{category_word};
 ghost use Rattle.fw_entry.specs.Entry as entry;
+ghost use Rattle.fw_entry.specs.Entry.CommandValue.{withdraw};
 ghost use Rattle.fw_entry.specs.Spelling.{IsEntry};
 ghost use Rattle.fw_query.specs.Accounted.{AreAccountedBetween};
 ghost use Rattle.fw_query.specs.Carried.{amount_between, billed_by_all, cost_between, shows_purchase_of, shows_share_of};
+ghost use Rattle.fw_query.specs.Elsewhere.{HasNoRowBetween};
 ghost use Rattle.fw_query.specs.OfHistory.{AreLinesOf, IsReportOn};
 ghost use Rattle.fw_query.specs.OneAnswer.{IsAnswer, IsSameAnswer};
 ghost use Rattle.fw_query.specs.Reports.{EntryValue, IsReportOf};
 ghost use Rattle.fw_query.specs.Texts.{id_text, lines_text};
 ghost use Rattle.fw_query.specs.declared.fault.QueryFault.{QueryFault};
 ghost use Rattle.fw_snapshot.specs.History.{commitments_of, rows_of};
-ghost use Rattle.fw_snapshot.specs.Judging.{IsLegal};
+ghost use Rattle.fw_snapshot.specs.Judging.{IsLegal, judged};
+ghost use Rattle.fw_snapshot.specs.declared.verdict.Verdict.TheVariants as verdict;
 ghost use Rattle.fw_terms.specs.Commitment.{CommitmentValue, cost_of};
 ghost use Rattle.fw_terms.specs.Policy.{IsPolicy, PolicyValue};
 
@@ -65,4 +68,11 @@ pub fn there_are_lines()
 /// one line, also one that was added to its commitment later. Each line comes from one purchase, one row, or one commitment.
 pub fn rows_are_counted_once()
     ensures { (history : List entry.EntryValue) (from to : ℕ) (lines : List LineValue) → from ≤ to → AreLinesOf history from to lines → AreAccountedBetween (commitments_of history) (rows_of history) from to lines }
+{}
+
+/// A withdrawal changes nothing in hours in which the withdrawn post has no row: where the entry is accepted after these, the lines of the hours, and
+/// the reports on them, are the same before and after it. By [`answers_are_one`] there is one answer before, and it is the one after.
+pub fn what_is_withdrawn_changes_no_other_hours()
+    ensures lines { (history : List entry.EntryValue) (withdrawal : entry.EntryValue) (seq from to : ℕ) (lines : List LineValue) → IsLegal history → judged history withdrawal ≡ verdict.Accept → withdrawal.command ≡ withdraw seq → HasNoRowBetween from to withdrawal.origin seq history → (AreLinesOf history from to lines ↔ AreLinesOf (history ++ withdrawal ∷ []) from to lines) }
+    ensures reports { (history : List entry.EntryValue) (withdrawal : entry.EntryValue) (seq : ℕ) (key : List ℕ) (from to : ℕ) (report : List EntryValue) → IsLegal history → judged history withdrawal ≡ verdict.Accept → withdrawal.command ≡ withdraw seq → HasNoRowBetween from to withdrawal.origin seq history → (IsReportOn history key from to report ↔ IsReportOn (history ++ withdrawal ∷ []) key from to report) }
 {}

@@ -4,7 +4,7 @@
 //! counted in nanos, which are 10^-9 of the currency unit, and hours from 1970. What the lines of a group come to is found by `fw_sums`.
 //!
 //! What holds of every report and of its lines is said by laws: [`charged_is_direct`], [`commitments_are_carried`], [`rows_are_counted_once`],
-//! [`answers_are_one`].
+//! [`answers_are_one`], [`what_is_withdrawn_changes_no_other_hours`].
 #![tactic(auto)]
 
 mod charges;
@@ -22,7 +22,7 @@ pub use fault::QueryFault;
 pub use fw_sums::{Covers, MOST_HOURS, Query};
 pub use laws::{
     answers_are_one, charged_is_direct, commitments_are_carried, reports_keep_the_total,
-    rows_are_counted_once, there_are_lines,
+    rows_are_counted_once, there_are_lines, what_is_withdrawn_changes_no_other_hours,
 };
 pub use line_text::{id_of, status_of};
 pub use listing::lines_csv;

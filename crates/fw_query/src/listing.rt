@@ -56,7 +56,7 @@ fn lines_csv_on(
     requires { from + hours < 2 ^ 64 }
     ensures { IfOk result (λ text. IsListing (commitments_of state.now.entries) (rows_of state.now.entries) from hours text.items) }
 {
-    let segments = state.segments().references(alloc)?;
+    let segments = state.counting_segments(alloc)?;
     lines_csv_of(
         alloc,
         segments.as_slice(),

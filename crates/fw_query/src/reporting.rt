@@ -97,7 +97,7 @@ fn report_on(
     ensures report { IfOk result (IsReport (commitments_of state.now.entries) (rows_of state.now.entries) (policy_of state.now.entries) query.now.key.now query.now.from_hour query.now.to_hour) }
     ensures fault { IfErr result (IsRefused (commitments_of state.now.entries) (rows_of state.now.entries) query.now.key.now query.now.from_hour query.now.to_hour) }
 {
-    let segments = state.segments().references(alloc)?;
+    let segments = state.counting_segments(alloc)?;
     let totals = totals_keeping(
         rt,
         alloc,
@@ -116,7 +116,7 @@ fn report_alone_on(alloc: Global, state: &State, query: &Query<'_>) -> Result<Re
     ensures report { IfOk result (IsReport (commitments_of state.now.entries) (rows_of state.now.entries) (policy_of state.now.entries) query.now.key.now query.now.from_hour query.now.to_hour) }
     ensures fault { IfErr result (IsRefused (commitments_of state.now.entries) (rows_of state.now.entries) query.now.key.now query.now.from_hour query.now.to_hour) }
 {
-    let segments = state.segments().references(alloc)?;
+    let segments = state.counting_segments(alloc)?;
     let totals = totals_alone(alloc, segments.as_slice(), state.commitment_list(), query)?;
     report_of(alloc, state, query, totals)
 }

@@ -19,7 +19,7 @@ use Rattle.fw_segment.specs.Heads.{heads}
 use Rattle.fw_segment.specs.Segments.{IsSegment}
 use Rattle.fw_segment.specs.States.{Spells, state, Cut, cut_rows}
 use Rattle.fw_segment.specs.declared.layout.SegmentLayout.{SegmentLayout}
-use Rattle.fw_snapshot.specs.Heads.{segment_rows}
+use Rattle.fw_posted.specs.Rows.{segment_rows}
 use Rattle.fw_snapshot.specs.History.{History, rows_posted}
 use Rattle.fw_recover.specs.Sides.{magic, made_of, generation_of, IsOpen}
 use Rattle.fw_recover.specs.Stands.{StandsFor, StandsForNone}

@@ -1,46 +1,45 @@
 -- A text holds one list of commands.
-use Rattle.std.proofs.Common.{◌≡◌, ℕ, ◌≤◌, ◌<◌, List, [], ◌∷◌, ◌++◌, length, lit<, refl, sym, ap, subst, ◌∙◌, arith, append_assoc}
-use Rattle.std.specs.Prelude.{codes, IsUtf8, Bool, true, false, Option, Some, None, MatchOption, unwrap_or, ◌≢◌}
+use Rattle.std.proofs.Common.{◌≡◌, ◌⊎◌, inl, inr, ℕ, ◌≤◌, ◌<◌, List, [], ◌∷◌, ◌++◌, length, lit<, refl, sym, ap, subst, ◌∙◌, arith, append_assoc}
+use Rattle.std.specs.Prelude.{codes, Contains, IsUtf8, Bool, true, false, Option, Some, None, MatchOption, unwrap_or, ◌≢◌}
 use Rattle.std.specs.Str.Parse.{digits_value}
 use Rattle.fw_script.specs.declared.commands.Command.{Command}
 use Rattle.fw_script.specs.declared.commands.Command.TheVariants.{BadCommand}
-use Rattle.fw_script.specs.Commands.{IsEntryLine, IsReportLine, IsLinesLine, IsEntry, IsCutShort, IsCommand, FirstCommand, CommandsOf, entry_word}
+use Rattle.fw_script.specs.Commands.{IsEntryLine, IsReportLine, IsLinesLine, IsEntry, IsCutShort, IsCommand, FirstCommand, CommandsOf, TakesLines, entry_content, entry_word}
 use Rattle.fw_script.specs.declared.commands.EntryKind.{EntryKind}
 use Rattle.fw_script.specs.declared.commands.EntryKind.TheVariants as kind
 use Rattle.fw_script.specs.Hours.{IsHourText}
 use Rattle.fw_script.specs.Plain.{PlainCommand, entry, report, lines, state, checkpoint, bad_command, bad_end, plain_command}
 use Rattle.fw_script.specs.Splits.{FirstSplit, LastSplit}
-use Rattle.fw_script.specs.Words.{IsLineCount, space}
-use Rattle.fw_script.specs.Lines.{StartsWithLines, FollowsLines}
+use Rattle.fw_script.specs.Words.{IsLineCount, IsSequence, space}
+use Rattle.fw_script.specs.Lines.{StartsWithLine, StartsWithLines, FollowsLines}
 use Rattle.fw_script.proofs.WordsLaws.{FirstSplit-one, LastSplit-one, arguments-one}
-use Rattle.fw_script.proofs.LinesLaws.{StartsWithLine-one, StartsWithLines-one, StartsWithLine-shorter, StartsWithLines-shorter}
+use Rattle.fw_script.proofs.LinesLaws.{FollowsLines-start, StartsWithLine-one, StartsWithLines-one, StartsWithLine-shorter, StartsWithLines-shorter}
 use Rattle.fw_script.proofs.HoursLaws.{IsHourText-one}
 
 -- an entry's line, split word by word
-pub entry_arguments : (word line arguments o s : List ℕ) (n : ℕ) → line ≡ word ++ space ∷ arguments → (e : IsEntryLine word line o s n) → FirstSplit space arguments o (s ++ space ∷ e.number)
-entry_arguments word line arguments o s n h e = record { in_turn = arguments-one word line _ _ h e.in_turn; clear = e.origin_is_word }
+pub entry_arguments : (k : EntryKind) (line arguments o s l : List ℕ) (n : ℕ) → line ≡ entry_word k ++ space ∷ arguments → IsEntryLine k line o s l n → FirstSplit space arguments o (s ++ space ∷ l)
+entry_arguments k line arguments o s l n h e = record { in_turn = arguments-one (entry_word k) line _ _ h e.in_turn; clear = e.origin_is_word }
 
-pub entry_rest : (word line arguments origin rest o s : List ℕ) (n : ℕ) → line ≡ word ++ space ∷ arguments → FirstSplit space arguments origin rest
-    → (e : IsEntryLine word line o s n) → FirstSplit space rest s e.number
-entry_rest word line arguments origin rest o s n h f e = record {
-  in_turn = (FirstSplit-one space arguments _ _ _ _ f (entry_arguments word line arguments o s n h e)).1;
+pub entry_rest : (k : EntryKind) (line arguments origin rest o s l : List ℕ) (n : ℕ) → line ≡ entry_word k ++ space ∷ arguments → FirstSplit space arguments origin rest
+    → IsEntryLine k line o s l n → FirstSplit space rest s l
+entry_rest k line arguments origin rest o s l n h f e = record {
+  in_turn = (FirstSplit-one space arguments _ _ _ _ f (entry_arguments k line arguments o s l n h e)).1;
   clear = e.sequence_is_word;
 }
 
-pub entry_number : (word line arguments origin rest sequence number o s : List ℕ) (n : ℕ) → line ≡ word ++ space ∷ arguments → FirstSplit space arguments origin rest
-    → FirstSplit space rest sequence number → IsEntryLine word line o s n → IsLineCount number n
-entry_number word line arguments origin rest sequence number o s n h f g e =
-    subst (λ w. IsLineCount w n) (FirstSplit-one space rest _ _ _ _ (entry_rest word line arguments origin rest o s n h f e) g).1 e.counts
+pub entry_takes : (k : EntryKind) (line arguments origin rest sequence last o s l : List ℕ) (n : ℕ) → line ≡ entry_word k ++ space ∷ arguments → FirstSplit space arguments origin rest
+    → FirstSplit space rest sequence last → IsEntryLine k line o s l n → TakesLines k last n
+entry_takes k line arguments origin rest sequence last o s l n h f g e =
+    subst (λ w. TakesLines k w n) (FirstSplit-one space rest _ _ _ _ (entry_rest k line arguments origin rest o s l n h f e) g).1 e.takes
 
 -- a line that is split so is an entry's
-pub entry_there : (word line arguments origin rest sequence number : List ℕ) (n : ℕ) → line ≡ word ++ space ∷ arguments → FirstSplit space arguments origin rest
-    → FirstSplit space rest sequence number → IsLineCount number n → IsEntryLine word line origin sequence n
-entry_there word line arguments origin rest sequence number n h f g counts = record {
-  number = number;
-  in_turn = h ∙ ap (λ l. word ++ space ∷ l) (f.in_turn ∙ ap (λ l. origin ++ space ∷ l) g.in_turn);
+pub entry_there : (k : EntryKind) (line arguments origin rest sequence last : List ℕ) (n : ℕ) → line ≡ entry_word k ++ space ∷ arguments → FirstSplit space arguments origin rest
+    → FirstSplit space rest sequence last → TakesLines k last n → IsEntryLine k line origin sequence last n
+entry_there k line arguments origin rest sequence last n h f g takes = record {
+  in_turn = h ∙ ap (λ l. entry_word k ++ space ∷ l) (f.in_turn ∙ ap (λ l. origin ++ space ∷ l) g.in_turn);
   origin_is_word = f.clear;
   sequence_is_word = g.clear;
-  counts = counts;
+  takes = takes;
 }
 
 pub never_both : (b : Bool) → b ≡ true → b ≡ false → ⊥
@@ -48,11 +47,39 @@ never_both true h k = absurd (cc)
 never_both false h k = absurd (cc)
 
 -- what holds of each kind of entry holds of all
-pub every_kind : (P : EntryKind → Type 0) → P kind.Post → P kind.Commit → P kind.Policy → P kind.AddPurchase → (k : EntryKind) → P k
-every_kind P post commit policy add kind.Post = post
-every_kind P post commit policy add kind.Commit = commit
-every_kind P post commit policy add kind.Policy = policy
-every_kind P post commit policy add kind.AddPurchase = add
+pub every_kind : (P : EntryKind → Type 0) → P kind.Post → P kind.Commit → P kind.Policy → P kind.AddPurchase → P kind.Withdraw → (k : EntryKind) → P k
+every_kind P post commit policy add withdraw kind.Post = post
+every_kind P post commit policy add withdraw kind.Commit = commit
+every_kind P post commit policy add withdraw kind.Policy = policy
+every_kind P post commit policy add withdraw kind.AddPurchase = add
+every_kind P post commit policy add withdraw kind.Withdraw = withdraw
+
+-- a kind of which the last word of an entry's line is a number of lines
+abbrev pub HasLines : EntryKind → Type 0
+HasLines k = (k ≡ kind.Post) ⊎ ((k ≡ kind.Commit) ⊎ ((k ≡ kind.Policy) ⊎ (k ≡ kind.AddPurchase)))
+
+withdraws_no_lines : HasLines kind.Withdraw → ⊥
+withdraws_no_lines (inl e) = absurd (cc)
+withdraws_no_lines (inr (inl e)) = absurd (cc)
+withdraws_no_lines (inr (inr (inl e))) = absurd (cc)
+withdraws_no_lines (inr (inr (inr e))) = absurd (cc)
+
+pub takes_lines : (k : EntryKind) (last : List ℕ) (read : Option ℕ) → HasLines k → MatchOption read ((count : ℕ) → ¬ IsLineCount last count) (IsLineCount last)
+    → MatchOption read ((count : ℕ) → ¬ TakesLines k last count) (TakesLines k last)
+unfolding TakesLines
+takes_lines kind.Post last read lined h = h
+takes_lines kind.Commit last read lined h = h
+takes_lines kind.Policy last read lined h = h
+takes_lines kind.AddPurchase last read lined h = h
+takes_lines kind.Withdraw last read lined h = absurd (withdraws_no_lines lined)
+
+pub content_is_lines : (k : EntryKind) (last taken : List ℕ) → HasLines k → taken ≡ entry_content k last taken
+unfolding entry_content
+content_is_lines kind.Post last taken lined = refl
+content_is_lines kind.Commit last taken lined = refl
+content_is_lines kind.Policy last taken lined = refl
+content_is_lines kind.AddPurchase last taken lined = refl
+content_is_lines kind.Withdraw last taken lined = absurd (withdraws_no_lines lined)
 
 -- a report's line, split word by word from its end
 pub report_arguments : (line arguments key : List ℕ) (from to : ℕ) → line ≡ codes "report" ++ space ∷ arguments → (e : IsReportLine line key from to)
@@ -118,15 +145,28 @@ lines_words line rest last word first from to f g e =
 IsLineCount-one : (word word' : List ℕ) (n m : ℕ) → word ≡ word' → IsLineCount word n → IsLineCount word' m → n ≡ m
 IsLineCount-one word word' n m e h k = sym h.decimal.value ∙ ap (λ w. digits_value 10 w) e ∙ k.decimal.value
 
-pub IsEntryLine-one : (word line o s o' s' : List ℕ) (n m : ℕ) → IsEntryLine word line o s n → IsEntryLine word line o' s' m → (o ≡ o') × (s ≡ s') × (n ≡ m)
-IsEntryLine-one word line o s o' s' n m h k =
-    let f = entry_arguments word line _ o s n h.in_turn h in
-    let g = entry_arguments word line _ o' s' m h.in_turn k in
-    let first = FirstSplit-one space _ _ _ _ _ f g in
-    let r = entry_rest word line _ o _ o s n h.in_turn f h in
-    let t = entry_rest word line _ o _ o' s' m h.in_turn f k in
-    let second = FirstSplit-one space _ _ _ _ _ r t in
-    (first.0, second.0, IsLineCount-one h.number k.number n m second.1 h.counts k.counts)
+-- an entry takes one number of lines
+TakesLines-one : (k : EntryKind) (word word' : List ℕ) (n m : ℕ) → word ≡ word' → TakesLines k word n → TakesLines k word' m → n ≡ m
+unfolding TakesLines
+TakesLines-one kind.Post word word' n m e h k = IsLineCount-one word word' n m e h k
+TakesLines-one kind.Commit word word' n m e h k = IsLineCount-one word word' n m e h k
+TakesLines-one kind.Policy word word' n m e h k = IsLineCount-one word word' n m e h k
+TakesLines-one kind.AddPurchase word word' n m e h k = IsLineCount-one word word' n m e h k
+TakesLines-one kind.Withdraw word word' n m e h k = h.1 ∙ sym k.1
+
+-- the arguments of an entry's line are one list
+pub record AreArguments (o s l o' s' l' : List ℕ) (n m : ℕ) : Type 0 where
+  pub origin : o ≡ o'
+  pub sequence : s ≡ s'
+  pub last : l ≡ l'
+  pub count : n ≡ m
+
+pub IsEntryLine-one : (k : EntryKind) (line o s l o' s' l' : List ℕ) (n m : ℕ) → IsEntryLine k line o s l n → IsEntryLine k line o' s' l' m → AreArguments o s l o' s' l' n m
+IsEntryLine-one k line o s l o' s' l' n m h g =
+    let f = entry_arguments k line _ o s l n h.in_turn h in
+    let first = FirstSplit-one space _ _ _ _ _ f (entry_arguments k line _ o' s' l' m h.in_turn g) in
+    let second = FirstSplit-one space _ _ _ _ _ (entry_rest k line _ o _ o s l n h.in_turn f h) (entry_rest k line _ o _ o' s' l' m h.in_turn f g) in
+    record { origin = first.0; sequence = second.0; last = second.1; count = TakesLines-one k l l' n m second.1 h.takes g.takes }
 
 IsReportLine-one : (line key key' : List ℕ) (from to from' to' : ℕ) → IsReportLine line key from to → IsReportLine line key' from' to' → (key ≡ key') × (from ≡ from') × (to ≡ to')
 IsReportLine-one line key key' from to from' to' h k =
@@ -159,6 +199,7 @@ same_kind kind.Post kind.Post xs ys e = refl
 same_kind kind.Commit kind.Commit xs ys e = refl
 same_kind kind.Policy kind.Policy xs ys e = refl
 same_kind kind.AddPurchase kind.AddPurchase xs ys e = refl
+same_kind kind.Withdraw kind.Withdraw xs ys e = refl
 same_kind kind.Post kind.Commit xs ys e = absurd (apart 99 112 (lit< tt) (sym (heads _ _ _ _ e)))
 same_kind kind.Commit kind.Post xs ys e = absurd (apart 99 112 (lit< tt) (heads _ _ _ _ e))
 same_kind kind.Commit kind.Policy xs ys e = absurd (apart 99 112 (lit< tt) (heads _ _ _ _ e))
@@ -171,6 +212,14 @@ same_kind kind.AddPurchase kind.Commit xs ys e = absurd (apart 97 99 (lit< tt) (
 same_kind kind.Commit kind.AddPurchase xs ys e = absurd (apart 97 99 (lit< tt) (sym (heads _ _ _ _ e)))
 same_kind kind.AddPurchase kind.Policy xs ys e = absurd (apart 97 112 (lit< tt) (heads _ _ _ _ e))
 same_kind kind.Policy kind.AddPurchase xs ys e = absurd (apart 97 112 (lit< tt) (sym (heads _ _ _ _ e)))
+same_kind kind.Post kind.Withdraw xs ys e = absurd (apart 112 119 (lit< tt) (heads _ _ _ _ e))
+same_kind kind.Withdraw kind.Post xs ys e = absurd (apart 112 119 (lit< tt) (sym (heads _ _ _ _ e)))
+same_kind kind.Commit kind.Withdraw xs ys e = absurd (apart 99 119 (lit< tt) (heads _ _ _ _ e))
+same_kind kind.Withdraw kind.Commit xs ys e = absurd (apart 99 119 (lit< tt) (sym (heads _ _ _ _ e)))
+same_kind kind.Policy kind.Withdraw xs ys e = absurd (apart 112 119 (lit< tt) (heads _ _ _ _ e))
+same_kind kind.Withdraw kind.Policy xs ys e = absurd (apart 112 119 (lit< tt) (sym (heads _ _ _ _ e)))
+same_kind kind.AddPurchase kind.Withdraw xs ys e = absurd (apart 97 119 (lit< tt) (heads _ _ _ _ e))
+same_kind kind.Withdraw kind.AddPurchase xs ys e = absurd (apart 97 119 (lit< tt) (sym (heads _ _ _ _ e)))
 
 not_report : (k : EntryKind) (xs ys : List ℕ) → entry_word k ++ xs ≡ codes "report" ++ ys → ⊥
 unfolding entry_word
@@ -178,6 +227,7 @@ not_report kind.Post xs ys e = apart 112 114 (lit< tt) (heads _ _ _ _ e)
 not_report kind.Commit xs ys e = apart 99 114 (lit< tt) (heads _ _ _ _ e)
 not_report kind.Policy xs ys e = apart 112 114 (lit< tt) (heads _ _ _ _ e)
 not_report kind.AddPurchase xs ys e = apart 97 114 (lit< tt) (heads _ _ _ _ e)
+not_report kind.Withdraw xs ys e = apart 114 119 (lit< tt) (sym (heads _ _ _ _ e))
 
 not_lines : (k : EntryKind) (xs ys : List ℕ) → entry_word k ++ xs ≡ codes "lines" ++ ys → ⊥
 unfolding entry_word
@@ -185,6 +235,7 @@ not_lines kind.Post xs ys e = apart 108 112 (lit< tt) (sym (heads _ _ _ _ e))
 not_lines kind.Commit xs ys e = apart 99 108 (lit< tt) (heads _ _ _ _ e)
 not_lines kind.Policy xs ys e = apart 108 112 (lit< tt) (sym (heads _ _ _ _ e))
 not_lines kind.AddPurchase xs ys e = apart 97 108 (lit< tt) (heads _ _ _ _ e)
+not_lines kind.Withdraw xs ys e = apart 108 119 (lit< tt) (sym (heads _ _ _ _ e))
 
 not_state : (k : EntryKind) (xs : List ℕ) → entry_word k ++ xs ≡ codes "state" → ⊥
 unfolding entry_word
@@ -192,6 +243,7 @@ not_state kind.Post xs e = apart 112 115 (lit< tt) (heads _ _ _ _ e)
 not_state kind.Commit xs e = apart 99 115 (lit< tt) (heads _ _ _ _ e)
 not_state kind.Policy xs e = apart 112 115 (lit< tt) (heads _ _ _ _ e)
 not_state kind.AddPurchase xs e = apart 97 115 (lit< tt) (heads _ _ _ _ e)
+not_state kind.Withdraw xs e = apart 115 119 (lit< tt) (sym (heads _ _ _ _ e))
 
 not_checkpoint : (k : EntryKind) (xs : List ℕ) → entry_word k ++ xs ≡ codes "checkpoint" → ⊥
 unfolding entry_word
@@ -199,19 +251,20 @@ not_checkpoint kind.Post xs e = apart 99 112 (lit< tt) (sym (heads _ _ _ _ e))
 not_checkpoint kind.Commit xs e = apart 104 111 (lit< tt) (sym (seconds _ _ _ _ _ _ e))
 not_checkpoint kind.Policy xs e = apart 99 112 (lit< tt) (sym (heads _ _ _ _ e))
 not_checkpoint kind.AddPurchase xs e = apart 97 99 (lit< tt) (heads _ _ _ _ e)
+not_checkpoint kind.Withdraw xs e = apart 99 119 (lit< tt) (sym (heads _ _ _ _ e))
 
 -- a line is of one command
-entry_no_report : (k : EntryKind) (line o s key : List ℕ) (n from to : ℕ) → IsEntryLine (entry_word k) line o s n → IsReportLine line key from to → ⊥
-entry_no_report k line o s key n from to e r = not_report k _ _ (sym e.in_turn ∙ r.in_turn)
+entry_no_report : (k : EntryKind) (line o s l key : List ℕ) (n from to : ℕ) → IsEntryLine k line o s l n → IsReportLine line key from to → ⊥
+entry_no_report k line o s l key n from to e r = not_report k _ _ (sym e.in_turn ∙ r.in_turn)
 
-entry_no_lines : (k : EntryKind) (line o s : List ℕ) (n from to : ℕ) → IsEntryLine (entry_word k) line o s n → IsLinesLine line from to → ⊥
-entry_no_lines k line o s n from to e r = not_lines k _ _ (sym e.in_turn ∙ r.in_turn)
+entry_no_lines : (k : EntryKind) (line o s l : List ℕ) (n from to : ℕ) → IsEntryLine k line o s l n → IsLinesLine line from to → ⊥
+entry_no_lines k line o s l n from to e r = not_lines k _ _ (sym e.in_turn ∙ r.in_turn)
 
 report_no_lines : (line key : List ℕ) (from to from' to' : ℕ) → IsReportLine line key from to → IsLinesLine line from' to' → ⊥
 report_no_lines line key from to from' to' r l = apart 108 114 (lit< tt) (sym (heads _ _ _ _ (sym r.in_turn ∙ l.in_turn)))
 
-entry_no_state : (k : EntryKind) (line o s : List ℕ) (n : ℕ) → IsEntryLine (entry_word k) line o s n → line ≡ codes "state" → ⊥
-entry_no_state k line o s n e is = not_state k _ (sym e.in_turn ∙ is)
+entry_no_state : (k : EntryKind) (line o s l : List ℕ) (n : ℕ) → IsEntryLine k line o s l n → line ≡ codes "state" → ⊥
+entry_no_state k line o s l n e is = not_state k _ (sym e.in_turn ∙ is)
 
 report_no_state : (line key : List ℕ) (from to : ℕ) → IsReportLine line key from to → line ≡ codes "state" → ⊥
 report_no_state line key from to r is = apart 114 115 (lit< tt) (heads _ _ _ _ (sym r.in_turn ∙ is))
@@ -219,8 +272,8 @@ report_no_state line key from to r is = apart 114 115 (lit< tt) (heads _ _ _ _ (
 lines_no_state : (line : List ℕ) (from to : ℕ) → IsLinesLine line from to → line ≡ codes "state" → ⊥
 lines_no_state line from to l is = apart 108 115 (lit< tt) (heads _ _ _ _ (sym l.in_turn ∙ is))
 
-entry_no_checkpoint : (k : EntryKind) (line o s : List ℕ) (n : ℕ) → IsEntryLine (entry_word k) line o s n → line ≡ codes "checkpoint" → ⊥
-entry_no_checkpoint k line o s n e is = not_checkpoint k _ (sym e.in_turn ∙ is)
+entry_no_checkpoint : (k : EntryKind) (line o s l : List ℕ) (n : ℕ) → IsEntryLine k line o s l n → line ≡ codes "checkpoint" → ⊥
+entry_no_checkpoint k line o s l n e is = not_checkpoint k _ (sym e.in_turn ∙ is)
 
 report_no_checkpoint : (line key : List ℕ) (from to : ℕ) → IsReportLine line key from to → line ≡ codes "checkpoint" → ⊥
 report_no_checkpoint line key from to r is = apart 99 114 (lit< tt) (sym (heads _ _ _ _ (sym r.in_turn ∙ is)))
@@ -232,33 +285,39 @@ state_no_checkpoint : (line : List ℕ) → line ≡ codes "state" → line ≡ 
 state_no_checkpoint line is this = apart 99 115 (lit< tt) (sym (heads _ _ _ _ (sym is ∙ this)))
 
 -- an entry's line is of one kind, with one list of arguments
-pub record AreSame (k j : EntryKind) (o s o' s' : List ℕ) (n m : ℕ) : Type 0 where
+entry_one : (k j : EntryKind) (line o s l o' s' l' : List ℕ) (n m : ℕ) → IsEntryLine k line o s l n → IsEntryLine j line o' s' l' m → (k ≡ j) × AreArguments o s l o' s' l' n m
+entry_one k j line o s l o' s' l' n m h g =
+    let same = same_kind k j _ _ (sym h.in_turn ∙ g.in_turn) in
+    (same, IsEntryLine-one k line o s l o' s' l' n m h (subst (λ i. IsEntryLine i line o' s' l' m) (sym same) g))
+
+-- an entry is of one kind, with one origin, one sequence number, one content and one rest
+record AreSame (k j : EntryKind) (o s c r o' s' c' r' : List ℕ) : Type 0 where
   pub kind : k ≡ j
   pub origin : o ≡ o'
   pub sequence : s ≡ s'
-  pub count : n ≡ m
-
-entry_one : (k j : EntryKind) (line o s o' s' : List ℕ) (n m : ℕ) → IsEntryLine (entry_word k) line o s n → IsEntryLine (entry_word j) line o' s' m → AreSame k j o s o' s' n m
-entry_one k j line o s o' s' n m h g =
-    let same = same_kind k j _ _ (sym h.in_turn ∙ g.in_turn) in
-    let moved = subst (λ i. IsEntryLine (entry_word i) line o' s' m) (sym same) g in
-    let parts = IsEntryLine-one (entry_word k) line o s o' s' n m h moved in
-    record { kind = same; origin = parts.0; sequence = parts.1; count = parts.2 }
+  pub content : c ≡ c'
+  pub rest : r ≡ r'
 
 IsEntry-one : (k j : EntryKind) (line following o s c rest o' s' c' rest' : List ℕ) → IsEntry k line following o s c rest → IsEntry j line following o' s' c' rest'
-    → (k ≡ j) × (o ≡ o') × (s ≡ s') × (c ≡ c') × (rest ≡ rest')
+    → AreSame k j o s c rest o' s' c' rest'
 IsEntry-one k j line following o s c rest o' s' c' rest' h g =
-    let same = entry_one k j line o s o' s' h.count g.count h.asked g.asked in
-    let lines = StartsWithLines-one g.count following c rest c' rest' (subst (λ n. StartsWithLines n following c rest) same.count h.given) g.given in
-    (same.kind, same.origin, same.sequence, lines.0, lines.1)
+    let one = entry_one k j line o s h.last o' s' g.last h.count g.count h.asked g.asked in
+    let taken = StartsWithLines-one g.count following h.taken rest g.taken rest' (subst (λ n. StartsWithLines n following h.taken rest) one.1.count h.given) g.given in
+    record {
+      kind = one.0;
+      origin = one.1.origin;
+      sequence = one.1.sequence;
+      content = h.brought ∙ ap (λ i. entry_content i h.last h.taken) one.0 ∙ ap (λ l. entry_content j l h.taken) one.1.last ∙ ap (λ l. entry_content j g.last l) taken.0 ∙ sym g.brought;
+      rest = taken.1;
+    }
 
 entry_not_short : (k : EntryKind) (line following o s c rest : List ℕ) → IsEntry k line following o s c rest → IsCutShort line following → ⊥
 entry_not_short k line following o s c rest h short =
-    let same = entry_one k short.kind line o s _ _ h.count short.count h.asked short.asked in
-    short.too_few rest (subst (λ n. FollowsLines n following rest) same.count h.given.follows)
+    let one = entry_one k short.kind line o s h.last _ _ short.last h.count short.count h.asked short.asked in
+    short.too_few rest (subst (λ n. FollowsLines n following rest) one.1.count h.given.follows)
 
 -- a line that is no entry's, no report's and no list of lines is a word alone or no command
-pub word_or_none : (line : List ℕ) (read : Option Command) → ((k : EntryKind) (o s : List ℕ) (n : ℕ) → IsEntryLine (entry_word k) line o s n → ⊥)
+pub word_or_none : (line : List ℕ) (read : Option Command) → ((k : EntryKind) (o s l : List ℕ) (n : ℕ) → IsEntryLine k line o s l n → ⊥)
     → ((key : List ℕ) (from to : ℕ) → IsReportLine line key from to → ⊥) → ((from to : ℕ) → IsLinesLine line from to → ⊥)
     → MatchOption read ((line ≢ codes "state") × (line ≢ codes "checkpoint")) (λ c. (following : List ℕ) → IsCommand line following (plain_command c) following)
     → (following : List ℕ) → IsCommand line following (plain_command (unwrap_or read BadCommand)) following
@@ -270,35 +329,35 @@ word_or_none line None no_entry no_report no_lines no_word following =
 -- a line and what follows it are one command
 IsCommand-one : (line following : List ℕ) (c d : PlainCommand) (rest rest' : List ℕ) → IsCommand line following c rest → IsCommand line following d rest' → (c ≡ d) × (rest ≡ rest')
 unfolding IsCommand
-IsCommand-one line following (entry k o s c) (entry j o' s' c') rest rest' h g = let same = IsEntry-one _ _ _ _ _ _ _ _ _ _ _ _ h g in (cc, same.4)
+IsCommand-one line following (entry k o s c) (entry j o' s' c') rest rest' h g = let same = IsEntry-one _ _ _ _ _ _ _ _ _ _ _ _ h g in (cc, same.rest)
 IsCommand-one line following (report key from to) (report key' from' to') rest rest' h g = let same = IsReportLine-one _ _ _ _ _ _ _ h.0 g.0 in (cc, h.1 ∙ sym g.1)
 IsCommand-one line following (lines from to) (lines from' to') rest rest' h g = let same = IsLinesLine-one _ _ _ _ _ h.0 g.0 in (cc, h.1 ∙ sym g.1)
 IsCommand-one line following state state rest rest' h g = (refl, h.1 ∙ sym g.1)
 IsCommand-one line following checkpoint checkpoint rest rest' h g = (refl, h.1 ∙ sym g.1)
 IsCommand-one line following bad_command bad_command rest rest' h g = (refl, h.1 ∙ sym g.1)
 IsCommand-one line following bad_end bad_end rest rest' h g = (refl, h.1 ∙ sym g.1)
-IsCommand-one line following (entry k o s c) (report key from to) rest rest' h g = absurd (entry_no_report _ _ _ _ _ _ _ _ h.asked g.0)
-IsCommand-one line following (report key from to) (entry k o s c) rest rest' h g = absurd (entry_no_report _ _ _ _ _ _ _ _ g.asked h.0)
-IsCommand-one line following (entry k o s c) (lines from to) rest rest' h g = absurd (entry_no_lines _ _ _ _ _ _ _ h.asked g.0)
-IsCommand-one line following (lines from to) (entry k o s c) rest rest' h g = absurd (entry_no_lines _ _ _ _ _ _ _ g.asked h.0)
-IsCommand-one line following (entry k o s c) bad_command rest rest' h g = absurd (g.0.no_entry _ _ _ _ h.asked)
-IsCommand-one line following bad_command (entry k o s c) rest rest' h g = absurd (h.0.no_entry _ _ _ _ g.asked)
+IsCommand-one line following (entry k o s c) (report key from to) rest rest' h g = absurd (entry_no_report _ _ _ _ _ _ _ _ _ h.asked g.0)
+IsCommand-one line following (report key from to) (entry k o s c) rest rest' h g = absurd (entry_no_report _ _ _ _ _ _ _ _ _ g.asked h.0)
+IsCommand-one line following (entry k o s c) (lines from to) rest rest' h g = absurd (entry_no_lines _ _ _ _ _ _ _ _ h.asked g.0)
+IsCommand-one line following (lines from to) (entry k o s c) rest rest' h g = absurd (entry_no_lines _ _ _ _ _ _ _ _ g.asked h.0)
+IsCommand-one line following (entry k o s c) bad_command rest rest' h g = absurd (g.0.no_entry _ _ _ _ _ h.asked)
+IsCommand-one line following bad_command (entry k o s c) rest rest' h g = absurd (h.0.no_entry _ _ _ _ _ g.asked)
 IsCommand-one line following (entry k o s c) bad_end rest rest' h g = absurd (entry_not_short _ _ _ _ _ _ _ h g.0)
 IsCommand-one line following bad_end (entry k o s c) rest rest' h g = absurd (entry_not_short _ _ _ _ _ _ _ g h.0)
 IsCommand-one line following (report key from to) (lines from' to') rest rest' h g = absurd (report_no_lines _ _ _ _ _ _ h.0 g.0)
 IsCommand-one line following (lines from' to') (report key from to) rest rest' h g = absurd (report_no_lines _ _ _ _ _ _ g.0 h.0)
-IsCommand-one line following (entry k o s c) state rest rest' h g = absurd (entry_no_state _ _ _ _ _ h.asked g.0)
-IsCommand-one line following state (entry k o s c) rest rest' h g = absurd (entry_no_state _ _ _ _ _ g.asked h.0)
+IsCommand-one line following (entry k o s c) state rest rest' h g = absurd (entry_no_state _ _ _ _ _ _ h.asked g.0)
+IsCommand-one line following state (entry k o s c) rest rest' h g = absurd (entry_no_state _ _ _ _ _ _ g.asked h.0)
 IsCommand-one line following (report key from to) state rest rest' h g = absurd (report_no_state _ _ _ _ h.0 g.0)
 IsCommand-one line following state (report key from to) rest rest' h g = absurd (report_no_state _ _ _ _ g.0 h.0)
 IsCommand-one line following (lines from to) state rest rest' h g = absurd (lines_no_state _ _ _ h.0 g.0)
 IsCommand-one line following state (lines from to) rest rest' h g = absurd (lines_no_state _ _ _ g.0 h.0)
 IsCommand-one line following state bad_command rest rest' h g = absurd (g.0.no_state h.0)
 IsCommand-one line following bad_command state rest rest' h g = absurd (h.0.no_state g.0)
-IsCommand-one line following state bad_end rest rest' h g = absurd (entry_no_state _ _ _ _ _ g.0.asked h.0)
-IsCommand-one line following bad_end state rest rest' h g = absurd (entry_no_state _ _ _ _ _ h.0.asked g.0)
-IsCommand-one line following (entry k o s c) checkpoint rest rest' h g = absurd (entry_no_checkpoint _ _ _ _ _ h.asked g.0)
-IsCommand-one line following checkpoint (entry k o s c) rest rest' h g = absurd (entry_no_checkpoint _ _ _ _ _ g.asked h.0)
+IsCommand-one line following state bad_end rest rest' h g = absurd (entry_no_state _ _ _ _ _ _ g.0.asked h.0)
+IsCommand-one line following bad_end state rest rest' h g = absurd (entry_no_state _ _ _ _ _ _ h.0.asked g.0)
+IsCommand-one line following (entry k o s c) checkpoint rest rest' h g = absurd (entry_no_checkpoint _ _ _ _ _ _ h.asked g.0)
+IsCommand-one line following checkpoint (entry k o s c) rest rest' h g = absurd (entry_no_checkpoint _ _ _ _ _ _ g.asked h.0)
 IsCommand-one line following (report key from to) checkpoint rest rest' h g = absurd (report_no_checkpoint _ _ _ _ h.0 g.0)
 IsCommand-one line following checkpoint (report key from to) rest rest' h g = absurd (report_no_checkpoint _ _ _ _ g.0 h.0)
 IsCommand-one line following (lines from to) checkpoint rest rest' h g = absurd (lines_no_checkpoint _ _ _ h.0 g.0)
@@ -307,18 +366,18 @@ IsCommand-one line following state checkpoint rest rest' h g = absurd (state_no_
 IsCommand-one line following checkpoint state rest rest' h g = absurd (state_no_checkpoint _ g.0 h.0)
 IsCommand-one line following checkpoint bad_command rest rest' h g = absurd (g.0.no_checkpoint h.0)
 IsCommand-one line following bad_command checkpoint rest rest' h g = absurd (h.0.no_checkpoint g.0)
-IsCommand-one line following checkpoint bad_end rest rest' h g = absurd (entry_no_checkpoint _ _ _ _ _ g.0.asked h.0)
-IsCommand-one line following bad_end checkpoint rest rest' h g = absurd (entry_no_checkpoint _ _ _ _ _ h.0.asked g.0)
+IsCommand-one line following checkpoint bad_end rest rest' h g = absurd (entry_no_checkpoint _ _ _ _ _ _ g.0.asked h.0)
+IsCommand-one line following bad_end checkpoint rest rest' h g = absurd (entry_no_checkpoint _ _ _ _ _ _ h.0.asked g.0)
 IsCommand-one line following (report key from to) bad_command rest rest' h g = absurd (g.0.no_report _ _ _ h.0)
 IsCommand-one line following bad_command (report key from to) rest rest' h g = absurd (h.0.no_report _ _ _ g.0)
 IsCommand-one line following (lines from to) bad_command rest rest' h g = absurd (g.0.no_lines _ _ h.0)
 IsCommand-one line following bad_command (lines from to) rest rest' h g = absurd (h.0.no_lines _ _ g.0)
-IsCommand-one line following (report key from to) bad_end rest rest' h g = absurd (entry_no_report _ _ _ _ _ _ _ _ g.0.asked h.0)
-IsCommand-one line following bad_end (report key from to) rest rest' h g = absurd (entry_no_report _ _ _ _ _ _ _ _ h.0.asked g.0)
-IsCommand-one line following (lines from to) bad_end rest rest' h g = absurd (entry_no_lines _ _ _ _ _ _ _ g.0.asked h.0)
-IsCommand-one line following bad_end (lines from to) rest rest' h g = absurd (entry_no_lines _ _ _ _ _ _ _ h.0.asked g.0)
-IsCommand-one line following bad_command bad_end rest rest' h g = absurd (h.0.no_entry _ _ _ _ g.0.asked)
-IsCommand-one line following bad_end bad_command rest rest' h g = absurd (g.0.no_entry _ _ _ _ h.0.asked)
+IsCommand-one line following (report key from to) bad_end rest rest' h g = absurd (entry_no_report _ _ _ _ _ _ _ _ _ g.0.asked h.0)
+IsCommand-one line following bad_end (report key from to) rest rest' h g = absurd (entry_no_report _ _ _ _ _ _ _ _ _ h.0.asked g.0)
+IsCommand-one line following (lines from to) bad_end rest rest' h g = absurd (entry_no_lines _ _ _ _ _ _ _ _ g.0.asked h.0)
+IsCommand-one line following bad_end (lines from to) rest rest' h g = absurd (entry_no_lines _ _ _ _ _ _ _ _ h.0.asked g.0)
+IsCommand-one line following bad_command bad_end rest rest' h g = absurd (h.0.no_entry _ _ _ _ _ g.0.asked)
+IsCommand-one line following bad_end bad_command rest rest' h g = absurd (g.0.no_entry _ _ _ _ _ h.0.asked)
 
 -- a text begins with one command
 pub FirstCommand-one : (text : List ℕ) (c d : PlainCommand) (rest rest' : List ℕ) → FirstCommand text c rest → FirstCommand text d rest' → (c ≡ d) × (rest ≡ rest')
@@ -339,7 +398,7 @@ CommandsOf-one text (c ∷ these) (d ∷ those) h k =
 
 command_length : (line following : List ℕ) (c : PlainCommand) (rest : List ℕ) → IsCommand line following c rest → length rest ≤ length following
 unfolding IsCommand
-command_length line following (entry k o s c) rest h = StartsWithLines-shorter h.count following c rest h.given
+command_length line following (entry k o s c) rest h = StartsWithLines-shorter h.count following h.taken rest h.given
 command_length line following (report key from to) rest h = omega (arith, ap (λ t. length t) h.1)
 command_length line following (lines from to) rest h = omega (arith, ap (λ t. length t) h.1)
 command_length line following state rest h = omega (arith, ap (λ t. length t) h.1)
@@ -352,3 +411,27 @@ FirstCommand-shorter text c rest h =
     let line = StartsWithLine-shorter text h.line h.following h.begins in
     let later = command_length h.line h.following c rest h.reads in
     omega arith
+
+-- a line `withdraw ORIGIN SEQUENCE TARGET` is a withdrawal, and what follows it is left
+pub withdrawal_there : (text line following o s target : List ℕ) (number : ℕ) → StartsWithLine text line following
+    → line ≡ codes "withdraw" ++ space ∷ (o ++ space ∷ (s ++ space ∷ target)) → ¬ Contains o space → ¬ Contains s space → IsSequence target number
+    → FirstCommand text (entry kind.Withdraw o s target) following
+unfolding IsCommand TakesLines entry_content entry_word
+withdrawal_there text line following o s target number begins is o_word s_word reads = record {
+  line = line;
+  following = following;
+  begins = begins;
+  reads = record {
+    last = target;
+    count = 0;
+    taken = [];
+    asked = record { in_turn = is; origin_is_word = o_word; sequence_is_word = s_word; takes = ((number, reads), refl) };
+    given = record { in_turn = refl; follows = FollowsLines-start following };
+    brought = refl;
+  };
+}
+
+-- the content of a withdrawal is a sequence number
+pub withdrawal_target : (text o s c rest : List ℕ) → FirstCommand text (entry kind.Withdraw o s c) rest → (number : ℕ) × IsSequence c number
+unfolding IsCommand TakesLines entry_content
+withdrawal_target text o s c rest h = subst (λ w. (number : ℕ) × IsSequence w number) (sym h.reads.brought) h.reads.asked.takes.0

@@ -69,7 +69,7 @@ lines_go_on (suc n) front rest more (inr ends) h =
 -- what is left ends what follows the command's line
 command_suffix : (line following : List ℕ) (c : PlainCommand) (rest : List ℕ) → IsCommand line following c rest → (front : List ℕ) × (following ≡ front ++ rest)
 unfolding IsCommand
-command_suffix line following (entry k o s content) rest h = (content, h.given.in_turn)
+command_suffix line following (entry k o s content) rest h = (h.taken, h.given.in_turn)
 command_suffix line following (report key from to) rest h = ([], sym h.1)
 command_suffix line following (lines from to) rest h = ([], sym h.1)
 command_suffix line following state rest h = ([], sym h.1)
@@ -85,12 +85,15 @@ command_goes_on : (line front rest more : List ℕ) (c : PlainCommand) → c ≢
     → IsCommand line (front ++ more) c more
 unfolding IsCommand
 command_goes_on line front rest more (entry k o s content) whole ends h = record {
+  last = h.last;
   count = h.count;
+  taken = h.taken;
   asked = h.asked;
   given = record {
-    in_turn = ap (λ f. f ++ more) (append_cancel_right front content rest h.given.in_turn);
+    in_turn = ap (λ f. f ++ more) (append_cancel_right front h.taken rest h.given.in_turn);
     follows = lines_go_on h.count front rest more ends h.given.follows;
   };
+  brought = h.brought;
 }
 command_goes_on line front rest more (report key from to) whole ends h = (h.0, no_front front rest more h.1)
 command_goes_on line front rest more (lines from to) whole ends h = (h.0, no_front front rest more h.1)

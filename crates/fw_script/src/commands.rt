@@ -12,6 +12,8 @@ pub enum EntryKind {
     Policy,
     /// A purchase that is added to a commitment, as TOML.
     AddPurchase,
+    /// A withdrawal of a post of the same origin, which has no lines.
+    Withdraw,
 }
 
 impl EntryKind {
@@ -27,6 +29,7 @@ impl EntryKind {
             EntryKind::Commit => "commit",
             EntryKind::Policy => "policy",
             EntryKind::AddPurchase => "add",
+            EntryKind::Withdraw => "withdraw",
         }
     }
 }
@@ -34,14 +37,16 @@ impl EntryKind {
 /// A command, which borrows from the script that it stands in.
 #[derive(Clone, Copy, Debug, Drop, PartialEq, Eq)]
 pub enum Command<'a> {
-    /// `post ORIGIN SEQUENCE LINES`, `commit ..`, `policy ..` or `add ..`, and the lines that follow it.
+    /// `post ORIGIN SEQUENCE LINES`, `commit ..`, `policy ..` or `add ..`, and the lines that follow it, or
+    /// `withdraw ORIGIN SEQUENCE TARGET`.
     Entry {
         kind: EntryKind,
         /// The origin, as it stands: nothing is checked of it here.
         origin: &'a [u8],
         /// The sequence number, as it stands: nothing is checked of it here, and `sequence_number` reads it.
         sequence: &'a [u8],
-        /// The lines that follow, each with the line feed that ends it. The last line of a script may have none.
+        /// The lines that follow, each with the line feed that ends it. The last line of a script may have none. Of a withdrawal it
+        /// is the target, the sequence number of the post, as it stands in the line: `sequence_number` reads it.
         content: &'a [u8],
     },
     /// `report KEY FROM TO`.

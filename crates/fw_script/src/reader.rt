@@ -1,13 +1,13 @@
 //! A script that is read command by command.
 ghost use Rattle.std.specs.Prelude.{◌≡◌, ◌≢◌, ◌<◌, ◌↔◌, ℕ, List, [], length, codes, MatchOption, OnSome, IsTrue};
-ghost use Rattle.fw_script.specs.Commands.{FirstCommand, IsCommand, IsEntryLine, IsReportLine, IsLinesLine, entry_word};
+ghost use Rattle.fw_script.specs.Commands.{FirstCommand, IsCommand, IsEntryLine, IsReportLine, IsLinesLine, TakesLines, entry_content};
 ghost use Rattle.fw_script.specs.declared.commands.EntryKind.{EntryKind};
 ghost use Rattle.fw_script.specs.Plain.{plain_command};
 
 use crate::commands::{Command, EntryKind};
 use crate::hours::read_hour;
 use crate::lines::{next_line, split_lines};
-use crate::words::{arguments_of, line_count, split_at_first, split_at_last};
+use crate::words::{arguments_of, line_count, sequence_number, split_at_first, split_at_last};
 use std::marker::Model;
 
 /// The part of a script that is not yet read.
@@ -62,22 +62,22 @@ fn read_command<'a>(line: &'a [u8], following: &'a [u8]) -> (Command<'a>, &'a [u
     }
 }
 
-/// The entry of a line with these arguments, which takes its content from the lines that follow, and what is left after them.
+/// The entry of a line with these arguments, which may take lines from those that follow, and what is left after them.
 fn read_entry<'a>(
     line: &'a [u8],
     entry: EntryLine<'a>,
     following: &'a [u8],
 ) -> (Command<'a>, &'a [u8])
-    requires { IsEntryLine (entry_word entry.kind) line.now entry.origin.now entry.sequence.now entry.count }
+    requires { IsEntryLine entry.kind line.now entry.origin.now entry.sequence.now entry.last.now entry.count }
     ensures { IsCommand line.now following.now (plain_command result.0) result.1.now }
 {
     match split_lines(entry.count, following) {
-        Some((content, rest)) => (
+        Some((taken, rest)) => (
             Command::Entry {
                 kind: entry.kind,
                 origin: entry.origin,
                 sequence: entry.sequence,
-                content,
+                content: content_of(entry.kind, entry.last, taken),
             },
             rest,
         ),
@@ -85,9 +85,19 @@ fn read_entry<'a>(
     }
 }
 
+/// The content of an entry of a kind, by the last word of its line and the lines that it takes.
+fn content_of<'a>(kind: EntryKind, last: &'a [u8], taken: &'a [u8]) -> &'a [u8]
+    ensures { result.now ≡ entry_content kind last.now taken.now }
+{
+    match kind {
+        EntryKind::Post | EntryKind::Commit | EntryKind::Policy | EntryKind::AddPurchase => taken,
+        EntryKind::Withdraw => last,
+    }
+}
+
 /// The command of a line that is no entry's.
 fn read_question(line: &[u8]) -> Command<'_>
-    requires { (k : EntryKind) (origin sequence : List ℕ) (count : ℕ) → ¬ IsEntryLine (entry_word k) line.now origin sequence count }
+    requires { (k : EntryKind) (origin sequence last : List ℕ) (count : ℕ) → ¬ IsEntryLine k line.now origin sequence last count }
     ensures { (following : List ℕ) → IsCommand line.now following (plain_command result) following }
 {
     if let Some(report) = report_line(line) {
@@ -124,14 +134,17 @@ struct EntryLine<'a> {
     kind: EntryKind,
     origin: &'a [u8],
     sequence: &'a [u8],
+    // The last word.
+    last: &'a [u8],
+    // How many of the lines that follow it takes.
     count: u32,
 }
 
 /// The arguments of an entry's line, or `None` where the line isn't of this form.
 fn entry_line(line: &[u8]) -> Option<EntryLine<'_>>
     ensures { MatchOption result
-        ((k : EntryKind) (origin sequence : List ℕ) (count : ℕ) → ¬ IsEntryLine (entry_word k) line.now origin sequence count)
-        (λ e. IsEntryLine (entry_word e.kind) line.now e.origin.now e.sequence.now e.count) }
+        ((k : EntryKind) (origin sequence last : List ℕ) (count : ℕ) → ¬ IsEntryLine k line.now origin sequence last count)
+        (λ e. IsEntryLine e.kind line.now e.origin.now e.sequence.now e.last.now e.count) }
 {
     if let Some(entry) = entry_of_kind(EntryKind::Post, line) {
         return Some(entry);
@@ -145,25 +158,44 @@ fn entry_line(line: &[u8]) -> Option<EntryLine<'_>>
     if let Some(entry) = entry_of_kind(EntryKind::AddPurchase, line) {
         return Some(entry);
     }
+    if let Some(entry) = entry_of_kind(EntryKind::Withdraw, line) {
+        return Some(entry);
+    }
     None
 }
 
-/// The arguments of the line of an entry of a kind, `WORD ORIGIN SEQUENCE LINES`, or `None` where the line isn't of this form.
+/// The arguments of the line of an entry of a kind, `WORD ORIGIN SEQUENCE LAST`, or `None` where the line isn't of this form.
 fn entry_of_kind<'a>(kind: EntryKind, line: &'a [u8]) -> Option<EntryLine<'a>>
     ensures { MatchOption result
-        ((origin sequence : List ℕ) (count : ℕ) → ¬ IsEntryLine (entry_word kind) line.now origin sequence count)
-        (λ e. IsEntryLine (entry_word e.kind) line.now e.origin.now e.sequence.now e.count) }
+        ((origin sequence last : List ℕ) (count : ℕ) → ¬ IsEntryLine kind line.now origin sequence last count)
+        (λ e. IsEntryLine e.kind line.now e.origin.now e.sequence.now e.last.now e.count) }
 {
     let arguments = arguments_of(kind.word().as_bytes(), line)?;
     let (origin, rest) = split_at_first(b' ', arguments)?;
-    let (sequence, number) = split_at_first(b' ', rest)?;
-    let count = line_count(number)?;
+    let (sequence, last) = split_at_first(b' ', rest)?;
+    let count = lines_taken(kind, last)?;
     Some(EntryLine {
         kind,
         origin,
         sequence,
+        last,
         count,
     })
+}
+
+/// How many lines an entry of a kind takes, by the last word of its line, or `None` where no such line ends with this word.
+fn lines_taken(kind: EntryKind, last: &[u8]) -> Option<u32>
+    ensures { MatchOption result ((count : ℕ) → ¬ TakesLines kind last.now count) (TakesLines kind last.now) }
+{
+    match kind {
+        EntryKind::Post | EntryKind::Commit | EntryKind::Policy | EntryKind::AddPurchase => {
+            line_count(last)
+        }
+        EntryKind::Withdraw => {
+            sequence_number(last)?;
+            Some(0)
+        }
+    }
 }
 
 /// The arguments of a report's line.

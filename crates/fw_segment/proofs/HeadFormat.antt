@@ -14,7 +14,7 @@ use Rattle.fw_entry_bytes.specs.declared.form.Form.{Form}
 use Rattle.fw_entry_bytes.specs.Forms.{has_kind}
 use Rattle.fw_entry_bytes.specs.Reading.{IsOrigin, IsSeq}
 use Rattle.fw_entry_bytes.proofs.EntryFormat.{kind_byte_format}
-use Rattle.fw_entry_bytes.proofs.Facts.{origin_format, seq_format}
+use Rattle.fw_entry_bytes.proofs.Facts.{origin_format, seq_format, target_format}
 use Rattle.fw_terms.specs.Commitment.{CommitmentValue}
 use Rattle.fw_terms.specs.Policy.{PolicyValue}
 use Rattle.fw_terms.specs.Added.{AddedValue}
@@ -24,7 +24,7 @@ use Rattle.fw_terms_bytes.proofs.Formats.{case_format, kind_format}
 use Rattle.fw_terms_bytes.proofs.CommitmentFormat.{commitment_format}
 use Rattle.fw_terms_bytes.proofs.PolicyFormat.{policy_format}
 use Rattle.fw_snapshot.specs.Heads.{ContentValue, HeadValue}
-use Rattle.fw_snapshot.specs.Heads.ContentValue.{posted_rows, committed_to, policy_set, purchase_added}
+use Rattle.fw_snapshot.specs.Heads.ContentValue.{posted_rows, committed_to, policy_set, post_withdrawn, purchase_added}
 use Rattle.fw_segment.specs.Heads.{kind_of, brought, content, head, heads, is_post_count, IsContent, IsHead, post_count_at, brought_at, content_at, head_from, head_fields_at, head_at, heads_at}
 use Rattle.fw_charge.specs.Charge.{most_post_rows}
 
@@ -56,24 +56,35 @@ post_back : (c : ContentValue) → IsOfKind kind.Post c → (n : ℕ) × (posted
 post_back (posted_rows n) h = (n, refl, h.1)
 post_back (committed_to c) h = let e = h.0 in absurd cc
 post_back (policy_set p) h = let e = h.0 in absurd cc
+post_back (post_withdrawn n) h = let e = h.0 in absurd cc
 post_back (purchase_added a) h = let e = h.0 in absurd cc
 
 commit_back : (c : ContentValue) → IsOfKind kind.Commit c → (one : CommitmentValue) × (committed_to one ≡ c) × IsSpelledCommitment one
 commit_back (posted_rows n) h = let e = h.0 in absurd cc
 commit_back (committed_to c) h = (c, refl, h.1)
 commit_back (policy_set p) h = let e = h.0 in absurd cc
+commit_back (post_withdrawn n) h = let e = h.0 in absurd cc
 commit_back (purchase_added a) h = let e = h.0 in absurd cc
 
 set_policy_back : (c : ContentValue) → IsOfKind kind.SetPolicy c → (one : PolicyValue) × (policy_set one ≡ c) × IsSpelledPolicy one
 set_policy_back (posted_rows n) h = let e = h.0 in absurd cc
 set_policy_back (committed_to c) h = let e = h.0 in absurd cc
 set_policy_back (policy_set p) h = (p, refl, h.1)
+set_policy_back (post_withdrawn n) h = let e = h.0 in absurd cc
 set_policy_back (purchase_added a) h = let e = h.0 in absurd cc
+
+withdraw_back : (c : ContentValue) → IsOfKind kind.Withdraw c → (n : ℕ) × (post_withdrawn n ≡ c) × (n < 2 ^ 64)
+withdraw_back (posted_rows n) h = let e = h.0 in absurd cc
+withdraw_back (committed_to c) h = let e = h.0 in absurd cc
+withdraw_back (policy_set p) h = let e = h.0 in absurd cc
+withdraw_back (post_withdrawn n) h = (n, refl, h.1)
+withdraw_back (purchase_added a) h = let e = h.0 in absurd cc
 
 add_purchase_back : (c : ContentValue) → IsOfKind kind.AddPurchase c → (one : AddedValue) × (purchase_added one ≡ c) × IsSpelledAdded one
 add_purchase_back (posted_rows n) h = let e = h.0 in absurd cc
 add_purchase_back (committed_to c) h = let e = h.0 in absurd cc
 add_purchase_back (policy_set p) h = let e = h.0 in absurd cc
+add_purchase_back (post_withdrawn n) h = let e = h.0 in absurd cc
 add_purchase_back (purchase_added a) h = (a, refl, h.1)
 
 brought_format : (k : CommandKind) → IsFormat (brought_at k) brought (IsOfKind k)
@@ -81,6 +92,7 @@ unfolding brought_at brought
 brought_format kind.Post = case_format (λ (n : ℕ). posted_rows n) brought (IsOfKind kind.Post) (λ n. refl) (λ n h. (refl, h)) post_back count_format
 brought_format kind.Commit = case_format (λ (c : CommitmentValue). committed_to c) brought (IsOfKind kind.Commit) (λ c. refl) (λ c h. (refl, h)) commit_back commitment_format
 brought_format kind.SetPolicy = case_format (λ (p : PolicyValue). policy_set p) brought (IsOfKind kind.SetPolicy) (λ p. refl) (λ p h. (refl, h)) set_policy_back policy_format
+brought_format kind.Withdraw = case_format (λ (n : ℕ). post_withdrawn n) brought (IsOfKind kind.Withdraw) (λ n. refl) (λ n h. (refl, h)) withdraw_back target_format
 brought_format kind.AddPurchase = case_format (λ (a : AddedValue). purchase_added a) brought (IsOfKind kind.AddPurchase) (λ a. refl) (λ a h. (refl, h)) add_purchase_back added_format
 
 -- what an entry brought, within its limits, of a kind that the form has

@@ -11,7 +11,7 @@ use Rattle.fw_bytes.proofs.Laws.{IsBytes, bind_ok, ok_is, passed, list_parts, li
 use Rattle.fw_charge.specs.Charge.{Charge}
 use Rattle.fw_charge.specs.Spelling.{IsRow}
 use Rattle.fw_entry.specs.Entry.{EntryValue, CommandValue}
-use Rattle.fw_entry.specs.Entry.CommandValue.{post, commit, set_policy, add_purchase}
+use Rattle.fw_entry.specs.Entry.CommandValue.{post, commit, set_policy, withdraw, add_purchase}
 use Rattle.fw_entry.specs.Kinds.{kind_of}
 use Rattle.fw_entry.specs.Spelling.{IsCommand, IsEntry}
 use Rattle.std.specs.Prelude.{IsTrue}
@@ -21,7 +21,8 @@ use Rattle.fw_entry_bytes.specs.Forms.{has_kind, has_entry, IsOfForm}
 use Rattle.fw_entry_bytes.proofs.FormFacts.{all_of_two}
 use Rattle.fw_entry_bytes.specs.Whole.{whole}
 use Rattle.fw_entry_bytes.proofs.Facts.{name_fits}
-use Rattle.fw_snapshot.specs.Heads.{HeadValue, head_of, content_of, entries_of, row_counts, segment_rows}
+use Rattle.fw_posted.specs.Rows.{segment_rows}
+use Rattle.fw_snapshot.specs.Heads.{HeadValue, head_of, content_of, entries_of, row_counts}
 use Rattle.fw_snapshot.specs.History.{History, rows_posted, posted}
 use Rattle.fw_snapshot.proofs.HeadFacts.{row_counts_cons, row_count_back, rows_posted_entries, heads_of_entries, length_entries}
 use Rattle.fw_segment.specs.declared.layout.SegmentLayout.{SegmentLayout}
@@ -41,6 +42,7 @@ content_is : (c : CommandValue) → IsCommand c → IsContent (content_of c)
 content_is (post rows) h = (h.count.some, h.count.few)
 content_is (commit c) h = h
 content_is (set_policy p) h = h
+content_is (withdraw n) h = h
 content_is (add_purchase a) h = h
 
 head_is : (e : EntryValue) → IsEntry e → IsHead (head_of e)
@@ -55,6 +57,7 @@ kind_same : (c : CommandValue) → head.kind_of (content_of c) ≡ kind_of c
 kind_same (post rows) = refl
 kind_same (commit c) = refl
 kind_same (set_policy p) = refl
+kind_same (withdraw n) = refl
 kind_same (add_purchase a) = refl
 
 abbrev IsHeadOfForm : Form → HeadValue → Type 0
@@ -206,6 +209,7 @@ posted_each : (c : CommandValue) → IsCommand c → All IsRow (posted c)
 posted_each (post rows) h = h.each
 posted_each (commit c) h = All-nil IsRow
 posted_each (set_policy p) h = All-nil IsRow
+posted_each (withdraw n) h = All-nil IsRow
 posted_each (add_purchase a) h = All-nil IsRow
 
 pub rows_are : (es : List EntryValue) → All IsEntry es → All IsRow (rows_posted es)

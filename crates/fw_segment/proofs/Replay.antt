@@ -10,8 +10,9 @@ use Rattle.fw_charge.specs.Charge.{Charge}
 use Rattle.fw_charge.specs.Spelling.{IsRow}
 use Rattle.fw_entry.specs.Entry.{EntryValue}
 use Rattle.fw_entry.specs.Spelling.{entry, most_entry_bytes, IsCommand, IsEntry}
-use Rattle.fw_snapshot.specs.Heads.{ContentValue, HeadValue, head_of, content_of, command_of, entry_of, entries_of, row_count, row_counts, segment_rows, HasRows}
-use Rattle.fw_snapshot.specs.Heads.ContentValue.{posted_rows, committed_to, policy_set, purchase_added}
+use Rattle.fw_posted.specs.Rows.{segment_rows}
+use Rattle.fw_snapshot.specs.Heads.{ContentValue, HeadValue, head_of, content_of, command_of, entry_of, entries_of, row_count, row_counts, HasRows}
+use Rattle.fw_snapshot.specs.Heads.ContentValue.{posted_rows, committed_to, policy_set, post_withdrawn, purchase_added}
 use Rattle.fw_snapshot.specs.History.{History, rows_posted, posted}
 use Rattle.fw_snapshot.specs.Judging.{judged, IsLegalAfter}
 use Rattle.fw_snapshot.specs.Building.{Built, left_rows, with_next}
@@ -31,6 +32,7 @@ pub is_command : (c : ContentValue) (rows : List Charge) → IsContent c → len
 is_command (posted_rows n) rows h e each = record { count = record { some = omega (arith, h.0, e); few = omega (arith, h.1, e) }; each = each }
 is_command (committed_to c) rows h e each = h
 is_command (policy_set p) rows h e each = h
+is_command (post_withdrawn n) rows h e each = h
 is_command (purchase_added a) rows h e each = h
 
 pub is_entry : (h : HeadValue) (rows : List Charge) → IsHead h → length rows ≡ row_count h.content → All IsRow rows → length (entry (entry_of h rows)) ≤ most_entry_bytes → IsEntry (entry_of h rows)
@@ -105,6 +107,7 @@ pub has_rows : (c : ContentValue) → IsContent c → HasRows c
 has_rows (posted_rows n) h = h
 has_rows (committed_to c) h = tt
 has_rows (policy_set p) h = tt
+has_rows (post_withdrawn n) h = tt
 has_rows (purchase_added a) h = tt
 
 -- the rows that the heads up to one say, and that one

@@ -15,7 +15,8 @@ use Rattle.fw_charge.specs.Currencies.{IsCode}
 use Rattle.fw_entry_bytes.specs.declared.form.Form.{Form}
 use Rattle.fw_entry_bytes.specs.Whole.{whole}
 use Rattle.fw_entry_bytes.proofs.WholeFormat.{whole_takes, whole_again}
-use Rattle.fw_snapshot.specs.Heads.{HeadValue, segment_rows}
+use Rattle.fw_posted.specs.Rows.{segment_rows}
+use Rattle.fw_snapshot.specs.Heads.{HeadValue}
 use Rattle.fw_segment.specs.declared.layout.SegmentLayout.{SegmentLayout}
 use Rattle.fw_segment.specs.Segments.{segment, segment_at, IsSegment}
 use Rattle.fw_segment.specs.Heads.{heads, heads_at}

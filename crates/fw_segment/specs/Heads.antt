@@ -1,5 +1,5 @@
 -- The heads of a state's entries: the entries without their rows.
-use Rattle.std.specs.Prelude.{◌<◌, ◌≤◌, ℕ, Bool, ◌&&◌, List, ◌∷◌, ◌++◌, length, nat_lt, nat_le}
+use Rattle.std.specs.Prelude.{◌<◌, ◌≤◌, ◌^◌, ℕ, Bool, ◌&&◌, List, ◌∷◌, ◌++◌, length, nat_lt, nat_le}
 use Rattle.std.specs.Int.{w32, w64}
 use Rattle.std.specs.List.{flat_map}
 use Rattle.fw_bytes.specs.Spelling.{number32, number64, text}
@@ -12,7 +12,7 @@ use Rattle.fw_entry.specs.declared.kind.CommandKind.TheVariants as kind
 use Rattle.fw_entry_bytes.specs.declared.form.Form.{Form}
 use Rattle.fw_entry_bytes.specs.Reading.{origin_at, seq_at, kind_at, IsOrigin, IsSeq}
 use Rattle.fw_snapshot.specs.Heads.{ContentValue, HeadValue}
-use Rattle.fw_snapshot.specs.Heads.ContentValue.{posted_rows, committed_to, policy_set, purchase_added}
+use Rattle.fw_snapshot.specs.Heads.ContentValue.{posted_rows, committed_to, policy_set, post_withdrawn, purchase_added}
 use Rattle.fw_charge.specs.Charge.{most_post_rows}
 
 -- ---- how a head is written
@@ -22,6 +22,7 @@ abbrev pub kind_of : ContentValue → CommandKind
 kind_of (posted_rows n) = kind.Post
 kind_of (committed_to c) = kind.Commit
 kind_of (policy_set p) = kind.SetPolicy
+kind_of (post_withdrawn n) = kind.Withdraw
 kind_of (purchase_added a) = kind.AddPurchase
 
 -- the number of rows of a post, or what else the entry brought
@@ -29,6 +30,7 @@ unfoldable pub brought : ContentValue → List ℕ
 brought (posted_rows n) = number32 n
 brought (committed_to c) = commitment c
 brought (policy_set p) = policy p
+brought (post_withdrawn n) = number64 n
 brought (purchase_added a) = added a
 
 -- a byte for the kind, and what the entry brought
@@ -52,6 +54,7 @@ abbrev pub IsContent : ContentValue → Type 0
 IsContent (posted_rows n) = (0 < n) × (n ≤ most_post_rows)
 IsContent (committed_to c) = IsSpelledCommitment c
 IsContent (policy_set p) = IsSpelledPolicy p
+IsContent (post_withdrawn n) = n < 2 ^ 64
 IsContent (purchase_added a) = IsSpelledAdded a
 
 pub record IsHead (h : HeadValue) : Type 0 where
@@ -69,6 +72,7 @@ unfoldable pub brought_at : CommandKind → Reading ContentValue
 brought_at kind.Post = seen posted_rows post_count_at
 brought_at kind.Commit = seen committed_to commitment_at
 brought_at kind.SetPolicy = seen policy_set policy_at
+brought_at kind.Withdraw = seen post_withdrawn (number_at w64)
 brought_at kind.AddPurchase = seen purchase_added added_at
 
 -- the kind, which the form has, and what an entry of this kind brought

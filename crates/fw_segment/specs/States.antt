@@ -10,7 +10,8 @@ use Rattle.fw_entry.specs.Entry.{EntryValue}
 use Rattle.fw_entry.specs.Spelling.{IsEntry}
 use Rattle.fw_entry_bytes.specs.declared.form.Form.{Form}
 use Rattle.fw_entry_bytes.specs.Whole.{whole}
-use Rattle.fw_snapshot.specs.Heads.{HeadValue, head_of, entry_of, row_count, row_counts, segment_rows}
+use Rattle.fw_posted.specs.Rows.{segment_rows}
+use Rattle.fw_snapshot.specs.Heads.{HeadValue, head_of, entry_of, row_count, row_counts}
 use Rattle.fw_snapshot.specs.History.{History, rows_posted}
 use Rattle.fw_snapshot.specs.Judging.{IsLegal}
 use Rattle.fw_snapshot.specs.Verdicts.{goes_behind}

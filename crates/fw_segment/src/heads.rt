@@ -26,6 +26,8 @@ pub enum ReadContent {
     Commit(Commitment),
     /// A policy.
     SetPolicy(Policy),
+    /// The number of a post of the same sender, which is withdrawn.
+    Withdraw(u64),
     /// A purchase that is added to a commitment.
     AddPurchase(AddedPurchase),
 }
@@ -39,6 +41,7 @@ impl ReadContent {
             ReadContent::Post(rows) => Ok(Content::Post { rows }),
             ReadContent::Commit(commitment) => Ok(Content::Commit(commitment)),
             ReadContent::SetPolicy(policy) => Ok(Content::SetPolicy(Arc::new(alloc, policy)?)),
+            ReadContent::Withdraw(target) => Ok(Content::Withdraw(target)),
             ReadContent::AddPurchase(added) => Ok(Content::AddPurchase(added)),
         }
     }
@@ -75,6 +78,7 @@ impl ReadHead {
             ReadContent::Post(_) => 4,
             ReadContent::Commit(commitment) => commitment_len(commitment),
             ReadContent::SetPolicy(policy) => policy_len(policy),
+            ReadContent::Withdraw(_) => 8,
             ReadContent::AddPurchase(added) => added_len(added),
         };
         4 + self.origin.len() + 8 + 1 + content
@@ -113,6 +117,10 @@ fn brought_of(
         },
         CommandKind::SetPolicy => match policy_of(alloc, bytes) {
             Ok((policy, rest)) => Ok((ReadContent::SetPolicy(policy), rest)),
+            Err(e) => Err(e),
+        },
+        CommandKind::Withdraw => match u64_at(bytes) {
+            Ok((target, rest)) => Ok((ReadContent::Withdraw(target), rest)),
             Err(e) => Err(e),
         },
         CommandKind::AddPurchase => match added_of(alloc, bytes) {
@@ -204,6 +212,10 @@ fn put_content(out: &mut Vec<u8>, one: &Content) -> Result<(), AllocError>
         Content::SetPolicy(policy) => {
             put_byte(out, CommandKind::SetPolicy.code())?;
             put_policy(out, policy)
+        }
+        Content::Withdraw(target) => {
+            put_byte(out, CommandKind::Withdraw.code())?;
+            put_u64(out, *target)
         }
         Content::AddPurchase(added) => {
             put_byte(out, CommandKind::AddPurchase.code())?;

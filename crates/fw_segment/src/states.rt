@@ -6,7 +6,8 @@ ghost use Rattle.fw_charge.specs.Currencies.{IsCode};
 ghost use Rattle.fw_entry.specs.Spelling.{IsEntry};
 ghost use Rattle.fw_snapshot.specs.Building.{left_rows, next_entry, with_next};
 ghost use Rattle.fw_snapshot.specs.Judging.{most_rows, IsLegal};
-ghost use Rattle.fw_snapshot.specs.Heads.{head_of, row_count, row_counts, segment_rows};
+ghost use Rattle.fw_posted.specs.Rows.{segment_rows};
+ghost use Rattle.fw_snapshot.specs.Heads.{head_of, row_count, row_counts};
 ghost use Rattle.fw_snapshot.specs.Verdicts.{goes_behind};
 ghost use Rattle.fw_segment.specs.HeadView.{content_view, head_view};
 ghost use Rattle.fw_segment.specs.Heads.{IsHead, heads};
@@ -55,16 +56,13 @@ fn segments_after(
     count: u32,
     bytes: &[u8],
 ) -> Result<(Sequence<Columns>, &[u8]), ReadError>
-    ensures read { Gives (λ x. (x.0, x.1.now)) result (times segment_at count bytes.now) }
-    ensures filled { IfOk result (λ x. length x.0 ≤ length (segment_rows x.0)) }
+    ensures { Gives (λ x. (x.0, x.1.now)) result (times segment_at count bytes.now) }
 {
     let mut segments = Sequence::new();
     let mut rest = bytes;
     for _ in 0..count {
         match segment_of(alloc, rest) {
             Ok((columns, after)) => {
-                // Proves that the segment has a row.
-                let _len = columns.len();
                 segments = segments.push(alloc, columns)?;
                 rest = after;
             }
@@ -77,8 +75,7 @@ fn segments_after(
 /// The segments behind their number.
 #[tactic(auto, unfolding(crate::specs::States::rows_at, fw_bytes::specs::Reading::list_at, fw_bytes::specs::Reading::seen))]
 fn segments_of(alloc: Global, bytes: &[u8]) -> Result<(Sequence<Columns>, &[u8]), ReadError>
-    ensures read { Gives (λ x. (segment_rows x.0, x.1.now)) result (rows_at bytes.now) }
-    ensures filled { IfOk result (λ x. length x.0 ≤ length (segment_rows x.0)) }
+    ensures { Gives (λ x. (segment_rows x.0, x.1.now)) result (rows_at bytes.now) }
 {
     let (count, rest) = u32_at(bytes)?;
     match segments_after(alloc, count, rest) {
@@ -92,7 +89,6 @@ fn segments_of(alloc: Global, bytes: &[u8]) -> Result<(Sequence<Columns>, &[u8])
 fn parts_of(alloc: Global, form: Form, bytes: &[u8]) -> Result<(Parts, &[u8]), ReadError>
     ensures parts { Gives (λ x. ((x.0.currency, (map head_view x.0.heads.items, segment_rows x.0.segments)), x.1.now)) result (parts_at form bytes.now) }
     ensures heads { IfOk result (λ x. All IsHead (map head_view x.0.heads.items)) }
-    ensures filled { IfOk result (λ x. length x.0.segments ≤ length (segment_rows x.0.segments)) }
 {
     match currency_of(bytes) {
         Ok((currency, rest)) => {
@@ -173,14 +169,13 @@ fn state_after(
         }
         left = left.saturating_sub(len);
     }
-    Ok(builder.finish())
+    Ok(builder.finish()?)
 }
 
 /// The state of parts that are all of so many bytes.
 #[tactic(auto, unfolding(crate::specs::States::state_from, crate::specs::States::replayed_state))]
 fn state_of_parts(alloc: Global, parts: Parts, total: usize) -> Result<State, ReadError>
-    requires heads { All IsHead (map head_view parts.heads.items) }
-    requires filled { length parts.segments ≤ length (segment_rows parts.segments) }
+    requires { All IsHead (map head_view parts.heads.items) }
     ensures { Gives (λ s. s) result (state_from total (parts.currency, (map head_view parts.heads.items, segment_rows parts.segments))) }
 {
     let Parts {
@@ -191,7 +186,7 @@ fn state_of_parts(alloc: Global, parts: Parts, total: usize) -> Result<State, Re
     if rows_in(&segments) != rows_said(&heads) {
         return Err(ReadError::Corrupt(total));
     }
-    let builder = StateBuilder::new(alloc, currency, segments);
+    let builder = StateBuilder::new(alloc, currency, segments)?;
     state_after(
         alloc,
         builder,

@@ -105,12 +105,17 @@ policy_silent policy_fault.DoubleFrom = refl
 policy_silent policy_fault.TargetIsFrom = refl
 policy_silent policy_fault.NoMemory = refl
 
+bad_command_silent : store_code bad_command_line ≡ 0
+unfolding bad_command_line
+bad_command_silent = refl
+
 content_silent : (k : EntryKind) (currency content line : List ℕ) → ContentReads k currency content (Err line) → store_code line ≡ 0
 unfolding ContentReads
 content_silent kind.Post currency content line reads = ap store_code reads.1 ∙ row_silent reads.0
 content_silent kind.Commit currency content line reads = ap store_code reads.1 ∙ commitment_silent reads.0
 content_silent kind.Policy currency content line reads = ap store_code reads.1 ∙ policy_silent reads.0
 content_silent kind.AddPurchase currency content line reads = ap store_code reads.1 ∙ commitment_silent reads.0
+content_silent kind.Withdraw currency content line reads = ap store_code reads.0 ∙ bad_command_silent
 
 entry_silent : (f : EntryFault) → store_code (entry_fault_line f) ≡ 0
 unfolding entry_fault_line no_memory_line
@@ -126,6 +131,8 @@ conflict_silent conflict.DoubleId = refl
 conflict_silent conflict.IdInUse = refl
 conflict_silent conflict.OwnCommitment = refl
 conflict_silent conflict.TooManyCommitments = refl
+conflict_silent conflict.NoSuchPost = refl
+conflict_silent conflict.Withdrawn = refl
 conflict_silent conflict.NoSuchCommitment = refl
 conflict_silent conflict.PurchaseLimit = refl
 
@@ -168,10 +175,6 @@ state_silent held = refl
 pub checkpointed_silent : store_code checkpointed_line ≡ 0
 unfolding checkpointed_line
 checkpointed_silent = refl
-
-bad_command_silent : store_code bad_command_line ≡ 0
-unfolding bad_command_line
-bad_command_silent = refl
 
 bad_end_silent : store_code bad_end_line ≡ 0
 unfolding bad_end_line

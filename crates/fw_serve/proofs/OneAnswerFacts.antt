@@ -12,7 +12,7 @@ use Rattle.fw_commitment.specs.declared.fault.CommitmentFault.TheVariants as com
 use Rattle.fw_commitment.proofs.AddedFacts.{added-one-reading}
 use Rattle.fw_commitment.proofs.OneReading.{text-one-reading}
 use Rattle.fw_entry.specs.Entry.{CommandValue, EntryValue}
-use Rattle.fw_entry.specs.Entry.CommandValue.{post, commit, set_policy, add_purchase}
+use Rattle.fw_entry.specs.Entry.CommandValue.{post, commit, set_policy, withdraw, add_purchase}
 use Rattle.fw_entry.specs.declared.fault.EntryFault.{EntryFault}
 use Rattle.fw_policy.specs.Policy.{PolicyReads}
 use Rattle.fw_policy.specs.declared.fault.PolicyFault.{PolicyFault}
@@ -137,6 +137,13 @@ unfolding ContentReads
 purchase_content currency content (Ok command) given = (Ok given.0, ap Ok given.1, given.2)
 purchase_content currency content (Err line) given = (Err given.0, ap Err given.1, given.2)
 
+withdrawal_one : (currency content : List ℕ) (r s : Result CommandValue (List ℕ)) → ContentReads kind.Withdraw currency content r → ContentReads kind.Withdraw currency content s → r ≡ s
+unfolding ContentReads
+withdrawal_one currency content (Ok command) (Ok other) a b = ap Ok (a.1 ∙ ap withdraw (sym a.2.decimal.value ∙ b.2.decimal.value) ∙ sym b.1)
+withdrawal_one currency content (Ok command) (Err line) a b = absurd (b.1 a.0 a.2)
+withdrawal_one currency content (Err line) (Ok command) a b = absurd (a.1 b.0 b.2)
+withdrawal_one currency content (Err line) (Err other) a b = ap Err (a.0 ∙ sym b.0)
+
 pub content_one : (k : EntryKind) (currency content : List ℕ) (r s : Result CommandValue (List ℕ)) → ContentReads k currency content r → ContentReads k currency content s
     → (r ≡ s) ⊎ ((r ≡ Err no_memory_line) ⊎ (s ≡ Err no_memory_line))
 content_one kind.Post currency content r s a b =
@@ -159,6 +166,7 @@ content_one kind.AddPurchase currency content r s a b =
     let q = purchase_content currency content s b in
     images_same add_purchase commitment_fault_line commitment_fault.NoMemory commitment_no_memory p.0 q.0 r s p.1 q.1
     (reading_same (PurchaseReads content) commitment_fault.NoMemory commitment_out (added-one-reading content) p.0 q.0 p.2 q.2)
+content_one kind.Withdraw currency content r s a b = inl (withdrawal_one currency content r s a b)
 
 pub number_one : (word : List ℕ) (m n : ℕ) → SequenceReads word m → SequenceReads word n → m ≡ n
 number_one word zero zero a b = refl

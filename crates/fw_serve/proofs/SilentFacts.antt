@@ -42,6 +42,8 @@ conflict_speaks conflict.DoubleId = refl
 conflict_speaks conflict.IdInUse = refl
 conflict_speaks conflict.OwnCommitment = refl
 conflict_speaks conflict.TooManyCommitments = refl
+conflict_speaks conflict.NoSuchPost = refl
+conflict_speaks conflict.Withdrawn = refl
 conflict_speaks conflict.NoSuchCommitment = refl
 conflict_speaks conflict.PurchaseLimit = refl
 
@@ -94,12 +96,17 @@ policy_silent policy_fault.DoubleFrom = refl
 policy_silent policy_fault.TargetIsFrom = refl
 policy_silent policy_fault.NoMemory = refl
 
+pub bad_command_silent : speaks bad_command_line ≡ false
+unfolding bad_command_line
+bad_command_silent = refl
+
 pub content_silent : (k : EntryKind) (currency content line : List ℕ) → ContentReads k currency content (Err line) → speaks line ≡ false
 unfolding ContentReads
 content_silent kind.Post currency content line reads = ap speaks reads.1 ∙ row_silent reads.0
 content_silent kind.Commit currency content line reads = ap speaks reads.1 ∙ commitment_silent reads.0
 content_silent kind.Policy currency content line reads = ap speaks reads.1 ∙ policy_silent reads.0
 content_silent kind.AddPurchase currency content line reads = ap speaks reads.1 ∙ commitment_silent reads.0
+content_silent kind.Withdraw currency content line reads = ap speaks reads.0 ∙ bad_command_silent
 
 pub entry_silent : (f : EntryFault) → speaks (entry_fault_line f) ≡ false
 unfolding entry_fault_line no_memory_line
@@ -161,10 +168,6 @@ state_silent held = refl
 pub checkpointed_silent : speaks checkpointed_line ≡ false
 unfolding checkpointed_line
 checkpointed_silent = refl
-
-pub bad_command_silent : speaks bad_command_line ≡ false
-unfolding bad_command_line
-bad_command_silent = refl
 
 pub bad_end_silent : speaks bad_end_line ≡ false
 unfolding bad_end_line

@@ -37,7 +37,9 @@ conflict_of digit =
     else (if digit == 50 then conflict.DoubleId
     else (if digit == 51 then conflict.IdInUse
     else (if digit == 52 then conflict.OwnCommitment
-    else (if digit == 53 then conflict.TooManyCommitments else (if digit == 56 then conflict.NoSuchCommitment else conflict.PurchaseLimit)))))
+    else (if digit == 53 then conflict.TooManyCommitments
+    else (if digit == 54 then conflict.NoSuchPost
+    else (if digit == 55 then conflict.Withdrawn else (if digit == 56 then conflict.NoSuchCommitment else conflict.PurchaseLimit)))))))
 
 conflict_back : (why : Conflict) → conflict_of (letter 9 (conflict_line why)) ≡ why
 unfolding conflict_line conflict_of letter
@@ -46,6 +48,8 @@ conflict_back conflict.DoubleId = refl
 conflict_back conflict.IdInUse = refl
 conflict_back conflict.OwnCommitment = refl
 conflict_back conflict.TooManyCommitments = refl
+conflict_back conflict.NoSuchPost = refl
+conflict_back conflict.Withdrawn = refl
 conflict_back conflict.NoSuchCommitment = refl
 conflict_back conflict.PurchaseLimit = refl
 
@@ -56,6 +60,8 @@ conflict_begins conflict.DoubleId = refl
 conflict_begins conflict.IdInUse = refl
 conflict_begins conflict.OwnCommitment = refl
 conflict_begins conflict.TooManyCommitments = refl
+conflict_begins conflict.NoSuchPost = refl
+conflict_begins conflict.Withdrawn = refl
 conflict_begins conflict.NoSuchCommitment = refl
 conflict_begins conflict.PurchaseLimit = refl
 

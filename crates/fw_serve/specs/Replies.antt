@@ -78,6 +78,8 @@ conflict_line conflict.DoubleId = refused (codes "J2 DoubleId")
 conflict_line conflict.IdInUse = refused (codes "J3 IdInUse")
 conflict_line conflict.OwnCommitment = refused (codes "J4 OwnCommitment")
 conflict_line conflict.TooManyCommitments = refused (codes "J5 TooManyCommitments")
+conflict_line conflict.NoSuchPost = refused (codes "J6 NoSuchPost")
+conflict_line conflict.Withdrawn = refused (codes "J7 Withdrawn")
 conflict_line conflict.NoSuchCommitment = refused (codes "J8 NoSuchCommitment")
 conflict_line conflict.PurchaseLimit = refused (codes "J9 PurchaseLimit")
 

@@ -32,7 +32,7 @@ use std::thread::Threads;
 /// command sends, and no other one.
 ///
 /// A report is made by so many workers, and by what reports before it kept of what commitments cover. Nothing of this is kept behind an entry, which may bring rows or
-/// commitments, or add to the purchases of a commitment. Posts are read by as many workers, ahead of their commands, which has no effect on an answer.
+/// commitments, add to the purchases of a commitment, or withdraw rows. Posts are read by as many workers, ahead of their commands, which has no effect on an answer.
 pub(crate) fn answer<V: Volume>(
     rt: &(impl Threads + Sync),
     alloc: Global,

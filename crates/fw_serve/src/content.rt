@@ -12,7 +12,7 @@ use fw_commitment::{read_commitment, read_purchase};
 use fw_entry::Command;
 use fw_policy::read_policy;
 use fw_rows::Currency;
-use fw_script::EntryKind;
+use fw_script::{EntryKind, sequence_number};
 use std::alloc::Global;
 use std::thread::Threads;
 
@@ -44,6 +44,10 @@ pub(crate) fn read_content(
         EntryKind::AddPurchase => match read_purchase(alloc, content) {
             Ok(added) => Ok(Command::AddPurchase(added)),
             Err(fault) => Err(commitment_reply(fault)),
+        },
+        EntryKind::Withdraw => match sequence_number(content) {
+            Some(target) => Ok(Command::Withdraw(target)),
+            None => Err(Reply::BadCommand),
         },
     }
 }

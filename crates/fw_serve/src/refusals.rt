@@ -92,6 +92,8 @@ fn conflict_reply(conflict: Conflict) -> Reply
         Conflict::IdInUse => refused("J3 IdInUse", Detail::None),
         Conflict::OwnCommitment => refused("J4 OwnCommitment", Detail::None),
         Conflict::TooManyCommitments => refused("J5 TooManyCommitments", Detail::None),
+        Conflict::NoSuchPost => refused("J6 NoSuchPost", Detail::None),
+        Conflict::Withdrawn => refused("J7 Withdrawn", Detail::None),
         Conflict::NoSuchCommitment => refused("J8 NoSuchCommitment", Detail::None),
         Conflict::PurchaseLimit => refused("J9 PurchaseLimit", Detail::None),
     }

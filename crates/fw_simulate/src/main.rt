@@ -10,6 +10,7 @@
 //! run IMPORTERS ANALYSTS DEVICE           begins a script of events
 //! post IMPORTER ORIGIN NUMBER ROWS COST   an importer posts so many rows, each of this BilledCost
 //! use IMPORTER ORIGIN NUMBER ID           an importer posts a row that names a commitment
+//! withdraw IMPORTER ORIGIN NUMBER POST    an importer withdraws the post of this number of the same origin
 //! commitment IMPORTER ORIGIN NUMBER ID    an importer posts a commitment
 //! add IMPORTER ORIGIN NUMBER ID COST      an importer posts a purchase of this cost that is added to a commitment
 //! policy IMPORTER ORIGIN NUMBER KEY       an importer posts a policy

@@ -85,12 +85,14 @@ fn conflict_number(why: Conflict) -> u64 {
         Conflict::IdInUse => 3,
         Conflict::OwnCommitment => 4,
         Conflict::TooManyCommitments => 5,
+        Conflict::NoSuchPost => 6,
+        Conflict::Withdrawn => 7,
         Conflict::NoSuchCommitment => 8,
         Conflict::PurchaseLimit => 9,
     }
 }
 
-/// A list of entries, and the BilledCost of its rows in nanos, in order.
+/// A list of entries, and the BilledCost of each row that counts, in nanos, in order.
 pub(crate) fn list_text(alloc: Global, word: &str, state: &State) -> Result<String, AllocError> {
     let mut text = String::from_str(alloc, word)?;
     let heads = state.heads();
@@ -99,9 +101,9 @@ pub(crate) fn list_text(alloc: Global, word: &str, state: &State) -> Result<Stri
         text.push_str(head.as_str())?;
     }
     text.push_str(" |")?;
-    let segments = state.segments();
-    for number in 0..segments.len() {
-        for billed in segments.get(number).billed() {
+    let segments = state.counting_segments(alloc)?;
+    for rows in segments.as_slice() {
+        for billed in rows.billed() {
             let cost = format!(in alloc; " {billed}")?;
             text.push_str(cost.as_str())?;
         }
@@ -122,6 +124,7 @@ fn head_text(alloc: Global, head: &Head) -> Result<String, AllocError> {
             let key = policy.key();
             format!(in alloc; " {origin}/{number}!{key}")
         }
+        Content::Withdraw(post) => format!(in alloc; " {origin}/{number}-{post}"),
         Content::AddPurchase(added) => {
             let (id, cost) = (added.id(), added.purchase().billed().count());
             format!(in alloc; " {origin}/{number}+{id}:{cost}")
@@ -153,7 +156,7 @@ pub(crate) fn verdicts_text(alloc: Global, verdicts: &[Verdict]) -> Result<Strin
     Ok(text)
 }
 
-/// The segments of a list: how many rows each has, and the BilledCost of its first and its last one.
+/// The stored segments of a list: how many rows each has, withdrawn or not, and the BilledCost of its first and its last one.
 pub(crate) fn segments_text(alloc: Global, state: &State) -> Result<String, AllocError> {
     let mut text = String::from_str(alloc, "segments")?;
     let segments = state.segments();

@@ -172,6 +172,7 @@ fn read_command(alloc: Global, kind: &str, content: &[&str]) -> Result<Command, 
     match (kind, content) {
         ("post", [rows, cost]) => rows_of_cost(alloc, read_place(rows)?, cost),
         ("use", [id]) => row_of_commitment(alloc, id),
+        ("withdraw", [post]) => Ok(Command::Withdraw(read_number(post)?)),
         ("commitment", [id]) => commitment_of(alloc, id),
         ("add", [id, cost]) => purchase_of(alloc, id, cost),
         ("policy", [key]) => policy_of(alloc, key),

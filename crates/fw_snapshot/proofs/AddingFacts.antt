@@ -12,14 +12,15 @@ use Rattle.fw_terms.specs.Added.{AddedValue}
 use Rattle.fw_terms.specs.Spelling.{IsSpelledAdded}
 use Rattle.fw_terms.proofs.Adding.{purchase_kept}
 use Rattle.fw_entry.specs.Entry.{CommandValue, EntryValue}
-use Rattle.fw_entry.specs.Entry.CommandValue.{post, commit, set_policy, add_purchase}
+use Rattle.fw_entry.specs.Entry.CommandValue.{post, commit, set_policy, withdraw, add_purchase}
 use Rattle.fw_entry.specs.Spelling.{IsCommand, IsEntry}
-use Rattle.fw_snapshot.specs.History.{posted, added, committed, committed_of, purchases_added, with_added, commitments_of, rows_of, policy_of, policy_after}
+use Rattle.fw_snapshot.specs.History.{posted, withdraws, added, committed, committed_of, purchases_added, with_added, commitments_of, rows_of, policy_of, policy_after}
 use Rattle.fw_snapshot.specs.Adding.{with_added_purchase, commitments_after, NoneRefuses}
 use Rattle.fw_snapshot.specs.Judging.{judged, IsLegal, IsLegalAfter, is_registered, refuses, purchase_conflict, command_conflict}
 use Rattle.fw_snapshot.specs.declared.verdict.Conflict.{Conflict}
 use Rattle.fw_snapshot.specs.declared.verdict.Verdict.TheVariants as verdict
-use Rattle.fw_snapshot.proofs.EntryFacts.{committed_of_more, rows_of_more, policy_of_more}
+use Rattle.fw_snapshot.proofs.EntryFacts.{committed_of_more, policy_of_more}
+use Rattle.fw_snapshot.proofs.CountingFacts.{rows_stay}
 use Rattle.fw_snapshot.proofs.AddedFacts.{purchases_added_more, registered_same}
 use Rattle.fw_snapshot.proofs.LegalFacts.{accepted_command, legal_kept, legal_more, new_id}
 use Rattle.fw_snapshot.proofs.IdFacts.{false_parts}
@@ -32,18 +33,19 @@ no_conflict true false limit absent h = (refl, refl)
 no_conflict false refused limit absent h = absurd (cc)
 
 -- its commitment is there, and none refuses it
-pub accepted_purchase : (es : List EntryValue) (a : AddedValue) → command_conflict es (add_purchase a) ≡ None → (is_registered a.id (commitments_of es) ≡ true) × (list_any (refuses a) (commitments_of es) ≡ false)
+pub accepted_purchase : (es : List EntryValue) (origin : List ℕ) (a : AddedValue) → command_conflict es origin (add_purchase a) ≡ None → (is_registered a.id (commitments_of es) ≡ true) × (list_any (refuses a) (commitments_of es) ≡ false)
 unfolding command_conflict purchase_conflict
-accepted_purchase es a h = no_conflict (is_registered a.id (commitments_of es)) (list_any (refuses a) (commitments_of es)) _ _ h
+accepted_purchase es origin a h = no_conflict (is_registered a.id (commitments_of es)) (list_any (refuses a) (commitments_of es)) _ _ h
 
-refuses_none : (es : List EntryValue) (c : CommandValue) → command_conflict es c ≡ None → NoneRefuses (commitments_of es) c
-refuses_none es (post rows) h = tt
-refuses_none es (commit c) h = tt
-refuses_none es (set_policy p) h = tt
-refuses_none es (add_purchase a) h = (accepted_purchase es a h).1
+refuses_none : (es : List EntryValue) (origin : List ℕ) (c : CommandValue) → command_conflict es origin c ≡ None → NoneRefuses (commitments_of es) c
+refuses_none es origin (post rows) h = tt
+refuses_none es origin (commit c) h = tt
+refuses_none es origin (set_policy p) h = tt
+refuses_none es origin (withdraw n) h = tt
+refuses_none es origin (add_purchase a) h = (accepted_purchase es origin a h).1
 
 pub none_refuses : (es : List EntryValue) (e : EntryValue) → judged es e ≡ verdict.Accept → NoneRefuses (commitments_of es) e.command
-none_refuses es e h = refuses_none es e.command (accepted_command es e h)
+none_refuses es e h = refuses_none es e.origin e.command (accepted_command es e h)
 
 -- ---- nothing is added to what isn't there
 
@@ -57,12 +59,13 @@ not_meant false p other = refl
 unlike : (b : Bool) → b ≡ true → b ≡ false → ⊥
 unlike b h k = absurd (cc)
 
-adds_nothing : (es : List EntryValue) (id : List ℕ) (c : CommandValue) → command_conflict es c ≡ None → is_registered id (committed_of es) ≡ false → added id c ≡ []
-adds_nothing es id (post rows) h none = refl
-adds_nothing es id (commit c) h none = refl
-adds_nothing es id (set_policy p) h none = refl
-adds_nothing es id (add_purchase a) h none =
-    let there : is_registered a.id (committed_of es) ≡ true = sym (registered_same es a.id) ∙ (accepted_purchase es a h).0 in
+adds_nothing : (es : List EntryValue) (origin id : List ℕ) (c : CommandValue) → command_conflict es origin c ≡ None → is_registered id (committed_of es) ≡ false → added id c ≡ []
+adds_nothing es origin id (post rows) h none = refl
+adds_nothing es origin id (commit c) h none = refl
+adds_nothing es origin id (set_policy p) h none = refl
+adds_nothing es origin id (withdraw n) h none = refl
+adds_nothing es origin id (add_purchase a) h none =
+    let there : is_registered a.id (committed_of es) ≡ true = sym (registered_same es a.id) ∙ (accepted_purchase es origin a h).0 in
     not_meant (bytes_eq a.id id) a.purchase
     (λ same. unlike (is_registered id (committed_of es)) (ap (λ i. is_registered i (committed_of es)) (sym ((bytes_eq-Decides a.id id).0 same)) ∙ there) none)
 
@@ -74,7 +77,7 @@ none_added_more : (es : List EntryValue) (e : EntryValue) → NoneAdded es → j
 none_added_more es e holds h id none =
     let split : (is_registered id (committed_of es) || is_registered id (committed e.command)) ≡ false = sym (ap (is_registered id) (committed_of_more es e) ∙ registered_append id (committed_of es) (committed e.command)) ∙ none in
     let before = (false_parts (is_registered id (committed_of es)) (is_registered id (committed e.command)) split).0 in
-    purchases_added_more id es e ∙ ap (λ ps. ps ++ added id e.command) (holds id before) ∙ adds_nothing es id e.command (accepted_command es e h) before
+    purchases_added_more id es e ∙ ap (λ ps. ps ++ added id e.command) (holds id before) ∙ adds_nothing es e.origin id e.command (accepted_command es e h) before
 
 none_added_first : NoneAdded []
 unfolding purchases_added
@@ -121,14 +124,15 @@ new_alone es c legal new =
     ∙ ap (and_behind c) (none_added es legal c.id new)
     ∙ ap (λ qs. let made : CommitmentValue = record c { purchases = qs } in made) (append-nil c.purchases)
 
-step : (es : List EntryValue) (c : CommandValue) → IsLegal es → command_conflict es c ≡ None → map (with_more es c) (committed_of es ++ committed c) ≡ commitments_after (map (with_added es) (committed_of es)) c
-step es (post rows) legal h = ap (map (with_more es (post rows))) (append-nil (committed_of es)) ∙ map_like (with_more es (post rows)) (with_added es) (adds_none es) (committed_of es)
-step es (commit c) legal h =
+step : (es : List EntryValue) (origin : List ℕ) (c : CommandValue) → IsLegal es → command_conflict es origin c ≡ None → map (with_more es c) (committed_of es ++ committed c) ≡ commitments_after (map (with_added es) (committed_of es)) c
+step es origin (post rows) legal h = ap (map (with_more es (post rows))) (append-nil (committed_of es)) ∙ map_like (with_more es (post rows)) (with_added es) (adds_none es) (committed_of es)
+step es origin (commit c) legal h =
     map-append (with_more es (commit c)) (committed_of es) (c ∷ [])
     ∙ ap (λ cs. cs ++ with_more es (commit c) c ∷ []) (map_like (with_more es (commit c)) (with_added es) (adds_none es) (committed_of es))
-    ∙ ap (λ last. map (with_added es) (committed_of es) ++ last ∷ []) (new_alone es c legal (new_id es c h))
-step es (set_policy p) legal h = ap (map (with_more es (set_policy p))) (append-nil (committed_of es)) ∙ map_like (with_more es (set_policy p)) (with_added es) (adds_none es) (committed_of es)
-step es (add_purchase a) legal h =
+    ∙ ap (λ last. map (with_added es) (committed_of es) ++ last ∷ []) (new_alone es c legal (new_id es origin c h))
+step es origin (set_policy p) legal h = ap (map (with_more es (set_policy p))) (append-nil (committed_of es)) ∙ map_like (with_more es (set_policy p)) (with_added es) (adds_none es) (committed_of es)
+step es origin (withdraw n) legal h = ap (map (with_more es (withdraw n))) (append-nil (committed_of es)) ∙ map_like (with_more es (withdraw n)) (with_added es) (adds_none es) (committed_of es)
+step es origin (add_purchase a) legal h =
     ap (map (with_more es (add_purchase a))) (append-nil (committed_of es))
     ∙ map_like (with_more es (add_purchase a)) (λ c. with_added_purchase a (with_added es c)) (adds_one es a) (committed_of es)
     ∙ sym (map_twice (with_added_purchase a) (with_added es) (committed_of es))
@@ -138,12 +142,12 @@ unfolding commitments_of
 commitments_of_more es e legal h =
     map_like (with_added (es ++ e ∷ [])) (with_more es e.command) (is_with_more es e) (committed_of (es ++ e ∷ []))
     ∙ ap (map (with_more es e.command)) (committed_of_more es e)
-    ∙ step es e.command legal (accepted_command es e h)
+    ∙ step es e.origin e.command legal (accepted_command es e h)
 
 -- a purchase that is added changes neither the rows nor the policy
 pub changes_no_more : (es : List EntryValue) (e : EntryValue) (a : AddedValue) → e.command ≡ add_purchase a → (rows_of (es ++ e ∷ []) ≡ rows_of es) × (policy_of (es ++ e ∷ []) ≡ policy_of es)
 changes_no_more es e a is =
-    (rows_of_more es e ∙ ap (λ c. rows_of es ++ posted c) is ∙ append-nil (rows_of es), policy_of_more es e ∙ ap (policy_after (policy_of es)) is)
+    (rows_stay es e (λ seq. ap (withdraws seq) is) (ap posted is), policy_of_more es e ∙ ap (policy_after (policy_of es)) is)
 
 -- ---- commitments keep their limits
 
@@ -168,6 +172,7 @@ after_kept : (cs : List CommitmentValue) (c : CommandValue) → IsCommand c → 
 after_kept cs (post rows) is h kept = kept
 after_kept cs (commit c) is h kept = All-push IsCommitment cs c kept is.limits
 after_kept cs (set_policy p) is h kept = kept
+after_kept cs (withdraw n) is h kept = kept
 after_kept cs (add_purchase a) is h kept = each_kept a cs is h kept
 
 abbrev KeepLimits : List EntryValue → Type 0

@@ -17,22 +17,13 @@ use Rattle.fw_row_table.specs.Names.{Text}
 use Rattle.fw_persistent.specs.Counts.{Counts, count_of}
 use Rattle.fw_terms.specs.Commitment.{CommitmentValue}
 use Rattle.fw_entry.specs.Entry.{EntryValue}
-use Rattle.fw_snapshot.specs.History.{posted, committed, policy_after, rows_posted, rows_of, committed_of, policy_of, entries_from}
+use Rattle.fw_snapshot.specs.History.{posted, committed, policy_after, rows_posted, committed_of, policy_of, entries_from}
 use Rattle.fw_snapshot.specs.Judging.{has_id, carries, is_registered}
 use Rattle.fw_snapshot.specs.Uses.{posts_with, commitments_with}
-
--- each posted row counts
-pub rows_count : (es : List EntryValue) → rows_posted es ≡ rows_of es
-unfolding rows_of
-rows_count es = refl
 
 pub rows_posted_more : (es : List EntryValue) (e : EntryValue) → rows_posted (es ++ e ∷ []) ≡ rows_posted es ++ posted e.command
 unfolding rows_posted
 rows_posted_more es e = sym (flat_map_more (λ e. posted e.command) [] es e)
-
-pub rows_of_more : (es : List EntryValue) (e : EntryValue) → rows_of (es ++ e ∷ []) ≡ rows_of es ++ posted e.command
-unfolding rows_of
-rows_of_more es e = rows_posted_more es e
 
 pub committed_of_more : (es : List EntryValue) (e : EntryValue) → committed_of (es ++ e ∷ []) ≡ committed_of es ++ committed e.command
 unfolding committed_of
@@ -93,9 +84,9 @@ posts_carry id [] = refl
 posts_carry id (e ∷ es) =
     ap (λ b. carries id (posted e.command) || b) (posts_carry id es) ∙ sym (list_any-append (has_id id) (posted e.command) (rows_posted es))
 
-pub posts_in_use : (id : List ℕ) (es : List EntryValue) → nat_lt 0 (posts_with id es) ≡ carries id (rows_of es)
+pub posts_in_use : (id : List ℕ) (es : List EntryValue) → nat_lt 0 (posts_with id es) ≡ carries id (rows_posted es)
 unfolding posts_with
-posts_in_use id es = some_pass (λ e. carries id (posted e.command)) es ∙ posts_carry id es ∙ ap (carries id) (rows_count es)
+posts_in_use id es = some_pass (λ e. carries id (posted e.command)) es ∙ posts_carry id es
 
 -- one row more carries its own id
 pub carries_more : (id : List ℕ) (rows : List Charge) (i : ℕ) (row : Charge) → i < length rows → get_or rows i row ≡ row → carries id (take (i + 1) rows) ≡ (carries id (take i rows) || has_id id row)

@@ -5,10 +5,10 @@ use Rattle.std.proofs.lemmas.List.Sums.{sum_by-cons}
 use Rattle.std.proofs.Math.Seq.{take-append_seam, drop-append_seam}
 use Rattle.fw_charge.specs.Charge.{Charge}
 use Rattle.fw_entry.specs.Entry.{CommandValue, EntryValue}
-use Rattle.fw_entry.specs.Entry.CommandValue.{post, commit, set_policy, add_purchase}
+use Rattle.fw_entry.specs.Entry.CommandValue.{post, commit, set_policy, withdraw, add_purchase}
 use Rattle.fw_snapshot.specs.History.{posted, rows_posted}
 use Rattle.fw_snapshot.specs.Heads.{ContentValue, HeadValue, content_of, head_of, row_count, row_counts, command_of, entry_of, entries_of}
-use Rattle.fw_snapshot.specs.Heads.ContentValue.{posted_rows, committed_to, policy_set, purchase_added}
+use Rattle.fw_snapshot.specs.Heads.ContentValue.{posted_rows, committed_to, policy_set, post_withdrawn, purchase_added}
 
 pub row_counts_cons : (h : HeadValue) (heads : List HeadValue) → row_counts (h ∷ heads) ≡ row_count h.content + row_counts heads
 unfolding row_counts
@@ -23,6 +23,7 @@ command_back : (c : CommandValue) → command_of (content_of c) (posted c) ≡ c
 command_back (post rows) = refl
 command_back (commit c) = refl
 command_back (set_policy p) = refl
+command_back (withdraw n) = refl
 command_back (add_purchase a) = refl
 
 pub entry_back : (e : EntryValue) → entry_of (head_of e) (posted e.command) ≡ e
@@ -32,18 +33,21 @@ pub row_count_back : (c : CommandValue) → row_count (content_of c) ≡ length 
 row_count_back (post rows) = refl
 row_count_back (commit c) = refl
 row_count_back (set_policy p) = refl
+row_count_back (withdraw n) = refl
 row_count_back (add_purchase a) = refl
 
 pub posted_back : (c : ContentValue) (rows : List Charge) → posted (command_of c (take (row_count c) rows)) ≡ take (row_count c) rows
 posted_back (posted_rows n) rows = refl
 posted_back (committed_to c) rows = refl
 posted_back (policy_set p) rows = refl
+posted_back (post_withdrawn n) rows = refl
 posted_back (purchase_added a) rows = refl
 
 content_back : (c : ContentValue) (rows : List Charge) → row_count c ≤ length rows → content_of (command_of c (take (row_count c) rows)) ≡ c
 content_back (posted_rows n) rows h = ap posted_rows (length-take-le n rows h)
 content_back (committed_to c) rows h = refl
 content_back (policy_set p) rows h = refl
+content_back (post_withdrawn n) rows h = refl
 content_back (purchase_added a) rows h = refl
 
 -- the rows behind those of the first head are as many as the other heads say

@@ -13,12 +13,13 @@ use Rattle.std.proofs.lemmas.Slice.Eq.{bytes_eq-Decides}
 use Rattle.fw_charge.specs.Charge.{Charge, DiscountText}
 use Rattle.fw_terms.specs.Commitment.{CommitmentValue}
 use Rattle.fw_entry.specs.Entry.{CommandValue, EntryValue}
-use Rattle.fw_entry.specs.Entry.CommandValue.{post, commit, set_policy, add_purchase}
-use Rattle.fw_snapshot.specs.History.{posted, committed, rows_posted, rows_of, committed_of, with_added, commitments_of}
+use Rattle.fw_entry.specs.Entry.CommandValue.{post, commit, set_policy, withdraw, add_purchase}
+use Rattle.fw_snapshot.specs.History.{posted, committed, rows_of, committed_of, with_added, commitments_of}
 use Rattle.fw_snapshot.specs.Ids.{NoneHasIdOf, NoRowHasIdOf}
 use Rattle.fw_snapshot.specs.Judging.{judged, IsLegal, has_id, carries, is_registered, has_registered_id, carries_any, command_conflict}
 use Rattle.fw_snapshot.specs.declared.verdict.Verdict.TheVariants as verdict
-use Rattle.fw_snapshot.proofs.EntryFacts.{rows_of_more, committed_of_more}
+use Rattle.fw_snapshot.proofs.EntryFacts.{committed_of_more}
+use Rattle.fw_snapshot.proofs.CountingFacts.{none_more}
 use Rattle.fw_snapshot.proofs.AddedFacts.{registered_same, carries_same, same_ids}
 use Rattle.fw_snapshot.proofs.LegalFacts.{accepted_command, legal_kept, new_id, unused_id, no_registered_id}
 
@@ -146,14 +147,15 @@ other_row cs (r ∷ rows) zero row none h =
 other_row cs (r ∷ rows) (suc i) row none h = other_row cs rows i row (false_parts (has_registered_id cs r) (carries_any rows cs) none).1 h
 
 -- both stay so with each entry that is accepted
-command_apart : (es : List EntryValue) (c : CommandValue) → command_conflict es c ≡ None → Apart (committed_of es) → Apart (committed_of es ++ committed c)
-command_apart es (post more) h apart = rw append-nil apart
-command_apart es (commit c) h apart = apart_more (committed_of es) c apart (new_id es c h)
-command_apart es (set_policy p) h apart = rw append-nil apart
-command_apart es (add_purchase a) h apart = rw append-nil apart
+command_apart : (es : List EntryValue) (origin : List ℕ) (c : CommandValue) → command_conflict es origin c ≡ None → Apart (committed_of es) → Apart (committed_of es ++ committed c)
+command_apart es origin (post more) h apart = rw append-nil apart
+command_apart es origin (commit c) h apart = apart_more (committed_of es) c apart (new_id es origin c h)
+command_apart es origin (set_policy p) h apart = rw append-nil apart
+command_apart es origin (withdraw n) h apart = rw append-nil apart
+command_apart es origin (add_purchase a) h apart = rw append-nil apart
 
 apart_kept : (es : List EntryValue) (e : EntryValue) → Apart (committed_of es) → judged es e ≡ verdict.Accept → Apart (committed_of (es ++ e ∷ []))
-apart_kept es e apart h = rw committed_of_more (command_apart es e.command (accepted_command es e h) apart)
+apart_kept es e apart h = rw committed_of_more (command_apart es e.origin e.command (accepted_command es e h) apart)
 
 first_apart : Apart (committed_of [])
 unfolding committed_of
@@ -165,17 +167,23 @@ commitments_apart es legal = legal_kept (λ es. Apart (committed_of es)) apart_k
 abbrev NoneCarried : List EntryValue → Type 0
 NoneCarried es = carries_any (rows_of es) (committed_of es) ≡ false
 
-command_carried : (es : List EntryValue) (c : CommandValue) → command_conflict es c ≡ None → NoneCarried es → carries_any (rows_of es ++ posted c) (committed_of es ++ committed c) ≡ false
-command_carried es (post more) h none = rw append-nil (rows_apart (rows_of es) more (committed_of es) none (no_registered_id es more h))
-command_carried es (commit c) h none = rw append-nil (commitment_apart (rows_of es) (committed_of es) c none (unused_id es c h))
-command_carried es (set_policy p) h none = simp append-nil none
-command_carried es (add_purchase a) h none = simp append-nil none
+command_carried : (es : List EntryValue) (origin : List ℕ) (c : CommandValue) → command_conflict es origin c ≡ None → NoneCarried es → carries_any (rows_of es ++ posted c) (committed_of es ++ committed c) ≡ false
+command_carried es origin (post more) h none = rw append-nil (rows_apart (rows_of es) more (committed_of es) none (no_registered_id es origin more h))
+command_carried es origin (commit c) h none = rw append-nil (commitment_apart (rows_of es) (committed_of es) c none (unused_id es origin c h))
+command_carried es origin (set_policy p) h none = simp append-nil none
+command_carried es origin (withdraw n) h none = simp append-nil none
+command_carried es origin (add_purchase a) h none = simp append-nil none
+
+-- no other row counts than before, but for those that the entry posts
+no_more_carried : (es : List EntryValue) (e : EntryValue) (cs : List CommitmentValue) → carries_any (rows_of es ++ posted e.command) cs ≡ false → carries_any (rows_of (es ++ e ∷ [])) cs ≡ false
+unfolding carries_any
+no_more_carried es e cs none = none_more (has_registered_id cs) es e none
 
 carried_kept : (es : List EntryValue) (e : EntryValue) → NoneCarried es → judged es e ≡ verdict.Accept → NoneCarried (es ++ e ∷ [])
-carried_kept es e none h = rw (rows_of_more es e, committed_of_more es e) (command_carried es e.command (accepted_command es e h) none)
+carried_kept es e none h = rw committed_of_more (no_more_carried es e (committed_of es ++ committed e.command) (command_carried es e.origin e.command (accepted_command es e h) none))
 
 first_carried : NoneCarried []
-unfolding rows_of rows_posted carries_any
+unfolding rows_of carries_any
 first_carried = refl
 
 none_carried : (es : List EntryValue) → IsLegal es → NoneCarried es

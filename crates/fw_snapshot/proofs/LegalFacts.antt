@@ -9,7 +9,7 @@ use Rattle.std.proofs.lemmas.Bool.Decides.{nat_tests}
 use Rattle.fw_charge.specs.Charge.{Charge}
 use Rattle.fw_terms.specs.Commitment.{CommitmentValue}
 use Rattle.fw_entry.specs.Entry.{CommandValue, EntryValue}
-use Rattle.fw_entry.specs.Entry.CommandValue.{post, commit, set_policy, add_purchase}
+use Rattle.fw_entry.specs.Entry.CommandValue.{post, commit, set_policy, withdraw, add_purchase}
 use Rattle.fw_snapshot.specs.History.{posted, committed, rows_posted, rows_of, committed_of, entries_from}
 use Rattle.fw_snapshot.specs.Judging.{judged, IsLegal, IsLegalAfter, command_conflict, rows_conflict, commitment_conflict, most_rows, most_commitments, verdict_on, carries, carries_any, is_registered}
 use Rattle.fw_snapshot.specs.declared.verdict.Conflict.{Conflict}
@@ -26,11 +26,11 @@ pub accepted_number : (es : List EntryValue) (e : EntryValue) → judged es e �
 unfolding judged
 accepted_number es e h = grind (arith, nat_tests, h)
 
-pub accepted_command : (es : List EntryValue) (e : EntryValue) → judged es e ≡ verdict.Accept → command_conflict es e.command ≡ None
+pub accepted_command : (es : List EntryValue) (e : EntryValue) → judged es e ≡ verdict.Accept → command_conflict es e.origin e.command ≡ None
 unfolding judged
 accepted_command es e h =
-    let judged_so : verdict_on (command_conflict es e.command) ≡ verdict.Accept = grind (arith, nat_tests, h) in
-    none_stands (command_conflict es e.command) judged_so
+    let judged_so : verdict_on (command_conflict es e.origin e.command) ≡ verdict.Accept = grind (arith, nat_tests, h) in
+    none_stands (command_conflict es e.origin e.command) judged_so
 
 at_most : (n m : ℕ) → nat_lt n m ≡ false → m ≤ n
 at_most n m h = grind (arith, nat_tests)
@@ -38,45 +38,47 @@ at_most n m h = grind (arith, nat_tests)
 below : (n m : ℕ) → nat_le n m ≡ false → m < n
 below n m h = grind (arith, nat_tests)
 
-rows_room : (es : List EntryValue) (c : CommandValue) → command_conflict es c ≡ None → length (rows_posted es) ≤ most_rows → length (rows_posted es) + length (posted c) ≤ most_rows
+rows_room : (es : List EntryValue) (origin : List ℕ) (c : CommandValue) → command_conflict es origin c ≡ None → length (rows_posted es) ≤ most_rows → length (rows_posted es) + length (posted c) ≤ most_rows
 unfolding command_conflict rows_conflict
-rows_room es (post more) h few =
+rows_room es origin (post more) h few =
     let room : nat_lt most_rows (length (rows_posted es) + length more) ≡ false = grind (arith, h) in
     at_most _ _ room
-rows_room es (commit c) h few = omega arith
-rows_room es (set_policy p) h few = omega arith
-rows_room es (add_purchase a) h few = omega arith
+rows_room es origin (commit c) h few = omega arith
+rows_room es origin (set_policy p) h few = omega arith
+rows_room es origin (withdraw n) h few = omega arith
+rows_room es origin (add_purchase a) h few = omega arith
 
-commitments_room : (es : List EntryValue) (c : CommandValue) → command_conflict es c ≡ None → length (committed_of es) ≤ most_commitments → length (committed_of es) + length (committed c) ≤ most_commitments
+commitments_room : (es : List EntryValue) (origin : List ℕ) (c : CommandValue) → command_conflict es origin c ≡ None → length (committed_of es) ≤ most_commitments → length (committed_of es) + length (committed c) ≤ most_commitments
 unfolding command_conflict commitment_conflict
-commitments_room es (post more) h few = omega arith
-commitments_room es (commit c) h few =
+commitments_room es origin (post more) h few = omega arith
+commitments_room es origin (commit c) h few =
     let list = committed_of es in
     let full : nat_le most_commitments (length list) ≡ false = grind (arith, h) in
     let room = below most_commitments (length list) full in
     omega arith
-commitments_room es (set_policy p) h few = omega arith
-commitments_room es (add_purchase a) h few = omega arith
+commitments_room es origin (set_policy p) h few = omega arith
+commitments_room es origin (withdraw n) h few = omega arith
+commitments_room es origin (add_purchase a) h few = omega arith
 
 -- the ids of an accepted entry: a commitment's is neither registered nor carried, and rows carry none that is registered
-pub new_id : (es : List EntryValue) (c : CommitmentValue) → command_conflict es (commit c) ≡ None → is_registered c.id (committed_of es) ≡ false
+pub new_id : (es : List EntryValue) (origin : List ℕ) (c : CommitmentValue) → command_conflict es origin (commit c) ≡ None → is_registered c.id (committed_of es) ≡ false
 unfolding command_conflict commitment_conflict
-new_id es c h = grind (arith, h)
+new_id es origin c h = grind (arith, h)
 
-pub unused_id : (es : List EntryValue) (c : CommitmentValue) → command_conflict es (commit c) ≡ None → carries c.id (rows_of es) ≡ false
+pub unused_id : (es : List EntryValue) (origin : List ℕ) (c : CommitmentValue) → command_conflict es origin (commit c) ≡ None → carries c.id (rows_of es) ≡ false
 unfolding command_conflict commitment_conflict
-unused_id es c h = grind (arith, h)
+unused_id es origin c h = grind (arith, h)
 
-pub no_registered_id : (es : List EntryValue) (more : List Charge) → command_conflict es (post more) ≡ None → carries_any more (committed_of es) ≡ false
+pub no_registered_id : (es : List EntryValue) (origin : List ℕ) (more : List Charge) → command_conflict es origin (post more) ≡ None → carries_any more (committed_of es) ≡ false
 unfolding command_conflict rows_conflict
-no_registered_id es more h = grind (arith, h)
+no_registered_id es origin more h = grind (arith, h)
 
 -- the rows of an accepted entry fit behind the others
 pub accepted_rows : (es : List EntryValue) (e : EntryValue) → judged es e ≡ verdict.Accept → length (rows_posted es) ≤ most_rows → length (rows_posted es) + length (posted e.command) ≤ most_rows
-accepted_rows es e h few = rows_room es e.command (accepted_command es e h) few
+accepted_rows es e h few = rows_room es e.origin e.command (accepted_command es e h) few
 
 accepted_commitments : (es : List EntryValue) (e : EntryValue) → judged es e ≡ verdict.Accept → length (committed_of es) ≤ most_commitments → length (committed_of es) + length (committed e.command) ≤ most_commitments
-accepted_commitments es e h few = commitments_room es e.command (accepted_command es e h) few
+accepted_commitments es e h few = commitments_room es e.origin e.command (accepted_command es e h) few
 
 -- what stays so with each entry that is accepted holds of each legal list
 pub legal_kept : (P : List EntryValue → Type 0) → ((es : List EntryValue) (e : EntryValue) → P es → judged es e ≡ verdict.Accept → P (es ++ e ∷ [])) → (first es : List EntryValue) → P first → IsLegalAfter first es → P (first ++ es)

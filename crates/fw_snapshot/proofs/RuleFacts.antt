@@ -4,11 +4,11 @@ use Rattle.std.specs.Bool.{Decides}
 use Rattle.std.specs.Option.{option_map_or}
 use Rattle.std.specs.Str.{bytes_eq}
 use Rattle.std.specs.List.{list_any}
-use Rattle.std.specs.Prelude.{not}
+use Rattle.std.specs.Prelude.{not, ◌==◌}
 use Rattle.std.proofs.lemmas.Bool.{lt-ltb, le-leb, ltb-false, leb-false}
 use Rattle.std.proofs.lemmas.List.Folds.{list_any_at}
 use Rattle.std.proofs.lemmas.Option.{slice_get_within, get_or_from_slice_get}
-use Rattle.std.proofs.lemmas.Bool.Decides.{nat_tests}
+use Rattle.std.proofs.lemmas.Bool.Decides.{nat_tests, Decides-eqb}
 use Rattle.std.proofs.lemmas.Slice.Eq.{bytes_eq-Decides}
 use Rattle.fw_charge.specs.Charge.{Charge, DiscountText}
 use Rattle.fw_money.specs.Amount.{most_nanos}
@@ -17,10 +17,11 @@ use Rattle.fw_terms.specs.Added.{AddedValue}
 use Rattle.fw_terms.proofs.Adding.{has_room}
 use Rattle.fw_terms.specs.Policy.{PolicyValue}
 use Rattle.fw_entry.specs.Entry.{CommandValue, EntryValue}
-use Rattle.fw_entry.specs.Entry.CommandValue.{post, commit, set_policy, add_purchase}
-use Rattle.fw_snapshot.specs.History.{rows_posted, rows_of, committed_of, commitments_of, entries_from}
+use Rattle.fw_entry.specs.Entry.CommandValue.{post, commit, set_policy, withdraw, add_purchase}
+use Rattle.fw_snapshot.specs.History.{withdraws, is_withdrawn, rows_posted, rows_of, committed_of, commitments_of, entries_from}
 use Rattle.fw_snapshot.specs.Ids.{HasId, NoRowHasIdOf, NoneHasId, NoneHasIdOf}
-use Rattle.fw_snapshot.specs.Judging.{judged, IsLegal, command_conflict, rows_conflict, commitment_conflict, purchase_conflict, refuses, verdict_on, has_id, carries, is_registered, has_registered_id, carries_any, most_rows, most_commitments}
+use Rattle.fw_snapshot.specs.Withdrawals.{HasPost, HasWithdrawal, NoneWithdraws}
+use Rattle.fw_snapshot.specs.Judging.{judged, IsLegal, command_conflict, rows_conflict, commitment_conflict, purchase_conflict, is_post, has_post, withdrawal_conflict, refuses, verdict_on, has_id, carries, is_registered, has_registered_id, carries_any, most_rows, most_commitments}
 use Rattle.fw_snapshot.specs.declared.verdict.Conflict.{Conflict}
 use Rattle.fw_snapshot.specs.declared.verdict.Conflict.TheVariants as conflict
 use Rattle.fw_snapshot.specs.declared.verdict.Verdict.{Verdict}
@@ -28,6 +29,7 @@ use Rattle.fw_snapshot.specs.declared.verdict.Verdict.TheVariants as verdict
 use Rattle.fw_snapshot.proofs.AddingFacts.{accepted_purchase}
 use Rattle.fw_snapshot.proofs.IdFacts.{apart_ids, new_among, unused_by_rows, own_id, registered_at}
 use Rattle.fw_snapshot.proofs.LegalFacts.{accepted_command, new_id, no_registered_id, unused_id}
+use Rattle.fw_snapshot.proofs.WithdrawnFacts.{withdraws_it, withdraws_post}
 
 -- texts and ids that differ
 fails : {P : Type 0} (r : Bool) → Decides r P → (P → ⊥) → r ≡ false
@@ -76,15 +78,15 @@ next_verdict true high m n rest h k = absurd (cc)
 next_verdict false true m n rest h k = absurd (cc)
 next_verdict false false m n rest h k = refl
 
-next_judged : (es : List EntryValue) (e : EntryValue) → e.seq ≡ entries_from e.origin es + 1 → judged es e ≡ verdict_on (command_conflict es e.command)
+next_judged : (es : List EntryValue) (e : EntryValue) → e.seq ≡ entries_from e.origin es + 1 → judged es e ≡ verdict_on (command_conflict es e.origin e.command)
 unfolding judged
 next_judged es e next =
     let low : nat_le e.seq (entries_from e.origin es) ≡ false = grind (arith, nat_tests) in
     let high : nat_lt (entries_from e.origin es + 1) e.seq ≡ false = grind (arith, nat_tests) in
     next_verdict (nat_le e.seq (entries_from e.origin es)) (nat_lt (entries_from e.origin es + 1) e.seq) _ _ _ low high
 
-accepted_as : (es : List EntryValue) (e : EntryValue) (c : CommandValue) → e.seq ≡ entries_from e.origin es + 1 → e.command ≡ c → command_conflict es c ≡ None → judged es e ≡ verdict.Accept
-accepted_as es e c next is none = next_judged es e next ∙ ap verdict_on (ap (command_conflict es) is ∙ none)
+accepted_as : (es : List EntryValue) (e : EntryValue) (c : CommandValue) → e.seq ≡ entries_from e.origin es + 1 → e.command ≡ c → command_conflict es e.origin c ≡ None → judged es e ≡ verdict.Accept
+accepted_as es e c next is none = next_judged es e next ∙ ap verdict_on (ap (command_conflict es e.origin) is ∙ none)
 
 no_conflict_of_two : (a b : Bool) (u v : Conflict) → a ≡ false → b ≡ false → (if a then Some u else (if b then Some v else None)) ≡ None
 no_conflict_of_two true b u v h k = absurd (cc)
@@ -148,7 +150,7 @@ refused_parts false true m n why found h = absurd (cc)
 refused_parts false false m n why None h = absurd (cc)
 refused_parts false false m n why (Some found) h = (refl, refl, cc)
 
-refused_for : (es : List EntryValue) (e : EntryValue) (why : Conflict) → judged es e ≡ verdict.Refused why → (e.seq ≡ entries_from e.origin es + 1) × (command_conflict es e.command ≡ Some why)
+refused_for : (es : List EntryValue) (e : EntryValue) (why : Conflict) → judged es e ≡ verdict.Refused why → (e.seq ≡ entries_from e.origin es + 1) × (command_conflict es e.origin e.command ≡ Some why)
 unfolding judged
 refused_for es e why h =
     let parts = refused_parts (nat_le e.seq (entries_from e.origin es)) (nat_lt (entries_from e.origin es + 1) e.seq) _ _ why _ h in
@@ -159,107 +161,112 @@ refused_for es e why h =
 pub refused_next : (es : List EntryValue) (e : EntryValue) (why : Conflict) → judged es e ≡ verdict.Refused why → e.seq ≡ entries_from e.origin es + 1
 refused_next es e why h = (refused_for es e why h).0
 
-full_of : (es : List EntryValue) (c : CommandValue) → command_conflict es c ≡ Some conflict.Full → (rows : List Charge) × (c ≡ post rows) × (most_rows < length (rows_posted es) + length rows)
-unfolding command_conflict rows_conflict commitment_conflict purchase_conflict
-full_of es (post rows) h =
+full_of : (es : List EntryValue) (origin : List ℕ) (c : CommandValue) → command_conflict es origin c ≡ Some conflict.Full → (rows : List Charge) × (c ≡ post rows) × (most_rows < length (rows_posted es) + length rows)
+unfolding command_conflict rows_conflict commitment_conflict withdrawal_conflict purchase_conflict
+full_of es origin (post rows) h =
     let test : nat_lt most_rows (length (rows_posted es) + length rows) ≡ true = grind (arith, h) in
     (rows, refl, grind (arith, nat_tests))
-full_of es (commit c) h = absurd (grind (arith, h))
-full_of es (set_policy p) h = absurd (cc)
-full_of es (add_purchase a) h = absurd (grind (arith, h))
+full_of es origin (commit c) h = absurd (grind (arith, h))
+full_of es origin (set_policy p) h = absurd (cc)
+full_of es origin (withdraw n) h = absurd (grind (arith, h))
+full_of es origin (add_purchase a) h = absurd (grind (arith, h))
 
-double_of : (es : List EntryValue) (c : CommandValue) → command_conflict es c ≡ Some conflict.DoubleId → (d : CommitmentValue) × (c ≡ commit d) × (is_registered d.id (committed_of es) ≡ true)
-unfolding command_conflict rows_conflict commitment_conflict purchase_conflict
-double_of es (post rows) h = absurd (grind (arith, h))
-double_of es (commit c) h = (c, refl, grind (arith, h))
-double_of es (set_policy p) h = absurd (cc)
-double_of es (add_purchase a) h = absurd (grind (arith, h))
+double_of : (es : List EntryValue) (origin : List ℕ) (c : CommandValue) → command_conflict es origin c ≡ Some conflict.DoubleId → (d : CommitmentValue) × (c ≡ commit d) × (is_registered d.id (committed_of es) ≡ true)
+unfolding command_conflict rows_conflict commitment_conflict withdrawal_conflict purchase_conflict
+double_of es origin (post rows) h = absurd (grind (arith, h))
+double_of es origin (commit c) h = (c, refl, grind (arith, h))
+double_of es origin (set_policy p) h = absurd (cc)
+double_of es origin (withdraw n) h = absurd (grind (arith, h))
+double_of es origin (add_purchase a) h = absurd (grind (arith, h))
 
-in_use_of : (es : List EntryValue) (c : CommandValue) → command_conflict es c ≡ Some conflict.IdInUse
+in_use_of : (es : List EntryValue) (origin : List ℕ) (c : CommandValue) → command_conflict es origin c ≡ Some conflict.IdInUse
     → (d : CommitmentValue) × (c ≡ commit d) × (is_registered d.id (committed_of es) ≡ false) × (carries d.id (rows_of es) ≡ true)
-unfolding command_conflict rows_conflict commitment_conflict purchase_conflict
-in_use_of es (post rows) h = absurd (grind (arith, h))
-in_use_of es (commit c) h = (c, refl, grind (arith, h), grind (arith, h))
-in_use_of es (set_policy p) h = absurd (cc)
-in_use_of es (add_purchase a) h = absurd (grind (arith, h))
+unfolding command_conflict rows_conflict commitment_conflict withdrawal_conflict purchase_conflict
+in_use_of es origin (post rows) h = absurd (grind (arith, h))
+in_use_of es origin (commit c) h = (c, refl, grind (arith, h), grind (arith, h))
+in_use_of es origin (set_policy p) h = absurd (cc)
+in_use_of es origin (withdraw n) h = absurd (grind (arith, h))
+in_use_of es origin (add_purchase a) h = absurd (grind (arith, h))
 
-own_of : (es : List EntryValue) (c : CommandValue) → command_conflict es c ≡ Some conflict.OwnCommitment
+own_of : (es : List EntryValue) (origin : List ℕ) (c : CommandValue) → command_conflict es origin c ≡ Some conflict.OwnCommitment
     → (rows : List Charge) × (c ≡ post rows) × (length (rows_posted es) + length rows ≤ most_rows) × (carries_any rows (committed_of es) ≡ true)
-unfolding command_conflict rows_conflict commitment_conflict purchase_conflict
-own_of es (post rows) h =
+unfolding command_conflict rows_conflict commitment_conflict withdrawal_conflict purchase_conflict
+own_of es origin (post rows) h =
     let fits : nat_lt most_rows (length (rows_posted es) + length rows) ≡ false = grind (arith, h) in
     (rows, refl, grind (arith, nat_tests), grind (arith, h))
-own_of es (commit c) h = absurd (grind (arith, h))
-own_of es (set_policy p) h = absurd (cc)
-own_of es (add_purchase a) h = absurd (grind (arith, h))
+own_of es origin (commit c) h = absurd (grind (arith, h))
+own_of es origin (set_policy p) h = absurd (cc)
+own_of es origin (withdraw n) h = absurd (grind (arith, h))
+own_of es origin (add_purchase a) h = absurd (grind (arith, h))
 
-too_many_of : (es : List EntryValue) (c : CommandValue) → command_conflict es c ≡ Some conflict.TooManyCommitments
+too_many_of : (es : List EntryValue) (origin : List ℕ) (c : CommandValue) → command_conflict es origin c ≡ Some conflict.TooManyCommitments
     → (d : CommitmentValue) × (c ≡ commit d) × (is_registered d.id (committed_of es) ≡ false) × (carries d.id (rows_of es) ≡ false)
     × (most_commitments ≤ length (committed_of es))
-unfolding command_conflict rows_conflict commitment_conflict purchase_conflict
-too_many_of es (post rows) h = absurd (grind (arith, h))
-too_many_of es (commit c) h =
+unfolding command_conflict rows_conflict commitment_conflict withdrawal_conflict purchase_conflict
+too_many_of es origin (post rows) h = absurd (grind (arith, h))
+too_many_of es origin (commit c) h =
     let test : nat_le most_commitments (length (committed_of es)) ≡ true = grind (arith, h) in
     (c, refl, grind (arith, h), grind (arith, h), grind (arith, nat_tests))
-too_many_of es (set_policy p) h = absurd (cc)
-too_many_of es (add_purchase a) h = absurd (grind (arith, h))
+too_many_of es origin (set_policy p) h = absurd (cc)
+too_many_of es origin (withdraw n) h = absurd (grind (arith, h))
+too_many_of es origin (add_purchase a) h = absurd (grind (arith, h))
 
 unlike : (b : Bool) → b ≡ true → b ≡ false → ⊥
 unlike b h k = absurd (cc)
 
 pub refused_full : (es : List EntryValue) (e : EntryValue) → judged es e ≡ verdict.Refused conflict.Full → (rows : List Charge) × (e.command ≡ post rows) × (most_rows < length (rows_posted es) + length rows)
-refused_full es e h = full_of es e.command (refused_for es e conflict.Full h).1
+refused_full es e h = full_of es e.origin e.command (refused_for es e conflict.Full h).1
 
 pub refused_double : (es : List EntryValue) (e : EntryValue) → judged es e ≡ verdict.Refused conflict.DoubleId → (c : CommitmentValue) × (e.command ≡ commit c) × (NoneHasIdOf (committed_of es) c → ⊥)
 refused_double es e h =
-    let found = double_of es e.command (refused_for es e conflict.DoubleId h).1 in
+    let found = double_of es e.origin e.command (refused_for es e conflict.DoubleId h).1 in
     (found.0, found.1, λ none. unlike (is_registered found.0.id (committed_of es)) found.2 (new_commitment (committed_of es) found.0 none))
 
 pub refused_in_use : (es : List EntryValue) (e : EntryValue) → judged es e ≡ verdict.Refused conflict.IdInUse
     → (c : CommitmentValue) × (e.command ≡ commit c) × NoneHasIdOf (committed_of es) c × (NoRowHasIdOf (rows_of es) (c ∷ []) → ⊥)
 refused_in_use es e h =
-    let found = in_use_of es e.command (refused_for es e conflict.IdInUse h).1 in
+    let found = in_use_of es e.origin e.command (refused_for es e conflict.IdInUse h).1 in
     (found.0, found.1, new_among (committed_of es) found.0 found.2, λ none. unlike (carries found.0.id (rows_of es)) found.3 (not_carried (rows_of es) found.0 none))
 
 pub refused_own : (es : List EntryValue) (e : EntryValue) → judged es e ≡ verdict.Refused conflict.OwnCommitment
     → (rows : List Charge) × (e.command ≡ post rows) × (length (rows_posted es) + length rows ≤ most_rows) × (NoRowHasIdOf rows (committed_of es) → ⊥)
 refused_own es e h =
-    let found = own_of es e.command (refused_for es e conflict.OwnCommitment h).1 in
+    let found = own_of es e.origin e.command (refused_for es e conflict.OwnCommitment h).1 in
     (found.0, found.1, found.2, λ none. unlike (carries_any found.0 (committed_of es)) found.3 (none_carried found.0 (committed_of es) none))
 
 pub refused_too_many : (es : List EntryValue) (e : EntryValue) → judged es e ≡ verdict.Refused conflict.TooManyCommitments
     → (c : CommitmentValue) × (e.command ≡ commit c) × NoneHasIdOf (committed_of es) c × NoRowHasIdOf (rows_of es) (c ∷ []) × (most_commitments ≤ length (committed_of es))
 refused_too_many es e h =
-    let found = too_many_of es e.command (refused_for es e conflict.TooManyCommitments h).1 in
+    let found = too_many_of es e.origin e.command (refused_for es e conflict.TooManyCommitments h).1 in
     (found.0, found.1, new_among (committed_of es) found.0 found.2, unused_by_rows (rows_of es) found.0 found.3, found.4)
 
 -- what is accepted breaks no rule
-post_keeps : (es : List EntryValue) (rows : List Charge) → command_conflict es (post rows) ≡ None → length (rows_posted es) + length rows ≤ most_rows
+post_keeps : (es : List EntryValue) (origin : List ℕ) (rows : List Charge) → command_conflict es origin (post rows) ≡ None → length (rows_posted es) + length rows ≤ most_rows
 unfolding command_conflict rows_conflict
-post_keeps es rows h =
+post_keeps es origin rows h =
     let fits : nat_lt most_rows (length (rows_posted es) + length rows) ≡ false = grind (arith, h) in
     grind (arith, nat_tests)
 
-commit_keeps : (es : List EntryValue) (c : CommitmentValue) → command_conflict es (commit c) ≡ None → length (committed_of es) < most_commitments
+commit_keeps : (es : List EntryValue) (origin : List ℕ) (c : CommitmentValue) → command_conflict es origin (commit c) ≡ None → length (committed_of es) < most_commitments
 unfolding command_conflict commitment_conflict
-commit_keeps es c h =
+commit_keeps es origin c h =
     let fits : nat_le most_commitments (length (committed_of es)) ≡ false = grind (arith, h) in
     grind (arith, nat_tests)
 
-accepted_of_command : (es : List EntryValue) (e : EntryValue) (c : CommandValue) → judged es e ≡ verdict.Accept → e.command ≡ c → command_conflict es c ≡ None
-accepted_of_command es e c h is = ap (command_conflict es) (sym is) ∙ accepted_command es e h
+accepted_of_command : (es : List EntryValue) (e : EntryValue) (c : CommandValue) → judged es e ≡ verdict.Accept → e.command ≡ c → command_conflict es e.origin c ≡ None
+accepted_of_command es e c h is = ap (command_conflict es e.origin) (sym is) ∙ accepted_command es e h
 
 pub accepted_post : (es : List EntryValue) (e : EntryValue) (rows : List Charge) → judged es e ≡ verdict.Accept → e.command ≡ post rows
     → (length (rows_posted es) + length rows ≤ most_rows) × NoRowHasIdOf rows (committed_of es)
 accepted_post es e rows h is =
     let none = accepted_of_command es e (post rows) h is in
-    (post_keeps es rows none, apart_ids rows (committed_of es) (no_registered_id es rows none))
+    (post_keeps es e.origin rows none, apart_ids rows (committed_of es) (no_registered_id es e.origin rows none))
 
 pub accepted_commit : (es : List EntryValue) (e : EntryValue) (c : CommitmentValue) → judged es e ≡ verdict.Accept → e.command ≡ commit c
     → (length (committed_of es) < most_commitments) × NoneHasIdOf (committed_of es) c × NoRowHasIdOf (rows_of es) (c ∷ [])
 accepted_commit es e c h is =
     let none = accepted_of_command es e (commit c) h is in
-    (commit_keeps es c none, new_among (committed_of es) c (new_id es c none), unused_by_rows (rows_of es) c (unused_id es c none))
+    (commit_keeps es e.origin c none, new_among (committed_of es) c (new_id es e.origin c none), unused_by_rows (rows_of es) c (unused_id es e.origin c none))
 
 -- ---- a purchase that is added
 
@@ -320,7 +327,7 @@ takes_it cs a has none = by (takes_purchase has.commitment a.purchase) refl
 pub accepted_added : (es : List EntryValue) (e : EntryValue) (a : AddedValue) → judged es e ≡ verdict.Accept → e.command ≡ add_purchase a
     → (has : HasId (commitments_of es) a.id) × (length has.commitment.purchases < most_purchases) × (cost_of has.commitment.purchases + a.purchase.billed ≤ most_nanos)
 accepted_added es e a h is =
-    let parts = accepted_purchase es a (accepted_of_command es e (add_purchase a) h is) in
+    let parts = accepted_purchase es e.origin a (accepted_of_command es e (add_purchase a) h is) in
     let has = has_id_of (commitments_of es) a.id parts.0 in
     let room = has_room has.commitment a.purchase (takes_it (commitments_of es) a has parts.1) in
     (has, room.few, room.cost)
@@ -340,17 +347,17 @@ none_else es a legal has takes = by (list_any (refuses a) (commitments_of es)) r
         let is : has.commitment ≡ one.1 = cc in
         absurd (unlike (takes_purchase has.commitment a.purchase) takes (ap (λ c. takes_purchase c a.purchase) is ∙ is_false (takes_purchase one.1 a.purchase) parts.1))
 
-no_conflict_of_purchase : (there refused : Bool) (u v : Conflict) → there ≡ true → refused ≡ false → (if there then (if refused then Some u else None) else Some v) ≡ None
-no_conflict_of_purchase true false u v h k = refl
-no_conflict_of_purchase true true u v h k = absurd (cc)
-no_conflict_of_purchase false refused u v h k = absurd (cc)
+no_conflict_there : (there refused : Bool) (u v : Conflict) → there ≡ true → refused ≡ false → (if there then (if refused then Some u else None) else Some v) ≡ None
+no_conflict_there true false u v h k = refl
+no_conflict_there true true u v h k = absurd (cc)
+no_conflict_there false refused u v h k = absurd (cc)
 
 pub added_accepted : (es : List EntryValue) (e : EntryValue) (a : AddedValue) → IsLegal es → e.seq ≡ entries_from e.origin es + 1 → e.command ≡ add_purchase a
     → (has : HasId (commitments_of es) a.id) → length has.commitment.purchases < most_purchases → cost_of has.commitment.purchases + a.purchase.billed ≤ most_nanos → judged es e ≡ verdict.Accept
 unfolding command_conflict purchase_conflict
 added_accepted es e a legal next is has few cost =
     let there = registered_at a.id (commitments_of es) has.place has.commitment has.stands has.same in
-    accepted_as es e (add_purchase a) next is (no_conflict_of_purchase _ _ _ _ there (none_else es a legal has (takes_from has.commitment a.purchase few cost)))
+    accepted_as es e (add_purchase a) next is (no_conflict_there _ _ _ _ there (none_else es a legal has (takes_from has.commitment a.purchase few cost)))
 
 purchase_says : (there refused : Bool) (why : Conflict) → (if there then (if refused then Some conflict.PurchaseLimit else None) else Some conflict.NoSuchCommitment) ≡ Some why
     → ((why ≡ conflict.NoSuchCommitment) × (there ≡ false)) ⊎ ((why ≡ conflict.PurchaseLimit) × (there ≡ true) × (refused ≡ true))
@@ -358,24 +365,26 @@ purchase_says true true why h = inr (cc, refl, refl)
 purchase_says true false why h = absurd (cc)
 purchase_says false refused why h = inl (cc, refl)
 
-no_such_of : (es : List EntryValue) (c : CommandValue) → command_conflict es c ≡ Some conflict.NoSuchCommitment → (a : AddedValue) × (c ≡ add_purchase a) × (is_registered a.id (commitments_of es) ≡ false)
-unfolding command_conflict rows_conflict commitment_conflict purchase_conflict
-no_such_of es (post rows) h = absurd (grind (arith, h))
-no_such_of es (commit c) h = absurd (grind (arith, h))
-no_such_of es (set_policy p) h = absurd (cc)
-no_such_of es (add_purchase a) h = (a, refl, by (purchase_says (is_registered a.id (commitments_of es)) (list_any (refuses a) (commitments_of es)) conflict.NoSuchCommitment h))
+no_such_of : (es : List EntryValue) (origin : List ℕ) (c : CommandValue) → command_conflict es origin c ≡ Some conflict.NoSuchCommitment → (a : AddedValue) × (c ≡ add_purchase a) × (is_registered a.id (commitments_of es) ≡ false)
+unfolding command_conflict rows_conflict commitment_conflict withdrawal_conflict purchase_conflict
+no_such_of es origin (post rows) h = absurd (grind (arith, h))
+no_such_of es origin (commit c) h = absurd (grind (arith, h))
+no_such_of es origin (set_policy p) h = absurd (cc)
+no_such_of es origin (withdraw n) h = absurd (grind (arith, h))
+no_such_of es origin (add_purchase a) h = (a, refl, by (purchase_says (is_registered a.id (commitments_of es)) (list_any (refuses a) (commitments_of es)) conflict.NoSuchCommitment h))
   where
     by : ((conflict.NoSuchCommitment ≡ conflict.NoSuchCommitment) × (is_registered a.id (commitments_of es) ≡ false)) ⊎ ((conflict.NoSuchCommitment ≡ conflict.PurchaseLimit) × (is_registered a.id (commitments_of es) ≡ true) × (list_any (refuses a) (commitments_of es) ≡ true))
         → is_registered a.id (commitments_of es) ≡ false
     by (inl k) = k.1
     by (inr k) = let wrong = k.0 in absurd (cc)
 
-limit_of : (es : List EntryValue) (c : CommandValue) → command_conflict es c ≡ Some conflict.PurchaseLimit → (a : AddedValue) × (c ≡ add_purchase a) × (list_any (refuses a) (commitments_of es) ≡ true)
-unfolding command_conflict rows_conflict commitment_conflict purchase_conflict
-limit_of es (post rows) h = absurd (grind (arith, h))
-limit_of es (commit c) h = absurd (grind (arith, h))
-limit_of es (set_policy p) h = absurd (cc)
-limit_of es (add_purchase a) h = (a, refl, by (purchase_says (is_registered a.id (commitments_of es)) (list_any (refuses a) (commitments_of es)) conflict.PurchaseLimit h))
+limit_of : (es : List EntryValue) (origin : List ℕ) (c : CommandValue) → command_conflict es origin c ≡ Some conflict.PurchaseLimit → (a : AddedValue) × (c ≡ add_purchase a) × (list_any (refuses a) (commitments_of es) ≡ true)
+unfolding command_conflict rows_conflict commitment_conflict withdrawal_conflict purchase_conflict
+limit_of es origin (post rows) h = absurd (grind (arith, h))
+limit_of es origin (commit c) h = absurd (grind (arith, h))
+limit_of es origin (set_policy p) h = absurd (cc)
+limit_of es origin (withdraw n) h = absurd (grind (arith, h))
+limit_of es origin (add_purchase a) h = (a, refl, by (purchase_says (is_registered a.id (commitments_of es)) (list_any (refuses a) (commitments_of es)) conflict.PurchaseLimit h))
   where
     by : ((conflict.PurchaseLimit ≡ conflict.NoSuchCommitment) × (is_registered a.id (commitments_of es) ≡ false)) ⊎ ((conflict.PurchaseLimit ≡ conflict.PurchaseLimit) × (is_registered a.id (commitments_of es) ≡ true) × (list_any (refuses a) (commitments_of es) ≡ true))
         → list_any (refuses a) (commitments_of es) ≡ true
@@ -387,14 +396,131 @@ none_has id cs none place other at same = unlike (is_registered id cs) (register
 
 pub refused_no_such : (es : List EntryValue) (e : EntryValue) → judged es e ≡ verdict.Refused conflict.NoSuchCommitment → (a : AddedValue) × (e.command ≡ add_purchase a) × NoneHasId (commitments_of es) a.id
 refused_no_such es e h =
-    let one = no_such_of es e.command (refused_for es e conflict.NoSuchCommitment h).1 in
+    let one = no_such_of es e.origin e.command (refused_for es e conflict.NoSuchCommitment h).1 in
     (one.0, one.1, none_has one.0.id (commitments_of es) one.2)
 
 pub refused_limit : (es : List EntryValue) (e : EntryValue) → judged es e ≡ verdict.Refused conflict.PurchaseLimit
     → (a : AddedValue) × (e.command ≡ add_purchase a) × (has : HasId (commitments_of es) a.id) × ((most_purchases ≤ length has.commitment.purchases) ⊎ (most_nanos < cost_of has.commitment.purchases + a.purchase.billed))
 refused_limit es e h =
-    let one = limit_of es e.command (refused_for es e conflict.PurchaseLimit h).1 in
+    let one = limit_of es e.origin e.command (refused_for es e conflict.PurchaseLimit h).1 in
     let a = one.0 in
     let it = found (refuses a) (commitments_of es) one.2 in
     let parts = both (bytes_eq a.id it.1.id) (not (takes_purchase it.1 a.purchase)) it.3 in
     (a, one.1, record { place = it.0; commitment = it.1; stands = it.2; same = (bytes_eq-Decides a.id it.1.id).0 parts.0 }, no_room it.1 a.purchase (is_false (takes_purchase it.1 a.purchase) parts.1))
+
+-- ---- a withdrawal
+
+-- a command that posts rows, and one that withdraws a post
+posts_rows : (c : CommandValue) → is_post c ≡ true → (rows : List Charge) × (c ≡ post rows)
+posts_rows (post rows) h = (rows, refl)
+posts_rows (commit c) h = absurd (cc)
+posts_rows (set_policy p) h = absurd (cc)
+posts_rows (withdraw n) h = absurd (cc)
+posts_rows (add_purchase a) h = absurd (cc)
+
+it_withdraws : (seq : ℕ) (c : CommandValue) → c ≡ withdraw seq → withdraws seq c ≡ true
+it_withdraws seq c is = ap (withdraws seq) is ∙ (Decides-eqb seq seq).1 refl
+
+-- the post of a sender and number is there where the test finds it
+has_post_of : (es : List EntryValue) (origin : List ℕ) (seq : ℕ) → has_post es origin seq ≡ true → HasPost es origin seq
+unfolding has_post
+has_post_of es origin seq h =
+    let one = found (λ e. bytes_eq origin e.origin && (e.seq == seq && is_post e.command)) es h in
+    let sender = both (bytes_eq origin one.1.origin) (one.1.seq == seq && is_post one.1.command) one.3 in
+    let rest = both (one.1.seq == seq) (is_post one.1.command) sender.1 in
+    let posts = posts_rows one.1.command rest.1 in
+    record {
+      place = one.0;
+      entry = one.1;
+      rows = posts.0;
+      stands = one.2;
+      same_origin = sym ((bytes_eq-Decides origin one.1.origin).0 sender.0);
+      same_number = (Decides-eqb one.1.seq seq).0 rest.0;
+      posts = posts.1;
+    }
+
+post_there : (es : List EntryValue) (origin : List ℕ) (seq : ℕ) → HasPost es origin seq → has_post es origin seq ≡ true
+unfolding has_post
+post_there es origin seq has =
+    let test = λ (e : EntryValue). bytes_eq origin e.origin && (e.seq == seq && is_post e.command) in
+    let sender : bytes_eq origin has.entry.origin ≡ true = (bytes_eq-Decides origin has.entry.origin).1 (sym has.same_origin) in
+    let number : (has.entry.seq == seq) ≡ true = (Decides-eqb has.entry.seq seq).1 has.same_number in
+    let posts : is_post has.entry.command ≡ true = ap is_post has.posts in
+    let passes : test has.entry ≡ true = rw (sender, number, posts) refl in
+    let read = get_or_from_slice_get es has.place has.entry has.entry has.stands in
+    list_any_at test es has.place has.entry (slice_get_within es has.place has.entry has.stands) (ap test read ∙ passes)
+
+has_withdrawal_of : (es : List EntryValue) (origin : List ℕ) (seq : ℕ) → is_withdrawn es origin seq ≡ true → HasWithdrawal es origin seq
+unfolding is_withdrawn
+has_withdrawal_of es origin seq h =
+    let one = found (λ w. bytes_eq origin w.origin && withdraws seq w.command) es h in
+    let parts = both (bytes_eq origin one.1.origin) (withdraws seq one.1.command) one.3 in
+    record {
+      place = one.0;
+      entry = one.1;
+      stands = one.2;
+      same_origin = sym ((bytes_eq-Decides origin one.1.origin).0 parts.0);
+      withdraws = withdraws_it seq one.1.command parts.1;
+    }
+
+withdrawal_there : (es : List EntryValue) (origin : List ℕ) (seq place : ℕ) (e : EntryValue) → slice_get es place ≡ Some e → e.origin ≡ origin → e.command ≡ withdraw seq → is_withdrawn es origin seq ≡ true
+unfolding is_withdrawn
+withdrawal_there es origin seq place e at same is =
+    let test = λ (w : EntryValue). bytes_eq origin w.origin && withdraws seq w.command in
+    let sender : bytes_eq origin e.origin ≡ true = (bytes_eq-Decides origin e.origin).1 (sym same) in
+    let it : withdraws seq e.command ≡ true = it_withdraws seq e.command is in
+    let passes : test e ≡ true = rw (sender, it) refl in
+    let read = get_or_from_slice_get es place e e at in
+    list_any_at test es place e (slice_get_within es place e at) (ap test read ∙ passes)
+
+-- none withdraws it where the test finds none
+none_withdraws : (es : List EntryValue) (origin : List ℕ) (seq : ℕ) → is_withdrawn es origin seq ≡ false → NoneWithdraws es origin seq
+none_withdraws es origin seq none place e at same is = unlike (is_withdrawn es origin seq) (withdrawal_there es origin seq place e at same is) none
+
+pub not_withdrawn : (es : List EntryValue) (origin : List ℕ) (seq : ℕ) → NoneWithdraws es origin seq → is_withdrawn es origin seq ≡ false
+not_withdrawn es origin seq none = by (is_withdrawn es origin seq) refl
+  where
+    by : (t : Bool) → is_withdrawn es origin seq ≡ t → is_withdrawn es origin seq ≡ false
+    by false e = e
+    by true e =
+        let one = has_withdrawal_of es origin seq e in
+        absurd (none one.place one.entry one.stands one.same_origin one.withdraws)
+
+pub withdrawal_accepted : (es : List EntryValue) (e : EntryValue) (n : ℕ) → e.seq ≡ entries_from e.origin es + 1 → e.command ≡ withdraw n → HasPost es e.origin n → NoneWithdraws es e.origin n
+    → judged es e ≡ verdict.Accept
+unfolding command_conflict withdrawal_conflict
+withdrawal_accepted es e n next is has none =
+    accepted_as es e (withdraw n) next is (no_conflict_there _ _ _ _ (post_there es e.origin n has) (not_withdrawn es e.origin n none))
+
+pub accepted_withdrawal : (es : List EntryValue) (e : EntryValue) (n : ℕ) → judged es e ≡ verdict.Accept → e.command ≡ withdraw n → HasPost es e.origin n × NoneWithdraws es e.origin n
+accepted_withdrawal es e n h is =
+    let parts = withdraws_post es e.origin n (accepted_of_command es e (withdraw n) h is) in
+    (has_post_of es e.origin n parts.0, none_withdraws es e.origin n parts.1)
+
+no_post_of : (es : List EntryValue) (origin : List ℕ) (c : CommandValue) → command_conflict es origin c ≡ Some conflict.NoSuchPost → (n : ℕ) × (c ≡ withdraw n) × (has_post es origin n ≡ false)
+unfolding command_conflict rows_conflict commitment_conflict withdrawal_conflict purchase_conflict
+no_post_of es origin (post rows) h = absurd (grind (arith, h))
+no_post_of es origin (commit c) h = absurd (grind (arith, h))
+no_post_of es origin (set_policy p) h = absurd (cc)
+no_post_of es origin (withdraw n) h = (n, refl, grind (arith, h))
+no_post_of es origin (add_purchase a) h = absurd (grind (arith, h))
+
+gone_of : (es : List EntryValue) (origin : List ℕ) (c : CommandValue) → command_conflict es origin c ≡ Some conflict.Withdrawn
+    → (n : ℕ) × (c ≡ withdraw n) × (has_post es origin n ≡ true) × (is_withdrawn es origin n ≡ true)
+unfolding command_conflict rows_conflict commitment_conflict withdrawal_conflict purchase_conflict
+gone_of es origin (post rows) h = absurd (grind (arith, h))
+gone_of es origin (commit c) h = absurd (grind (arith, h))
+gone_of es origin (set_policy p) h = absurd (cc)
+gone_of es origin (withdraw n) h = (n, refl, grind (arith, h), grind (arith, h))
+gone_of es origin (add_purchase a) h = absurd (grind (arith, h))
+
+pub refused_no_post : (es : List EntryValue) (e : EntryValue) → judged es e ≡ verdict.Refused conflict.NoSuchPost → (n : ℕ) × (e.command ≡ withdraw n) × (HasPost es e.origin n → ⊥)
+refused_no_post es e h =
+    let one = no_post_of es e.origin e.command (refused_for es e conflict.NoSuchPost h).1 in
+    (one.0, one.1, λ has. unlike (has_post es e.origin one.0) (post_there es e.origin one.0 has) one.2)
+
+pub refused_withdrawn : (es : List EntryValue) (e : EntryValue) → judged es e ≡ verdict.Refused conflict.Withdrawn
+    → (n : ℕ) × (e.command ≡ withdraw n) × HasPost es e.origin n × HasWithdrawal es e.origin n
+refused_withdrawn es e h =
+    let one = gone_of es e.origin e.command (refused_for es e conflict.Withdrawn h).1 in
+    (one.0, one.1, has_post_of es e.origin one.0 one.2, has_withdrawal_of es e.origin one.0 one.3)

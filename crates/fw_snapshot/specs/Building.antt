@@ -4,9 +4,10 @@ use Rattle.std.specs.Option.{option_map_or}
 use Rattle.fw_charge.specs.Charge.{Charge}
 use Rattle.fw_entry.specs.Entry.{EntryValue}
 use Rattle.fw_persistent.specs.Counts.{Counts, count_of}
-use Rattle.fw_snapshot.specs.Heads.{HeadValue, entry_of, row_count, segment_rows}
+use Rattle.fw_posted.specs.Rows.{segment_rows}
+use Rattle.fw_snapshot.specs.Heads.{HeadValue, entry_of, row_count}
 use Rattle.fw_snapshot.specs.History.{History}
-use Rattle.fw_snapshot.specs.declared.state.building.Place.{Place}
+use Rattle.fw_snapshot.specs.declared.places.Place.{Place}
 
 -- the history so far, all segments, and how many of their rows are taken
 pub record Built : Type 0 where

@@ -1,15 +1,16 @@
 -- The plain values that heads stand for.
 use Rattle.std.specs.Prelude.{string_bytes}
 use Rattle.fw_snapshot.specs.declared.head.Content.{Content}
-use Rattle.fw_snapshot.specs.declared.head.Content.TheVariants.{Post, Commit, SetPolicy, AddPurchase}
+use Rattle.fw_snapshot.specs.declared.head.Content.TheVariants.{Post, Commit, SetPolicy, Withdraw, AddPurchase}
 use Rattle.fw_snapshot.specs.declared.head.Head.TheInside.{Inside}
 use Rattle.fw_snapshot.specs.Heads.{ContentValue, HeadValue}
-use Rattle.fw_snapshot.specs.Heads.ContentValue.{posted_rows, committed_to, policy_set, purchase_added}
+use Rattle.fw_snapshot.specs.Heads.ContentValue.{posted_rows, committed_to, policy_set, post_withdrawn, purchase_added}
 
 abbrev pub content_view : Content → ContentValue
 content_view (Post n) = posted_rows n
 content_view (Commit c) = committed_to c
 content_view (SetPolicy p) = policy_set p.value
+content_view (Withdraw n) = post_withdrawn n
 content_view (AddPurchase a) = purchase_added a
 
 abbrev pub head_view : Inside → HeadValue

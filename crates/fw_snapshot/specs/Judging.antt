@@ -1,5 +1,5 @@
 -- Whether an entry goes with those that were accepted before it.
-use Rattle.std.specs.Prelude.{◌≡◌, ◌+◌, ⊤, ◌&&◌, not, ℕ, Bool, false, List, [], ◌∷◌, ◌++◌, length, nat_lt, nat_le, Option, Some, None, if◌then◌else◌}
+use Rattle.std.specs.Prelude.{◌≡◌, ◌+◌, ⊤, ◌&&◌, not, ◌==◌, ℕ, Bool, false, true, List, [], ◌∷◌, ◌++◌, length, nat_lt, nat_le, Option, Some, None, if◌then◌else◌}
 use Rattle.std.specs.Str.{bytes_eq}
 use Rattle.std.specs.List.{list_any}
 use Rattle.std.specs.Option.{option_map_or}
@@ -7,8 +7,8 @@ use Rattle.fw_charge.specs.Charge.{Charge}
 use Rattle.fw_terms.specs.Commitment.{CommitmentValue, takes_purchase}
 use Rattle.fw_terms.specs.Added.{AddedValue}
 use Rattle.fw_entry.specs.Entry.{CommandValue, EntryValue}
-use Rattle.fw_entry.specs.Entry.CommandValue.{post, commit, set_policy, add_purchase}
-use Rattle.fw_snapshot.specs.History.{rows_posted, rows_of, committed_of, commitments_of, entries_from}
+use Rattle.fw_entry.specs.Entry.CommandValue.{post, commit, set_policy, withdraw, add_purchase}
+use Rattle.fw_snapshot.specs.History.{is_withdrawn, rows_posted, rows_of, committed_of, commitments_of, entries_from}
 use Rattle.fw_snapshot.specs.declared.verdict.Conflict.{Conflict}
 use Rattle.fw_snapshot.specs.declared.verdict.Conflict.TheVariants as conflict
 use Rattle.fw_snapshot.specs.declared.verdict.Verdict.{Verdict}
@@ -65,13 +65,32 @@ purchase_conflict commitments more =
     if is_registered more.id commitments then (if list_any (refuses more) commitments then Some conflict.PurchaseLimit else None)
     else Some conflict.NoSuchCommitment
 
--- why what a command brings can't follow these entries, if it can't; a policy always can. What is added changes neither the ids of commitments nor
+-- whether a command posts rows
+abbrev pub is_post : CommandValue → Bool
+is_post (post rows) = true
+is_post (commit c) = false
+is_post (set_policy p) = false
+is_post (withdraw n) = false
+is_post (add_purchase a) = false
+
+-- whether one of these entries is the post of this sender and number
+unfoldable pub has_post : List EntryValue → List ℕ → ℕ → Bool
+has_post entries origin seq = list_any (λ e. bytes_eq origin e.origin && (e.seq == seq && is_post e.command)) entries
+
+-- why the post of this number can't be withdrawn by this sender, if it can't: it has no such post, or has withdrawn it
+unfoldable pub withdrawal_conflict : List EntryValue → List ℕ → ℕ → Option Conflict
+withdrawal_conflict entries origin seq =
+    if has_post entries origin seq then (if is_withdrawn entries origin seq then Some conflict.Withdrawn else None)
+    else Some conflict.NoSuchPost
+
+-- why what a command of this sender brings can't follow these entries, if it can't; a policy always can. What is added changes neither the ids of commitments nor
 -- their number, so rows and commitments are judged on what was committed to
-unfoldable pub command_conflict : List EntryValue → CommandValue → Option Conflict
-command_conflict entries (post more) = rows_conflict (rows_posted entries) (committed_of entries) more
-command_conflict entries (commit more) = commitment_conflict (rows_of entries) (committed_of entries) more
-command_conflict entries (set_policy p) = None
-command_conflict entries (add_purchase more) = purchase_conflict (commitments_of entries) more
+unfoldable pub command_conflict : List EntryValue → List ℕ → CommandValue → Option Conflict
+command_conflict entries origin (post more) = rows_conflict (rows_posted entries) (committed_of entries) more
+command_conflict entries origin (commit more) = commitment_conflict (rows_of entries) (committed_of entries) more
+command_conflict entries origin (set_policy p) = None
+command_conflict entries origin (withdraw seq) = withdrawal_conflict entries origin seq
+command_conflict entries origin (add_purchase more) = purchase_conflict (commitments_of entries) more
 
 abbrev pub verdict_on : Option Conflict → Verdict
 verdict_on None = verdict.Accept
@@ -83,7 +102,7 @@ unfoldable pub judged : List EntryValue → EntryValue → Verdict
 judged entries e =
     if nat_le e.seq (entries_from e.origin entries) then verdict.Already (entries_from e.origin entries)
     else (if nat_lt (entries_from e.origin entries + 1) e.seq then verdict.Gap (entries_from e.origin entries + 1)
-    else verdict_on (command_conflict entries e.command))
+    else verdict_on (command_conflict entries e.origin e.command))
 
 -- each of these entries was accepted after those before it, and all of them after the ones that came first
 unfoldable pub IsLegalAfter : List EntryValue → List EntryValue → Type 0

@@ -1,6 +1,8 @@
 pub mod History
 pub mod Judging
 pub mod Ids
+pub mod Withdrawals
+pub mod Posts
 pub mod Adding
 pub mod Uses
 pub mod Heads
@@ -9,6 +11,5 @@ pub mod Held
 pub mod StateView
 pub mod SnapshotView
 pub mod Verdicts
-pub mod Merging
 pub mod Building
 pub mod BuilderView

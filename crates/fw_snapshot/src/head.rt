@@ -4,6 +4,7 @@ ghost use Rattle.std.specs.Option.{option_copied, option_to_list};
 ghost use Rattle.fw_snapshot.specs.Heads.{command_of, row_count};
 ghost use Rattle.fw_snapshot.specs.History.{committed};
 ghost use Rattle.fw_snapshot.specs.HeadView.{content_view};
+ghost use Rattle.fw_snapshot.specs.Posts.{target_of};
 
 use fw_terms::{AddedPurchase, Commitment, Policy};
 use std::marker::Model;
@@ -18,6 +19,8 @@ pub enum Content {
     Commit(Commitment),
     /// A policy, which the state shares where it is the one that holds.
     SetPolicy(Arc<Policy>),
+    /// The number of a post of the same sender, which is withdrawn.
+    Withdraw(u64),
     /// A purchase that is added to a commitment.
     AddPurchase(AddedPurchase),
 }
@@ -29,7 +32,10 @@ impl Content {
     {
         match self {
             Content::Post { rows } => *rows as usize,
-            Content::Commit(_) | Content::SetPolicy(_) | Content::AddPurchase(_) => 0,
+            Content::Commit(_)
+            | Content::SetPolicy(_)
+            | Content::Withdraw(_)
+            | Content::AddPurchase(_) => 0,
         }
     }
 
@@ -39,7 +45,23 @@ impl Content {
     {
         match self {
             Content::Commit(commitment) => Some(commitment),
-            Content::Post { .. } | Content::SetPolicy(_) | Content::AddPurchase(_) => None,
+            Content::Post { .. }
+            | Content::SetPolicy(_)
+            | Content::Withdraw(_)
+            | Content::AddPurchase(_) => None,
+        }
+    }
+
+    /// The number of the post that it withdraws, if it withdraws one.
+    pub(crate) fn target(&self) -> Option<u64>
+        ensures { result ≡ target_of (command_of (content_view self.now) []) }
+    {
+        match self {
+            Content::Withdraw(seq) => Some(*seq),
+            Content::Post { .. }
+            | Content::Commit(_)
+            | Content::SetPolicy(_)
+            | Content::AddPurchase(_) => None,
         }
     }
 }

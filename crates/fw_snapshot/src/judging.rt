@@ -27,7 +27,7 @@ pub fn judge(state: &State, entry: &Entry) -> Verdict
     if let Some(verdict) = out_of_turn(state.accepted_from(entry.origin()), entry.seq()) {
         return verdict;
     }
-    match command_conflict(state, entry.command()) {
+    match command_conflict(state, entry.origin(), entry.command()) {
         None => Verdict::Accept,
         Some(why) => Verdict::Refused(why),
     }
@@ -48,9 +48,9 @@ pub(crate) fn out_of_turn(last: u64, seq: u64) -> Option<Verdict>
 }
 
 /// Why what a command brings can't follow what was accepted, if it can't.
-#[tactic(auto, unfolding(crate::specs::Judging::command_conflict, crate::specs::Judging::rows_conflict, crate::specs::Judging::commitment_conflict, crate::specs::Judging::purchase_conflict))]
-fn command_conflict(state: &State, command: &Command) -> Option<Conflict>
-    ensures { result ≡ command_conflict state.now.entries (command_view command.now) }
+#[tactic(auto, unfolding(crate::specs::Judging::command_conflict, crate::specs::Judging::rows_conflict, crate::specs::Judging::commitment_conflict, crate::specs::Judging::withdrawal_conflict, crate::specs::Judging::purchase_conflict))]
+fn command_conflict(state: &State, origin: &str, command: &Command) -> Option<Conflict>
+    ensures { result ≡ command_conflict state.now.entries origin.now (command_view command.now) }
 {
     match command {
         Command::Post(rows) => {
@@ -66,6 +66,10 @@ fn command_conflict(state: &State, command: &Command) -> Option<Conflict>
             state.commitments(),
         ),
         Command::SetPolicy(_) => None,
+        Command::Withdraw(seq) => withdrawal_conflict(
+            state.has_post(origin, *seq),
+            state.is_withdrawn(origin, *seq),
+        ),
         Command::AddPurchase(added) => purchase_conflict(
             state.is_registered(added.id()),
             is_refused(state.commitment_list(), added),
@@ -105,6 +109,19 @@ pub(crate) fn commitment_conflict(
     }
     if commitments >= MOST_COMMITMENTS {
         return Some(Conflict::TooManyCommitments);
+    }
+    None
+}
+
+/// Why a post can't be withdrawn, if it can't: its sender has none of the number, or has withdrawn it.
+pub(crate) fn withdrawal_conflict(has_post: bool, withdrawn: bool) -> Option<Conflict>
+    ensures { result ≡ (if has_post then (if withdrawn then Some conflict.Withdrawn else None) else Some conflict.NoSuchPost) }
+{
+    if !has_post {
+        return Some(Conflict::NoSuchPost);
+    }
+    if withdrawn {
+        return Some(Conflict::Withdrawn);
     }
     None
 }

@@ -1,5 +1,5 @@
 //! What holds of all lists of entries: laws, each the contract of a function that does nothing.
-ghost use Rattle.std.specs.Prelude.{◌≡◌, ◌⊎◌, ◌+◌, ◌≤◌, ◌<◌, ◌++◌, ◌∷◌, [], ℕ, List, All, Some, drop, filter, false, length, map, slice_get, take, true};
+ghost use Rattle.std.specs.Prelude.{◌≡◌, ◌≢◌, ◌⊎◌, ◌+◌, ◌≤◌, ◌<◌, ◌++◌, ◌∷◌, ◌&&◌, ◌==◌, [], ℕ, List, All, Some, drop, filter, false, if◌then◌else◌, length, map, slice_get, take, true};
 ghost use Rattle.std.specs.List.{Contains, flat_map, range_with_len};
 ghost use Rattle.std.specs.Str.{bytes_eq};
 ghost use Rattle.fw_charge.specs.Charge.{Charge};
@@ -8,11 +8,12 @@ ghost use Rattle.fw_terms.specs.Commitment.{CommitmentValue, IsCommitment, cost_
 ghost use Rattle.fw_terms.specs.Added.{AddedValue};
 ghost use Rattle.fw_terms.specs.Policy.{PolicyValue};
 ghost use Rattle.fw_entry.specs.Entry.{EntryValue};
-ghost use Rattle.fw_entry.specs.Entry.CommandValue.{post, commit, set_policy, add_purchase};
+ghost use Rattle.fw_entry.specs.Entry.CommandValue.{post, commit, set_policy, withdraw, add_purchase};
 ghost use Rattle.fw_entry.specs.Spelling.{IsEntry};
-ghost use Rattle.fw_snapshot.specs.History.{rows_posted, rows_of, committed_of, commitments_of, policy_of, entries_from};
+ghost use Rattle.fw_snapshot.specs.History.{posted, counting, rows_posted, rows_of, committed_of, commitments_of, policy_of, entries_from};
 ghost use Rattle.fw_snapshot.specs.Adding.{commitments_after};
 ghost use Rattle.fw_snapshot.specs.Ids.{HasId, NoRowHasIdOf, NoneHasId, NoneHasIdOf};
+ghost use Rattle.fw_snapshot.specs.Withdrawals.{HasPost, HasWithdrawal, NoneWithdraws};
 ghost use Rattle.fw_snapshot.specs.Judging.{IsLegal, IsLegalAfter, judged, most_commitments, most_rows};
 ghost use Rattle.fw_snapshot.specs.Verdicts.{verdicts_on, accepted_of, chosen, is_accept, is_kept, of_origin, AreNumbered, HasOnly, IsRepeat, IsSending};
 ghost use Rattle.fw_snapshot.specs.declared.verdict.Conflict.{Conflict};
@@ -37,7 +38,7 @@ pub fn no_number_is_missing()
         → map (λ e. e.seq) (filter (λ e. bytes_eq origin e.origin) entries) ≡ range_with_len 1 (entries_from origin entries) }
 {}
 
-/// A warehouse has at most 4,194,304 rows and at most 256 commitments.
+/// At most 4,194,304 rows were ever posted to a warehouse, so no more count, and it has at most 256 commitments.
 pub fn rows_and_commitments_are_few()
     ensures posted { (entries : List EntryValue) → IsLegal entries → length (rows_posted entries) ≤ most_rows }
     ensures rows { (entries : List EntryValue) → IsLegal entries → length (rows_of entries) ≤ most_rows }
@@ -51,6 +52,20 @@ pub fn an_entry_adds_to_the_commitments()
         → commitments_of (before ++ e ∷ []) ≡ commitments_after (commitments_of before) e.command }
     ensures others { (before : List EntryValue) (e : EntryValue) (a : AddedValue) → e.command ≡ add_purchase a
         → (rows_of (before ++ e ∷ []) ≡ rows_of before) × (policy_of (before ++ e ∷ []) ≡ policy_of before) }
+{}
+
+/// A sender withdraws its own posts, and no others: an accepted withdrawal leaves the rows of exactly that post out which is of its
+/// sender and has the number that it names (`rows`, `withdrawal`), and changes neither the commitments nor the policy (`no_more`).
+/// Each other accepted entry puts the rows that it posts behind those that count, and takes none away (`others`).
+pub fn a_sender_withdraws_its_own_posts()
+    ensures rows { (before : List EntryValue) (e : EntryValue) (n : ℕ) → IsLegal before → judged before e ≡ verdict.Accept → e.command ≡ withdraw n
+        → (has : HasPost before e.origin n) → (first : List Charge) × (last : List Charge) × (rows_of before ≡ first ++ (has.rows ++ last)) × (rows_of (before ++ e ∷ []) ≡ first ++ last) }
+    ensures withdrawal { (before : List EntryValue) (e : EntryValue) (n : ℕ) → e.command ≡ withdraw n
+        → rows_of (before ++ e ∷ []) ≡ flat_map (λ x. if bytes_eq e.origin x.origin && (x.seq == n) then [] else counting before x) before }
+    ensures no_more { (before : List EntryValue) (e : EntryValue) (n : ℕ) → IsLegal before → judged before e ≡ verdict.Accept → e.command ≡ withdraw n
+        → (commitments_of (before ++ e ∷ []) ≡ commitments_of before) × (policy_of (before ++ e ∷ []) ≡ policy_of before) }
+    ensures others { (before : List EntryValue) (e : EntryValue) → IsLegal before → judged before e ≡ verdict.Accept → ((n : ℕ) → e.command ≢ withdraw n)
+        → rows_of (before ++ e ∷ []) ≡ rows_of before ++ posted e.command }
 {}
 
 /// With all the purchases that were added to it, each commitment of a warehouse keeps the limits of a commitment: 64 purchases
@@ -67,7 +82,7 @@ pub fn each_commitment_has_its_own_id()
         → filter (λ d. bytes_eq d.id c.id) (commitments_of entries) ≡ c ∷ [] }
 {}
 
-/// No row of a warehouse carries the id of one of its commitments, whichever of the two came first. So what bears a
+/// No row that counts carries the id of one of the commitments, whichever of the two came first. So what bears a
 /// commitment's id in a report comes from the commitment, and from no row that was posted.
 pub fn no_row_has_the_id_of_a_commitment()
     ensures { (entries : List EntryValue) → IsLegal entries → NoRowHasIdOf (rows_of entries) (commitments_of entries) }
@@ -104,7 +119,8 @@ pub fn accepted_entries_are_legal()
 
 /// An entry is accepted where it is the next of its origin and breaks no rule: a post, where there is room for its rows
 /// and none of them carries the id of a commitment; a commitment, where neither another one nor a row has its id and
-/// there are fewer than 256; a policy always; a purchase that is added to a legal list, whoever sends it, where its id is
+/// there are fewer than 256; a policy always; a withdrawal, where its sender has a post of the number that it names, which none of its
+/// entries withdraws; a purchase that is added to a legal list, whoever sends it, where its id is
 /// registered, its commitment has fewer than 64 purchases, and all of them with this one cost at most 10^17 nanos.
 pub fn what_breaks_no_rule_is_accepted()
     ensures post { (before : List EntryValue) (e : EntryValue) (rows : List Charge) → e.seq ≡ entries_from e.origin before + 1 → e.command ≡ post rows
@@ -113,6 +129,8 @@ pub fn what_breaks_no_rule_is_accepted()
         → length (committed_of before) < most_commitments → NoneHasIdOf (committed_of before) c → NoRowHasIdOf (rows_of before) (c ∷ []) → judged before e ≡ verdict.Accept }
     ensures policy { (before : List EntryValue) (e : EntryValue) (p : PolicyValue) → e.seq ≡ entries_from e.origin before + 1 → e.command ≡ set_policy p
         → judged before e ≡ verdict.Accept }
+    ensures withdrawal { (before : List EntryValue) (e : EntryValue) (n : ℕ) → e.seq ≡ entries_from e.origin before + 1 → e.command ≡ withdraw n
+        → HasPost before e.origin n → NoneWithdraws before e.origin n → judged before e ≡ verdict.Accept }
     ensures purchase { (before : List EntryValue) (e : EntryValue) (a : AddedValue) → IsLegal before → e.seq ≡ entries_from e.origin before + 1 → e.command ≡ add_purchase a
         → (has : HasId (commitments_of before) a.id) → length has.commitment.purchases < most_purchases → cost_of has.commitment.purchases + a.purchase.billed ≤ most_nanos
         → judged before e ≡ verdict.Accept }
@@ -131,14 +149,16 @@ pub fn what_is_accepted_breaks_no_rule()
         → (length (rows_posted before) + length rows ≤ most_rows) × NoRowHasIdOf rows (committed_of before) }
     ensures commit { (before : List EntryValue) (e : EntryValue) (c : CommitmentValue) → judged before e ≡ verdict.Accept → e.command ≡ commit c
         → (length (committed_of before) < most_commitments) × NoneHasIdOf (committed_of before) c × NoRowHasIdOf (rows_of before) (c ∷ []) }
+    ensures withdrawal { (before : List EntryValue) (e : EntryValue) (n : ℕ) → judged before e ≡ verdict.Accept → e.command ≡ withdraw n
+        → HasPost before e.origin n × NoneWithdraws before e.origin n }
     ensures purchase { (before : List EntryValue) (e : EntryValue) (a : AddedValue) → judged before e ≡ verdict.Accept → e.command ≡ add_purchase a
         → (has : HasId (commitments_of before) a.id) × (length has.commitment.purchases < most_purchases) × (cost_of has.commitment.purchases + a.purchase.billed ≤ most_nanos) }
 {}
 
 /// A refusal has its reason: the entry is the next of its origin, and what it brings breaks the rule that the answer names, and none that is looked at
 /// before it. Of a post these are how many rows there are, and then their ids; of a commitment that no other one has its id, that no row carries it, and
-/// how many there are; of a purchase that is added that its id is registered, and
-/// then how many purchases there are and what they cost.
+/// how many there are; of a withdrawal that its sender has a post of the number, and then that none withdraws it; of a purchase that is added that its id is
+/// registered, and then how many purchases there are and what they cost.
 pub fn a_refusal_has_its_reason()
     ensures next { (before : List EntryValue) (e : EntryValue) (why : Conflict) → judged before e ≡ verdict.Refused why → e.seq ≡ entries_from e.origin before + 1 }
     ensures full { (before : List EntryValue) (e : EntryValue) → judged before e ≡ verdict.Refused conflict.Full
@@ -151,6 +171,10 @@ pub fn a_refusal_has_its_reason()
         → (rows : List Charge) × (e.command ≡ post rows) × (length (rows_posted before) + length rows ≤ most_rows) × (NoRowHasIdOf rows (committed_of before) → ⊥) }
     ensures too_many { (before : List EntryValue) (e : EntryValue) → judged before e ≡ verdict.Refused conflict.TooManyCommitments
         → (c : CommitmentValue) × (e.command ≡ commit c) × NoneHasIdOf (committed_of before) c × NoRowHasIdOf (rows_of before) (c ∷ []) × (most_commitments ≤ length (committed_of before)) }
+    ensures no_such_post { (before : List EntryValue) (e : EntryValue) → judged before e ≡ verdict.Refused conflict.NoSuchPost
+        → (n : ℕ) × (e.command ≡ withdraw n) × (HasPost before e.origin n → ⊥) }
+    ensures withdrawn { (before : List EntryValue) (e : EntryValue) → judged before e ≡ verdict.Refused conflict.Withdrawn
+        → (n : ℕ) × (e.command ≡ withdraw n) × HasPost before e.origin n × HasWithdrawal before e.origin n }
     ensures no_such_commitment { (before : List EntryValue) (e : EntryValue) → judged before e ≡ verdict.Refused conflict.NoSuchCommitment
         → (a : AddedValue) × (e.command ≡ add_purchase a) × NoneHasId (commitments_of before) a.id }
     ensures purchase_limit { (before : List EntryValue) (e : EntryValue) → judged before e ≡ verdict.Refused conflict.PurchaseLimit

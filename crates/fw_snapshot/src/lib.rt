@@ -13,8 +13,9 @@
 mod head;
 mod judging;
 mod laws;
-mod merging;
 mod parts;
+mod places;
+mod posts;
 mod snapshot;
 mod state;
 mod verdict;
@@ -24,12 +25,12 @@ pub use head::{Content, Head};
 pub use judging::judge;
 pub use laws::{
     a_gap_names_the_next_number, a_refusal_has_its_reason, a_repeat_changes_nothing,
-    a_repeat_is_answered_already, a_sender_is_kept_in_its_order, accepted_entries_are_legal,
-    each_commitment_has_its_own_id, each_entry_once, entries_are_judged_in_turn,
-    no_number_is_missing, no_row_has_the_id_of_a_commitment, numbers_are_in_turn,
-    rows_and_commitments_are_few, sending_again_changes_nothing, sent_at_least_once_is_kept_once,
-    what_breaks_no_rule_is_accepted, what_is_accepted_breaks_no_rule,
-    what_is_sent_often_stands_once,
+    a_repeat_is_answered_already, a_sender_is_kept_in_its_order, a_sender_withdraws_its_own_posts,
+    accepted_entries_are_legal, each_commitment_has_its_own_id, each_entry_once,
+    entries_are_judged_in_turn, no_number_is_missing, no_row_has_the_id_of_a_commitment,
+    numbers_are_in_turn, rows_and_commitments_are_few, sending_again_changes_nothing,
+    sent_at_least_once_is_kept_once, what_breaks_no_rule_is_accepted,
+    what_is_accepted_breaks_no_rule, what_is_sent_often_stands_once,
 };
 pub use snapshot::Snapshot;
 pub use state::{State, StateBuilder};

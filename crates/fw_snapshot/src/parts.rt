@@ -1,11 +1,16 @@
 //! The parts of a state, and what each of them is after a command.
-ghost use Rattle.std.specs.Prelude.{◌≡◌, ◌<◌, ◌≤◌, ◌+◌, ◌++◌, ◌∷◌, [], ◌&&◌, ℕ, List, false, length, map, nat_le, option_map, string_bytes, IfOk, if◌then◌else◌};
+ghost use Rattle.std.specs.Prelude.{◌≡◌, ◌<◌, ◌≤◌, ◌+◌, ◌++◌, ◌∷◌, [], ◌&&◌, ℕ, List, false, length, map, nat_le, true, take, drop, replicate, option_map, string_bytes, IfOk, IfSome, if◌then◌else◌};
 ghost use Rattle.std.specs.List.{list_any};
 ghost use Rattle.std.specs.Str.{bytes_eq};
 ghost use Rattle.std.specs.Option.{option_copied, option_to_list};
 ghost use Rattle.fw_entry.specs.View.{command_view};
 ghost use Rattle.fw_persistent.specs.Counts.{count_of};
-ghost use Rattle.fw_snapshot.specs.Heads.{command_of, content_of, segment_rows};
+ghost use Rattle.fw_posted.specs.Marks.{without};
+ghost use Rattle.fw_posted.specs.Rows.{segment_rows};
+ghost use Rattle.fw_charge.specs.Charge.{most_post_rows};
+ghost use Rattle.fw_snapshot.specs.Building.{rows_before, IsInside};
+ghost use Rattle.fw_snapshot.specs.Heads.{command_of, content_of};
+ghost use Rattle.fw_snapshot.specs.Posts.{counts_after, times_named};
 ghost use Rattle.fw_snapshot.specs.HeadView.{content_view};
 ghost use Rattle.fw_snapshot.specs.History.{posted, committed, policy_after};
 ghost use Rattle.fw_snapshot.specs.Adding.{commitments_after, with_added_purchase, NoneRefuses};
@@ -15,9 +20,12 @@ ghost use Rattle.fw_snapshot.specs.Held.{held_commitments, held_policy, held_row
 ghost use Rattle.fw_row_table.specs.Table.{most_column_rows};
 
 use crate::head::Content;
+use crate::places::{Place, next_row};
+use crate::posts::Span;
 use fw_columns::{Columns, LentRow};
 use fw_entry::Command;
 use fw_persistent::{Counters, Sequence};
+use fw_posted::PostedRows;
 use fw_terms::{AddedPurchase, Commitment, Policy};
 use std::alloc::{AllocError, Global};
 use std::sync::Arc;
@@ -28,7 +36,10 @@ pub(crate) fn posted(command: &Command) -> Option<&Columns>
 {
     match command {
         Command::Post(rows) => Some(rows),
-        Command::Commit(_) | Command::SetPolicy(_) | Command::AddPurchase(_) => None,
+        Command::Commit(_)
+        | Command::SetPolicy(_)
+        | Command::Withdraw(_)
+        | Command::AddPurchase(_) => None,
     }
 }
 
@@ -48,7 +59,8 @@ pub(crate) fn committed(command: &Command) -> Option<&Commitment>
 {
     match command {
         Command::Commit(commitment) => Some(commitment),
-        Command::Post(_) | Command::SetPolicy(_) | Command::AddPurchase(_) => None,
+        Command::Post(_) | Command::SetPolicy(_) | Command::Withdraw(_) | Command::AddPurchase(_) =>
+            None,
     }
 }
 
@@ -63,42 +75,101 @@ pub(crate) fn content_of(alloc: Global, command: &Command) -> Result<Content, Al
         }),
         Command::Commit(commitment) => Ok(Content::Commit(commitment.copy()?)),
         Command::SetPolicy(policy) => Ok(Content::SetPolicy(Arc::new(alloc, policy.copy(alloc)?)?)),
+        Command::Withdraw(seq) => Ok(Content::Withdraw(*seq)),
         Command::AddPurchase(added) => Ok(Content::AddPurchase(added.copy(alloc)?)),
     }
 }
 
-/// The text that the counters have for this one, for all to share, or a new one where they have none.
+/// The text that is kept already and equals this one, for all to share, or a new one where none is kept.
 pub(crate) fn shared_text(
     alloc: Global,
-    counters: &Counters,
+    kept: Option<&Arc<String>>,
     text: &str,
 ) -> Result<Arc<String>, AllocError>
+    requires { IfSome kept (λ same. string_bytes same.now.value ≡ text.now) }
     ensures { IfOk result (λ shared. string_bytes shared.value ≡ text.now) }
 {
-    match counters.key(text) {
+    match kept {
         Some(shared) => Arc::try_clone(shared),
         None => Ok(Arc::new(alloc, String::from_str(alloc, text)?)?),
     }
 }
 
-/// The segments with these rows behind them, if there are any. The rows are shared.
-pub(crate) fn segments_after(
+/// The rows after a command: these behind the others, if it posts any, or those of a span taken away, if it withdraws them.
+pub(crate) fn posted_after(
     alloc: Global,
-    segments: &Sequence<Columns>,
+    posted: &PostedRows,
     rows: Option<&Columns>,
-) -> Result<Sequence<Columns>, AllocError>
-    requires filled { length segments.now ≤ length (segment_rows segments.now) }
-    ensures rows { IfOk result (λ after. segment_rows after ≡ segment_rows segments.now ++ held_rows (option_copied rows.entry)) }
-    ensures filled { IfOk result (λ after. length after ≤ length (segment_rows after)) }
+    named: Option<Span>,
+) -> Result<PostedRows, AllocError>
+    requires no_rows { IfSome named (λ _. held_rows (option_copied rows) ≡ []) }
+    requires within { IfSome named (λ span. span.start + span.rows ≤ length posted.now.counts) }
+    requires some { IfSome named (λ span. 0 < span.rows) }
+    requires counting { IfSome named (λ span. take span.rows (drop span.start posted.now.counts) ≡ replicate span.rows true) }
+    ensures rows { IfOk result (λ after. segment_rows after.segments ≡ segment_rows posted.now.segments ++ held_rows (option_copied rows.entry)) }
+    ensures counts { IfOk result (λ after. after.counts ≡ counts_after named (length (held_rows (option_copied rows.entry))) posted.now.counts) }
+{
+    match named {
+        Some(span) => posted.without(alloc, span.start, span.rows),
+        None => posted_with(alloc, posted, rows),
+    }
+}
+
+/// The rows with these behind them, if there are any.
+fn posted_with(
+    alloc: Global,
+    posted: &PostedRows,
+    rows: Option<&Columns>,
+) -> Result<PostedRows, AllocError>
+    ensures rows { IfOk result (λ after. segment_rows after.segments ≡ segment_rows posted.now.segments ++ held_rows (option_copied rows.entry)) }
+    ensures counts { IfOk result (λ after. after.counts ≡ posted.now.counts ++ replicate (length (held_rows (option_copied rows.entry))) true) }
 {
     match rows {
-        Some(rows) => {
-            // Proves that there is a row.
-            let _len = rows.len();
-            segments.push(alloc, rows.copy()?)
-        }
-        None => segments.copy(),
+        Some(rows) => posted.push(alloc, rows),
+        None => posted.copy(),
     }
+}
+
+/// How many withdrawn posts have a row that carries each id, with the post of this span more, if one is withdrawn.
+pub(crate) fn withdrawn_after(
+    alloc: Global,
+    withdrawn: &Counters,
+    posted: &PostedRows,
+    named: Option<Span>,
+) -> Result<Counters, AllocError>
+    requires within { IfSome named (λ span. span.start + span.rows ≤ length (segment_rows posted.now.segments)) }
+    requires some { IfSome named (λ span. 0 < span.rows) }
+    requires few { IfSome named (λ span. span.rows ≤ most_post_rows) }
+    ensures { IfOk result (λ after. (id : List ℕ) → count_of id after ≡ count_of id withdrawn.now + times_named id named (segment_rows posted.now.segments)) }
+{
+    let Some(span) = named else {
+        return withdrawn.copy();
+    };
+    let (segment, row) = posted.find(span.start);
+    let place = Place { segment, row };
+    carried_by(alloc, withdrawn, posted.segments(), place, span.rows)
+}
+
+/// The counts with one post more, of so many rows behind a place.
+fn carried_by(
+    alloc: Global,
+    before: &Counters,
+    segments: &Sequence<Columns>,
+    start: Place,
+    count: usize,
+) -> Result<Counters, AllocError>
+    requires enough { rows_before segments.now start + count ≤ length (segment_rows segments.now) }
+    requires inside { IsInside segments.now start }
+    ensures { IfOk result (λ after. (id : List ℕ) → count_of id after ≡ count_of id before.now + (if carries id (take count (drop (rows_before segments.now start) (segment_rows segments.now))) then 1 else 0)) }
+{
+    let mut after = before.copy()?;
+    let mut place = start;
+    for _ in 0..count {
+        let (row, next) = next_row(segments, place);
+        after = carried_with(alloc, before, &after, &row)?;
+        place = next;
+    }
+    Ok(after)
 }
 
 /// The commitments of a list that is there once there is one.
@@ -129,7 +200,7 @@ pub(crate) fn commitments_after(
             let all = with_purchase_more(alloc, commitments_in(list), added)?;
             Ok(Some(Arc::new(alloc, all)?))
         }
-        Content::Post { .. } | Content::SetPolicy(_) => share_list(list),
+        Content::Post { .. } | Content::SetPolicy(_) | Content::Withdraw(_) => share_list(list),
     }
 }
 
@@ -201,7 +272,10 @@ pub(crate) fn policy_after(
 {
     match content {
         Content::SetPolicy(policy) => Ok(Some(Arc::try_clone(policy)?)),
-        Content::Post { .. } | Content::Commit(_) | Content::AddPurchase(_) => share_policy(policy),
+        Content::Post { .. }
+        | Content::Commit(_)
+        | Content::Withdraw(_)
+        | Content::AddPurchase(_) => share_policy(policy),
     }
 }
 
@@ -305,6 +379,6 @@ fn counted_unless_above(
 fn counted(alloc: Global, counts: &Counters, id: &str) -> Result<Counters, AllocError>
     ensures { IfOk result (λ after. (other : List ℕ) → count_of other after ≡ count_of other counts.now + (if bytes_eq other id.now then 1 else 0)) }
 {
-    let text = shared_text(alloc, counts, id)?;
+    let text = shared_text(alloc, counts.key(id), id)?;
     counts.raised(alloc, &text)
 }

@@ -2,21 +2,25 @@
 ghost use Rattle.std.specs.Prelude.{◌≡◌, ◌<◌, ◌≤◌, ◌++◌, ◌∷◌, [], length, map, slice_get, All, Some, IfOk};
 ghost use Rattle.std.specs.Option.{option_copied};
 ghost use Rattle.fw_entry.specs.Spelling.{IsEntry};
-ghost use Rattle.fw_snapshot.specs.Heads.{head_of, segment_rows};
+ghost use Rattle.fw_posted.specs.Rows.{segment_rows};
+ghost use Rattle.fw_snapshot.specs.Heads.{head_of};
 ghost use Rattle.fw_snapshot.specs.History.{rows_posted, rows_of, committed_of, commitments_of, policy_of, entries_from};
-ghost use Rattle.fw_snapshot.specs.Judging.{judged, IsLegal, carries, is_registered, most_rows, most_commitments};
+ghost use Rattle.fw_snapshot.specs.History.{is_withdrawn};
+ghost use Rattle.fw_snapshot.specs.Judging.{judged, IsLegal, carries, has_post, is_registered, most_rows, most_commitments};
 ghost use Rattle.fw_snapshot.specs.declared.verdict.Verdict.TheVariants as verdict;
 
 use crate::head::Head;
-use crate::merging::merged_segments;
 use crate::parts::{
     carried_after, commitments_after, commitments_in, committed, content_of, policy_after, posted,
-    registered_after, row_count, segments_after, share_list, share_policy, shared_text,
+    posted_after, registered_after, row_count, share_list, share_policy, shared_text,
+    withdrawn_after,
 };
+use crate::posts::{Span, entries_from, origins_after, span_named, span_of};
 use fw_charge::Currency;
 use fw_columns::Columns;
 use fw_entry::Entry;
-use fw_persistent::{Counters, Sequence};
+use fw_persistent::{Counters, Map, Sequence};
+use fw_posted::PostedRows;
 use fw_terms::{Commitment, Policy};
 use std::alloc::{AllocError, Global};
 use std::marker::Model;
@@ -29,23 +33,24 @@ pub use building::StateBuilder;
 /// The state of a warehouse: its currency, and the entries that it accepted, in order.
 ///
 /// A state is never changed. [`State::apply`] makes another, which shares the entries and rows of the first, so it costs what the entry brings,
-/// however much was accepted before.
+/// however much was accepted before. Where a post is withdrawn it costs what the segments have that its rows stand in.
 #[derive(Drop)]
 pub struct State {
     alloc: Global,
     currency: Currency,
     heads: Sequence<Head>,
-    segments: Sequence<Columns>,
-    // how many rows were posted
-    rows: usize,
+    // the rows that were posted, and which of them count
+    posted: PostedRows,
     commitments: Option<Arc<Vec<Commitment>>>,
     policy: Option<Arc<Policy>>,
-    // how many entries of each origin were accepted
-    origins: Counters,
+    // where the rows of each origin's entries stand, in the order of its entries
+    origins: Map<Sequence<Span>>,
     // how many commitments have each id
     registered: Counters,
     // how many posts have a row that carries each id
     carried: Counters,
+    // how many of these are withdrawn
+    withdrawn: Counters,
 }
 
 impl Model for State {
@@ -69,13 +74,13 @@ impl State {
             alloc,
             currency,
             heads: Sequence::new(),
-            segments: Sequence::new(),
-            rows: 0,
+            posted: PostedRows::new(),
             commitments: None,
             policy: None,
-            origins: Counters::new(),
+            origins: Map::new(),
             registered: Counters::new(),
             carried: Counters::new(),
+            withdrawn: Counters::new(),
         }
     }
 
@@ -90,14 +95,20 @@ impl State {
         let command = entry.command();
         let rows = posted(command);
         let commitment = committed(command);
-        let origin = shared_text(alloc, &self.origins, entry.origin())?;
         let content = content_of(alloc, command)?;
+        let named = span_named(&self.origins, entry.origin(), content.target());
+        let origin = shared_text(alloc, self.origins.key(entry.origin()), entry.origin())?;
         let policy = policy_after(&self.policy, &content)?;
         let commitments = commitments_after(alloc, &self.commitments, &content)?;
-        let segments = segments_after(alloc, &self.segments, rows)?;
-        let origins = self.origins.raised(alloc, &origin)?;
+        let posted = posted_after(alloc, &self.posted, rows, named)?;
+        let span = Span {
+            start: self.posted.len(),
+            rows: row_count(rows),
+        };
+        let origins = origins_after(alloc, &self.origins, &origin, span)?;
         let registered = registered_after(alloc, &self.registered, commitment)?;
         let carried = carried_after(alloc, &self.carried, rows)?;
+        let withdrawn = withdrawn_after(alloc, &self.withdrawn, &self.posted, named)?;
         let heads = self
             .heads
             .push(alloc, Head::new(origin, entry.seq(), content))?;
@@ -105,13 +116,13 @@ impl State {
             alloc,
             currency: self.currency,
             heads,
-            segments,
-            rows: self.rows + row_count(rows),
+            posted,
             commitments,
             policy,
             origins,
             registered,
             carried,
+            withdrawn,
         })
     }
 
@@ -120,23 +131,24 @@ impl State {
         ensures { IfOk result (λ copy. copy ≡ self.now) }
     {
         let heads = self.heads.copy()?;
-        let segments = self.segments.copy()?;
+        let posted = self.posted.copy()?;
         let commitments = share_list(&self.commitments)?;
         let policy = share_policy(&self.policy)?;
         let origins = self.origins.copy()?;
         let registered = self.registered.copy()?;
         let carried = self.carried.copy()?;
+        let withdrawn = self.withdrawn.copy()?;
         Ok(State {
             alloc: self.alloc,
             currency: self.currency,
             heads,
-            segments,
-            rows: self.rows,
+            posted,
             commitments,
             policy,
             origins,
             registered,
             carried,
+            withdrawn,
         })
     }
 
@@ -146,7 +158,7 @@ impl State {
         ensures { IfOk result (λ merged. merged ≡ self.now) }
     {
         let mut merged = self.copy()?;
-        merged.segments = merged_segments(merged.alloc, &merged.segments)?;
+        merged.posted = merged.posted.merged(merged.alloc)?;
         Ok(merged)
     }
 
@@ -172,19 +184,19 @@ impl State {
     }
 
     /// How many rows were ever posted: at most 4,194,304.
-    pub(crate) fn rows_posted(&self) -> usize
+    pub fn rows_posted(&self) -> usize
         ensures count { result ≡ length (rows_posted self.now.entries) }
         ensures few { result ≤ most_rows }
     {
-        self.rows
+        self.posted.len()
     }
 
-    /// How many rows count: at most 4,194,304.
+    /// How many rows count, which are those of the posts that aren't withdrawn: at most 4,194,304.
     pub fn rows(&self) -> usize
         ensures count { result ≡ length (rows_of self.now.entries) }
         ensures few { result ≤ most_rows }
     {
-        self.rows
+        self.posted.counting_len()
     }
 
     /// How many commitments there are: at most 256.
@@ -212,13 +224,23 @@ impl State {
     }
 
     /// The rows that were ever posted, in order, in segments of 1 to 65,536 rows each, and so in at most 4,194,304
-    /// segments. Each of the rows counts.
+    /// segments. Those of withdrawn posts are among them: [`State::counting_segments`] has the rows that count.
     pub fn segments(&self) -> &Sequence<Columns>
         ensures posted { segment_rows result.now ≡ rows_posted self.now.entries }
-        ensures rows { segment_rows result.now ≡ rows_of self.now.entries }
         ensures few { length result.now ≤ most_rows }
     {
-        &self.segments
+        self.posted.segments()
+    }
+
+    /// The rows that count, in order, in segments of 1 to 65,536 rows each, and so in at most 4,194,304 segments: those of the posts that
+    /// aren't withdrawn. It takes memory for the references alone. The error comes where there is none.
+    pub fn counting_segments(&self, alloc: Global) -> Result<Vec<&Columns>, AllocError>
+        ensures rows { IfOk result (λ segments. segment_rows (map (λ s. s.now) segments.items) ≡ rows_of self.now.entries) }
+        ensures few { IfOk result (λ segments. length segments.items ≤ most_rows) }
+    {
+        // Proves that each segment has a row.
+        let _stored = self.posted.segments();
+        self.posted.counting(alloc)
     }
 
     /// The commitment at a place, counted from 0, with all its purchases.
@@ -251,7 +273,24 @@ impl State {
     pub(crate) fn accepted_from(&self, origin: &str) -> u64
         ensures { result ≡ entries_from origin.now self.now.entries }
     {
-        self.origins.count(origin)
+        entries_from(&self.origins, origin)
+    }
+
+    /// Whether an origin had a post of this number accepted.
+    pub fn has_post(&self, origin: &str, seq: u64) -> bool
+        ensures { result ≡ has_post self.now.entries origin.now seq }
+    {
+        span_of(&self.origins, origin, seq).is_some()
+    }
+
+    /// Whether the post of this origin and number was withdrawn.
+    pub fn is_withdrawn(&self, origin: &str, seq: u64) -> bool
+        ensures { result ≡ is_withdrawn self.now.entries origin.now seq }
+    {
+        match span_of(&self.origins, origin, seq) {
+            Some(span) => !self.posted.counts(span.start),
+            None => false,
+        }
     }
 
     /// Whether there is a commitment of this id.
@@ -266,6 +305,6 @@ impl State {
     pub(crate) fn is_carried(&self, id: &str) -> bool
         ensures { result ≡ carries id.now (rows_of self.now.entries) }
     {
-        self.carried.count(id) > 0
+        self.carried.count(id) > self.withdrawn.count(id)
     }
 }

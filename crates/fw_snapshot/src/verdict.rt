@@ -15,6 +15,10 @@ pub enum Conflict {
     OwnCommitment,
     /// The warehouse would have more than 256 commitments.
     TooManyCommitments,
+    /// The sender has no post of the number that is to be withdrawn.
+    NoSuchPost,
+    /// The post is withdrawn already.
+    Withdrawn,
     /// No commitment has the id that the purchase is added to.
     NoSuchCommitment,
     /// The commitment would have more than 64 purchases, or they would cost more than 10^17 nanos.

@@ -33,7 +33,7 @@ const OTHER: &str =
     3,4,USD,Usage,2024-01-01T01:00Z,2024-01-01T02:00Z,c\n";
 
 /// Texts with their numbers, and what becomes of each: `A` it is added, `S` it is there, `D` something else is there, `G` a number is
-/// missing, `R` the text is refused.
+/// missing, `R` the text is refused, `W` what is there was withdrawn.
 const IMPORTS: &[(&str, u64, char)] = &[
     (TEXT, 2, 'G'),
     (TEXT, 1, 'A'),
@@ -61,6 +61,7 @@ fn letter(
             Outcome::Same => Ok('S'),
         },
         Err(ImportFault::Differs) => Ok('D'),
+        Err(ImportFault::Withdrawn) => Ok('W'),
         Err(ImportFault::Gap { .. }) => Ok('G'),
         Err(ImportFault::Rows(RowFault::NoMemory)) => Err(StoreFault::NoMemory),
         Err(ImportFault::Rows(_)) => Ok('R'),
@@ -120,15 +121,17 @@ const BEHIND_ADDED: &[(&str, u64, char)] = &[
     (SHORTER, 2, 'D'),
 ];
 
-/// Adds both to a store. An answer that isn't the right one is out of memory.
-fn add_both(
+/// Sends a script to a store. An answer that isn't the right one is out of memory.
+fn send(
     rt: &(impl Threads + Sync),
     alloc: Global,
     store: &mut Store<Faulty>,
+    script: &str,
+    wanted: &str,
 ) -> Result<(), StoreFault> {
     let mut answers = Vec::new(alloc);
-    let served = serve(rt, alloc, &mut ADDED.as_bytes(), &mut answers, store, 1);
-    if served.is_ok() && answers.as_slice() == b"accepted 1\naccepted 2\n".as_slice() {
+    let served = serve(rt, alloc, &mut script.as_bytes(), &mut answers, store, 1);
+    if served.is_ok() && answers.as_slice() == wanted.as_bytes() {
         Ok(())
     } else {
         Err(StoreFault::NoMemory)
@@ -141,11 +144,39 @@ fn first_wrong_behind(
     alloc: Global,
 ) -> Result<Option<usize>, StoreFault> {
     let mut store = created(alloc, ROOM, NEVER, Mode::Once)?;
-    add_both(rt, alloc, &mut store)?;
+    send(rt, alloc, &mut store, ADDED, "accepted 1\naccepted 2\n")?;
     first_wrong(alloc, &mut store, BEHIND_ADDED)
 }
 
 #[test]
 fn an_added_purchase_is_no_post(rt: HostRuntime) -> Result<(), Fail> {
     check_all(&rt, first_wrong_behind(&rt, rt.alloc()))
+}
+
+/// What becomes of texts once the first post was withdrawn by the second entry.
+const BEHIND_WITHDRAWN: &[(&str, u64, char)] = &[
+    (TEXT, 1, 'W'),
+    (SHORTER, 1, 'W'),
+    (TEXT, 2, 'D'),
+    (TEXT, 3, 'A'),
+    (SAME, 3, 'S'),
+];
+
+/// The place of the first of these imports that is answered otherwise.
+fn first_wrong_withdrawn(
+    rt: &(impl Threads + Sync),
+    alloc: Global,
+) -> Result<Option<usize>, StoreFault> {
+    let mut store = created(alloc, ROOM, NEVER, Mode::Once)?;
+    let added = first_wrong(alloc, &mut store, &[(TEXT, 1, 'A')])?;
+    if added.is_some() {
+        return Ok(added);
+    }
+    send(rt, alloc, &mut store, "withdraw a 2 1\n", "accepted 2\n")?;
+    first_wrong(alloc, &mut store, BEHIND_WITHDRAWN)
+}
+
+#[test]
+fn a_withdrawn_post_is_not_taken_for_imported(rt: HostRuntime) -> Result<(), Fail> {
+    check_all(&rt, first_wrong_withdrawn(&rt, rt.alloc()))
 }

@@ -147,6 +147,7 @@ fn command_shown(alloc: Global, command: &Command) -> Result<String, AllocError>
         Command::Post(rows) => rows_shown(alloc, rows),
         Command::Commit(commitment) => format!(in alloc; "Commit({commitment:?})"),
         Command::SetPolicy(policy) => format!(in alloc; "SetPolicy({policy:?})"),
+        Command::Withdraw(target) => format!(in alloc; "Withdraw({target})"),
         Command::AddPurchase(added) => format!(in alloc; "AddPurchase({added:?})"),
     }
 }

@@ -17,6 +17,17 @@ macro_rules! post {
     };
 }
 
+macro_rules! withdraw {
+    ($origin:expr, $sequence:expr, $target:expr) => {
+        Command::Entry {
+            kind: EntryKind::Withdraw,
+            origin: $origin,
+            sequence: $sequence,
+            content: $target,
+        }
+    };
+}
+
 macro_rules! report {
     ($key:expr, $from:expr, $to:expr) => {
         Command::Report {
@@ -222,6 +233,29 @@ const LINES: &[Case] = &[
                 content: b"",
             },
             Command::BadEnd,
+        ],
+    ),
+    (
+        "withdrawals, and lines that only look like them",
+        b"withdraw a 3 2\nwithdraw a 4 0\nwithdraw a 4 x\nwithdraw a 4 18446744073709551616\nwithdraw a 4\n\
+            withdraw a 4 2 0\nwithdraw a 4 2 \nwithdraw a 4 2\r\nwithdraw a 4 +2\nWithdraw a 4 2\n withdraw a 4 2\n\
+            withdraw b 0 018446744073709551615\nwithdraw  x 1\nid = 1\nwithdraw c 1 1",
+        &[
+            withdraw!(b"a", b"3", b"2"),
+            BAD,
+            BAD,
+            BAD,
+            BAD,
+            BAD,
+            BAD,
+            BAD,
+            BAD,
+            BAD,
+            BAD,
+            withdraw!(b"b", b"0", b"018446744073709551615"),
+            withdraw!(b"", b"x", b"1"),
+            BAD,
+            withdraw!(b"c", b"1", b"1"),
         ],
     ),
     (

@@ -1,6 +1,6 @@
 //! What a state holds, and that it stays as it was.
 use crate::ended::check;
-use crate::warehouse::{added, committed, empty, posted, ruled, shared};
+use crate::warehouse::{added, committed, empty, posted, ruled, shared, withdrawn};
 use fw_snapshot::{Snapshot, State};
 use std::alloc::{AllocError, Global};
 use std::test::Fail;
@@ -137,4 +137,50 @@ fn adds_a_purchase(alloc: Global) -> Result<bool, AllocError> {
 #[test]
 fn a_purchase_is_added_to_its_commitment(rt: HostRuntime) -> Result<(), Fail> {
     check(&rt, adds_a_purchase(rt.alloc()))
+}
+
+/// How many rows were posted to a state, how many count, how many segments have these, and whether the posts 1 and 2 of `a` are withdrawn.
+type Withdrawn = (usize, usize, usize, bool, bool);
+
+/// Those after two posts of a row each, of which the first one is withdrawn.
+const FIRST_OF_TWO: Withdrawn = (2, 1, 1, true, false);
+
+/// Those before that.
+const NONE_OF_TWO: Withdrawn = (2, 2, 2, false, false);
+
+/// Whether a state has these.
+fn is_left(alloc: Global, state: &State, wanted: Withdrawn) -> Result<bool, AllocError> {
+    let found = (
+        state.rows_posted(),
+        state.rows(),
+        state.counting_segments(alloc)?.len(),
+        state.is_withdrawn("a", 1),
+        state.is_withdrawn("a", 2),
+    );
+    Ok(found == wanted)
+}
+
+/// Whether these are so of a state, of a copy of it, and of one whose rows are in few segments.
+fn is_left_in_all(alloc: Global, state: &State) -> Result<bool, AllocError> {
+    let copy = state.copy()?;
+    let merged = state.merged()?;
+    Ok(
+        is_left(alloc, state, FIRST_OF_TWO)?
+            && is_left(alloc, &copy, FIRST_OF_TWO)?
+            && is_left(alloc, &merged, FIRST_OF_TWO)?,
+    )
+}
+
+/// Whether the rows of a post that is withdrawn count no more, and those of the state before still do.
+fn counts_no_more(alloc: Global) -> Result<bool, AllocError> {
+    let one = posted(alloc, &empty(alloc)?, "a", 1, OF_RI)?;
+    let before = posted(alloc, &one, "a", 2, OF_SP)?;
+    let after = withdrawn(alloc, &before, "a", 3, 1)?;
+    let is_left_now = is_left_in_all(alloc, after.state())?;
+    Ok(is_left_now && is_left(alloc, before.state(), NONE_OF_TWO)?)
+}
+
+#[test]
+fn rows_of_a_withdrawn_post_count_no_more(rt: HostRuntime) -> Result<(), Fail> {
+    check(&rt, counts_no_more(rt.alloc()))
 }

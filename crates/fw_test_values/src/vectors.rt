@@ -287,6 +287,12 @@ const ADD: [u8; 44] = [
     0x00, 0x00, 0x00, 0x00, 0x02, 0x00, 0x00, 0x00, 0x00, 0x00, 0x00, 0x00,
 ];
 
+/// Kind 4, from `billing`, number 4: its entry 2 is withdrawn, as another program spelled it.
+const WITHDRAWAL: [u8; 28] = [
+    0x07, 0x00, 0x00, 0x00, 0x62, 0x69, 0x6c, 0x6c, 0x69, 0x6e, 0x67, 0x04, 0x00, 0x00, 0x00, 0x00,
+    0x00, 0x00, 0x00, 0x04, 0x02, 0x00, 0x00, 0x00, 0x00, 0x00, 0x00, 0x00,
+];
+
 /// The origin `a`.
 const ORIGIN: [u8; 5] = [1, 0, 0, 0, b'a'];
 
@@ -401,6 +407,11 @@ pub(crate) const VALUES: &[(What, &[&[u8]], &str)] = &[
         Purchase { at: 1704070800, billed: Nanos { count: 2 } } }) }",
     ),
     (
+        What::EntryOfTwo,
+        &[&WITHDRAWAL],
+        "Entry { origin: \"billing\", seq: 4, command: Withdraw(2) }",
+    ),
+    (
         What::Entry,
         &[&ORIGIN, &SEQ, &COMMIT],
         "Entry { origin: \"a\", seq: 1, command: Commit(Commitment { fields: CommitmentFields { id: \"c\", \
@@ -472,7 +483,7 @@ pub(crate) const FAULTS: &[(What, &[&[u8]], Option<usize>)] = &[
     ),
     (What::Entry, &[&ORIGIN, &[0; 8], &SET_POLICY], Some(5)),
     (What::Entry, &[&ORIGIN, &[1, 0, 0, 0, 0, 0, 0]], Some(5)),
-    // No kind, and three that are none.
+    // No kind, two that are none, and one that the first form hasn't.
     (What::Entry, &[&ORIGIN, &SEQ], Some(13)),
     (
         What::Entry,
@@ -489,16 +500,29 @@ pub(crate) const FAULTS: &[(What, &[&[u8]], Option<usize>)] = &[
         &[&ORIGIN, &SEQ, &[9, 1, 0, 0, 0, b't', 0, 0, 0, 0]],
         Some(13),
     ),
-    // The second form has the kind 5, and the first one hasn't.
+    // The second form has the kinds 4 and 5, and the first one hasn't.
     (What::Entry, &[&ADD], Some(19)),
     (What::EntryOfTwo, &[&ADD], None),
+    (What::Entry, &[&WITHDRAWAL], Some(19)),
+    (What::EntryOfTwo, &[&WITHDRAWAL], None),
     (
         What::EntryOfTwo,
         &[&ORIGIN, &SEQ, &[0, 1, 0, 0, 0, b't', 0, 0, 0, 0]],
         Some(13),
     ),
-    (What::EntryOfTwo, &[&ORIGIN, &SEQ, &[4], &ADDED], Some(13)),
     (What::EntryOfTwo, &[&ORIGIN, &SEQ, &[6], &ADDED], Some(13)),
+    // The number of a post that is cut off, the number 0, and the greatest one.
+    (
+        What::EntryOfTwo,
+        &[&ORIGIN, &SEQ, &[4, 1, 0, 0, 0, 0, 0, 0]],
+        Some(14),
+    ),
+    (
+        What::EntryOfTwo,
+        &[&ORIGIN, &SEQ, &[4, 0, 0, 0, 0, 0, 0, 0, 0]],
+        None,
+    ),
+    (What::EntryOfTwo, &[&ORIGIN, &SEQ, &[4], &[255; 8]], None),
     // A purchase whose amount is cut off, and one that is negative.
     (
         What::EntryOfTwo,

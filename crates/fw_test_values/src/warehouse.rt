@@ -86,6 +86,17 @@ pub(crate) fn ruled(
     }
 }
 
+/// The warehouse after the post of this number was withdrawn, which is accepted.
+pub(crate) fn withdrawn(
+    alloc: Global,
+    before: &Snapshot,
+    origin: &str,
+    seq: u64,
+    target: u64,
+) -> Result<Snapshot, AllocError> {
+    after(alloc, before, origin, seq, Command::Withdraw(target))
+}
+
 /// The warehouse after a command, which is accepted.
 fn after(
     alloc: Global,

@@ -8,7 +8,7 @@ use fw_columns::Columns;
 use fw_disk::Volume;
 use fw_persistent::Sequence;
 use fw_recover::Store;
-use fw_snapshot::{Head, State};
+use fw_snapshot::{Content, Head, State};
 use fw_table::{Align, Line, count_text, table_text};
 use indexmap::IndexMap;
 use std::alloc::{AllocError, Global};
@@ -16,8 +16,9 @@ use std::alloc::{AllocError, Global};
 /// The columns of a status: a name, and what it is.
 const ALIGNS: [Align; 2] = [Align::Left, Align::Left];
 
-/// What a warehouse holds, as lines of a name and a value: its currency, its entries by origin, its rows and the hours that they are of,
-/// its commitments (and how many of both a warehouse may have), its policy, how long its body and its log are, and whether a checkpoint pays.
+/// What a warehouse holds, as lines of a name and a value: its currency, its entries by origin, its rows that count, what was withdrawn, the hours
+/// that the rows are of, its commitments (and how many of both a warehouse may have), its policy, how long its body and its log are, and whether
+/// a checkpoint pays.
 pub(crate) fn status_text<V: Volume>(
     alloc: Global,
     store: &Store<V>,
@@ -41,8 +42,9 @@ fn push_contents(alloc: Global, lines: &mut Vec<Line>, state: &State) -> Result<
     push(alloc, lines, "Currency", String::from_str(alloc, code)?)?;
     push_count(alloc, lines, "Entries", state.entries() as u64)?;
     push_origins(alloc, lines, state.heads())?;
-    push_part(alloc, lines, "Rows", state.rows() as u64, most_rows())?;
-    push_hours(alloc, lines, state.segments())?;
+    push_rows(alloc, lines, state)?;
+    let segments = state.counting_segments(alloc)?;
+    push_hours(alloc, lines, segments.as_slice())?;
     push_part(
         alloc,
         lines,
@@ -117,11 +119,55 @@ fn push_origins(
     Ok(())
 }
 
+// Adds the line of the rows, and where posts were withdrawn one that says how many.
+fn push_rows(alloc: Global, lines: &mut Vec<Line>, state: &State) -> Result<(), AllocError> {
+    let posts = withdrawals(state.heads());
+    let posted = state.rows_posted() as u64;
+    if posts == 0 {
+        return push_part(alloc, lines, "Rows", posted, most_rows());
+    }
+    let rows = state.rows() as u64;
+    push(alloc, lines, "Rows", rows_text(alloc, rows, posted)?)?;
+    let rows = posted.saturating_sub(rows);
+    push(
+        alloc,
+        lines,
+        "Withdrawn",
+        withdrawn_text(alloc, posts, rows)?,
+    )
+}
+
+// How many posts were withdrawn: each withdrawal is of another post.
+fn withdrawals(heads: &Sequence<Head>) -> u64 {
+    let mut count: u64 = 0;
+    for place in 0..heads.len() {
+        if let Content::Withdraw(_) = heads.get(place).content() {
+            count = count.saturating_add(1);
+        }
+    }
+    count
+}
+
+// How many rows count, and how many were posted, of so many at most.
+fn rows_text(alloc: Global, rows: u64, posted: u64) -> Result<String, AllocError> {
+    let rows = count_text(alloc, rows)?;
+    let posted = count_text(alloc, posted)?;
+    let most = count_text(alloc, most_rows())?;
+    format!(in alloc; "{rows}, posted: {posted} of {most}")
+}
+
+// How many posts were withdrawn, and how many rows they have.
+fn withdrawn_text(alloc: Global, posts: u64, rows: u64) -> Result<String, AllocError> {
+    let posts = count_text(alloc, posts)?;
+    let rows = count_text(alloc, rows)?;
+    format!(in alloc; "posts: {posts}, rows: {rows}")
+}
+
 // Adds the line of the hours that rows are of, where there are rows.
 fn push_hours(
     alloc: Global,
     lines: &mut Vec<Line>,
-    segments: &Sequence<Columns>,
+    segments: &[&Columns],
 ) -> Result<(), AllocError> {
     let Some((first, last)) = seconds_of(segments) else {
         return Ok(());
@@ -137,10 +183,10 @@ fn push_hours(
 }
 
 // The first and the last second at which a row's period begins, where there are rows.
-fn seconds_of(segments: &Sequence<Columns>) -> Option<(u64, u64)> {
+fn seconds_of(segments: &[&Columns]) -> Option<(u64, u64)> {
     let mut found = None;
-    for number in 0..segments.len() {
-        for start in segments.get(number).starts() {
+    for columns in segments {
+        for start in columns.starts() {
             let second = start.unsigned_abs();
             let (first, last) = found.unwrap_or((second, second));
             found = Some((second.min(first), second.max(last)));

@@ -1,33 +1,48 @@
 //! A state that is made again of its parts: of its segments as they stand, and of the heads of its entries, one after the other.
-ghost use Rattle.std.specs.Prelude.{◌≡◌, ◌<◌, ◌≤◌, ◌+◌, ◌++◌, ◌∷◌, ◌||◌, [], ℕ, List, false, true, if◌then◌else◌, length, take, drop, slice_get, All, IsTrue, Some, IfOk};
+ghost use Rattle.std.specs.Prelude.{◌≡◌, ◌<◌, ◌≤◌, ◌+◌, ◌++◌, ◌∷◌, ◌||◌, [], ℕ, List, false, true, if◌then◌else◌, length, take, drop, slice_get, All, IsTrue, Some, IfOk, IfSome};
 ghost use Rattle.std.specs.List.{list_any};
+ghost use Rattle.std.specs.Option.{option_map_or};
+ghost use Rattle.std.specs.Str.{bytes_eq};
 ghost use Rattle.fw_bytes.specs.Spelling.{listed};
 ghost use Rattle.fw_charge.specs.Charge.{most_post_rows};
 ghost use Rattle.fw_charge.specs.Spelling.{row, IsRow};
 ghost use Rattle.fw_entry.specs.Entry.{is_origin, most_origin_bytes};
+ghost use Rattle.fw_entry.specs.Entry.CommandValue.{withdraw};
 ghost use Rattle.fw_entry.specs.Spelling.{brought, IsCommand};
 ghost use Rattle.fw_persistent.specs.Counts.{count_of};
 ghost use Rattle.fw_snapshot.specs.Building.{has_counted_id, left_rows, next_entry, rows_before, with_next, IsInside};
-ghost use Rattle.fw_snapshot.specs.Heads.{command_of, row_count, segment_rows, HasRows};
+ghost use Rattle.fw_posted.specs.Rows.{segment_rows};
+ghost use Rattle.fw_snapshot.specs.Heads.{command_of, row_count, HasRows};
 ghost use Rattle.fw_snapshot.specs.HeadView.{content_view};
-ghost use Rattle.fw_snapshot.specs.History.{committed_of, commitments_of, entries_from, rows_of};
+ghost use Rattle.fw_snapshot.specs.History.{committed, committed_of, commitments_of, entries_from, policy_after, rows_of};
 ghost use Rattle.fw_snapshot.specs.Judging.{carries, carries_any, command_conflict, is_registered, judged};
-ghost use Rattle.fw_snapshot.specs.Uses.{posts_with};
+ghost use Rattle.fw_posted.specs.Marks.{without};
+ghost use Rattle.fw_snapshot.specs.History.{is_withdrawn};
+ghost use Rattle.fw_snapshot.specs.Judging.{has_post};
+ghost use Rattle.fw_snapshot.specs.Adding.{commitments_after, NoneRefuses};
+ghost use Rattle.fw_snapshot.specs.Held.{held_commitments, held_policy};
+ghost use Rattle.fw_snapshot.specs.Posts.{counts_of, spans_at, times_named};
+ghost use Rattle.fw_snapshot.specs.Uses.{commitments_with, posts_with};
 ghost use Rattle.fw_snapshot.specs.Verdicts.{goes_behind};
 
 use crate::head::{Content, Head};
 use crate::judging::{
     commitment_conflict, is_refused, out_of_turn, purchase_conflict, rows_conflict,
+    withdrawal_conflict,
 };
 use crate::parts::{
     carried_with, commitments_after, commitments_in, policy_after, registered_after, shared_text,
+    withdrawn_after,
 };
+use crate::places::{Place, next_row};
+use crate::posts::{Span, entries_from, origins_after, span_named, span_of};
 use crate::state::State;
 use crate::verdict::{Conflict, Verdict};
 use fw_charge::Currency;
 use fw_columns::{Columns, LentRow};
 use fw_entry::Entry;
-use fw_persistent::{Counters, Sequence};
+use fw_persistent::{Counters, Map, Sequence};
+use fw_posted::PostedRows;
 use fw_terms::{
     Commitment, Policy, added_has_spelling, added_len, commitment_has_spelling, commitment_len,
     policy_has_spelling, policy_len,
@@ -36,11 +51,15 @@ use std::alloc::{AllocError, Global};
 use std::marker::Model;
 use std::sync::Arc;
 
-/// A place among the rows of segments: before a row of a segment, or behind its last one.
-#[derive(Clone, Copy, Drop)]
-pub struct Place {
-    pub segment: usize,
-    pub row: usize,
+/// What the entries so far come to, beside their rows and what these carry.
+#[derive(Drop)]
+struct Parts {
+    heads: Sequence<Head>,
+    commitments: Option<Arc<Vec<Commitment>>>,
+    policy: Option<Arc<Policy>>,
+    origins: Map<Sequence<Span>>,
+    registered: Counters,
+    withdrawn: Counters,
 }
 
 /// What an entry brings that is put behind others.
@@ -62,17 +81,16 @@ struct Brought {
 pub struct StateBuilder {
     alloc: Global,
     currency: Currency,
-    heads: Sequence<Head>,
-    segments: Sequence<Columns>,
+    parts: Parts,
+    // how many posts have a row that carries each id
+    carried: Counters,
+    posted: PostedRows,
+    // for each row whether it counts: those that aren't taken yet do
+    marks: Vec<bool>,
     // the place before the next row
     place: Place,
     // how many rows are taken
     rows: usize,
-    commitments: Option<Arc<Vec<Commitment>>>,
-    policy: Option<Arc<Policy>>,
-    origins: Counters,
-    registered: Counters,
-    carried: Counters,
 }
 
 impl Model for StateBuilder {
@@ -88,24 +106,34 @@ impl Model for StateBuilder {
 }
 
 impl StateBuilder {
-    /// The state of a warehouse of this currency that has accepted nothing, before the first row of these segments. It takes no memory.
-    pub fn new(alloc: Global, currency: Currency, segments: Sequence<Columns>) -> StateBuilder
-        requires { length segments ≤ length (segment_rows segments) }
-        ensures { result ≡ record { history = record { currency = currency; entries = [] }; segments = segments; taken = 0 } }
+    /// The state of a warehouse of this currency that has accepted nothing, before the first row of these segments.
+    /// The error comes where memory ran out.
+    pub fn new(
+        alloc: Global,
+        currency: Currency,
+        segments: Sequence<Columns>,
+    ) -> Result<StateBuilder, AllocError>
+        ensures { IfOk result (λ builder. builder ≡ record { history = record { currency = currency; entries = [] }; segments = segments; taken = 0 }) }
     {
-        StateBuilder {
+        let posted = PostedRows::all_of(alloc, segments)?;
+        let marks = vec![in alloc; true; posted.len()]?;
+        Ok(StateBuilder {
             alloc,
             currency,
-            heads: Sequence::new(),
-            segments,
+            parts: Parts {
+                heads: Sequence::new(),
+                commitments: None,
+                policy: None,
+                origins: Map::new(),
+                registered: Counters::new(),
+                withdrawn: Counters::new(),
+            },
+            carried: Counters::new(),
+            posted,
+            marks,
             place: Place { segment: 0, row: 0 },
             rows: 0,
-            commitments: None,
-            policy: None,
-            origins: Counters::new(),
-            registered: Counters::new(),
-            carried: Counters::new(),
-        }
+        })
     }
 
     /// Puts the entry of a head behind the others, and answers whether it was: it is written in at most 4,194,304 bytes, and accepted after them. Of a
@@ -123,54 +151,68 @@ impl StateBuilder {
         if !self.accepts(origin, seq, &content, &brought) {
             return Ok(false);
         }
-        let alloc = self.alloc;
-        let origin = shared_text(alloc, &self.origins, origin)?;
-        let policy = policy_after(&self.policy, &content)?;
-        let commitments = commitments_after(alloc, &self.commitments, &content)?;
-        let origins = self.origins.raised(alloc, &origin)?;
-        let registered = registered_after(alloc, &self.registered, content.commitment())?;
+        let named = span_named(&self.parts.origins, origin, content.target());
         let rows = content.rows();
-        let heads = self.heads.push(alloc, Head::new(origin, seq, content))?;
-        self.heads = heads;
+        let span = Span {
+            start: self.rows,
+            rows,
+        };
+        let parts = self.parts.after(self.alloc, &self.posted, origin, seq, content, span, named)?;
+        self.parts = parts;
+        self.carried = brought.carried;
         self.place = brought.place;
         self.rows += rows;
-        self.commitments = commitments;
-        self.policy = policy;
-        self.origins = origins;
-        self.registered = registered;
-        self.carried = brought.carried;
+        take_away(&mut self.marks, named);
         Ok(true)
     }
 
     /// The state, once all rows are taken.
-    pub fn finish(self) -> State
+    /// The error comes where memory ran out.
+    pub fn finish(self) -> Result<State, AllocError>
         requires { length (left_rows self) ≡ 0 }
+        ensures { IfOk result (λ state. state ≡ self.history) }
+    {
+        let segments = self.posted.segments().copy()?;
+        let posted = PostedRows::marked(self.alloc, segments, &self.marks)?;
+        Ok(self.with_posted(posted))
+    }
+
+    // The state that has these as its rows, once all rows are taken.
+    fn with_posted(self, posted: PostedRows) -> State
+        requires taken { length (left_rows self) ≡ 0 }
+        requires rows { posted.segments ≡ self.segments }
+        requires counts { posted.counts ≡ counts_of self.history.entries }
         ensures { result ≡ self.history }
     {
         let StateBuilder {
             alloc,
             currency,
-            heads,
-            segments,
+            parts,
+            carried,
+            posted: _,
+            marks: _,
             place: _,
-            rows,
+            rows: _,
+        } = self;
+        let Parts {
+            heads,
             commitments,
             policy,
             origins,
             registered,
-            carried,
-        } = self;
+            withdrawn,
+        } = parts;
         State {
             alloc,
             currency,
             heads,
-            segments,
-            rows,
+            posted,
             commitments,
             policy,
             origins,
             registered,
             carried,
+            withdrawn,
         }
     }
 
@@ -189,10 +231,10 @@ impl StateBuilder {
         match content {
             Content::Post { rows } => posted(
                 self.alloc,
-                &self.segments,
+                self.posted.segments(),
                 self.place,
                 *rows as usize,
-                &self.registered,
+                &self.parts.registered,
                 &self.carried,
             ),
             Content::Commit(commitment) => {
@@ -203,6 +245,7 @@ impl StateBuilder {
                 policy_has_spelling(policy);
                 self.without_rows(policy_len(policy))
             }
+            Content::Withdraw(seq) => self.without_rows(withdrawal_len(*seq)),
             Content::AddPurchase(added) => {
                 added_has_spelling(added);
                 self.without_rows(added_len(added))
@@ -250,29 +293,32 @@ impl StateBuilder {
         if let Some(verdict) = out_of_turn(self.accepted_from(origin), seq) {
             return verdict;
         }
-        match self.conflict(content, own) {
+        match self.conflict(origin, content, own) {
             None => Verdict::Accept,
             Some(why) => Verdict::Refused(why),
         }
     }
 
     // Why what an entry brings can't follow, if it can't, where its rows carry the id of a commitment or don't.
-    fn conflict(&self, content: &Content, own: bool) -> Option<Conflict>
+    fn conflict(&self, origin: &str, content: &Content, own: bool) -> Option<Conflict>
         requires own { own ≡ carries_any (take (row_count (content_view content.now)) (left_rows self.now)) (committed_of self.now.history.entries) }
         requires enough { row_count (content_view content.now) ≤ length (left_rows self.now) }
-        ensures { result ≡ command_conflict self.now.history.entries (command_of (content_view content.now) (take (row_count (content_view content.now)) (left_rows self.now))) }
+        ensures { result ≡ command_conflict self.now.history.entries origin.now (command_of (content_view content.now) (take (row_count (content_view content.now)) (left_rows self.now))) }
     {
         match content {
             Content::Post { rows } => rows_conflict(self.rows, *rows as usize, own),
             Content::Commit(commitment) => commitment_conflict(
                 self.is_registered(commitment.id()),
                 self.is_carried(commitment.id()),
-                commitments_in(&self.commitments).len(),
+                commitments_in(&self.parts.commitments).len(),
             ),
             Content::SetPolicy(_) => None,
+            Content::Withdraw(seq) => {
+                withdrawal_conflict(self.has_post(origin, *seq), self.is_withdrawn(origin, *seq))
+            }
             Content::AddPurchase(added) => purchase_conflict(
                 self.is_registered(added.id()),
-                is_refused(commitments_in(&self.commitments), added),
+                is_refused(commitments_in(&self.parts.commitments), added),
             ),
         }
     }
@@ -281,7 +327,24 @@ impl StateBuilder {
     fn accepted_from(&self, origin: &str) -> u64
         ensures { result ≡ entries_from origin.now self.now.history.entries }
     {
-        self.origins.count(origin)
+        entries_from(&self.parts.origins, origin)
+    }
+
+    // Whether an origin had a post of this number accepted.
+    fn has_post(&self, origin: &str, seq: u64) -> bool
+        ensures { result ≡ has_post self.now.history.entries origin.now seq }
+    {
+        span_of(&self.parts.origins, origin, seq).is_some()
+    }
+
+    // Whether the post of this origin and number was withdrawn.
+    fn is_withdrawn(&self, origin: &str, seq: u64) -> bool
+        ensures { result ≡ is_withdrawn self.now.history.entries origin.now seq }
+    {
+        match span_of(&self.parts.origins, origin, seq) {
+            Some(span) => !self.marks[span.start],
+            None => false,
+        }
     }
 
     // Whether there is a commitment of this id.
@@ -289,14 +352,78 @@ impl StateBuilder {
         ensures committed { result ≡ is_registered id.now (committed_of self.now.history.entries) }
         ensures with_all { result ≡ is_registered id.now (commitments_of self.now.history.entries) }
     {
-        self.registered.count(id) > 0
+        self.parts.registered.count(id) > 0
     }
 
     // Whether a row that counts carries this id.
     fn is_carried(&self, id: &str) -> bool
         ensures { result ≡ carries id.now (rows_of self.now.history.entries) }
     {
-        self.carried.count(id) > 0
+        self.carried.count(id) > self.parts.withdrawn.count(id)
+    }
+}
+
+impl Parts {
+    // The parts with an entry behind the others, whose rows stand there, and which withdraws the post of a span or none.
+    // The error comes where memory ran out.
+    fn after(
+        &self,
+        alloc: Global,
+        posted: &PostedRows,
+        origin: &str,
+        seq: u64,
+        content: Content,
+        span: Span,
+        named: Option<Span>,
+    ) -> Result<Parts, AllocError>
+        requires commitments { NoneRefuses (held_commitments self.now.commitments) (command_of (content_view content) []) }
+        requires within { IfSome named (λ span. span.start + span.rows ≤ length (segment_rows posted.now.segments)) }
+        requires some { IfSome named (λ span. 0 < span.rows) }
+        requires few { IfSome named (λ span. span.rows ≤ most_post_rows) }
+        ensures heads { IfOk result (λ parts. parts.heads ≡ self.now.heads ++ record { origin = origin.now; seq = seq; content = content_view content } ∷ []) }
+        ensures commitments { IfOk result (λ parts. held_commitments parts.commitments ≡ commitments_after (held_commitments self.now.commitments) (command_of (content_view content) [])) }
+        ensures policy { IfOk result (λ parts. held_policy parts.policy ≡ policy_after (held_policy self.now.policy) (command_of (content_view content) [])) }
+        ensures origins { IfOk result (λ parts. (other : List ℕ) → spans_at other parts.origins ≡ spans_at other self.now.origins ++ (if bytes_eq other origin.now then span ∷ [] else [])) }
+        ensures registered { IfOk result (λ parts. (id : List ℕ) → count_of id parts.registered ≡ count_of id self.now.registered + commitments_with id (committed (command_of (content_view content) []))) }
+        ensures withdrawn { IfOk result (λ parts. (id : List ℕ) → count_of id parts.withdrawn ≡ count_of id self.now.withdrawn + times_named id named (segment_rows posted.now.segments)) }
+    {
+        let withdrawn = withdrawn_after(alloc, &self.withdrawn, posted, named)?;
+        let origin = shared_text(alloc, self.origins.key(origin), origin)?;
+        let policy = policy_after(&self.policy, &content)?;
+        let commitments = commitments_after(alloc, &self.commitments, &content)?;
+        let origins = origins_after(alloc, &self.origins, &origin, span)?;
+        let registered = registered_after(alloc, &self.registered, content.commitment())?;
+        let heads = self.heads.push(alloc, Head::new(origin, seq, content))?;
+        Ok(Parts {
+            heads,
+            commitments,
+            policy,
+            origins,
+            registered,
+            withdrawn,
+        })
+    }
+}
+
+// How many bytes a withdrawal of the post of this number is written in, behind the byte of its kind.
+#[tactic(auto, unfolding(fw_entry::specs::Spelling::brought))]
+fn withdrawal_len(seq: u64) -> usize
+    ensures len { result ≡ length (brought (withdraw seq)) }
+    ensures valid { IsCommand (withdraw seq) }
+    ensures few { result < 4294967296 }
+{
+    8
+}
+
+// The marks of the rows of a span taken away, if there is one.
+fn take_away(marks: &mut Vec<bool>, named: Option<Span>)
+    requires { IfSome named (λ span. span.start + span.rows ≤ length marks.old.items) }
+    ensures { marks.new.items ≡ option_map_or (λ span. without span.start span.rows marks.old.items) named marks.old.items }
+{
+    if let Some(span) = named {
+        for place in span.start..span.start + span.rows {
+            marks[place] = false;
+        }
     }
 }
 
@@ -337,34 +464,6 @@ fn posted(
         carried: after,
         place,
     })
-}
-
-// The row behind a place, and the place behind this row.
-fn next_row(segments: &Sequence<Columns>, place: Place) -> (LentRow<'_>, Place)
-    requires some { rows_before segments.now place < length (segment_rows segments.now) }
-    requires inside { IsInside segments.now place }
-    ensures row { slice_get (segment_rows segments.now) (rows_before segments.now place) ≡ Some result.0 }
-    ensures next { rows_before segments.now result.1 ≡ rows_before segments.now place + 1 }
-    ensures inside { IsInside segments.now result.1 }
-{
-    // Proves that the place of a segment is a number that fits.
-    let _count = segments.len();
-    let columns = segments.get(place.segment);
-    if place.row < columns.len() {
-        let next = Place {
-            segment: place.segment,
-            row: place.row + 1,
-        };
-        return (columns.lent(place.row), next);
-    }
-    let columns = segments.get(place.segment + 1);
-    // Proves that there is a row.
-    let _len = columns.len();
-    let next = Place {
-        segment: place.segment + 1,
-        row: 1,
-    };
-    (columns.lent(0), next)
 }
 
 // Whether a row carries an id that is counted.

@@ -21,3 +21,7 @@ returns-in-Ok-read_policy-clause-reads c = rw c.in-Policy.is (c.in-Ok-read_polic
 pub returns-in-Ok-read_purchase-clause-reads : goal.returns-in-Ok-read_purchase-clause-reads
 unfolding ContentReads
 returns-in-Ok-read_purchase-clause-reads c = rw c.in-AddPurchase.is (c.in-Ok-read_purchase.added, refl, rw c.in-Ok-read_purchase.is at c.read_purchase.ensures)
+
+pub returns-in-Some-clause-reads : goal.returns-in-Some-clause-reads
+unfolding ContentReads
+returns-in-Some-clause-reads c = rw c.in-Withdraw.is (c.in-Some.target, refl, rw c.in-Some.is at c.sequence_number.ensures)

@@ -4,7 +4,14 @@ use Rattle.fw_script.proofs.reader.read_entry.Goals as goal
 
 pub returns-in-Some : goal.returns-in-Some
 unfolding IsCommand
-returns-in-Some c = record { count = c.args.entry.count; asked = c.requires; given = c.in-Some.ensures }
+returns-in-Some c = record {
+  last = c.args.entry.last.now;
+  count = c.args.entry.count;
+  taken = c.in-Some.taken.now;
+  asked = c.requires;
+  given = c.in-Some.ensures;
+  brought = c.content_of.ensures;
+}
 
 pub returns-in-None : goal.returns-in-None
 unfolding IsCommand
@@ -13,6 +20,7 @@ returns-in-None c = (
     kind = c.args.entry.kind;
     origin = c.args.entry.origin.now;
     sequence = c.args.entry.sequence.now;
+    last = c.args.entry.last.now;
     count = c.args.entry.count;
     asked = c.requires;
     too_few = c.in-None.ensures;

@@ -3,7 +3,8 @@ use Rattle.std.proofs.lemmas.Bool.{lt-ltb}
 use Rattle.std.proofs.lemmas.List.{length-map}
 use Rattle.fw_charge.specs.Charge.{Charge}
 use Rattle.fw_charge.specs.Spelling.{IsRow}
-use Rattle.fw_snapshot.specs.Heads.{head_of, segment_rows}
+use Rattle.fw_posted.specs.Rows.{segment_rows}
+use Rattle.fw_snapshot.specs.Heads.{head_of}
 use Rattle.fw_segment.specs.declared.layout.SegmentLayout.{SegmentLayout}
 use Rattle.fw_segment.specs.declared.layout.SegmentLayout.TheVariants.{Columns}
 use Rattle.fw_segment.specs.States.{state}

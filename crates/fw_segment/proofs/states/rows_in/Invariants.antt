@@ -1,5 +1,5 @@
 use Rattle.std.proofs.Common.{◌≡◌, ◌≤◌, ◌*◌, length, take}
-use Rattle.fw_snapshot.specs.Heads.{segment_rows}
+use Rattle.fw_posted.specs.Rows.{segment_rows}
 use Rattle.fw_segment.proofs.states.rows_in.Given as goal
 
 -- the rows of the segments so far, at most 65,536 each

@@ -84,4 +84,4 @@ returns c =
     c.loop-head.invariant.0
     ∙ ap (λ (items : List ReadHead). continued c.loop-head.left c.loop-head.builder.history (map head_view items) (left_rows c.loop-head.builder)) none
     ∙ continued_end c.loop-head.left c.loop-head.builder.history (left_rows c.loop-head.builder)
-    ∙ ap (λ (h : History). Ok h) (sym c.finish.ensures)
+    ∙ ap (λ (h : History). Ok h) (sym c.in_ok-finish.ensures)

@@ -1,5 +1,6 @@
 use Rattle.std.proofs.Common.{refl}
 use Rattle.fw_serve.specs.Contents.{ContentReads}
+use Rattle.fw_serve.specs.ReplyText.{reply_text}
 use Rattle.fw_serve.proofs.AnswerFacts.{IsRowCount-read}
 use Rattle.fw_serve.proofs.content.read_content.Goals as goal
 
@@ -38,3 +39,11 @@ pub returns-in-Err-read_purchase-clause-reads : goal.returns-in-Err-read_purchas
 unfolding ContentReads
 returns-in-Err-read_purchase-clause-reads g c =
     rw c.in-AddPurchase.is (c.in-Err-read_purchase.fault, c.commitment_reply-in-Err-read_purchase.ensures, rw c.in-Err-read_purchase.is at c.read_purchase.ensures)
+
+pub returns-in-Some-clause-reads : goal.returns-in-Some-clause-reads
+unfolding ContentReads
+returns-in-Some-clause-reads g c = rw c.in-Withdraw.is (c.in-Some.target, refl, rw c.in-Some.is at c.sequence_number.ensures)
+
+pub returns-in-None-clause-reads : goal.returns-in-None-clause-reads
+unfolding ContentReads reply_text
+returns-in-None-clause-reads g c = rw c.in-Withdraw.is (refl, rw c.in-None.is at c.sequence_number.ensures)

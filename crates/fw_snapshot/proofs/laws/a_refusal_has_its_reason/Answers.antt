@@ -1,4 +1,4 @@
-use Rattle.fw_snapshot.proofs.RuleFacts.{refused_next, refused_full, refused_double, refused_in_use, refused_own, refused_too_many, refused_no_such, refused_limit}
+use Rattle.fw_snapshot.proofs.RuleFacts.{refused_next, refused_full, refused_double, refused_in_use, refused_own, refused_too_many, refused_no_post, refused_withdrawn, refused_no_such, refused_limit}
 use Rattle.fw_snapshot.proofs.laws.a_refusal_has_its_reason.Goals as goal
 
 pub returns-clause-next : goal.returns-clause-next
@@ -18,6 +18,12 @@ returns-clause-own_commitment c = refused_own
 
 pub returns-clause-too_many : goal.returns-clause-too_many
 returns-clause-too_many c = refused_too_many
+
+pub returns-clause-no_such_post : goal.returns-clause-no_such_post
+returns-clause-no_such_post c = refused_no_post
+
+pub returns-clause-withdrawn : goal.returns-clause-withdrawn
+returns-clause-withdrawn c = refused_withdrawn
 
 pub returns-clause-no_such_commitment : goal.returns-clause-no_such_commitment
 returns-clause-no_such_commitment c = refused_no_such

@@ -7,7 +7,7 @@ use Rattle.std.proofs.lemmas.Option.{slice_get_within, get_or_from_slice_get}
 use Rattle.fw_charge.specs.Charge.{Charge}
 use Rattle.fw_charge.specs.Spelling.{row, IsRow}
 use Rattle.fw_snapshot.specs.Building.{has_counted_id, rows_before}
-use Rattle.fw_snapshot.specs.Heads.{segment_rows}
+use Rattle.fw_posted.specs.Rows.{segment_rows}
 use Rattle.fw_snapshot.proofs.BuildingFacts.{get_behind}
 use Rattle.fw_snapshot.proofs.EntryFacts.{counts_first, counts_next}
 use Rattle.fw_snapshot.proofs.state.building.posted.Goals as goal

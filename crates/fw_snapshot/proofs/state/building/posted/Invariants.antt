@@ -4,9 +4,9 @@ use Rattle.fw_charge.specs.Charge.{Charge}
 use Rattle.fw_charge.specs.Spelling.{row, IsRow}
 use Rattle.fw_persistent.specs.Counts.{Counts, count_of}
 use Rattle.fw_snapshot.specs.Building.{has_counted_id, rows_before, IsInside}
-use Rattle.fw_snapshot.specs.Heads.{segment_rows}
+use Rattle.fw_posted.specs.Rows.{segment_rows}
 use Rattle.fw_snapshot.specs.Judging.{carries}
-use Rattle.fw_snapshot.specs.declared.state.building.Place.{Place}
+use Rattle.fw_snapshot.specs.declared.places.Place.{Place}
 use Rattle.fw_snapshot.proofs.state.building.posted.Given as goal
 
 -- what the first n rows come to, behind which the place is

@@ -1,0 +1,4 @@
+pub mod MarkFacts
+pub mod MergeFacts
+pub mod PartFacts
+pub mod WithdrawFacts

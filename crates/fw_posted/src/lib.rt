@@ -1,0 +1,22 @@
+//! The rows that a warehouse was ever sent, in segments, and which of them count.
+//!
+//! Rows are withdrawn in ranges, and then count no more. A stored segment stays as it is for ever. Beside one that has a withdrawn row stand the
+//! rows of it that still count, in columns of their own, so that a report goes over columns all of whose rows count. Where nothing was withdrawn,
+//! these are the segments themselves.
+//!
+//! The value is never changed. A post costs what it brings, and a withdrawal the rows of the segments that it meets, which it finds by their places:
+//! neither reads another segment, and both share with the old value what stays.
+#![tactic(auto)]
+
+mod finding;
+mod laws;
+mod making;
+mod marks;
+mod merging;
+mod part;
+mod posted;
+mod reading;
+mod withdrawing;
+
+pub use laws::{merging_keeps_rows, selection_is_by_part};
+pub use posted::PostedRows;

@@ -1,5 +1,0 @@
-use Rattle.std.proofs.Common.{length}
-use Rattle.fw_snapshot.proofs.merging.+with_merged.Given as goal
-
-abbrev pub decreases-with_merged : goal.decreases-with_merged
-decreases-with_merged l = length l.segments.now

@@ -1,0 +1,10 @@
+use Rattle.std.proofs.Common.{◌∙◌, ap, length}
+use Rattle.fw_snapshot.specs.History.{entries_from}
+use Rattle.fw_snapshot.specs.StateView.{state_entries}
+use Rattle.fw_snapshot.proofs.SpanFacts.{spans_count}
+use Rattle.fw_snapshot.proofs.state.State.accepted_from.Goals as goal
+
+pub returns : goal.returns
+returns c =
+    let origin = c.args.origin.now in
+    c.entries_from.ensures ∙ ap length (c.self.invariant.origins origin) ∙ spans_count 0 origin (state_entries c.self.inside) ∙ ap (λ h. entries_from origin h.entries) c.self.view_is
