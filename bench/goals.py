@@ -3,9 +3,10 @@
 
     python3 bench/goals.py --date 2026-01-31 > result.md
 
-It runs bench.py and reports.py of this folder, and with --state also state.py, one after the other. Each value and its verdict is what the script
-in the last column prints. Times are medians of turns; where bench.py judges the least times too, their ratio stands in parentheses. Speeds of
-state.py are those of its best turn. Progress goes to standard error, and what a script prints beside its values is left out.
+It runs bench.py and reports.py of this folder, with --withdrawals also withdrawals.py and with --state also state.py, one after the other. Each value
+and its verdict is what the script in the last column prints. Times are medians of turns; where bench.py judges the least times too, their ratio stands
+in parentheses. Speeds of state.py, and the time of a withdrawal, are those of the best turn. Progress goes to standard error, and what a script prints
+beside its values is left out.
 
 Exit status: 0 all was measured, 1 a script failed or couldn't measure a goal, 2 a wrong command line.
 """
@@ -76,6 +77,16 @@ def in_state(name):
     return find
 
 
+def in_withdrawals(what, limit):
+    """Finds a bar of withdrawals.py, by what is held to it, and its limit."""
+
+    def find(printed):
+        found = re.search(rf"^- Bar, {re.escape(what)}at most {limit} times.*?: \*\*(\w+)\*\* \((?:at the most )?([\d.]+)", printed, re.M)
+        return found and (f"{found[2]} times", found[1])
+
+    return find
+
+
 def under(name, find):
     """Two goals: without commitments, and under many."""
     return [Goal(f"{name}, {how}", find(count)) for how, count in (("without commitments", 0), (f"under {COVERED} commitments", COVERED))]
@@ -93,6 +104,11 @@ STATE = [
     Goal("a state is written at 800 MB/s (bar 400)", in_state("encode")),
     Goal("a state is read at 400 MB/s (bar 200)", in_state("decode")),
 ]
+WITHDRAWALS = [
+    Goal("a report beside 100 withdrawn posts: at most 1.1 times one without them", in_withdrawals("", 1.1)),
+    Goal("a withdrawal among 1,000,000 entries: at most 1.3 times one among 1,000, as posted", in_withdrawals("as posted, ", 1.3)),
+    Goal("the same after a checkpoint", in_withdrawals("after a checkpoint, ", 1.3)),
+]
 
 
 def scripts(options):
@@ -104,6 +120,8 @@ def scripts(options):
     yield [reports, *counts, *given], REPEATED
     yield [reports, "--after-post", *counts, *given], AFTER_POST
     yield [reports, "--first", "--workers", "1", "4", *counts, *given], FIRST
+    if options.withdrawals:
+        yield ["withdrawals.py", *given], WITHDRAWALS
     if options.state:
         yield ["state.py"], STATE
 
@@ -144,6 +162,7 @@ def main():
     parser.add_argument("--program", default="", help="the built focusd (default: out/focusd)")
     parser.add_argument("--rows", type=whole_number, help="default: that of each script, 1,000,000")
     parser.add_argument("--turns", type=whole_number, default=5, help="turns of each program (default: 5)")
+    parser.add_argument("--withdrawals", action="store_true", help="measure what withdrawn posts cost too, which takes some ten minutes more")
     parser.add_argument("--state", action="store_true", help="measure the bytes of a state too: proves and builds a program over copies of the crates, which takes long")
     parser.add_argument("--date", default="", help="the date that the result is to carry")
     parser.add_argument("--scratch", default="", help="default: bench/scratch")

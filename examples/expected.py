@@ -7,9 +7,10 @@ It reads the posts by Python's csv and json, commitments and policies by
 tomllib, and rounds each amount by its decimal: to the nearest 10^-9, ties to
 even. Sums, shares and floors are whole numbers and so exact. It tells entries
 apart that are sent twice, out of turn, or that don't go with those before. It
-knows contents that are all right, and the first wrong field of a purchase that
-is added to a commitment; at anything else it stops with status 1 and says what
-it met, so that it never makes up an answer.
+knows contents that are all right, the first wrong field of a purchase that is
+added to a commitment, and lines that name no post to withdraw; at anything
+else it stops with status 1 and says what it met, so that it never makes up an
+answer.
 """
 import csv
 import datetime
@@ -37,6 +38,7 @@ MOST_PURCHASES = 64
 MOST_ID_BYTES = 256
 MOST_BYTES = 4_194_304
 ENTRY_BYTES = 4 + 8 + 1
+NUMBER_BYTES = 8
 MOST_NANOS = 10**17
 MOST_HOURS = 26_304
 MOST_LINES = 1_000_000
@@ -74,6 +76,12 @@ def spelled(amount):
     """Nanos as a text with nine decimals."""
     whole, part = divmod(abs(amount), 10**9)
     return f"{'-' if amount < 0 else ''}{whole}.{part:09d}"
+
+
+def whole_number(word):
+    """The whole number from 1 to 2^64-1 that a word spells, or None."""
+    number = int(word) if re.fullmatch(r"[0-9]+", word) else 0
+    return number if 1 <= number < 2**64 else None
 
 
 def record(fields):
@@ -353,6 +361,11 @@ class Warehouse:
         self.currency = currency
         self.entries = 0
         self.origins = defaultdict(int)
+        # The rows of each post by its origin and number; None where it was withdrawn.
+        self.posts = {}
+        # How many rows were posted, those of withdrawn posts too.
+        self.posted = 0
+        # The rows of each hour that count: those of posts that weren't withdrawn, in the order in which they were accepted.
         self.rows = defaultdict(list)
         self.commitments = []
         self.policy = None
@@ -366,23 +379,25 @@ class Warehouse:
             return f"refused {fault}\n"
         if not re.fullmatch(r"[A-Za-z0-9._-]{1,64}", origin):
             return "refused E1 Origin\n"
-        if not re.fullmatch(r"[0-9]+", number, re.ASCII) or not 1 <= int(number) < 2**64:
+        number = whole_number(number)
+        if number is None:
             return "refused E2 Seq\n"
         if ENTRY_BYTES + len(origin) + size > MOST_BYTES:
             return "refused E3 TooLarge\n"
         last = self.origins[origin]
-        if int(number) <= last:
+        if number <= last:
             return f"already {last}\n"
-        if int(number) > last + 1:
+        if number > last + 1:
             return f"gap {last + 1}\n"
         if refusal:
             return f"refused {refusal}\n"
-        keep()
+        keep((origin, number))
         self.origins[origin] += 1
         self.entries += 1
         return f"accepted {self.entries}\n"
 
     def row_count(self):
+        """How many rows count."""
         return sum(len(rows) for rows in self.rows.values())
 
     def state(self):
@@ -410,12 +425,14 @@ class Warehouse:
         if not rows:
             raise Refused("V14 NoRows")
         refusal = None
-        if self.row_count() + len(rows) > MOST_KEPT:
+        if self.posted + len(rows) > MOST_KEPT:
             refusal = "J1 Full"
         elif {row.id for row in rows} & {c.id for c in self.commitments}:
             refusal = "J4 OwnCommitment"
 
-        def keep():
+        def keep(sender):
+            self.posts[sender] = rows
+            self.posted += len(rows)
             for row in rows:
                 self.rows[row.hour].append(row)
 
@@ -430,7 +447,7 @@ class Warehouse:
             refusal = "J3 IdInUse"
         elif len(self.commitments) >= MOST_COMMITMENTS:
             refusal = "J5 TooManyCommitments"
-        return refusal, small(text), lambda: self.commitments.append(commitment)
+        return refusal, small(text), lambda sender: self.commitments.append(commitment)
 
     def add_purchase(self, text):
         more = AddedPurchase(tomllib.loads(text.decode()), self.times)
@@ -440,13 +457,31 @@ class Warehouse:
             refusal = "J8 NoSuchCommitment"
         elif not commitment.has_room_for(more.billed):
             refusal = "J9 PurchaseLimit"
-        return refusal, more.size(), lambda: commitment.purchases.append((more.hour, more.billed))
+        return refusal, more.size(), lambda sender: commitment.purchases.append((more.hour, more.billed))
+
+    def withdraw(self, origin, number, target):
+        """Takes the rows of the post that an origin sent under this number out of what counts."""
+        refusal = None
+        if (origin, target) not in self.posts:
+            refusal = "J6 NoSuchPost"
+        elif self.posts[origin, target] is None:
+            refusal = "J7 Withdrawn"
+
+        def keep(sender):
+            gone = {id(row) for row in self.posts[origin, target]}
+            for hour in {row.hour for row in self.posts[origin, target]}:
+                self.rows[hour] = [row for row in self.rows[hour] if id(row) not in gone]
+                if not self.rows[hour]:
+                    del self.rows[hour]
+            self.posts[origin, target] = None
+
+        return self.enter(origin, number, lambda _: (refusal, NUMBER_BYTES, keep), b"")
 
     def set_policy(self, text):
         policy = tomllib.loads(text.decode())
         policy = {"key": policy["key"], "rule": policy.get("rule", [])}
 
-        def keep():
+        def keep(sender):
             self.policy = policy
 
         return None, small(text), keep
@@ -520,6 +555,9 @@ def answers(script):
             if not all(content):
                 raise Unknown("an entry with fewer lines than it names")
             yield warehouse.enter(words[1], words[2], entries[words[0]], b"".join(content))
+        elif words[0] == "withdraw":
+            target = whole_number(words[3]) if len(words) == 4 else None
+            yield warehouse.withdraw(words[1], words[2], target) if target else "bad command\n"
         elif words[0] == "report" and len(words) >= 4:
             yield warehouse.report(" ".join(words[1:-2]), words[-2], words[-1])
         elif words[0] == "lines" and len(words) == 3:

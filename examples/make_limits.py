@@ -8,7 +8,7 @@ is looked at no further, and one whose third row is wrong; 256 commitments, and 
 them, and one more; and entries that are sent twice or out of turn.
 
 Two posts have rows of 256 tags, which is the most: one as many rows as may be, which are read and then too many bytes for an entry,
-and one as many as an entry has room for.
+and one as many as an entry has room for. The longest post is withdrawn, and so is the one of rows of the most tags.
 
 Two of the commitments have all that one may have: 26,304 hours, 256 SKUs or rates, 256 tags and 64 purchases. Rows of 256 tags
 use them. All others run in one hour, and rows of that hour are enough for each of them. Reports and lines are over 26,304 hours, which
@@ -113,6 +113,13 @@ def added_purchases():
         yield f'add paid {max(number, 1)} 3\nid = "cd-{name}"\nat = "{at}"\nbilled = "{number}.000000001"\n'
 
 
+def withdrawals():
+    """The longest post and that of the widest rows are withdrawn, the latter twice, and posts that aren't there: of the greatest number, and one past it."""
+    greatest = 2**64 - 1
+    targets = [(ORIGIN, 2, 1), (ORIGIN, 3, greatest), (ORIGIN, 3, greatest + 1), (ORIGIN, greatest, 1), ("rows", 3, 2), ("rows", 4, 2)]
+    return [f"withdraw {origin} {number} {target}\n" for origin, number, target in targets]
+
+
 def rows_of_teams(number):
     """A post of rows of many teams with 256 tags each, from the first hour of the longest range to the last."""
     lines = ["BilledCost,EffectiveCost,BillingCurrency,ChargeCategory,ChargePeriodStart,ChargePeriodEnd,ConsumedQuantity,ConsumedUnit,SkuId,Tags"]
@@ -155,7 +162,7 @@ def main():
     script += [*posts_of_many_rows(), *posts_of_wide_rows()]
     script += [widest(1), widest(2)]
     script += [commitment(number) for number in range(3, MOST_COMMITMENTS + 2)]
-    script += [commitment(MOST_COMMITMENTS), commitment(MOST_COMMITMENTS + 2), *added_purchases(), "state\n"]
+    script += [commitment(MOST_COMMITMENTS), commitment(MOST_COMMITMENTS + 2), *added_purchases(), "state\n", *withdrawals(), "state\n"]
     script += at_most_hours()
     sys.stdout.write("".join(script))
     return 0

@@ -50,6 +50,8 @@ def warehouse_of(script, currency="USD"):
         if words and words[0] in how:
             content = b"".join(next(lines) for _ in range(int(words[3])))
             kept.enter(words[1], words[2], how[words[0]], content)
+        elif words and words[0] == "withdraw":
+            kept.withdraw(words[1], words[2], int(words[3]))
     return kept
 
 
@@ -140,10 +142,15 @@ class Commands(unittest.TestCase):
     def setUpClass(cls):
         cls.made = tempfile.TemporaryDirectory()
         cls.folder = cls.made.name
-        cls.script = (HERE / "commitments.script").read_bytes()
+        cls.script = cls.entries()
         status, _, said = focusd("run", "--dir", cls.folder, "--create", given=cls.script)
         assert status == 0, said
         cls.kept = warehouse_of(cls.script)
+
+    @classmethod
+    def entries(cls):
+        """The script that the warehouse is made of."""
+        return (HERE / "commitments.script").read_bytes()
 
     @classmethod
     def tearDownClass(cls):
@@ -357,10 +364,16 @@ class Commands(unittest.TestCase):
     def test_status_verify_and_checkpoint(self):
         status = self.asked("status")
         entries, rows, commitments, _ = self.kept.state().split()[1:]
+        rows, posted = int(rows), self.kept.posted
+        gone = sum(posted is None for posted in self.kept.posts.values())
+        if gone:
+            of_rows = (("Rows", f"{rows:,},", "posted:", f"{posted:,}", "of", "4,194,304"), ("Withdrawn", "posts:", f"{gone:,},", "rows:", f"{posted - rows:,}"))
+        else:
+            of_rows = (("Rows", f"{rows:,}", "of", "4,194,304"),)
         for line in (
             ("Currency", "USD"),
             ("Entries", f"{int(entries):,}"),
-            ("Rows", f"{int(rows):,}", "of", "4,194,304"),
+            *of_rows,
             ("Commitments", commitments, "of", "256"),
         ):
             self.assertIn([*line], [line.split() for line in status.splitlines()])
@@ -429,6 +442,30 @@ class Commands(unittest.TestCase):
             self.assertEqual((status, said), (0, ""), words)
             self.assertIn("Example", printed, words)
         self.assertEqual(focusd("--version")[0], 0)
+
+
+class WithdrawnPosts(Commands):
+    """The same over the rows of that script in several posts, of which some were withdrawn. Its own post was withdrawn too."""
+
+    EACH = 40
+
+    @classmethod
+    def entries(cls):
+        script = super().entries()
+        head, post = re.search(rb"^post (year \d+) \d+\n((?:.+\n)*?)(?=report )", script, re.M).groups()
+        origin, number = head.decode().split()
+        header, *rows = post.splitlines(keepends=True)
+        for place, at in enumerate(range(0, len(rows), cls.EACH), 1):
+            some = rows[at : at + cls.EACH]
+            script += b"post again %d %d\n%s%s" % (place, len(some) + 1, header, b"".join(some))
+        sent = {b"again": place, origin.encode(): warehouse_of(script).origins[origin]}
+        for sender, target in ((b"again", 2), (origin.encode(), int(number)), (b"again", place), (b"again", 1)):
+            sent[sender] += 1
+            script += b"withdraw %s %d %d\n" % (sender, sent[sender], target)
+        kept = warehouse_of(script)
+        assert [target for target, posted in kept.posts.items() if posted is None] == [(origin, int(number)), ("again", 1), ("again", 2), ("again", place)]
+        assert 0 < kept.row_count() < len(rows), kept.state()
+        return script
 
 
 class Outside(unittest.TestCase):
@@ -1292,8 +1329,10 @@ class Dumps(unittest.TestCase):
         for one in (kept, again):
             one.rows = {hour: [vars(row) for row in rows] for hour, rows in one.rows.items()}
             one.commitments = [vars(it) for it in one.commitments]
+            one.withdrawn = [sent for sent, rows in one.posts.items() if rows is None]
         self.assertEqual((again.entries, again.origins, again.rows), (kept.entries, kept.origins, kept.rows))
         self.assertEqual((again.commitments, again.policy), (kept.commitments, kept.policy))
+        self.assertEqual((again.posted, again.withdrawn), (kept.posted, kept.withdrawn))
         return dumped
 
     def test_the_shipped_scripts(self):
@@ -1372,6 +1411,23 @@ class Dumps(unittest.TestCase):
         numbers = [int(line.split()[2]) for line in dumped.splitlines() if line.startswith(b"add d ")]
         self.assertEqual(numbers, [*range(1, 2 * len(self.ODD) + 1)])
         self.assertIn(b"2024-01-01T01:02:03Z", dumped)
+
+    def test_posts_that_are_withdrawn(self):
+        """A withdrawn post is dumped with its rows, and its withdrawal where it came, so that an id that its rows carried is free behind it."""
+        carrying = self.row(CommitmentDiscountId="cd-7", CommitmentDiscountCategory="Usage", CommitmentDiscountStatus="Used")
+        committed = (
+            b'commit a 3 8\nid = "cd-7"\ncategory = "Usage"\nstart = "2024-01-01T00:00Z"\nhours = 2\ncapacity = "2"\nunit = "Hours"\nskus = ["vm"]\n'
+            b'purchase = [{ at = "2024-01-01T00:00Z", billed = "3" }]\n'
+        )
+        tagged = [self.row(BilledCost=str(cost), Tags='{"team":"web"}') for cost in range(1, 5)]
+        withdrawals = [b"withdraw a 2 1", b"withdraw b 3 2", b"withdraw a 5 4", b"withdraw a-1 2 1"]
+        script = self.post(b"a", 1, carrying, *tagged[:2]) + self.post(b"b", 1, *tagged) + withdrawals[0] + b"\n" + committed
+        script += self.post(b"b", 2, *tagged[2:]) + self.post(b"a-1", 1, tagged[0]) + withdrawals[1] + b"\n" + self.post(b"a", 4, *tagged)
+        script += withdrawals[2] + b"\n" + withdrawals[3] + b"\n" + self.post(b"a", 6, *tagged[:2])
+        dumped = self.same(script)
+        self.assertEqual([line for line in dumped.splitlines() if line.startswith(b"withdraw ")], withdrawals)
+        self.assertEqual(dumped.count(b"\npost ") + dumped.startswith(b"post "), script.count(b"\npost ") + 1)
+        self.assertIn(b",cd-7,", dumped)
 
     def test_origins_that_interleave_and_checkpoints(self):
         script = b"".join(self.post(origin, number, self.row(BilledCost=str(number))) for number in range(1, 5) for origin in (b"b", b"a-1", b"a") if number < 4 or origin == b"a")
@@ -1523,47 +1579,82 @@ class Bodies(unittest.TestCase):
 
     ADD = b'add billing 4 3\nid = "cd-1"\nat = "2024-01-01T01:00Z"\nbilled = "0.000000002"\n'
 
-    def says_what_was_added(self, folder):
-        """README's script and a purchase behind it, sent again, and what is asked of them."""
+    @staticmethod
+    def withdrawn(target):
+        """The kind of an entry and of its head, and the number of the post that is withdrawn."""
+        return b"\4" + struct.pack("<Q", target)
+
+    def of_second_form(self):
+        """Entries that the second form alone has, behind README's script: each as a command, and its kind and what it brings in bytes."""
+        return ((self.ADD, self.added()), (b"withdraw billing 4 2\n", self.withdrawn(2)))
+
+    def says_what_was_entered(self, folder, command):
+        """README's script and an entry behind it, sent again, and what is asked of them."""
         low, high = self.RANGE
         asked = f"report team {low} {high}\nlines {low} {high}\nstate\n".encode()
-        kept = warehouse_of(self.script.encode() + self.ADD)
+        kept = warehouse_of(self.script.encode() + command)
+        self.assertEqual(kept.entries, 4)
         again = "".join(line for line in self.script.splitlines(keepends=True) if not line.startswith(("report ", "state")))
         answers = kept.report("team", low, high) + kept.lines(low, high) + kept.state()
-        self.assertEqual(focusd("run", "--dir", folder, given=again.encode() + self.ADD + asked), (0, "already 4\n" * 4 + answers, ""))
+        self.assertEqual(focusd("run", "--dir", folder, given=again.encode() + command + asked), (0, "already 4\n" * 4 + answers, ""))
 
-    def log_of_added(self):
-        """A log of one group, of one entry that adds a purchase: from its first gate to the next one."""
-        group = struct.pack("<I", 1) + self.text("billing") + struct.pack("<Q", 4) + self.added()
+    def log_of(self, content):
+        """A log of one group, of one entry behind README's script: from its first gate to the next one."""
+        group = struct.pack("<I", 1) + self.text("billing") + struct.pack("<Q", 4) + content
         return b"\1" + struct.pack("<I", len(group)) + group + b"\0"
 
-    def test_a_purchase_in_the_log_and_in_the_body(self):
-        """What a script writes, and what a checkpoint makes of it, byte for byte."""
-        segment, form = self.by_column(self.ROWS), b"FWHOUSE2"
-        with tempfile.TemporaryDirectory() as folder:
-            left, right = pathlib.Path(folder) / "left", pathlib.Path(folder) / "right"
-            left.write_bytes(self.side(form, 1, segment))
-            right.write_bytes(b"")
-            self.assertEqual(focusd("run", "--dir", folder, given=self.ADD), (0, "accepted 4\n", ""))
-            self.assertEqual(left.read_bytes(), self.side(form, 1, segment)[:-1] + self.log_of_added())
-            self.says_what_was_added(folder)
-            self.assertEqual(focusd("checkpoint", "--dir", folder), (0, "checkpointed\n", ""))
-            self.assertEqual(right.read_bytes(), self.side(form, 2, segment, more=[self.added()]))
-            self.says_what_was_added(folder)
+    def lay(self, folder, side):
+        """Makes a folder hold this Left, and an empty Right."""
+        (pathlib.Path(folder) / "left").write_bytes(side)
+        (pathlib.Path(folder) / "right").write_bytes(b"")
 
-    def test_the_first_form_has_no_added_purchases(self):
+    def is_damaged(self, folder, at):
+        """Left is damaged at this byte."""
+        self.assertEqual(focusd("run", "--dir", folder, given=b"state\n"), (1, "", "focusd: S2 Corrupt\n"))
+        self.assertEqual(focusd("verify", "--dir", folder), (1, "", f"focusd: S2 Corrupt\n{folder}/left: damaged at byte {at}\n"))
+
+    def test_a_purchase_and_a_withdrawal_in_the_log_and_in_the_body(self):
+        """What a script writes, and what a checkpoint makes of it, byte for byte. The rows of a withdrawn post stay in the body."""
+        segment, form = self.by_column(self.ROWS), b"FWHOUSE2"
+        for command, content in self.of_second_form():
+            with self.subTest(command), tempfile.TemporaryDirectory() as folder:
+                left, right = pathlib.Path(folder) / "left", pathlib.Path(folder) / "right"
+                self.lay(folder, self.side(form, 1, segment))
+                self.assertEqual(focusd("run", "--dir", folder, given=command), (0, "accepted 4\n", ""))
+                self.assertEqual(left.read_bytes(), self.side(form, 1, segment)[:-1] + self.log_of(content))
+                self.says_what_was_entered(folder, command)
+                self.assertEqual(focusd("checkpoint", "--dir", folder), (0, "checkpointed\n", ""))
+                self.assertEqual(right.read_bytes(), self.side(form, 2, segment, more=[content]))
+                self.says_what_was_entered(folder, command)
+
+    def test_the_first_form_has_no_added_purchases_and_no_withdrawals(self):
         segment, form = self.by_column(self.ROWS), b"FWHOUSE1"
-        in_body, in_log = self.side(form, 1, segment, more=[self.added()]), self.side(form, 1, segment)[:-1] + self.log_of_added()
-        # In the body the fault is at the byte of the kind, in the log at the gate in front of the group.
-        for side, at in ((in_body, in_body.index(self.added())), (in_log, len(self.side(form, 1, segment)) - 1)):
-            with self.subTest(at=at), tempfile.TemporaryDirectory() as folder:
-                (pathlib.Path(folder) / "left").write_bytes(side)
-                (pathlib.Path(folder) / "right").write_bytes(b"")
-                self.assertEqual(focusd("run", "--dir", folder, given=b"state\n"), (1, "", "focusd: S2 Corrupt\n"))
-                self.assertEqual(focusd("verify", "--dir", folder), (1, "", f"focusd: S2 Corrupt\n{folder}/left: damaged at byte {at}\n"))
-                # The same bytes are right where the magic word is that of the second form.
-                (pathlib.Path(folder) / "left").write_bytes(side.replace(b"FWHOUSE1", b"FWHOUSE2", 1))
-                self.says_what_was_added(folder)
+        for command, content in self.of_second_form():
+            in_body, in_log = self.side(form, 1, segment, more=[content]), self.side(form, 1, segment)[:-1] + self.log_of(content)
+            self.assertEqual(in_body.count(content), 1)
+            # In the body the fault is at the byte of the kind, in the log at the gate in front of the group.
+            for side, at in ((in_body, in_body.index(content)), (in_log, len(self.side(form, 1, segment)) - 1)):
+                with self.subTest(command, at=at), tempfile.TemporaryDirectory() as folder:
+                    self.lay(folder, side)
+                    self.is_damaged(folder, at)
+                    # The same bytes are right where the magic word is that of the second form.
+                    self.lay(folder, side.replace(b"FWHOUSE1", b"FWHOUSE2", 1))
+                    self.says_what_was_entered(folder, command)
+
+    def test_withdrawals_that_would_be_refused(self):
+        """A body or a log that withdraws what is no post, or a post twice: in the body the fault is at the head, in the log at the gate."""
+        segment, form = self.by_column(self.ROWS), b"FWHOUSE2"
+        for target in (0, 1, 3, 4, 5, 2**64 - 1):
+            content = self.withdrawn(target)
+            in_body, in_log = self.side(form, 1, segment, more=[content]), self.side(form, 1, segment)[:-1] + self.log_of(content)
+            for side, at in ((in_body, in_body.rindex(self.text("billing"))), (in_log, len(self.side(form, 1, segment)) - 1)):
+                with self.subTest(target=target, at=at), tempfile.TemporaryDirectory() as folder:
+                    self.lay(folder, side)
+                    self.is_damaged(folder, at)
+        twice = self.side(form, 1, segment, more=[self.withdrawn(2)] * 2)
+        with tempfile.TemporaryDirectory() as folder:
+            self.lay(folder, twice)
+            self.is_damaged(folder, twice.rindex(self.text("billing")))
 
 
 class KeptVolumes(unittest.TestCase):
@@ -1626,26 +1717,43 @@ class KeptVolumes(unittest.TestCase):
         b'purchase = [{ at = "2024-01-01T01:00Z", billed = "0.1" }]\n'
     )
     ADD = b'add more 2 3\nid = "later"\nat = "2024-01-01T02:30Z"\nbilled = "0.02"\n'
+    WITHDRAW = b"withdraw more 2 1\n"
 
-    def test_each_takes_a_purchase_after_a_checkpoint(self):
-        """A side of the first form takes no added purchase: the answer changes nothing, and holds until the next checkpoint. One that isn't accepted
-        has its own answer."""
+    def is_taken_after_a_checkpoint(self, first, entry, none, refusal):
+        """A side of the first form doesn't take an entry behind a first one: the answer changes nothing, and holds until the next checkpoint. One that
+        isn't accepted has its own answer. Each folder as it is then, with its name and the script that made it."""
         questions = (HERE / "volumes" / "questions.script").read_bytes()
-        none = self.ADD.replace(b"later", b"none")
         for name in self.FOLDERS:
             folder, made = self.copy(name), (HERE / "volumes" / f"{name}.script").read_bytes()
-            answers = "gap 1\n" + self.answers(made, self.COMMIT) + "refused J8 NoSuchCommitment\n"
-            self.assertEqual(self.done_script(folder, none + self.COMMIT + none), answers, name)
-            made += self.COMMIT
+            answers = "gap 1\n" + self.answers(made, first) + refusal
+            self.assertEqual(self.done_script(folder, none + first + none), answers, name)
+            made += first
             files = [(pathlib.Path(folder) / file).read_bytes() for file in ("left", "right")]
-            answers = "store S8 OldSide\nalready 1\nrefused J8 NoSuchCommitment\n" + self.answers(made, questions)
-            self.assertEqual(self.done_script(folder, self.ADD + self.COMMIT + none + questions), answers, name)
+            answers = f"store S8 OldSide\nalready 1\n{refusal}{self.answers(made, questions)}"
+            self.assertEqual(self.done_script(folder, entry + first + none + questions), answers, name)
             self.assertEqual([(pathlib.Path(folder) / file).read_bytes() for file in ("left", "right")], files, name)
-            answers = f"store S8 OldSide\ncheckpointed\n{self.answers(made, self.ADD + questions)}"
-            self.assertEqual(self.done_script(folder, self.ADD + b"checkpoint\n" + self.ADD + questions), answers, name)
-            made += self.ADD
-            for more in (questions, b"checkpoint\n", questions, self.ADD):
+            answers = f"store S8 OldSide\ncheckpointed\n{self.answers(made, entry + questions)}"
+            self.assertEqual(self.done_script(folder, entry + b"checkpoint\n" + entry + questions), answers, name)
+            made += entry
+            for more in (questions, b"checkpoint\n", questions, entry):
                 self.assertEqual(self.done_script(folder, more), self.answers(made, more), name)
+            yield name, folder, made
+
+    def test_each_takes_a_purchase_after_a_checkpoint(self):
+        none = self.ADD.replace(b"later", b"none")
+        self.assertEqual(len(list(self.is_taken_after_a_checkpoint(self.COMMIT, self.ADD, none, "refused J8 NoSuchCommitment\n"))), 4)
+
+    def test_each_takes_a_withdrawal_after_a_checkpoint(self):
+        """Also of what an earlier program posted."""
+        questions = (HERE / "volumes" / "questions.script").read_bytes()
+        none = self.WITHDRAW.replace(b" 1\n", b" 2\n")
+        for name, folder, made in self.is_taken_after_a_checkpoint(self.MORE, self.WITHDRAW, none, "refused J6 NoSuchPost\n"):
+            number = warehouse_of(made).origins["billing"] + 1
+            own = b"withdraw billing %d 1\n" % number
+            answers = self.answers(made, own + questions)
+            self.assertTrue(answers.startswith("refused J6 " if name == "empty" else "accepted "), (name, answers))
+            self.assertEqual(self.done_script(folder, own + questions), answers, name)
+            self.assertEqual(self.done_script(folder, b"checkpoint\n" + questions), "checkpointed\n" + answers.partition("\n")[2], name)
 
     def done_script(self, folder, script):
         """What is answered to a script, which has to end well."""
@@ -1747,6 +1855,33 @@ to = { team-4 = 3, shared = 1 }
                 # Opened from the log, and then from the body that the checkpoint wrote: two segments, the first by column and of 65,536 rows.
                 self.assertEqual(focusd(*words, "--dir", folder, given=both), (0, right_both, ""))
                 self.assertEqual((pathlib.Path(folder) / "right").read_bytes().count(struct.pack("<IBI", 2, 2, 65_536)), 1)
+                self.assertEqual(focusd(*words, "--dir", folder, given=questions), (0, right, ""))
+
+    def test_posts_that_are_withdrawn_from_joined_segments(self):
+        """The first post, one amid the rows that a checkpoint joins, the last one of these and the one behind them are withdrawn, one after the other."""
+        script = self.CONTRACTS + "".join(map(self.charges, range(1, self.POSTS + 1))).encode()
+        kept = warehouse_of(script)
+        accepted = "".join(f"accepted {number}\n" for number in range(1, self.POSTS + 3))
+        whole, part = ((self.instant(low), self.instant(high)) for low, high in ((0, self.HOURS), (90, 333)))
+        asked = [("report", "team", *whole), ("report", "env", *part), ("lines", self.instant(100), self.instant(103)), ("state",)]
+        questions = "".join(" ".join(words) + "\n" for words in asked).encode()
+        more, answers = b"", ""
+        for place, target in enumerate((1, 9, self.POSTS - 1, self.POSTS), 1):
+            withdrawal = b"withdraw importer %d %d\n" % (self.POSTS + place, target)
+            self.assertEqual(kept.withdraw("importer", str(self.POSTS + place), target), f"accepted {self.POSTS + 2 + place}\n")
+            right = "".join(getattr(kept, words[0])(*words[1:]) for words in asked)
+            more += withdrawal + questions
+            answers += f"accepted {self.POSTS + 2 + place}\n{right}"
+        self.assertIn(f" {13 * 4096} 1 1\n", answers)
+        script, answers = script + b"checkpoint\n" + more, f"{accepted}checkpointed\n{answers}"
+        for workers in ("1", "4"):
+            words = ("run", "--workers", workers)
+            with self.subTest(workers=workers), tempfile.TemporaryDirectory() as folder:
+                self.assertEqual(focusd(*words, given=script), (0, answers, ""))
+                self.assertEqual(focusd(*words, "--dir", folder, "--create", given=script), (0, answers, ""))
+                # Opened from the body and the log behind it, and then from a body that has the rows of all posts, in the same segments.
+                self.assertEqual(focusd(*words, "--dir", folder, given=questions + b"checkpoint\n"), (0, right + "checkpointed\n", ""))
+                self.assertEqual((pathlib.Path(folder) / "left").read_bytes().count(struct.pack("<IBI", 2, 2, 65_536)), 1)
                 self.assertEqual(focusd(*words, "--dir", folder, given=questions), (0, right, ""))
 
 

@@ -2,6 +2,7 @@
 """Tests of the example's files: python3 examples/test_examples.py"""
 import csv
 import decimal
+import io
 import os
 import re
 import shutil
@@ -9,6 +10,9 @@ import subprocess
 import sys
 import tempfile
 import unittest
+from unittest import mock
+
+import expected
 
 HERE = os.path.dirname(os.path.abspath(__file__))
 FILES = [
@@ -142,6 +146,87 @@ class Example(unittest.TestCase):
         script = self.COMMITMENT + b"".join(self.added(number, "c", "2024-01-01T00:00Z", "0") for number in range(2, 66))
         wanted = "".join(f"accepted {number}\n" for number in range(1, 65)) + "refused J9 PurchaseLimit\n"
         self.assertEqual(answers_to(script).stdout.decode(), wanted)
+
+    HEADER = b"BilledCost,EffectiveCost,BillingCurrency,ChargeCategory,ChargePeriodStart,ChargePeriodEnd,ConsumedQuantity,ConsumedUnit,SkuId,Tags\n"
+    ROW = b'9,9,USD,Usage,2024-01-01T00:00Z,2024-01-01T01:00Z,%s,Hours,vm,"{""team"":""%s""}"\n'
+
+    def test_the_oracle_on_a_withdrawn_post_done_by_hand(self):
+        """The first of ten nanos' three hours carries 3. A row of 1.5 hours is covered whole, and gets 2 of them, and one of an hour is covered by
+        the half that is left, and gets 1. Without the first the other is covered whole, and shares the 3 with as much that is unused: 1.5 each,
+        of which the first place gets the odd one. Sent again it comes last, and is covered by half of its quantity."""
+        report = b"report team 2024-01-01T00:00Z 2024-01-01T01:00Z\n"
+        first, second = self.ROW % (b"1.5", b"web"), self.ROW % (b"1", b"lab")
+        script = self.COMMITMENT + b"post a 2 2\n" + self.HEADER + first + b"post b 1 2\n" + self.HEADER + second + report
+        script += b"withdraw a 3 2\n" + report + b"state\n" + b"post a 4 2\n" + self.HEADER + first + report + b"state\n"
+        header = "Group,BilledCost,EffectiveCost,ChargedCost\n"
+        whole = f"{header},0.000000010,0.000000000,0.000000000\nlab,4.500000000,4.500000001,4.500000001\nweb,0.000000000,0.000000002,0.000000002\n"
+        without = f"{header},0.000000010,0.000000001,0.000000001\nlab,0.000000000,0.000000002,0.000000002\n"
+        again = f"{header},0.000000010,0.000000000,0.000000000\nlab,0.000000000,0.000000002,0.000000002\nweb,3.000000000,3.000000001,3.000000001\n"
+        wanted = f"accepted 1\naccepted 2\naccepted 3\nbytes {len(whole)}\n{whole}accepted 4\nbytes {len(without)}\n{without}state 4 1 1 0\n"
+        wanted += f"accepted 5\nbytes {len(again)}\n{again}state 5 2 1 0\n"
+        ran = answers_to(script)
+        self.assertEqual((ran.returncode, ran.stdout.decode()), (0, wanted))
+
+    def test_the_oracle_refuses_a_withdrawal(self):
+        script = self.COMMITMENT + b"post a 2 2\n" + self.HEADER + self.ROW % (b"1", b"web") + b"withdraw a 3 2\n"
+        for line, answer in (
+            (b"withdraw a 4 1", "refused J6 NoSuchPost"),
+            (b"withdraw a 4 2", "refused J7 Withdrawn"),
+            (b"withdraw a 4 0000002", "refused J7 Withdrawn"),
+            (b"withdraw a 4 3", "refused J6 NoSuchPost"),
+            (b"withdraw a 4 4", "refused J6 NoSuchPost"),
+            (b"withdraw b 1 2", "refused J6 NoSuchPost"),
+            (b"withdraw a 3 9", "already 3"),
+            (b"withdraw a 5 2", "gap 4"),
+            (b"withdraw a/b 1 1", "refused E1 Origin"),
+            (b"withdraw a 0 1", "refused E2 Seq"),
+            (b"withdraw a x 1", "refused E2 Seq"),
+            (b"withdraw a/b x 0", "bad command"),
+            (b"withdraw a 4 18446744073709551615", "refused J6 NoSuchPost"),
+            (b"withdraw a 4 18446744073709551616", "bad command"),
+            (b"withdraw a 4 +2", "bad command"),
+            (b"withdraw a 4", "bad command"),
+            (b"withdraw a 4 2 0", "bad command"),
+        ):
+            with self.subTest(line=line):
+                ran = answers_to(script + line + b"\n")
+                self.assertEqual((ran.returncode, ran.stdout.decode()), (0, f"accepted 1\naccepted 2\naccepted 3\n{answer}\n"))
+
+    def test_a_withdrawn_post_holds_no_id_and_still_its_room(self):
+        """An id that a withdrawn row carries may be committed to, and its rows count among the most that there may be."""
+        carrying = (
+            b"post p 1 2\nBilledCost,EffectiveCost,BillingCurrency,ChargeCategory,ChargePeriodStart,ChargePeriodEnd,CommitmentDiscountId,"
+            b"CommitmentDiscountCategory,CommitmentDiscountStatus\n0,1,USD,Usage,2024-01-01T00:00Z,2024-01-01T01:00Z,c,Usage,Used\n"
+        )
+        script = carrying + self.COMMITMENT + b"withdraw p 2 1\n" + self.COMMITMENT + carrying.replace(b"p 1", b"p 3") + b"state\n"
+        wanted = "accepted 1\nrefused J3 IdInUse\naccepted 2\naccepted 3\nrefused J4 OwnCommitment\nstate 3 0 1 0\n"
+        self.assertEqual(answers_to(script).stdout.decode(), wanted)
+        post = b"2\n" + self.HEADER + self.ROW % (b"1", b"web")
+        lines = b"post a 1 " + post + b"withdraw a 2 1\npost a 3 " + post + b"post a 4 " + post + b"state\n"
+        with mock.patch.object(expected, "MOST_KEPT", 2):
+            answers = list(expected.answers(iter(io.BytesIO(lines).readline, b"")))
+        self.assertEqual(answers, ["accepted 1\n", "accepted 2\n", "accepted 3\n", "refused J1 Full\n", "state 3 1 0 0\n"])
+
+    def test_reports_are_as_without_the_posts_that_were_withdrawn(self):
+        """Each report and the lines of two cases, beside those of a script that has neither these posts nor the withdrawals."""
+        for name in ("a-post-that-is-withdrawn", "posts-withdrawn-one-after-the-other"):
+            entries, asked = {}, 0
+            lines = io.BytesIO(read(HERE, "cases", f"{name}.script"))
+            for command, answer in zip(lines, expected.answers(iter(io.BytesIO(lines.getvalue()).readline, b""))):
+                words, is_accepted = command.split(), answer.startswith("accepted ")
+                if words[0] == b"withdraw":
+                    if is_accepted:
+                        del entries[words[1], words[3]]
+                elif words[0] in (b"report", b"lines"):
+                    # Each entry is the only one of an origin of its own, so that none leaves a gap.
+                    script = b"".join(b"%s e%d 1 %d\n%s" % (kind, at, text.count(b"\n"), text) for at, (kind, text) in enumerate(entries.values()))
+                    self.assertEqual(answers_to(script + command).stdout.decode().partition("bytes ")[2], answer.removeprefix("bytes "), (name, command))
+                    asked += 1
+                elif len(words) == 4:
+                    content = b"".join(next(lines) for _ in range(int(words[3])))
+                    if is_accepted:
+                        entries[words[1], words[2]] = words[0], content
+            self.assertGreater(asked, 8)
 
     def test_what_the_oracle_says_of_a_case_stands_beside_it(self):
         """Where it has no answer it stops, and all before it is right."""

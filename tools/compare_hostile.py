@@ -1,5 +1,5 @@
 #!/usr/bin/env python3
-"""Compares focusd with another program on hostile scripts: right posts that were bent, and odd command lines.
+"""Compares focusd with another program on hostile scripts: right posts that were bent, withdrawals of them, and odd command lines.
 
     tools/compare_hostile.py --program focusd --oracle bench/scratch/target/release/expert --cases 2000
 
@@ -89,11 +89,14 @@ ODD_LINES = """
     post post_a post_a_1 post_a_1_1_1 post__1_0 POST_a_1_1 posta_1_1 _post_a_1_1 post_a_1_1_ report report_
     report_team report__ report_team_2024-01-01T00:00Z report_2024-01-01T00:00Z_2024-01-01T01:00Z
     report_t_2024-01-01T00:00Z_2024-01-01T01:00Z_ checkpoint_ _checkpoint checkpoints state state state_ _state states STATE lines commit_a add_a
-    add_a_1 add_a_1_x policy_a withdraw_a_1_1 help quit # --
+    add_a_1 add_a_1_x policy_a help quit # -- withdraw withdraw_ withdraw_a_1 withdraw_a_1_1 withdraw__1_1 withdraw_a__1 withdraw_a_1_1_
+    withdraw_a_1_1_0 withdraws_a_1_1 WITHDRAW_a_1_1 _withdraw_a_1_1
 """.split()
 ODD_LINES = [line.replace("_", " ").encode() for line in ODD_LINES] + [b"", b" ", b"\r", b"\0", b"\xff", b"post\ta\t1\t1"]
 ODD_LINES += [b"\xef\xbb\xbfpost a 1 1", b"report\tt\t2024-01-01T00:00Z\t2024-01-01T01:00Z"]
-ODD_LINES += [b"post a 1 1\0", b"post \xff \xfe 0"]
+ODD_LINES += [b"post a 1 1\0", b"post \xff \xfe 0", b"withdraw a 1 1\0", b"withdraw \xff \xfe 1", b"withdraw a 1 \xff", b"withdraw\ta\t1\t1"]
+TARGETS = ["0", "00", "", "x", "-1", "+1", "1.0", "1e0", "0x1", "\u0661", "1\0", "0" * 50 + "1", "9" * 60]
+TARGETS += ["4294967297", "18446744073709551615", "18446744073709551616", "18446744073709551617"]
 REPORTED_YEARS = [(b"1970", b"1972"), (b"2023", b"2025")]
 PIPES = {"stdout": subprocess.PIPE, "stderr": subprocess.PIPE}
 MOST_COMMANDS = 12
@@ -136,8 +139,10 @@ class Maker:
 
     def command(self):
         kind = self.random.random()
-        if kind < 0.8:
+        if kind < 0.7:
             return self.post()
+        if kind < 0.83:
+            return self.withdrawal()
         if kind < 0.95:
             return self.report()
         return self.pick(ODD_LINES) + self.pick([b"\n", b"\n", b"\r\n", b"\n\n"])
@@ -165,9 +170,24 @@ class Maker:
             count = self.pick(COUNTS)
         elif self.chance(3):
             count = "0" * self.pick([1, 5, 40]) + count
-        origin, sequence = self.sender()
-        line = f"post {origin} {sequence} {count}".encode("latin-1" if self.chance(5) else "utf-8", "replace")
-        return line + (b"\n" if self.chance(99) else b"\r\n") + content
+        return self.line("post", *self.sender(), count) + content
+
+    def line(self, *words):
+        line = " ".join(words).encode("latin-1" if self.chance(5) else "utf-8", "replace")
+        return line + (b"\n" if self.chance(99) else b"\r\n")
+
+    def withdrawal(self):
+        """A withdrawal, or several behind a right post, most often of that."""
+        if self.chance(30):
+            return self.line("withdraw", *self.sender(), self.target())
+        origin, times = f"w{self.random.randrange(10_000)}", sorted([self.right_hour(), self.right_hour()])
+        fields = [self.amount(0), self.amount(0), self.currency, self.pick(WORDS), *times]
+        post = f"post {origin} 1 2\n{','.join(COLUMNS)}\n{','.join(fields)}\n".encode()
+        lines = [self.line("withdraw", origin, self.pick([str(number)] * 3 + ["1", "4"]), self.target()) for number in range(2, self.random.randint(3, 6))]
+        return post + b"".join(lines)
+
+    def target(self):
+        return self.pick(TARGETS) if self.chance(15) else self.pick("111123")
 
     def sender(self):
         """An origin and a number: mostly a new origin's first, else one that may be there already, leave a gap or be none."""

@@ -96,9 +96,9 @@ class Killing:
         return max(self.known or 0, sum(place < end for place in self.sent.places))
 
     def judge(self, number, place, answer):
-        """Refuses an answer that is neither the right one nor that to an entry which is there already."""
+        """Refuses an answer that is neither the right one nor that to an entry which is there already, or whose number another one has by now."""
         right = self.sent.answers[place]
-        if answer != right and not (right.startswith((b"accepted ", b"already ")) and answer.startswith(b"already ")):
+        if answer != right and not (right.startswith((b"accepted ", b"already ", b"refused J")) and answer.startswith(b"already ")):
             raise Wrong(f"run {number} answers {shown(answer)} to {shown(self.sent.commands[place])}where {shown(right)}is right")
 
     def look(self, number, most):

@@ -33,8 +33,8 @@ from store_runs import PROGRAM, TOP, CannotRun
 
 # What the step runs. A tool that finds so much wrong tries no more.
 STEP = [
-    ["crash_images.py", "--scripts", "3", "--entries", "6", "--seed", "4", "--most-wrong", "3"],
-    ["failing_calls.py", "--entries", "3", "--images", "3", "--most-wrong", "3"],
+    ["crash_images.py", "--scripts", "3", "--entries", "6", "--seed", "6", "--most-wrong", "3"],
+    ["failing_calls.py", "--entries", "4", "--images", "3", "--most-wrong", "3"],
     ["kill_runs.py", "--runs", "100"],
 ]
 # In which ways a volume is made wrong for the self-test, in the words of wrong_volume.c.

@@ -6,11 +6,11 @@
     tools/simulate.py --script SEED                       prints the script of a seed
     tools/simulate.py --self-test [CRATE/EDIT ..]         tries wrong bodies: some seed has to show each
 
-PROGRAM is a built `fw_simulate`. A seed makes a script of events: importers post entries, repeated, with gaps and against the rules; groups are
-taken and committed; checkpoints; analysts view and learn; the system stops and is opened again. Some scripts begin on a warehouse that an earlier
-version wrote, whose log takes no added purchase before a checkpoint. The device fails at some calls, and a stop leaves of what wasn't synced the
-old bytes, the new ones, or others. Each answer is compared with what docs/DEFINITIONS.md and docs/PROOFS.md say of the running system; when the
-device fails is its own choice, no more often than the script says. A script with a difference is made smaller before it is printed.
+PROGRAM is a built `fw_simulate`. A seed makes a script of events: importers post entries, repeated, with gaps and against the rules; groups are taken
+and committed; checkpoints; analysts view and learn; the system stops and is opened again. Some scripts begin on a warehouse that an earlier version
+wrote, whose log takes no withdrawal and no added purchase before a checkpoint. The device fails at some calls, and a stop leaves of what wasn't
+synced the old bytes, the new ones, or others. Each answer is compared with what docs/DEFINITIONS.md and docs/PROOFS.md say of the running system;
+when the device fails is its own choice, no more often than the script says. A script with a difference is made smaller before it is printed.
 
 The self-test takes must-fail edits, those of the list WRONG where none is named. It applies each to a copy of the sources and runs `fw_simulate` from
 there over the first 300 seeds, by `rt try`, which proves nothing. It begins with the sources as they are, by which no answer may differ. Each takes
@@ -41,7 +41,9 @@ BATCH = 250
 # How many calls of the device it takes to make a warehouse.
 CREATING = 8
 # The kinds of entries, as lines begin.
-POSTS = ("post", "use", "commitment", "policy", "add")
+POSTS = ("post", "use", "commitment", "policy", "add", "withdraw")
+# The kinds that bring rows, and those that a side of the first form can't have.
+WITH_ROWS, OF_SECOND_FORM = ("post", "use"), ("add", "withdraw")
 # The kinds of events, and how often each comes while the system runs, and while it is stopped.
 EVENTS = ("post", "take", "commit", "checkpoint", "view", "learn", "stop", "reopen")
 WHILE_OPEN = (40, 13, 14, 5, 8, 6, 6, 2)
@@ -61,8 +63,8 @@ WRONG = (
 
 # ---- scripts
 
-# The magic words of both forms of a side. What earlier versions wrote is of the first one, which has no added purchases, and what is written now
-# of the second.
+# The magic words of both forms of a side. What earlier versions wrote is of the first one, which has no withdrawals and no added purchases, and what
+# is written now of the second.
 FORMS = (b"FWHOUSE1", b"FWHOUSE2")
 # A side of an empty warehouse in dollars: the gate, the magic word, the generation, a body of 19 bytes, and a closed gate.
 BODY = "03000000" + b"USD".hex() + "00" * 12
@@ -108,7 +110,7 @@ class Sent:
             self.is_old = False
         elif words[0] == "commit" and self.hand:
             accepted = accepted_of(self.stored, [entry for _, entry in self.hand])
-            if not (self.is_old and has_added(accepted)):
+            if not (self.is_old and needs_second_form(accepted)):
                 self.commits.append(place)
                 self.stored += accepted
                 self.hand = []
@@ -131,9 +133,25 @@ def accepted_of(entries, more):
     return accepted
 
 
-def has_added(entries):
-    """Whether one of the entries adds a purchase, which a side of the first form can't have."""
-    return any(kind == "add" for _, _, kind, *_ in entries)
+def needs_second_form(entries):
+    """Whether one of the entries withdraws a post or adds a purchase, which a side of the first form can't have."""
+    return any(kind in OF_SECOND_FORM for _, _, kind, *_ in entries)
+
+
+def ids_of(entries, kind):
+    """The ids of the entries of a kind."""
+    return [content[0] for _, _, other, *content in entries if other == kind]
+
+
+def posts_of(entries, origin):
+    """The numbers of the posts of an origin."""
+    return [number for other, number, kind, *_ in entries if other == origin and kind in WITH_ROWS]
+
+
+def counting(entries):
+    """The posts that no withdrawal names."""
+    withdrawn = {(origin, int(content[0])) for origin, _, kind, *content in entries if kind == "withdraw"}
+    return [entry for entry in entries if entry[2] in WITH_ROWS and entry[:2] not in withdrawn]
 
 
 def last_of(entries, origin):
@@ -154,14 +172,21 @@ def post(chance, sent):
     free = sent.free()
     importer = chance.choice(free) if free and chance.random() < 0.9 else chance.randrange(sent.importers + 1)
     origin = chance.choice("aaabbc")
-    words = [str(importer), origin, str(number_for(chance, last_of(sent.ahead, origin)))]
-    names = [content[0] for _, _, kind, *content in sent.ahead if kind == "commitment"]
-    # Where there is a commitment, purchases are added to it often.
-    kind = "add" if names and chance.random() < 0.4 else chance.choices(POSTS, [12, 3, 5, 1, 1])[0]
+    last = last_of(sent.ahead, origin)
+    words = [str(importer), origin, str(number_for(chance, last))]
+    names, posts = ids_of(sent.ahead, "commitment"), posts_of(sent.ahead, origin)
+    freed = [name for name in ids_of(sent.ahead, "use") if name not in ids_of(counting(sent.ahead), "use")]
+    # Where there is a commitment, purchases are added to it often. Where the origin has posts, they are withdrawn often, and what was committed to by
+    # rows that were withdrawn is committed to often.
+    kind = chance.choices(POSTS, [12, 5, 12 if freed else 5, 1, 14 if names else 1, 12 if posts else 1])[0]
     if kind == "post":
         words += [str(chance.choice([1, 1, 2, 3])), str(chance.randint(-3, 9))]
+    elif kind == "withdraw":
+        # A post, perhaps one that is withdrawn already; or any entry of the origin, or one that it doesn't have.
+        words.append(str(chance.choice(posts) if posts and chance.random() < 0.7 else chance.choice([*range(1, last + 3), 2**64 - 1])))
     else:
-        words.append(chance.choice(names if kind == "add" and names else ["x", "y", "z"]))
+        often = {"add": names, "commitment": freed}.get(kind)
+        words.append(chance.choice(often or ["x", "y", "z"]))
     if kind == "add":
         # Now and then as much as a commitment may cost, or nearly so.
         words.append(str(chance.randint(0, 9) if chance.random() < 0.8 else MOST_COST - chance.randint(0, 2)))
@@ -309,7 +334,7 @@ class System:
                 answers.append((f"accepted {len(now)}", True))
             else:
                 answers.append((f"{verdict} at {len(now)}", False))
-        if has_added(accepted) and not self.is_of_second_form(answer):
+        if needs_second_form(accepted) and not self.is_of_second_form(answer):
             self.hand = hand
             return []
         if accepted and answer == "; ".join(["committed", *["unknown"] * len(hand)]):
@@ -321,7 +346,7 @@ class System:
         return [is_receipt for _, is_receipt in answers]
 
     def is_of_second_form(self, answer):
-        """Whether the side in use is of the second form, by what is answered to a group that adds a purchase."""
+        """Whether the side in use is of the second form, by what is answered to a group that needs it."""
         if len(self.forms) > 1:
             self.forms = {FORMS[0] if answer == "failed S8 OldSide" else FORMS[1]}
         if FORMS[0] in self.forms:
@@ -379,39 +404,43 @@ def judged(entries, entry):
         return f"gap {last + 1}"
     if kind == "add":
         return judged_purchase(entries, *content)
-    commitments = {other[3] for other in entries if other[2] == "commitment"}
-    used = {other[3] for other in entries if other[2] == "use"}
-    if kind == "commitment" and content[0] in commitments:
+    if kind == "withdraw":
+        return judged_withdrawal(entries, origin, int(content[0]))
+    if kind == "commitment" and content[0] in ids_of(entries, "commitment"):
         return "refused 2"
-    if kind == "commitment" and content[0] in used:
+    if kind == "commitment" and content[0] in ids_of(counting(entries), "use"):
         return "refused 3"
-    if kind == "use" and content[0] in commitments:
+    if kind == "use" and content[0] in ids_of(entries, "commitment"):
         return "refused 4"
     return "accepted"
 
 
 def judged_purchase(entries, name, cost):
     """The verdict on a purchase that is added to a commitment, behind entries."""
-    if not any(kind == "commitment" and content[0] == name for _, _, kind, *content in entries):
+    if name not in ids_of(entries, "commitment"):
         return "refused 8"
     paid = [BOUGHT_FOR, *(int(content[1]) for _, _, kind, *content in entries if kind == "add" and content[0] == name)]
     return "refused 9" if len(paid) >= MOST_PURCHASES or sum(paid) + int(cost) > MOST_COST else "accepted"
 
 
+def judged_withdrawal(entries, origin, target):
+    """The verdict on the withdrawal of an origin's post of this number, behind entries."""
+    if target not in posts_of(entries, origin):
+        return "refused 6"
+    return "accepted" if target in posts_of(counting(entries), origin) else "refused 7"
+
+
 def shown(entries):
-    """How a list of entries is printed, with the costs of its rows in order."""
+    """How a list of entries is printed, with the costs of the rows that count, in order."""
     heads, costs = [], []
     for origin, number, kind, *content in entries:
-        if kind == "post":
-            heads.append(f" {origin}/{number}:{content[0]}")
-            costs += [int(content[1]) * NANOS] * int(content[0])
-        elif kind == "use":
-            heads.append(f" {origin}/{number}:1")
-            costs.append(NANOS)
-        elif kind == "add":
-            heads.append(f" {origin}/{number}+{content[0]}:{int(content[1]) * NANOS}")
+        if kind == "add":
+            what = f"+{content[0]}:{int(content[1]) * NANOS}"
         else:
-            heads.append(f" {origin}/{number}{'=' if kind == 'commitment' else '!'}{content[0]}")
+            what = {"post": ":", "use": ":", "commitment": "=", "policy": "!", "withdraw": "-"}[kind] + (content[0] if kind != "use" else "1")
+        heads.append(f" {origin}/{number}{what}")
+    for _, _, kind, *content in counting(entries):
+        costs += [NANOS] if kind == "use" else [int(content[1]) * NANOS] * int(content[0])
     return "".join(heads) + " |" + "".join(f" {cost}" for cost in costs)
 
 

@@ -86,27 +86,52 @@ def added(choice, origin, number, name):
     return entry("add", origin, number, [f'id = "{name}"', f'at = "{at}"', f'billed = "{choice.randrange(10**6) / 10**6}"'])
 
 
+def withdrawal(origin, number, target):
+    """The post of this number that its origin withdraws."""
+    return f"withdraw {origin} {number} {target}\n".encode()
+
+
 def policy(choice, origin, number):
     shares = "proportional = true" if choice.random() < 0.5 else "to = { web = 3, data = 1 }"
     return entry("policy", origin, number, ['key = "team"', "[[rule]]", 'from = "platform"', shares])
 
 
 def commands(seed, entries):
-    """A script of so many entries that are accepted, with checkpoints, repeated and refused entries, and questions between them."""
+    """A script of so many entries that are accepted, with checkpoints, repeated and refused entries, and questions between them. Of each third seed
+    the second entry withdraws the first, where there are more than three."""
     choice = random.Random(seed)
     made, numbers, names = [], {"billing": 0, "ops.eu-1": 0, "a_b": 0}, []
-    pair, paid = (choice.randrange(1, max(2, entries)) for _ in range(2))
+    # The posts that count, and those that were withdrawn, by origin and number.
+    posts, withdrawn = [], []
+    begins = ("post", "withdraw") if entries > 3 and seed % 3 == 1 else ()
+    pair, paid = choice.randrange(1, max(2, entries)), choice.randrange(len(begins) + 1, max(2, entries))
     for place in range(entries):
         origin = choice.choice(list(numbers))
-        number = numbers[origin] = numbers[origin] + 1
-        kind = choice.random()
+        chance = choice.random()
+        if place < len(begins):
+            kind = begins[place]
         # One purchase at least is added, to a commitment that comes right before it or earlier.
-        if names and (place == paid or 0.8 <= kind < 0.9):
+        elif names and (place == paid or 0.8 <= chance < 0.9):
+            kind = "add"
+        elif place == paid - 1 or 0.75 <= chance < 0.85:
+            kind = "commit"
+        elif posts and 0.6 <= chance < 0.75:
+            kind = "withdraw"
+        else:
+            kind = "post" if chance < 0.75 else "policy"
+        if kind == "withdraw":
+            withdrawn.append(posts.pop(choice.randrange(len(posts))))
+            origin = withdrawn[-1][0]
+        number = numbers[origin] = numbers[origin] + 1
+        if kind == "withdraw":
+            made.append(withdrawal(origin, number, withdrawn[-1][1]))
+        elif kind == "add":
             made.append(added(choice, origin, number, choice.choice(names)))
-        elif place == paid - 1 or 0.7 <= kind < 0.85:
+        elif kind == "commit":
             names.append(f"cd-{place}")
             made.append(commitment(choice, origin, number, names[-1]))
-        elif kind < 0.7:
+        elif kind == "post":
+            posts.append((origin, number))
             made.append(post(choice, origin, number))
         else:
             made.append(policy(choice, origin, number))
@@ -118,6 +143,11 @@ def commands(seed, entries):
             made.append(re.sub(rb"(,USD,)\w+", rb"\1Usagf", post(choice, origin, number + 1)))
         if choice.random() < 0.05:
             made.append(added(choice, "nobody", 1, "none"))
+        if choice.random() < 0.05:
+            made.append(withdrawal("nobody", 1, 1))
+        if withdrawn and choice.random() < 0.1:
+            again, target = choice.choice(withdrawn)
+            made.append(withdrawal(again, numbers[again] + 1, target))
         if choice.random() < 0.2:
             made.append(choice.choice(QUESTIONS))
         if place == pair:

@@ -56,6 +56,8 @@ REOPEN = ["reopen"] * 5
 
 # One importer and one analyst: an entry, a checkpoint, and another entry. Opening fails at most four times.
 ONE = ["policy 0 a 1 t", "take", "commit", "checkpoint", "policy 0 a 2 t", "take", "commit", "stop", *REOPEN, "view 0"]
+# The same where the second entry withdraws the first.
+ONE_WITHDRAWN = ["post 0 a 1 2 3", "take", "commit", "checkpoint", "withdraw 0 a 2 1", "take", "commit", "stop", *REOPEN, "view 0"]
 # Several importers, with repeats and gaps, groups of two to five, and two stops.
 SEVERAL = [
     *["policy 0 a 1 t", "policy 1 b 1 t", "policy 0 a 2 t", "take", "policy 2 a 1 t", "commit", "view 0", "learn 1 5 1"],
@@ -74,6 +76,20 @@ OLD = f"files 4096 {side(1, FORMS[0])} -\n"
 ADDING_TO_OLD = [
     *[*REOPEN, "commitment 0 a 1 x", "add 1 b 1 y 2", "take", "commit", "add 0 a 2 x 3", "policy 1 b 1 t", "take", "commit", "take", "commit"],
     *["view 0", "checkpoint", "commit", "view 0", "stop", *REOPEN, "view 0", "add 0 a 3 x 4", "take", "commit", "checkpoint", "commit"],
+    *["stop", *REOPEN, "view 0"],
+]
+# Posts that are withdrawn, one of them twice, one in the group that brings it, and one whose rows keep a commitment away until then; and withdrawals of
+# what is no post, or that of another origin.
+WITHDRAWING = [
+    *["post 0 a 1 2 3", "use 1 b 1 x", "take", "commit", "withdraw 0 a 2 1", "withdraw 1 b 2 2", "commitment 2 c 1 x", "withdraw 3 d 1 1", "take", "commit"],
+    *["checkpoint"],
+    *["withdraw 0 a 3 1", "withdraw 1 b 2 1", "commitment 2 c 1 x", "post 3 d 1 1 4", "withdraw 4 d 2 1", "take", "commit", "view 0", "stop"],
+    *[*REOPEN, "view 0"],
+]
+# The same on a warehouse of an earlier version, whose log takes no withdrawal.
+WITHDRAWING_FROM_OLD = [
+    *[*REOPEN, "post 0 a 1 2 3", "withdraw 1 b 1 1", "take", "commit", "withdraw 0 a 2 1", "policy 1 b 1 t", "take", "commit", "take", "commit"],
+    *["view 0", "checkpoint", "commit", "view 0", "stop", *REOPEN, "view 0", "post 0 a 3 1 4", "withdraw 1 a 4 3", "take", "commit", "checkpoint", "commit"],
     *["stop", *REOPEN, "view 0"],
 ]
 # A group that changes nothing is no call of the device.
@@ -124,6 +140,21 @@ def added_to_an_old_side(program):
     """To a side of the first form no purchase is added, which is no call of the device and changes nothing; and after a checkpoint it is. A warehouse
     is opened in five calls."""
     return runs_of_plans(program, ADDING_TO_OLD, 100, OLD)
+
+
+def one_withdrawn(program):
+    """A stop leaves a post and its withdrawal, as it leaves two other entries."""
+    return runs_of_plans(program, ONE_WITHDRAWN, 75)
+
+
+def withdrawals(program):
+    """A stop leaves the posts that several importers withdrew."""
+    return runs_of_plans(program, WITHDRAWING, 95)
+
+
+def withdrawn_from_an_old_side(program):
+    """On a side of the first form no post is withdrawn, which is no call of the device and changes nothing; and after a checkpoint it is."""
+    return runs_of_plans(program, WITHDRAWING_FROM_OLD, 100, OLD)
 
 
 def none_accepted(program):
@@ -355,12 +386,13 @@ def checkpoints(program):
 SAMPLES = (
     *[run_script("old 19 0 1 2", ONE), run_script("1 40 0 1 2", SEVERAL), run_script("7 25 0 1 2", two_groups(7))],
     *[run_script("1 25 0 1 2", ADDING), run_script("new 15 0 1 2", ADDING_TO_OLD, OLD)],
+    *[run_script("1 25 0 1 2", WITHDRAWING), run_script("new 15 0 1 2", WITHDRAWING_FROM_OLD, OLD)],
     *[store_script(f"{left} {calls} 0 1 2", STORE_CALLS) for left, calls in (("old", 4), ("1", 30), ("7", 99))],
 )
 
 SWEEPS = (
-    *[one_importer, several_importers, added_purchases, added_to_an_old_side, none_accepted, groups, sizes, the_65th, last_generation],
-    *[stops, stops_over_a_byte, entries, making_a_side, checkpoints],
+    *[one_importer, several_importers, added_purchases, added_to_an_old_side, one_withdrawn, withdrawals, withdrawn_from_an_old_side],
+    *[none_accepted, groups, sizes, the_65th, last_generation, stops, stops_over_a_byte, entries, making_a_side, checkpoints],
 )
 
 
@@ -374,10 +406,10 @@ def main():
         if options.names and sweep.__name__ not in options.names:
             continue
         try:
-            print(f"{sweep.__name__:20} {sweep([options.program])}", flush=True)
+            print(f"{sweep.__name__:26} {sweep([options.program])}", flush=True)
         except Wrong as wrong:
             passed = False
-            print(f"{sweep.__name__:20} WRONG {wrong}", flush=True)
+            print(f"{sweep.__name__:26} WRONG {wrong}", flush=True)
         except OSError as fault:
             print(f"tools/sweep.py: {fault}", file=sys.stderr)
             return 2

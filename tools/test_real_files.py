@@ -122,7 +122,7 @@ class Selection(unittest.TestCase):
         scripts, entries, first = (int(words[words.index(word) + 1]) for word in ("--scripts", "--entries", "--seed"))
         cases = [Case(commands(seed, entries)) for seed in range(first, first + scripts)]
         asked = {command.split()[0] for case in cases for command in case.commands}
-        self.assertEqual(asked, {b"post", b"commit", b"add", b"policy", b"checkpoint", b"state", b"report", b"lines"})
+        self.assertEqual(asked, {b"post", b"commit", b"add", b"withdraw", b"policy", b"checkpoint", b"state", b"report", b"lines"})
         answered = {answer.split()[0] for case in cases for answer in case.answers}
         self.assertLessEqual({b"accepted", b"already", b"gap", b"refused", b"checkpointed"}, answered)
 

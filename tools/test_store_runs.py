@@ -63,6 +63,21 @@ class Scripts(unittest.TestCase):
                 done = zip(case.commands, case.answers)
                 self.assertTrue(any(command.startswith(b"add ") and answer.startswith(b"accepted ") for command, answer in done), (seed, entries))
 
+    def test_the_second_entry_of_each_third_seed_is_a_withdrawal_of_the_first(self):
+        for seed in range(1, 40, 3):
+            for entries in (4, 6, 24):
+                case = Case(commands(seed, entries))
+                self.assertEqual(case.entries, entries)
+                entered = [command for command, answer in zip(case.commands, case.answers) if answer.startswith(b"accepted ")]
+                _, origin, number, _ = entered[0].partition(b"\n")[0].split()
+                self.assertEqual((entered[0][:5], entered[1]), (b"post ", b"withdraw %s %d %s\n" % (origin, int(number) + 1, number)))
+
+    def test_scripts_withdraw_posts_and_are_refused_others(self):
+        cases = [Case(commands(seed, 24)) for seed in range(1, 40)]
+        answers = [answer for case in cases for command, answer in zip(case.commands, case.answers) if command.startswith(b"withdraw ")]
+        for right in (b"accepted ", b"refused J6 NoSuchPost\n", b"refused J7 Withdrawn\n"):
+            self.assertGreater(sum(answer.startswith(right) for answer in answers), 20, right)
+
     def test_a_script_has_two_checkpoints_in_a_row(self):
         made = commands(7, 20)
         self.assertIn((CHECKPOINT, CHECKPOINT), list(zip(made, made[1:])))

@@ -1,14 +1,19 @@
-//! A log of posts in one file, each synced before it is answered. It is written as an expert would write it; nothing reads it back.
+//! A log of posts and withdrawals in one file, each synced before it is answered. It is written as an expert would write it; nothing reads
+//! it back.
 use crate::names::Names;
 use crate::rows::Row;
 use std::fs::{File, OpenOptions};
 use std::io;
 use std::os::unix::fs::FileExt;
 
+/// The kinds of entries.
+const POST: u8 = 1;
+const WITHDRAWAL: u8 = 4;
+
 pub struct Log {
     file: File,
     end: u64,
-    /// Whether a post is one sync, or two with the byte that makes it count between them.
+    /// Whether an entry is one sync, or two with the byte that makes it count between them.
     has_gates: bool,
     /// How many texts and lists of tags stand in the log.
     texts: usize,
@@ -31,11 +36,7 @@ impl Log {
 
     /// Appends a post: its origin and number, the texts and lists of tags that came with it, and its rows in 64 bytes each.
     pub fn append(&mut self, origin: &[u8], number: u64, rows: &[Row], names: &Names) -> io::Result<()> {
-        let mut frame = std::mem::take(&mut self.frame);
-        frame.clear();
-        frame.extend([0; 8]);
-        put_text(&mut frame, origin);
-        frame.extend(number.to_le_bytes());
+        let mut frame = self.begin(POST, origin, number);
         put_count(&mut frame, names.texts().len() - self.texts);
         for text in &names.texts()[self.texts..] {
             put_text(&mut frame, text.as_bytes());
@@ -50,11 +51,36 @@ impl Log {
         }
         put_count(&mut frame, rows.len());
         rows.iter().for_each(|row| put_row(&mut frame, row));
+        self.finish(frame)?;
+        (self.texts, self.tags) = (names.texts().len(), names.lists().len());
+        Ok(())
+    }
+
+    /// Appends a withdrawal: its origin and number, and the number of the post.
+    pub fn append_withdrawal(&mut self, origin: &[u8], number: u64, target: u64) -> io::Result<()> {
+        let mut frame = self.begin(WITHDRAWAL, origin, number);
+        frame.extend(target.to_le_bytes());
+        self.finish(frame)
+    }
+
+    /// The frame of an entry up to its content.
+    fn begin(&mut self, kind: u8, origin: &[u8], number: u64) -> Vec<u8> {
+        let mut frame = std::mem::take(&mut self.frame);
+        frame.clear();
+        frame.extend([0; 8]);
+        put_text(&mut frame, origin);
+        frame.extend(number.to_le_bytes());
+        frame.push(kind);
+        frame
+    }
+
+    /// Writes a frame at the end.
+    fn finish(&mut self, mut frame: Vec<u8>) -> io::Result<()> {
         let length = (frame.len() - 8) as u32;
         frame[4..8].copy_from_slice(&length.to_le_bytes());
         self.write(&frame)?;
         self.end += frame.len() as u64;
-        (self.texts, self.tags, self.frame) = (names.texts().len(), names.lists().len(), frame);
+        self.frame = frame;
         Ok(())
     }
 

@@ -1,10 +1,10 @@
 //! The yardstick of the bench: the job of `focusd run` as a plain Rust program, without proofs.
 //!
 //! It reads the same script from standard input, checks the same rules of each
-//! row, tells posts apart that are sent twice or out of turn, keeps every accepted row
-//! in memory, and answers posts and reports in the same words. Rows are kept as an expert would keep them: amounts as whole nanos
-//! (10^-9 of the currency unit), times as seconds since 1970. By `--log FILE --syncs 1|2` each post is appended to a file and synced,
-//! once or twice, before it is answered.
+//! row, tells entries apart that are sent twice or out of turn, keeps every accepted row
+//! in memory, and answers posts, withdrawals and reports in the same words. Rows are kept as an expert would keep them: amounts as whole
+//! nanos (10^-9 of the currency unit), times as seconds since 1970. By `--log FILE --syncs 1|2` each post and each withdrawal is appended
+//! to a file and synced, once or twice, before it is answered.
 mod fields;
 mod log;
 mod names;
@@ -25,6 +25,11 @@ enum Command {
         origin: Vec<u8>,
         number: Option<u64>,
         lines: usize,
+    },
+    Withdraw {
+        origin: Vec<u8>,
+        number: Option<u64>,
+        target: u64,
     },
     State,
     Report {
@@ -54,6 +59,16 @@ impl Command {
                 number: entry_number(number),
                 lines: count,
             });
+        }
+        if let Some(rest) = line.strip_prefix(b"withdraw ") {
+            let mut words = rest.split(|&byte| byte == b' ');
+            let (origin, number, target) = (words.next()?, words.next()?, words.next()?);
+            let withdrawal = Command::Withdraw {
+                origin: origin.to_vec(),
+                number: entry_number(number),
+                target: entry_number(target)?,
+            };
+            return words.next().is_none().then_some(withdrawal);
         }
         if line == b"state" {
             return Some(Command::State);
@@ -92,6 +107,17 @@ fn read_lines(input: &mut impl BufRead, count: usize, text: &mut Vec<u8>) -> io:
         }
     }
     Ok(count)
+}
+
+/// The answer to an entry.
+fn answer_text<F: fmt::Display>(verdict: Result<Verdict, F>) -> String {
+    match verdict {
+        Ok(Verdict::Accepted(number)) => format!("accepted {number}"),
+        Ok(Verdict::Already(last)) => format!("already {last}"),
+        Ok(Verdict::Gap(expected)) => format!("gap {expected}"),
+        Ok(Verdict::Refused(why)) => format!("refused {why}"),
+        Err(fault) => format!("refused {fault}"),
+    }
 }
 
 /// The text of a report.
@@ -137,7 +163,7 @@ fn main() -> io::Result<()> {
     while read_lines(&mut input, 1, &mut line)? == 1 {
         match Command::read(line.strip_suffix(b"\n").unwrap_or(&line)) {
             None => writeln!(output, "bad command")?,
-            Some(Command::State) => writeln!(output, "state {} {} 0 0", warehouse.posts(), warehouse.rows())?,
+            Some(Command::State) => writeln!(output, "state {} {} 0 0", warehouse.entries(), warehouse.rows())?,
             Some(Command::Post {
                 origin,
                 number,
@@ -147,13 +173,15 @@ fn main() -> io::Result<()> {
                     writeln!(output, "bad end")?;
                     break;
                 }
-                match warehouse.post(&origin, number, &text)? {
-                    Ok(Verdict::Accepted(number)) => writeln!(output, "accepted {number}")?,
-                    Ok(Verdict::Already(last)) => writeln!(output, "already {last}")?,
-                    Ok(Verdict::Gap(expected)) => writeln!(output, "gap {expected}")?,
-                    Ok(Verdict::Refused(why)) => writeln!(output, "refused {why}")?,
-                    Err(fault) => writeln!(output, "refused {fault}")?,
-                }
+                writeln!(output, "{}", answer_text(warehouse.post(&origin, number, &text)?))?;
+            }
+            Some(Command::Withdraw {
+                origin,
+                number,
+                target,
+            }) => {
+                let verdict = warehouse.withdraw(&origin, number, target)?;
+                writeln!(output, "{}", answer_text::<&str>(Ok(verdict)))?;
             }
             Some(Command::Report {
                 key,

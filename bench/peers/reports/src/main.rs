@@ -1,12 +1,13 @@
 //! The yardstick of reports: the reports of `focusd run` as a plain Rust program, without proofs.
 //!
-//! It reads a script of commitments, added purchases, posts, policies and reports from standard input, and writes the answers of
-//! `focusd`. Rows are read by the modules of the yardstick of ingest (`../expert`). What a report needs is made once for all rows and
-//! commitments, when the first report after a change asks for it: rows clustered by hour, with those that a commitment may take first
-//! (`index`). A report is then one pass over the hours of its range (`cover`).
+//! It reads a script of commitments, added purchases, posts, withdrawals, policies and reports from standard input, and writes the
+//! answers of `focusd`. Rows are read by the modules of the yardstick of ingest (`../expert`), and the rows of a withdrawn post are taken
+//! out of the list. What a report needs is made once for all rows and commitments, when the first report after a change asks for it: rows
+//! clustered by hour, with those that a commitment may take first (`index`). A report is then one pass over the hours of its range
+//! (`cover`).
 //!
-//! It trusts the script: entries in turn, commitments, purchases and policies that break no rule, and sums that fit 64 bits. Where one
-//! doesn't, it stops with status 101.
+//! It trusts the script: entries in turn, commitments, purchases and policies that break no rule, withdrawals of posts that are there,
+//! and sums that fit 64 bits. Where one doesn't, it stops with status 101.
 #[path = "../../expert/src/fields.rs"]
 mod fields;
 #[allow(dead_code)] // the yardstick of ingest has more of it
@@ -25,9 +26,10 @@ use index::Index;
 use names::Names;
 use policy::Policy;
 use rows::Row;
-use std::collections::BTreeMap;
+use std::collections::{BTreeMap, HashMap};
 use std::fmt;
 use std::io::{self, BufRead, BufReader, BufWriter, Write};
+use std::ops::Range;
 use terms::{Commitment, Purchase};
 
 const BUFFER: usize = 1 << 18;
@@ -36,22 +38,34 @@ const BUFFER: usize = 1 << 18;
 struct Warehouse {
     entries: usize,
     rows: Vec<Row>,
+    /// Where the rows of each post are, by its origin and number.
+    posts: HashMap<(String, u64), Range<usize>>,
     names: Names,
     commitments: Vec<Commitment>,
     policy: Option<Policy>,
-    /// None where rows or commitments came since it was made.
+    /// None where rows or commitments came or went since it was made.
     index: Option<Index>,
 }
 
 impl Warehouse {
     fn new() -> Warehouse {
-        Warehouse { entries: 0, rows: Vec::new(), names: Names::new(), commitments: Vec::new(), policy: None, index: None }
+        Warehouse {
+            entries: 0,
+            rows: Vec::new(),
+            posts: HashMap::new(),
+            names: Names::new(),
+            commitments: Vec::new(),
+            policy: None,
+            index: None,
+        }
     }
 
-    fn take(&mut self, kind: &str, text: &[u8]) -> usize {
+    fn take(&mut self, kind: &str, origin: &str, number: &str, text: &[u8]) -> usize {
         match kind {
             "post" => {
+                let first = self.rows.len();
                 rows::read(text, b"USD", &mut self.names, &mut self.rows).unwrap_or_else(|fault| panic!("{fault}"));
+                self.posts.insert(post_of(origin, number), first..self.rows.len());
                 self.index = None;
             }
             "commit" => {
@@ -67,6 +81,18 @@ impl Warehouse {
             }
             _ => self.policy = Some(Policy::read(text)),
         }
+        self.entries += 1;
+        self.entries
+    }
+
+    /// Takes the rows of a post out of the list.
+    fn withdraw(&mut self, origin: &str, target: &str) -> usize {
+        let gone = self.posts.remove(&post_of(origin, target)).expect("a post of this number");
+        self.rows.drain(gone.clone());
+        for later in self.posts.values_mut().filter(|it| it.start >= gone.end) {
+            *later = later.start - gone.len()..later.end - gone.len();
+        }
+        self.index = None;
         self.entries += 1;
         self.entries
     }
@@ -101,6 +127,11 @@ impl fmt::Display for Nanos {
     }
 }
 
+/// The name of a post.
+fn post_of(origin: &str, number: &str) -> (String, u64) {
+    (origin.to_string(), number.parse().expect("a number"))
+}
+
 /// The hour of an instant, counted from 1970.
 fn hour(text: &str) -> i64 {
     fields::seconds(text.as_bytes()).expect("an instant") / 3_600
@@ -114,12 +145,13 @@ fn main() -> io::Result<()> {
     while input.read_line(&mut line)? > 0 {
         let words: Vec<&str> = line.trim_end_matches('\n').split(' ').collect();
         match words[..] {
-            [kind @ ("post" | "commit" | "add" | "policy"), _, _, lines] => {
+            ["withdraw", origin, _, target] => writeln!(output, "accepted {}", warehouse.withdraw(origin, target))?,
+            [kind @ ("post" | "commit" | "add" | "policy"), origin, number, lines] => {
                 text.clear();
                 for _ in 0..lines.parse::<usize>().expect("a number of lines") {
                     input.read_until(b'\n', &mut text)?;
                 }
-                writeln!(output, "accepted {}", warehouse.take(kind, &text))?;
+                writeln!(output, "accepted {}", warehouse.take(kind, origin, number, &text))?;
             }
             ["report", ref key @ .., from, to] => {
                 let text = warehouse.report(&key.join(" "), hour(from), hour(to));
