@@ -234,7 +234,7 @@ class Commands(unittest.TestCase):
             for _, group, *costs in shown(own, names):
                 wanted.append([start[:10], group or "(untagged)", *map(cents, costs), *filter(None, [share(costs[2], total)])])
         table = self.asked("report", "--tag", "team", *MONTH, "--by", "day", "--top", "1").splitlines()
-        self.assertEqual([line.split() for line in table[2:-2]], wanted)
+        self.assertEqual([re.split("  +", line.strip()) for line in table[2:-2]], wanted)
         totals = [sum(row[at] for row in rows) for at in (1, 2, 3)]
         self.assertEqual(table[-1].split(), ["Total", *map(cents, totals), share(totals[2], totals[2])])
 
