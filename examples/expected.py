@@ -31,6 +31,8 @@ OPTIONAL = (
 CATEGORIES = {"Usage", "Purchase", "Tax", "Credit", "Adjustment"}
 NUMBER = re.compile(r"[+-]?(?:[0-9]+\.?[0-9]*|\.[0-9]+)(?:[eE]([+-]?[0-9]+))?")
 INSTANT = re.compile(r"(\d{4}-\d\d-\d\dT\d\d:\d\d)(:\d\d(?:\.0{1,9})?)?Z", re.ASCII)
+# 9999-12-30T22:00:00Z, the last instant.
+LAST_SECOND = 253_402_207_200
 MOST_ROWS = 4_096
 MOST_KEPT = 4_194_304
 MOST_COMMITMENTS = 256
@@ -109,7 +111,10 @@ class Times:
                 time = datetime.datetime.strptime(found[1] + (found[2] or ":00")[:3], "%Y-%m-%dT%H:%M:%S")
             except ValueError as why:
                 raise Unknown(f"the time {text!r}: {why}") from why
-            self.known[text] = (time - datetime.datetime(1970, 1, 1)) // datetime.timedelta(seconds=1)
+            second = (time - datetime.datetime(1970, 1, 1)) // datetime.timedelta(seconds=1)
+            if second > LAST_SECOND:
+                raise Unknown(f"the time {text!r}, which is past the last instant")
+            self.known[text] = second
         return self.known[text]
 
     def hour(self, text):

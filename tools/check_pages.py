@@ -1,5 +1,5 @@
 #!/usr/bin/env python3
-"""Checks the pages: README.md, CONTRIBUTING.md, and the Markdown files of docs, examples and bench.
+"""Checks the pages: README.md, CONTRIBUTING.md, and the Markdown files of docs, examples, bench and tools/fuzz.
 
     tools/check_pages.py              prints each fault as PAGE:LINE: FAULT
     tools/check_pages.py --figures    prints the size of each page, its words a sentence and its longest line too
@@ -33,7 +33,7 @@ from dataclasses import dataclass, field
 from changes import GitError, files_of, output_of
 
 TOP = os.path.dirname(os.path.dirname(os.path.abspath(__file__)))
-PAGE = re.compile(r"README\.md|CONTRIBUTING\.md|(docs|examples|bench)/[^/]+\.md")
+PAGE = re.compile(r"README\.md|CONTRIBUTING\.md|(docs|examples|bench|tools/fuzz)/[^/]+\.md")
 MOST_COLUMNS = 100
 
 # Names that stand for something outside of the repository, each with the reason.

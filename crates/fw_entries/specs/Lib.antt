@@ -1,0 +1,3 @@
+pub mod RowsLeft
+pub mod EntriesLeft
+pub mod Taking

@@ -1,0 +1,140 @@
+//! The entries of a warehouse, taken from the front.
+ghost use Rattle.std.specs.Prelude.{◌≡◌, IfOk, OnErr, OnOk, drop, map, slice_get, take};
+ghost use Rattle.std.specs.Option.{option_copied};
+ghost use Rattle.fw_entry.specs.Spelling.{IsCommand, IsEntry};
+ghost use Rattle.fw_entry.specs.View.{command_view};
+ghost use Rattle.fw_snapshot.specs.HeadView.{content_view};
+ghost use Rattle.fw_snapshot.specs.Heads.{command_of, entry_of, head_of, row_count};
+ghost use Rattle.fw_entries.specs.Taking.{IsNext};
+ghost use Rattle.fw_entries.specs.RowsLeft.{rows_left};
+
+use crate::rows_left::RowsLeft;
+use fw_entry::{Command, Entry};
+use fw_persistent::Sequence;
+use fw_snapshot::{Content, Head, State};
+use std::alloc::{AllocError, Global};
+use std::marker::Model;
+
+/// The entries of a warehouse that aren't taken yet, in order. A contract sees their list. An entry is made once it is taken: none is
+/// held here.
+#[derive(Drop)]
+pub struct EntriesLeft<'a> {
+    heads: &'a Sequence<Head>,
+    /// How many entries were taken or passed over.
+    taken: usize,
+    /// The rows of the others.
+    rows: RowsLeft<'a>,
+}
+
+impl<'a> Model for EntriesLeft<'a> {
+    ghost use Rattle.std.specs.Prelude.{List};
+    ghost use Rattle.fw_entry.specs.Entry.{EntryValue};
+
+    ghost Value = { List EntryValue };
+
+    ghost use Rattle.fw_entries.specs.EntriesLeft.{entries_left, KeepsEntries};
+
+    ghost view = { entries_left };
+
+    ghost invariant = { KeepsEntries };
+}
+
+impl<'a> EntriesLeft<'a> {
+    /// All entries of a warehouse. It takes no memory.
+    pub fn of(state: &'a State) -> EntriesLeft<'a>
+        ensures { result ≡ state.now.entries }
+    {
+        // Proves that each entry keeps its limits.
+        let _count = state.entries();
+        EntriesLeft {
+            heads: state.heads(),
+            taken: 0,
+            rows: RowsLeft::of(state.segments()),
+        }
+    }
+
+    /// The head of the next entry; `None` where there is none. It takes no memory.
+    pub fn head(&self) -> Option<&'a Head>
+        ensures { option_copied result ≡ slice_get (map head_of self.now) 0 }
+    {
+        if self.taken >= self.heads.len() {
+            return None;
+        }
+        Some(self.heads.get(self.taken))
+    }
+
+    /// Takes the next entry, with its rows where it is a post; `None` where there is none. What is left is the rest of the list.
+    /// The error comes where memory ran out. Nothing is taken then.
+    pub fn next(&mut self, alloc: Global) -> Result<Option<Entry>, AllocError>
+        ensures taken { IfOk result (λ next. IsNext next self.old self.new) }
+        ensures refused { OnErr result (self.new ≡ self.old) }
+    {
+        if self.taken >= self.heads.len() {
+            return Ok(None);
+        }
+        let mut rows = self.rows;
+        let entry = entry_of(alloc, self.heads.get(self.taken), &mut rows)?;
+        self.rows = rows;
+        self.taken += 1;
+        Ok(Some(entry))
+    }
+
+    /// Passes over the next entry, if there is one. None of its rows is made, and it takes no memory.
+    pub fn skip(&mut self)
+        ensures { self.new ≡ drop 1 self.old }
+    {
+        if self.taken >= self.heads.len() {
+            return;
+        }
+        let head = self.heads.get(self.taken);
+        self.rows.skip_front(row_count(head.content()));
+        self.taken += 1;
+    }
+}
+
+// How many rows there are: none where it is no post.
+fn row_count(content: &Content) -> usize
+    ensures { result ≡ row_count (content_view content.now) }
+{
+    match content {
+        Content::Post { rows } => *rows as usize,
+        Content::Commit(_)
+        | Content::SetPolicy(_)
+        | Content::Withdraw(_)
+        | Content::AddPurchase(_) => 0,
+    }
+}
+
+// The entry of a head, whose rows are the next ones.
+fn entry_of(alloc: Global, head: &Head, rows: &mut RowsLeft<'_>) -> Result<Entry, AllocError>
+    requires { IsEntry (entry_of head.now (take (row_count head.now.content) (rows_left rows.old))) }
+    ensures entry { IfOk result (λ entry. entry ≡ entry_of head.now (take (row_count head.now.content) (rows_left rows.old))) }
+    ensures rest { OnOk result (rows_left rows.new ≡ drop (row_count head.now.content) (rows_left rows.old)) }
+{
+    let command = command_of(alloc, head.content(), rows)?;
+    let origin = String::from_str(alloc, head.origin())?;
+    Ok(Entry::of_fields(origin, head.seq(), command))
+}
+
+// The command of what a head keeps of it, whose rows are the next ones.
+fn command_of(
+    alloc: Global,
+    content: &Content,
+    rows: &mut RowsLeft<'_>,
+) -> Result<Command, AllocError>
+    requires { let brought = content_view content.now in IsCommand (command_of brought (take (row_count brought) (rows_left rows.old))) }
+    ensures command { let brought = content_view content.now in IfOk result (λ command. command_view command ≡ command_of brought (take (row_count brought) (rows_left rows.old))) }
+    ensures rest { OnOk result (rows_left rows.new ≡ drop (row_count (content_view content.now)) (rows_left rows.old)) }
+{
+    match content {
+        Content::Post { rows: count } => {
+            let front = rows.take_front(alloc, *count as usize)?;
+            let columns = front.finish()?;
+            Ok(Command::Post(columns))
+        }
+        Content::Commit(commitment) => Ok(Command::Commit(commitment.copy()?)),
+        Content::SetPolicy(policy) => Ok(Command::SetPolicy(policy.copy(alloc)?)),
+        Content::Withdraw(target) => Ok(Command::Withdraw(*target)),
+        Content::AddPurchase(added) => Ok(Command::AddPurchase(added.copy(alloc)?)),
+    }
+}

@@ -1,0 +1,10 @@
+//! The entries of a warehouse as they were accepted, made again one by one from its state.
+//!
+//! A state keeps the heads of the entries in one sequence, and the rows of all posts in another one. [`EntriesLeft`] goes along both
+//! from the front: it holds one entry at a time, and an entry that is passed over is never made.
+#![tactic(auto)]
+
+mod entries_left;
+mod rows_left;
+
+pub use entries_left::EntriesLeft;
