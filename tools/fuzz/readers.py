@@ -325,7 +325,7 @@ class Csv(ScriptReader):
         lay((None, None))
         size = sum(map(len, inputs))
         ended = session.run(["import", "--dir", HOUSE, "--create", "--origin", "import", *taken], size=size)
-        wanted = f"imported {rows} rows, 0 were there already; {len(taken)} {'post' if len(taken) == 1 else 'posts'}\n".encode()
+        wanted = f"imported {rows} {'row' if rows == 1 else 'rows'}, 0 were there already; {len(taken)} {'post' if len(taken) == 1 else 'posts'}\n".encode()
         alarm = session.take_alarm()
         if alarm or ended.status != 0 or ended.out != wanted:
             return [(None, alarm or f"import of right files: status {ended.status}, {clipped(ended.out)!r} {clipped(ended.error)!r}, not {wanted!r}")]
@@ -631,7 +631,7 @@ class Folders(Reader):
             house = folder_oracle.opened(*files)
             wanted, label = None, "sound"
         except folder_oracle.NoHouse:
-            wanted, label = b"focusd: S1 NoHouse\n", ""
+            wanted, label = b"focusd: S1 NoHouse\nhouse holds no warehouse; make one with --create\n", ""
         except folder_oracle.Corrupt as corrupt:
             side, at = corrupt.args
             wanted, label = b"focusd: S2 Corrupt\n%s/%s: damaged at byte %d\n" % (HOUSE.encode(), side.encode(), at), f"S2 in {side}"
@@ -723,11 +723,21 @@ class CommandLines(Reader):
             fault = "it should say that the command line is wrong"
         elif meaning == command_oracle.WRONG and files_of() != before:
             fault = "a wrong command line changes a file"
-        elif meaning == command_oracle.RUNS and (ended.status == 1) != bool(re.match(rb"[^\n]", ended.error)) and ended.status != 0:
+        elif meaning == command_oracle.RUNS and not self.is_right_end(words, ended):
             fault = "it should end with status 0, or with status 1 and a line on standard error"
         if fault:
             fault = f"{fault}: status {ended.status}, {clipped(ended.out)!r}, {clipped(ended.error)!r}"
         return [(0, fault)] if fault else []
+
+    @staticmethod
+    def is_right_end(words, ended):
+        """Whether a run that is no help and not wrong ends as it should: with status 0, or with status 1 and a line on standard error. A check that finds
+        faults says so on standard output, and a code that isn't known is a wrong word."""
+        if words[0] == b"check" and ended.status == 1:
+            return bool(ended.out or ended.error)
+        if words[0] == b"explain" and ended.status == 2:
+            return bool(re.match(rb"focusd: [^\n]+ is no code", ended.error))
+        return ended.status == 0 or ended.status == 1 and bool(re.match(rb"[^\n]", ended.error))
 
     def smaller(self, words, fails, most):
         import shrink
