@@ -229,7 +229,7 @@ class Runs:
 
     def measure(self, kind, name, size, words, given, count):
         ended = running.measured([self.options.program, *words], given, self.folder, self.options.limit)
-        key = kind, name, words[0], words[1] if kind == "toml" and words[0] == "run" else ""
+        key = kind, name, words[0]
         bound = running.memory_bound(count)
         too_much = ended.memory > bound
         growth, too_long = "", False

@@ -13,7 +13,7 @@ use crate::cells::Cells;
 use crate::column::Column;
 use crate::fault::{RecordFault, Refusal, RowFault};
 use crate::header::Places;
-use crate::records::{advance, open};
+use crate::records::{advance, open, record_for};
 use crate::sink::{RowSink, Rows};
 use csv::ByteRecord;
 use fw_charge::{Currency, MOST_POST_ROWS, Row};
@@ -51,7 +51,7 @@ pub fn read_into<S: RowSink>(
     ensures ready { OnOk result (S.is_ready sink.new) }
 {
     let mut reader = open(alloc, text);
-    let mut fields = ByteRecord::new(alloc);
+    let mut fields = record_for(alloc, text);
     if !advance(&mut reader, &mut fields)? {
         return Err(RowFault::MissingColumn(Column::BilledCost));
     }

@@ -19,6 +19,22 @@ pub(crate) fn open<'a>(alloc: Global, text: &'a [u8]) -> Reader<&'a [u8]>
         .from_reader(alloc, text)
 }
 
+/// The longest text, in bytes, whose records grow as they are read. A longer one has room for as many fields as it has commas, since growing holds
+/// three times that for a moment.
+const LONGEST_GROWING: usize = 1 << 23;
+
+/// A record that a text's records are read into.
+pub(crate) fn record_for(alloc: Global, text: &[u8]) -> ByteRecord {
+    if text.len() <= LONGEST_GROWING {
+        return ByteRecord::new(alloc);
+    }
+    let commas = text.iter().filter(|byte| **byte == b',').count();
+    match ByteRecord::with_capacity(alloc, 0, commas.saturating_add(1)) {
+        Ok(fields) => fields,
+        Err(AllocError) => ByteRecord::new(alloc),
+    }
+}
+
 /// Reads the next record into `fields`, and says whether there is one. A text in memory is always read, so
 /// it fails only where memory runs out.
 pub(crate) fn advance<'a>(
