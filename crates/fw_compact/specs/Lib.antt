@@ -1,0 +1,3 @@
+pub mod Compacted
+pub mod ByHead
+pub mod Cursor
