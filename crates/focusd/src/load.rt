@@ -1,12 +1,13 @@
 //! `focusd load`: files are loaded side by side.
 use clap::ArgMatches;
-use fw_command_line::{ANALYSTS, CREATE, DIR, FILES, ORIGIN};
-use fw_console::{Fault, advised, read_currency, wrong_use};
+use fw_command_line::{ANALYSTS, CREATE, CURRENCY, DIR, FILES, ORIGIN};
+use fw_console::{Fault, WRONG_USE, advised, print_answer, read_currency};
 use fw_disk::{FileVolume, NullVolume, Volume};
-use fw_load::{Job, Progress, load};
+use fw_load::{Job, LoadFault, Progress, load};
 use fw_recover::{Store, StoreFault};
 use fw_rows::Currency;
 use fw_serve::{ServeFault, read_within};
+use fw_table::shown_text;
 use std::fs;
 use std::io::{self, IsTerminal};
 use std::process::ExitCode;
@@ -23,10 +24,13 @@ pub(crate) fn load_files<R: Threads + Wait + Sync>(
     options: &ArgMatches<'_>,
 ) -> Result<ExitCode, Fault> {
     let Some(currency) = read_currency(options) else {
-        return Ok(wrong_use(rt, "currency"));
+        return Ok(wrong_currency(rt, options));
+    };
+    let Some(texts) = texts_of(rt, options.get_strs(FILES).unwrap_or(&[]))? else {
+        return Ok(ExitCode::FAILURE);
     };
     let job = Job {
-        texts: texts_of(rt, options)?,
+        texts,
         origin: options.get_str(ORIGIN).unwrap_or("f"),
         analysts: options.get_one(ANALYSTS).unwrap_or(1),
     };
@@ -42,22 +46,65 @@ pub(crate) fn load_files<R: Threads + Wait + Sync>(
     }
 }
 
-// The texts of the files, in order.
-fn texts_of(rt: &HostRuntime, options: &ArgMatches<'_>) -> Result<Vec<Vec<u8>>, Fault> {
-    let mut texts = Vec::new(rt.alloc());
-    for file in options.get_strs(FILES).unwrap_or(&[]) {
-        texts.push(text_of(rt, file)?)?;
-    }
-    Ok(texts)
+// Says that the value of `--currency` is none.
+fn wrong_currency(rt: &HostRuntime, options: &ArgMatches<'_>) -> ExitCode {
+    let text = options.get_str(CURRENCY).unwrap_or("");
+    let _ = eprintln!(rt; "focusd: --currency: {text:?} is not three capital letters, as USD");
+    ExitCode::from(WRONG_USE)
 }
 
-// The text of a file. One that can't be read is `F1 Read`, also where it isn't there.
-fn text_of(rt: &HostRuntime, file: &str) -> Result<Vec<u8>, Fault> {
-    match fs::open(rt, file) {
-        Ok(mut opened) => Ok(read_within(rt.alloc(), &mut opened, MOST_BYTES)?),
-        Err(error) if error.kind() == io::ErrorKind::OutOfMemory => Err(Fault::NoMemory),
-        Err(_) => Err(Fault::Serve(ServeFault::Read)),
+// The texts of the files, in order; none where one can't be read or is too long, which was said.
+fn texts_of(rt: &HostRuntime, files: &[&str]) -> Result<Option<Vec<Vec<u8>>>, Fault> {
+    let mut texts = Vec::new(rt.alloc());
+    for file in files {
+        match text_of(rt, file)? {
+            Some(text) => texts.push(text)?,
+            None => return Ok(None),
+        }
     }
+    Ok(Some(texts))
+}
+
+// The text of a file; none where it can't be read or is too long, which was said.
+fn text_of(rt: &HostRuntime, file: &str) -> Result<Option<Vec<u8>>, Fault> {
+    match fs::open(rt, file) {
+        Ok(mut opened) => match read_within(rt.alloc(), &mut opened, MOST_BYTES) {
+            Ok(text) => Ok(Some(text)),
+            Err(ServeFault::NoMemory) => Err(Fault::NoMemory),
+            Err(fault) => {
+                say_why(rt, file, fault, reason_of(rt, file, fault))?;
+                Ok(None)
+            }
+        },
+        Err(error) if error.kind() == io::ErrorKind::OutOfMemory => Err(Fault::NoMemory),
+        Err(error) => {
+            let why = format!(in rt.alloc(); "{error}")?;
+            say_why(rt, file, ServeFault::Read, why.as_str())?;
+            Ok(None)
+        }
+    }
+}
+
+// Why a file that was opened was not taken.
+fn reason_of(rt: &HostRuntime, file: &str, fault: ServeFault) -> &'static str {
+    match fs::metadata(rt, file) {
+        Ok(found) if found.is_dir() => "it is a folder, and not a file",
+        _ => match fault {
+            ServeFault::TooLong => {
+                "it has more than 2^30 bytes; focusd import takes files of any length"
+            }
+            _ => "a read failed",
+        },
+    }
+}
+
+// Says why a file was not taken: the line of the fault, and one with the file.
+fn say_why(rt: &HostRuntime, file: &str, fault: ServeFault, why: &str) -> Result<(), Fault> {
+    let name = shown_text(rt.alloc(), file)?;
+    let name = name.as_str();
+    let _ = eprintln!(rt; "focusd: {fault}");
+    let _ = eprintln!(rt; "{name}: {why}");
+    Ok(())
 }
 
 // Loads the files into the warehouse of a folder.
@@ -89,23 +136,28 @@ fn load_into<R: Threads + Wait + Sync, V: Volume + Drop + Send>(
     match opened {
         Ok(store) => {
             let mut progress = FileProgress::new(rt, job.texts.len());
-            let (_, fault) = load(
-                threads,
-                rt.alloc(),
-                store,
-                job,
-                &mut rt.stdout(),
-                &mut progress,
-            );
-            match fault {
-                None => Ok(ExitCode::SUCCESS),
-                Some(fault) => {
-                    let _ = eprintln!(rt; "focusd: {fault}");
-                    Ok(ExitCode::FAILURE)
-                }
-            }
+            let mut lines = Vec::new(rt.alloc());
+            let (_, fault) = load(threads, rt.alloc(), store, job, &mut lines, &mut progress);
+            print_loaded(rt, lines.as_slice(), fault)
         }
         Err((_, fault)) => Err(Fault::Store(fault)),
+    }
+}
+
+// Prints the lines of a load, and the fault that ended it, if one did. The lines are in memory, so where they couldn't be written it ran out.
+fn print_loaded(
+    rt: &HostRuntime,
+    lines: &[u8],
+    fault: Option<LoadFault>,
+) -> Result<ExitCode, Fault> {
+    let printed = print_answer(rt, lines);
+    match fault {
+        None => printed,
+        Some(LoadFault::NoMemory) | Some(LoadFault::Write) => Err(Fault::NoMemory),
+        Some(fault) => {
+            let _ = eprintln!(rt; "focusd: {fault}");
+            Ok(ExitCode::FAILURE)
+        }
     }
 }
 

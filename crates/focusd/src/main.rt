@@ -1,9 +1,9 @@
 //! `focusd` keeps a warehouse of cloud charges, and answers what they cost.
 //!
 //! What it computes stands in libraries: `fw_serve::serve` runs scripts over any reader, writer and volume, and `fw_views` writes what the
-//! commands for people print. `fw_command_line` is the command line, and `fw_commands`, `fw_export_commands` and `fw_add_commands` are what the commands do
-//! over folders and the standard streams. This crate reads the words of the command line and runs the command that they name. `load`, which needs threads that
-//! wait, is here too.
+//! commands for people print. `fw_command_line` is the command line, and `fw_commands`, `fw_export_commands`, `fw_add_commands` and
+//! `fw_correct_commands` are what the commands do over folders and the standard streams. This crate reads the words of the command line and
+//! runs the command that they name. `load`, which needs threads that wait, is here too.
 #![tactic(auto)]
 
 mod load;
@@ -16,11 +16,14 @@ use fw_commands::{
     make_checkpoint, print_coverage, print_dump, print_explanation, print_lines, print_report,
     print_status, serve_script, verify_folder,
 };
-use fw_console::{Fault, failed, wrong_use};
+use fw_console::{Fault, WRONG_USE, failed, wrong_use};
+use fw_correct_commands::{compact_folder, replace_rows, withdraw_posts};
 use fw_export_commands::{check_files, import_files};
 use fw_serve::ServeFault;
+use fw_table::shown_text;
 use load::load_files;
-use std::alloc::Global;
+use std::alloc::{AllocError, Global};
+use std::env::{Env, FillError};
 use std::process::ExitCode;
 use std::sync::Wait;
 use std::thread::Threads;
@@ -52,12 +55,37 @@ fn start<R: Threads + Wait + Sync>(rt: &HostRuntime, threads: &R) -> Result<Exit
         Err(error) if error.kind() == io::ErrorKind::OutOfMemory => {
             return Err(Fault::NoMemory);
         }
-        Err(_) => return Ok(wrong_use(rt, "an argument is not UTF-8")),
+        Err(_) => return not_utf8(rt),
     };
     match command_line(alloc)?.try_get_matches_from(words.as_slice()) {
         Ok(matches) => run_command(rt, threads, &matches),
         Err(error) => refused(rt, &error),
     }
+}
+
+/// The most bytes of an argument that is looked at: the system takes no longer one.
+const LONGEST_ARGUMENT: usize = 128 << 10;
+
+// Says which argument is not UTF-8. A file with such a name can't be named at all.
+fn not_utf8(rt: &HostRuntime) -> Result<ExitCode, Fault> {
+    let mut buffer = vec![in rt.alloc(); 0u8; LONGEST_ARGUMENT]?;
+    let place = place_not_utf8(rt, buffer.as_mut_slice());
+    let _ = eprintln!(rt;
+        "focusd: argument {place} is not UTF-8: a file or a folder whose name is not UTF-8 can't be named; rename it"
+    );
+    Ok(ExitCode::from(WRONG_USE))
+}
+
+// The place of the first argument that is not UTF-8, counted from 1; 0 is the name of the program.
+fn place_not_utf8<R: Env>(rt: &R, buffer: &mut [u8]) -> usize {
+    for place in 0..usize::MAX {
+        match rt.arg(place, buffer) {
+            Ok(len) if str::from_utf8(buffer.split_at(len).0).is_ok() => {}
+            Err(FillError::TooLong) => {}
+            _ => return place,
+        }
+    }
+    0
 }
 
 // Runs the command that the words name.
@@ -71,6 +99,8 @@ fn run_command<R: Threads + Wait + Sync>(
         Some(("import", options)) => import_files(rt, options),
         Some(("load", options)) => load_files(rt, threads, options),
         Some(("add", options)) => add_files(rt, options),
+        Some(("replace", options)) => replace_rows(rt, options),
+        Some(("withdraw", options)) => withdraw_posts(rt, options),
         Some(("check", options)) => check_files(rt, options),
         Some(("report", options)) => print_report(rt, options),
         Some(("lines", options)) => print_lines(rt, options),
@@ -78,6 +108,7 @@ fn run_command<R: Threads + Wait + Sync>(
         Some(("status", options)) => Ok(print_status(rt, options)),
         Some(("verify", options)) => Ok(verify_folder(rt, options)),
         Some(("checkpoint", options)) => Ok(make_checkpoint(rt, options)),
+        Some(("compact", options)) => Ok(compact_folder(rt, options)),
         Some(("dump", options)) => Ok(print_dump(rt, options)),
         Some(("explain", options)) => print_explanation(rt, options),
         _ => Ok(wrong_use(rt, "no command")),
@@ -89,11 +120,26 @@ fn refused(rt: &HostRuntime, error: &clap::Error) -> Result<ExitCode, Fault> {
     if error.kind() == ErrorKind::OutOfMemory {
         return Err(Fault::NoMemory);
     }
-    let status = error.exit_code() as u8;
-    let printed = error.print(rt);
-    // A help that was asked for has to come out; a wrong command line has its status also where nothing can be printed.
-    if printed.is_err() && status == 0 {
-        return Err(Fault::Serve(ServeFault::Write));
+    if error.use_stderr() {
+        print_refusal(rt, error)?;
+        return Ok(ExitCode::from(WRONG_USE));
     }
-    Ok(ExitCode::from(status))
+    // A help that was asked for has to come out, unless its reader has had enough, as `head`.
+    match error.print(rt) {
+        Err(failure) if failure.kind() != io::ErrorKind::BrokenPipe => {
+            Err(Fault::Serve(ServeFault::Write))
+        }
+        _ => Ok(ExitCode::SUCCESS),
+    }
+}
+
+// Prints what is wrong with the command line. It has words of the command line, which may be names of files, so it is shown as texts of others are.
+fn print_refusal(rt: &HostRuntime, error: &clap::Error) -> Result<(), AllocError> {
+    let text = format!(in rt.alloc(); "{error}")?;
+    for line in text.as_str().lines() {
+        let line = shown_text(rt.alloc(), line)?;
+        let line = line.as_str();
+        let _ = eprintln!(rt; "{line}");
+    }
+    Ok(())
 }

@@ -1,23 +1,19 @@
 //! The command: all files are checked, and then each is added.
-ghost use Rattle.std.specs.Prelude.{◌≡◌};
-ghost use Rattle.std.specs.Process.{exit_status};
-ghost use Rattle.fw_console.specs.Statuses.{wrong_use_status};
-
 use crate::check::{Job, Trial, check_all, print_same};
 use crate::faults::say_refusal;
-use crate::files::open_warehouse;
 use crate::matched::warn_unmatched;
 use crate::printing::print_line;
 use crate::texts::{name_text, replaced_text};
 use clap::ArgMatches;
 use fw_adding::{AddFault, Outcome, add_document};
 use fw_command_line::{DIR, DRY_RUN, FILES, ORIGIN, YES};
-use fw_console::{Fault, WRONG_USE, advised};
+use fw_console::{Fault, advised, open_warehouse, wrong_origin};
 use fw_disk::Volume;
 use fw_documents::Document;
 use fw_entry::is_origin;
 use fw_recover::Store;
 use fw_snapshot::State;
+use fw_table::shown_text;
 use std::process::ExitCode;
 
 /// Adds the files that the options name.
@@ -34,16 +30,6 @@ pub fn add_files(rt: &HostRuntime, options: &ArgMatches<'_>) -> Result<ExitCode,
     let folder = options.get_str(DIR).unwrap_or("");
     let done = add_into(rt, folder, &job, options.get_strs(FILES).unwrap_or(&[]));
     Ok(advised(rt, folder, done))
-}
-
-// Says that the name of the origin is none.
-fn wrong_origin(rt: &HostRuntime, origin: &str) -> ExitCode
-    ensures { exit_status result ≡ wrong_use_status }
-{
-    let _ = eprintln!(rt;
-        "focusd: --origin: {origin:?} is not 1 to 64 ASCII letters, digits, `-`, `_` and `.`, e.g. billing"
-    );
-    ExitCode::from(WRONG_USE)
 }
 
 // Adds files to the warehouse of a folder.
@@ -89,7 +75,8 @@ fn add_all<V: Volume>(
     documents: &[Document],
 ) -> Result<ExitCode, Fault> {
     for (file, document) in files.iter().zip(documents) {
-        if !add_one(rt, store, job, file, document)? {
+        let name = shown_text(rt.alloc(), file)?;
+        if !add_one(rt, store, job, name.as_str(), document)? {
             return Ok(ExitCode::FAILURE);
         }
     }

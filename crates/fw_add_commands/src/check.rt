@@ -11,6 +11,7 @@ use fw_documents::{Document, read_document};
 use fw_entry::CommandKind;
 use fw_entry_bytes::Form;
 use fw_snapshot::State;
+use fw_table::shown_text;
 use std::alloc::{AllocError, Global};
 
 /// What the options ask for.
@@ -73,15 +74,16 @@ pub(crate) fn check_all(
     Ok(are_sound)
 }
 
-// Checks a file; false where it has a fault, which was said.
+// Checks a file; false where it has a fault, which was said. Messages have its name as a terminal may show it.
 fn check_file(
     rt: &HostRuntime,
     job: &Job<'_>,
     trial: &mut Trial,
     file: &str,
 ) -> Result<bool, Fault> {
+    let name = shown_text(rt.alloc(), file)?;
     match text_of(rt, file)? {
-        Some(text) => check_text(rt, job, trial, file, text.as_slice()),
+        Some(text) => check_text(rt, job, trial, name.as_str(), text.as_slice()),
         None => Ok(false),
     }
 }

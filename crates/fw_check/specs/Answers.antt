@@ -1,5 +1,5 @@
 -- What is said of a text that was checked.
-use Rattle.std.specs.Prelude.{◌≡◌, ℕ, List, [], ◌∷◌, ◌++◌, length, codes}
+use Rattle.std.specs.Prelude.{◌≡◌, ◌==◌, ℕ, List, [], ◌∷◌, ◌++◌, length, codes, if◌then◌else◌}
 use Rattle.std.specs.Fmt.{decimal}
 use Rattle.fw_money.specs.Writing.{text_of}
 use Rattle.fw_check.specs.declared.checker.Checker.{Checker}
@@ -8,10 +8,19 @@ use Rattle.fw_check.specs.declared.statistics.Statistics.{Statistics}
 abbrev pub line_end : List ℕ
 line_end = 10 ∷ []
 
+-- what a word ends with where it stands behind a count
+unfoldable pub plural : ℕ → List ℕ
+plural count = if count == 1 then [] else codes "s"
+
+-- a count and what is counted, as `5 records`
+abbrev pub counted_text : ℕ → List ℕ → List ℕ
+counted_text count word = decimal count ++ (codes " " ++ (word ++ plural count))
+
 -- `FILE: 5 records, 3 of them with faults; 5 faults`
 abbrev pub summary_text : List ℕ → Checker → List ℕ
 summary_text name c =
-    name ++ (codes ": " ++ (decimal c.records ++ (codes " records, " ++ (decimal c.bad_records ++ (codes " of them with faults; " ++ (decimal c.faults ++ (codes " faults" ++ line_end)))))))
+    name ++ (codes ": " ++ (counted_text c.records (codes "record") ++ (codes ", " ++ (decimal c.bad_records ++ (codes " of them with faults; "
+    ++ (counted_text c.faults (codes "fault") ++ line_end))))))
 
 -- how many rows there are, in how many hours, and their costs
 abbrev pub sums_text : Statistics → List ℕ

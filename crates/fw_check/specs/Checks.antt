@@ -4,13 +4,14 @@ use Rattle.std.specs.Str.{bytes_eq}
 use Rattle.fw_charge.specs.Charge.{Charge}
 use Rattle.fw_check.specs.Counts.{kept, counted}
 use Rattle.fw_check.specs.Faults.{FindingValue, finding_value, PlaceValue, noted}
-use Rattle.fw_check.specs.Lines.{line_feeds_in}
+use Rattle.fw_check.specs.Lines.{line_ends_in}
 use Rattle.fw_check.specs.Seen.{Seen, seen_in, nothing_seen, with_rows}
 use Rattle.fw_check.specs.declared.checker.Checker.{Checker}
 use Rattle.fw_cut.specs.declared.cutter.Part.{Part}
 
 pub record CheckValue : Type 0 where
   pub currency : List ℕ
+  pub line_end : ℕ
   pub records : ℕ
   pub lines : ℕ
   pub bad_records : ℕ
@@ -21,6 +22,7 @@ pub record CheckValue : Type 0 where
 abbrev pub checked : Checker → CheckValue
 checked c = record {
   currency = c.currency;
+  line_end = c.line_end;
   records = c.records;
   lines = c.lines;
   bad_records = c.bad_records;
@@ -31,11 +33,15 @@ checked c = record {
 
 -- a checker that has seen nothing
 abbrev pub nothing_checked : List ℕ → CheckValue
-nothing_checked currency = record { currency = currency; records = 0; lines = 0; bad_records = 0; faults = 0; findings = []; seen = nothing_seen }
+nothing_checked currency = record { currency = currency; line_end = 10; records = 0; lines = 0; bad_records = 0; faults = 0; findings = []; seen = nothing_seen }
 
 -- with the lines of a text
 abbrev pub with_lines : List ℕ → CheckValue → CheckValue
-with_lines text c = record c { lines = kept (c.lines + line_feeds_in text) }
+with_lines text c = record c { lines = kept (c.lines + line_ends_in c.line_end text) }
+
+-- with the lines of a header, where this byte ends lines
+abbrev pub with_header : ℕ → List ℕ → CheckValue → CheckValue
+with_header end text c = with_lines text (record c { line_end = end })
 
 -- with one more fault, of this code and column
 abbrev pub with_fault : List ℕ → List ℕ → List ℕ → PlaceValue → CheckValue → CheckValue

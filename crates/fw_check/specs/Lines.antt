@@ -2,9 +2,9 @@
 use Rattle.std.specs.Prelude.{◌==◌, ◌&&◌, ◌+◌, ℕ, Bool, List, not, count_by, take, drop}
 use Rattle.std.specs.List.{position_or_len}
 
--- how many line feeds there are
-abbrev pub line_feeds_in : List ℕ → ℕ
-line_feeds_in text = count_by (λ b. b == 10) text
+-- how many lines end, where this byte ends them
+abbrev pub line_ends_in : ℕ → List ℕ → ℕ
+line_ends_in end text = count_by (λ b. b == end) text
 
 -- whether a byte ends no line
 abbrev pub is_content : ℕ → Bool

@@ -1,19 +1,19 @@
 //! A text that is checked part by part.
-ghost use Rattle.std.specs.Prelude.{◌≡◌, ◌≤◌, ◌+◌, ℕ, List, OnOk, Ok, Err};
+ghost use Rattle.std.specs.Prelude.{◌≡◌, ◌≤◌, ◌+◌, ℕ, List, [], OnOk, Ok, Err};
 ghost use Rattle.fw_charge.specs.Charge.{Charge};
 ghost use Rattle.fw_rows.specs.FaultNames.{fault_name};
 ghost use Rattle.fw_rows.specs.Rows.{RowsRead};
+ghost use Rattle.fw_rows.specs.declared.column.Column.{Column as ColumnValue};
 ghost use Rattle.fw_rows.specs.declared.fault.RecordFault.{RecordFault};
-ghost use Rattle.fw_rows.specs.declared.fault.RowFault.TheVariants.{NoRows, Record};
-ghost use Rattle.fw_check.specs.Checks.{checked, nothing_checked, with_currency, with_fault, with_lines, with_read, records_in};
+ghost use Rattle.fw_rows.specs.declared.fault.RowFault.TheVariants.{DoubleColumn, MissingColumn, NoRows, Record};
+ghost use Rattle.fw_check.specs.Checks.{checked, nothing_checked, with_currency, with_fault, with_header, with_read, records_in};
 ghost use Rattle.fw_check.specs.Counts.{kept};
-ghost use Rattle.fw_check.specs.Faults.{column_text};
+ghost use Rattle.fw_check.specs.Faults.{column_text, place_value};
 
-use crate::fields::{first_record, text_in};
-use crate::findings::{
-    Finding, Place, add_fault, column_name, column_of, expected_of, shown_value, value_at,
-};
-use crate::located::{blank, line_feeds};
+use crate::columns::{is_double, is_missing};
+use crate::fields::{first_record, has_next, records_of};
+use crate::findings::{Finding, Place, add_fault, column_name, column_of, expected_of, value_of};
+use crate::located::{blank, line_ends};
 use crate::repair::repaired;
 use crate::statistics::{Statistics, count_text};
 use csv::ByteRecord;
@@ -24,10 +24,40 @@ use std::alloc::{AllocError, Global};
 /// How many faults of one record are looked for.
 const MOST_FAULTS: usize = 32;
 
+/// How many records of a part with a fault are read together. To read a text costs as much as several records do, however short it is.
+const PIECE: usize = 64;
+
+/// What kind a fault is of: its code and name, and what was expected.
+#[derive(Clone, Copy, Drop)]
+struct Kind {
+    code: &'static str,
+    expected: &'static str,
+}
+
+/// The header lacks a column that it must have.
+const MISSING: Kind = Kind {
+    code: "H1 MissingColumn",
+    expected: "a column of this name",
+};
+
+/// The header has a column more than once.
+const DOUBLE: Kind = Kind {
+    code: "H2 DoubleColumn",
+    expected: "one column of this name",
+};
+
+/// No record follows the header.
+const NO_ROWS: Kind = Kind {
+    code: "V14 NoRows",
+    expected: "a record behind the header",
+};
+
 /// A text that is checked part by part.
 #[derive(Drop)]
 pub struct Checker {
     currency: Currency,
+    // the byte that ends lines
+    line_end: u8,
     /// How many records were seen, the header not counted.
     pub records: u64,
     /// How many lines were seen.
@@ -49,6 +79,7 @@ impl Checker {
     {
         Checker {
             currency,
+            line_end: b'\n',
             records: 0,
             lines: 0,
             bad_records: 0,
@@ -58,11 +89,146 @@ impl Checker {
         }
     }
 
-    /// Counts the lines of a header, before the first part.
-    pub fn pass_header(&mut self, header: &[u8])
-        ensures { checked self.new ≡ with_lines header.now (checked self.old) }
+    /// Checks a header, before its lines are counted. Each column that it must have and doesn't have is a fault, and so is each one that it has more than
+    /// once. Behind a header with a fault no part can be checked.
+    pub fn check_header(&mut self, alloc: Global, header: &[u8]) -> Result<(), AllocError>
+        ensures missing { OnOk result ((column : ColumnValue) →
+            RowsRead self.old.currency header.now (Err (MissingColumn column)) →
+            kept (self.old.faults + 1) ≤ self.new.faults) }
+        ensures double { OnOk result ((column : ColumnValue) →
+            RowsRead self.old.currency header.now (Err (DoubleColumn column)) →
+            kept (self.old.faults + 1) ≤ self.new.faults) }
+        ensures stays { OnOk result (self.old.faults ≤ self.new.faults) }
     {
-        self.lines = self.lines.saturating_add(line_feeds(header));
+        rows_read_as_one(header, self.currency);
+        match read_rows(alloc, header, self.currency) {
+            Err(RowFault::MissingColumn(column)) => {
+                self.note_columns(alloc, header, MISSING, column)
+            }
+            Err(RowFault::DoubleColumn(column)) => self.note_columns(alloc, header, DOUBLE, column),
+            Err(RowFault::NoMemory) => Err(AllocError),
+            Ok(_)
+            | Err(RowFault::Record { .. })
+            | Err(RowFault::NoRows)
+            | Err(RowFault::TooManyRows) => Ok(()),
+        }
+    }
+
+    // Counts the faults of a header, of which this is the first one.
+    fn note_columns(
+        &mut self,
+        alloc: Global,
+        header: &[u8],
+        fault: Kind,
+        first: Column,
+    ) -> Result<(), AllocError>
+        ensures counted { OnOk result (kept (self.old.faults + 1) ≤ self.new.faults) }
+        ensures stays { OnOk result (self.old.faults ≤ self.new.faults) }
+    {
+        let header = first_record(alloc, header)?;
+        self.note_text(alloc, fault, first.name())?;
+        self.note_missing(alloc, &header, first)?;
+        self.note_double(alloc, &header, first)?;
+        Ok(())
+    }
+
+    // Counts the columns, but for the first one, that a header must have and doesn't have.
+    fn note_missing(
+        &mut self,
+        alloc: Global,
+        header: &ByteRecord,
+        first: Column,
+    ) -> Result<(), AllocError>
+        ensures { OnOk result (self.old.faults ≤ self.new.faults) }
+    {
+        for column in Column::ALL.iter() {
+            if *column != first && is_missing(header, *column) {
+                self.note_text(alloc, MISSING, column.name())?;
+            }
+        }
+        Ok(())
+    }
+
+    // Counts the columns, but for the first one, that a header has more than once.
+    fn note_double(
+        &mut self,
+        alloc: Global,
+        header: &ByteRecord,
+        first: Column,
+    ) -> Result<(), AllocError>
+        ensures { OnOk result (self.old.faults ≤ self.new.faults) }
+    {
+        for column in Column::ALL.iter() {
+            if *column != first && is_double(header, *column) {
+                self.note_text(alloc, DOUBLE, column.name())?;
+            }
+        }
+        Ok(())
+    }
+
+    /// Ends the check of a text. One that has no record has a fault, if it has no other.
+    pub fn end(&mut self, alloc: Global) -> Result<(), AllocError>
+        ensures none { OnOk result (self.old.records ≡ 0 → 1 ≤ self.new.faults) }
+        ensures same { OnOk result (1 ≤ self.old.records → checked self.new ≡ checked self.old) }
+        ensures stays { OnOk result (self.old.faults ≤ self.new.faults) }
+    {
+        if self.records == 0 && self.faults == 0 {
+            return self.note_text(alloc, NO_ROWS, "");
+        }
+        Ok(())
+    }
+
+    // Counts a fault of the whole text, of a column or of none. Its place is the header.
+    fn note_text(
+        &mut self,
+        alloc: Global,
+        fault: Kind,
+        column: &'static str,
+    ) -> Result<(), AllocError>
+        ensures counted { OnOk result (checked self.new ≡
+            with_fault fault.code.now column.now fault.expected.now
+            (record { line = 1; number = 0; value = [] }) (checked self.old)) }
+        ensures stays { OnOk result (self.old.faults ≤ self.new.faults) }
+    {
+        let place = Place {
+            line: 1,
+            record: 0,
+            value: String::new(alloc),
+        };
+        self.add(alloc, fault, column, place)
+    }
+
+    // Counts a fault, and keeps its place if it is one of the first.
+    fn add(
+        &mut self,
+        alloc: Global,
+        fault: Kind,
+        column: &'static str,
+        place: Place,
+    ) -> Result<(), AllocError>
+        ensures counted { OnOk result (checked self.new ≡
+            with_fault fault.code.now column.now fault.expected.now
+            (place_value place) (checked self.old)) }
+        ensures stays { OnOk result (self.old.faults ≤ self.new.faults) }
+    {
+        self.faults = self.faults.saturating_add(1);
+        add_fault(
+            alloc,
+            &mut self.findings,
+            fault.code,
+            column,
+            fault.expected,
+            place,
+        )?;
+        Ok(())
+    }
+
+    /// Counts the lines of a header, before the first part. This byte ends lines.
+    pub fn pass_header(&mut self, header: &[u8], line_end: u8)
+        ensures { checked self.new ≡ with_header line_end header.now (checked self.old) }
+    {
+        self.line_end = line_end;
+        self.lines = self.lines.saturating_add(line_ends(header, line_end));
     }
 
     /// Checks the records of a part. The answer is the header's fault, if it has one, or `NoMemory`.
@@ -89,7 +255,7 @@ impl Checker {
             Err(RowFault::Record { fault, .. }) => {
                 self.check_faulty(alloc, head, &header, body, fault)
             }
-            Err(RowFault::TooManyRows) => self.check_each(alloc, head, &header, body),
+            Err(RowFault::TooManyRows) => self.check_pieces(alloc, head, &header, body),
             Err(fault) => Err(fault),
         }
     }
@@ -101,14 +267,15 @@ impl Checker {
         let count = rows.len() as u64;
         self.statistics.add_all(alloc, rows)?;
         self.records = self.records.saturating_add(count);
-        self.lines = self.lines.saturating_add(line_feeds(text));
+        self.lines = self.lines.saturating_add(line_ends(text, self.line_end));
         self.count_currency(alloc, count)?;
         Ok(())
     }
 
     // Records of the currency of the checker.
     fn count_currency(&mut self, alloc: Global, count: u64) -> Result<(), AllocError>
-        ensures { OnOk result (checked self.new ≡ with_currency count (checked self.old)) }
+        ensures counts { OnOk result (checked self.new ≡ with_currency count (checked self.old)) }
+        ensures faults { self.new.faults ≡ self.old.faults }
     {
         let code = self.currency;
         let Ok(text) = str::from_utf8(code.code()) else {
@@ -118,7 +285,7 @@ impl Checker {
         Ok(())
     }
 
-    // Checks record by record a part that has this fault. It is counted also where each record for itself has none.
+    // Checks a part that has this fault. It is counted also where each record for itself has none.
     fn check_faulty(
         &mut self,
         alloc: Global,
@@ -131,11 +298,62 @@ impl Checker {
         ensures stays { OnOk result (self.old.faults ≤ self.new.faults) }
     {
         let before = self.faults;
-        self.check_each(alloc, head, header, body)?;
+        self.check_pieces(alloc, head, header, body)?;
         if self.faults == before {
             self.note(alloc, header, header, fault, None)?;
         }
         Ok(())
+    }
+
+    // Checks records some at a time.
+    fn check_pieces(
+        &mut self,
+        alloc: Global,
+        head: &[u8],
+        header: &ByteRecord,
+        body: &[u8],
+    ) -> Result<(), RowFault>
+        ensures { OnOk result (self.old.faults ≤ self.new.faults) }
+    {
+        let mut rest = body;
+        for _ in 0..body.len() {
+            if rest.is_empty() {
+                return Ok(());
+            }
+            let cut = cut_off(rest, PIECE);
+            let end = if cut.records == PIECE {
+                cut.end
+            } else {
+                rest.len()
+            };
+            let (piece, behind) = rest.split_at(end);
+            self.check_piece(alloc, head, header, piece)?;
+            rest = behind;
+        }
+        Ok(())
+    }
+
+    // Checks records: where one has a fault, each for itself.
+    fn check_piece(
+        &mut self,
+        alloc: Global,
+        head: &[u8],
+        header: &ByteRecord,
+        piece: &[u8],
+    ) -> Result<(), RowFault>
+        ensures { OnOk result (self.old.faults ≤ self.new.faults) }
+    {
+        let mut text = Vec::new(alloc);
+        text.extend_from_slice(head)?;
+        text.extend_from_slice(piece)?;
+        match read_rows(alloc, &text, self.currency) {
+            Ok(rows) => {
+                self.add_rows(alloc, rows.as_slice(), piece)?;
+                Ok(())
+            }
+            Err(RowFault::NoMemory) => Err(RowFault::NoMemory),
+            Err(_) => self.check_each(alloc, head, header, piece),
+        }
     }
 
     // Checks record by record.
@@ -148,10 +366,12 @@ impl Checker {
     ) -> Result<(), RowFault>
         ensures { OnOk result (self.old.faults ≤ self.new.faults) }
     {
+        let mut reader = records_of(alloc, body);
+        let mut fields = ByteRecord::new(alloc);
         let mut rest = body;
         for _ in 0..body.len() {
             let (empty, from) = rest.split_at(blank(rest));
-            self.lines = self.lines.saturating_add(line_feeds(empty));
+            self.lines = self.lines.saturating_add(line_ends(empty, self.line_end));
             if from.is_empty() {
                 return Ok(());
             }
@@ -163,10 +383,28 @@ impl Checker {
             };
             let (bytes, behind) = from.split_at(end);
             self.records = self.records.saturating_add(1);
-            self.check_record(alloc, head, header, bytes)?;
-            self.lines = self.lines.saturating_add(line_feeds(bytes));
+            if has_next(&mut reader, &mut fields)? && fields.len() != header.len() {
+                self.note_length(alloc, header, &fields)?;
+            } else {
+                self.check_record(alloc, head, header, bytes)?;
+            }
+            self.lines = self.lines.saturating_add(line_ends(bytes, self.line_end));
             rest = behind;
         }
+        Ok(())
+    }
+
+    // Counts the fault of a record that has too many fields or too few, which hides all others.
+    fn note_length(
+        &mut self,
+        alloc: Global,
+        header: &ByteRecord,
+        fields: &ByteRecord,
+    ) -> Result<(), AllocError>
+        ensures { OnOk result (self.old.faults ≤ self.new.faults) }
+    {
+        self.bad_records = self.bad_records.saturating_add(1);
+        self.note(alloc, header, fields, RecordFault::Fields, None)?;
         Ok(())
     }
 
@@ -180,13 +418,6 @@ impl Checker {
     ) -> Result<(), RowFault>
         ensures { OnOk result (self.old.faults ≤ self.new.faults) }
     {
-        let first = first_record(alloc, bytes)?;
-        count_text(
-            alloc,
-            &mut self.statistics.currencies,
-            text_in(header, &first, Column::BillingCurrency),
-            1,
-        )?;
         let mut text = Vec::new(alloc);
         text.extend_from_slice(bytes)?;
         self.check_turns(alloc, head, header, &mut text)
@@ -282,6 +513,7 @@ impl Checker {
     {
         if counts {
             self.statistics.add_all(alloc, rows)?;
+            self.count_currency(alloc, rows.len() as u64)?;
         }
         Ok(None)
     }
@@ -299,21 +531,17 @@ impl Checker {
         ensures counted { OnOk result ((expected value : List ℕ) × (checked self.new ≡ with_fault (fault_name fault) (column_text column) expected
             (record { line = kept (self.old.lines + 1); number = self.old.records; value = value }) (checked self.old))) }
     {
-        let value = shown_value(alloc, value_at(header, fields, column))?;
+        let value = value_of(alloc, header, fields, column)?;
         let place = Place {
             line: self.lines.saturating_add(1),
             record: self.records,
             value,
         };
-        self.faults = self.faults.saturating_add(1);
-        add_fault(
-            alloc,
-            &mut self.findings,
-            fault.name(),
-            column_name(column),
-            expected_of(fault),
-            place,
-        )?;
+        let kind = Kind {
+            code: fault.name(),
+            expected: expected_of(fault),
+        };
+        self.add(alloc, kind, column_name(column), place)?;
         Ok(())
     }
 }

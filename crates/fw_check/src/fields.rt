@@ -3,21 +3,35 @@ ghost use Rattle.std.specs.Prelude.{◌≡◌, [], option_map};
 ghost use Rattle.csv.specs.Records.{fields_of};
 ghost use Rattle.fw_rows.specs.Columns.{place_in, text_in};
 
-use csv::{ByteRecord, ReaderBuilder};
+use csv::{ByteRecord, Reader, ReaderBuilder};
 use fw_rows::Column;
 use std::alloc::{AllocError, Global};
 
-/// The first record of a text.
-pub(crate) fn first_record(alloc: Global, text: &[u8]) -> Result<ByteRecord, AllocError> {
-    let mut reader = ReaderBuilder::new()
+/// The records of a text.
+pub(crate) fn records_of<'a>(alloc: Global, text: &'a [u8]) -> Reader<&'a [u8]> {
+    ReaderBuilder::new()
         .has_headers(false)
         .flexible(true)
-        .from_reader(alloc, text);
-    let mut fields = ByteRecord::new(alloc);
-    match reader.read_byte_record(&mut fields) {
-        Ok(_) => Ok(fields),
+        .from_reader(alloc, text)
+}
+
+/// Reads the next record of a text, and says whether there is one.
+pub(crate) fn has_next<'a>(
+    reader: &mut Reader<&'a [u8]>,
+    fields: &mut ByteRecord,
+) -> Result<bool, AllocError> {
+    match reader.read_byte_record(fields) {
+        Ok(found) => Ok(found),
         Err(_) => Err(AllocError),
     }
+}
+
+/// The first record of a text.
+pub(crate) fn first_record(alloc: Global, text: &[u8]) -> Result<ByteRecord, AllocError> {
+    let mut reader = records_of(alloc, text);
+    let mut fields = ByteRecord::new(alloc);
+    has_next(&mut reader, &mut fields)?;
+    Ok(fields)
 }
 
 /// The bytes of a record in a column: none where the header doesn't have the column, or the record no such field.

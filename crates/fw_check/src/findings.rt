@@ -17,9 +17,10 @@ use std::alloc::{AllocError, Global};
 pub struct Place {
     /// The line of the text in which the record begins, counted from 1.
     pub line: u64,
-    /// The record, counted from 1; the header isn't counted.
+    /// The record, counted from 1; the header isn't counted, and a fault of the header or of the whole text is at 0.
     pub record: u64,
-    /// The first 60 characters of the value.
+    /// The value; of one that is longer than 60 characters the first 60, and `...` behind them. Where the record has too many fields or too few,
+    /// how many it has, and how many the header has.
     pub value: String,
 }
 
@@ -98,6 +99,9 @@ pub(crate) fn add_fault(
 /// The longest part of a value that is shown, in characters.
 const SHOWN: usize = 60;
 
+/// What stands behind a value that was cut.
+const CUT: &str = "...";
+
 /// The columns of texts of at most 256 bytes.
 const SHORT: [Column; 4] = [
     Column::CommitmentDiscountId,
@@ -117,7 +121,9 @@ pub(crate) fn expected_of(fault: RecordFault) -> &'static str {
             "a number: digits with at most one point, as 1000.00, at most 100,000,000"
         }
         RecordFault::Currency => "the currency of the warehouse",
-        RecordFault::Time => "a time on a whole second from 1970 on, as 2024-01-01T00:00:00Z",
+        RecordFault::Time => {
+            "a time on a whole second from 1970 to 9999-12-30T22:00:00Z, as 2024-01-01T00:00:00Z"
+        }
         RecordFault::PeriodOrder => "a time that is not before ChargePeriodStart",
         RecordFault::Commitment => "Usage or Spend, exactly where CommitmentDiscountId is set",
         RecordFault::Status => {
@@ -141,16 +147,26 @@ pub(crate) fn column_name(column: Option<Column>) -> &'static str
     }
 }
 
-/// The value of a record that has a fault in a column; none where the fault is of the whole record.
-pub(crate) fn value_at<'r>(
+/// What is shown of a record that has a fault, which is in this column; where the fault is of the whole record, how many fields it has.
+pub(crate) fn value_of(
+    alloc: Global,
     header: &ByteRecord,
-    record: &'r ByteRecord,
+    record: &ByteRecord,
     column: Option<Column>,
-) -> &'r [u8] {
+) -> Result<String, AllocError> {
     match column {
-        Some(column) => bytes_in(header, record, column),
-        None => b"",
+        Some(column) => shown_value(alloc, bytes_in(header, record, column)),
+        None => fields_text(alloc, record.len(), header.len()),
     }
+}
+
+// How many fields a record has, and how many its header; nothing where these are as many.
+fn fields_text(alloc: Global, found: usize, wanted: usize) -> Result<String, AllocError> {
+    if found == wanted {
+        return Ok(String::new(alloc));
+    }
+    let fields = if found == 1 { "field" } else { "fields" };
+    format!(in alloc; "{found} {fields}; the header has {wanted}")
 }
 
 /// The column in which a record has a fault; none where the fault is of the whole record.
@@ -220,24 +236,35 @@ fn too_long(header: &ByteRecord, record: &ByteRecord) -> Column {
     Column::Tags
 }
 
-/// The first 60 characters of a value. A byte that isn't printable ASCII, in a value that isn't UTF-8, is shown as `?`.
-pub(crate) fn shown_value(alloc: Global, value: &[u8]) -> Result<String, AllocError> {
+// A value, or its first 60 characters and a mark. A byte that isn't printable ASCII, in a value that isn't UTF-8, is shown as `?`.
+fn shown_value(alloc: Global, value: &[u8]) -> Result<String, AllocError> {
     let mut shown = String::new(alloc);
-    match str::from_utf8(value) {
-        Ok(text) => {
-            for letter in text.chars().take(SHOWN) {
-                shown.push(letter)?;
-            }
-        }
-        Err(_) => {
-            for byte in value.iter().take(SHOWN) {
-                if byte.is_ascii_graphic() {
-                    shown.push(char::from(*byte))?;
-                } else {
-                    shown.push('?')?;
-                }
-            }
-        }
+    let is_cut = match str::from_utf8(value) {
+        Ok(text) => push_letters(&mut shown, text)?,
+        Err(_) => push_bytes(&mut shown, value)?,
+    };
+    if is_cut {
+        shown.push_str(CUT)?;
     }
     Ok(shown)
+}
+
+// Adds the first 60 characters of a text, and answers whether it has more.
+fn push_letters(shown: &mut String, text: &str) -> Result<bool, AllocError> {
+    for letter in text.chars().take(SHOWN) {
+        shown.push(letter)?;
+    }
+    Ok(text.chars().count() > SHOWN)
+}
+
+// Adds the first 60 bytes of a value, and answers whether it has more.
+fn push_bytes(shown: &mut String, value: &[u8]) -> Result<bool, AllocError> {
+    for byte in value.iter().take(SHOWN) {
+        if byte.is_ascii_graphic() {
+            shown.push(char::from(*byte))?;
+        } else {
+            shown.push('?')?;
+        }
+    }
+    Ok(value.len() > SHOWN)
 }

@@ -5,6 +5,7 @@
 #![tactic(auto)]
 
 mod checker;
+mod columns;
 mod fields;
 mod findings;
 mod located;
@@ -14,6 +15,6 @@ mod statistics;
 
 pub use checker::Checker;
 pub use findings::{Finding, Place};
-pub use located::{Located, line_feeds, locate};
+pub use located::{Located, line_ends, locate};
 pub use report::{as_json, as_text};
 pub use statistics::{Coverage, Statistics};

@@ -2,14 +2,14 @@
 ghost use Rattle.std.specs.Prelude.{◌≡◌, ◌≤◌, ◌<◌, ◌-◌, length, Option, IfOk};
 ghost use Rattle.fw_check.specs.Checks.{records_in};
 ghost use Rattle.fw_check.specs.Faults.{CanStandIn, column_text};
-ghost use Rattle.fw_check.specs.Lines.{blank_len, is_content, line_feeds_in, before_record};
+ghost use Rattle.fw_check.specs.Lines.{blank_len, is_content, line_ends_in, before_record};
 ghost use Rattle.fw_cut.specs.Cutting.{Cuts};
 ghost use Rattle.fw_cut.specs.declared.cutting.Cut.{Cut};
 ghost use Rattle.fw_rows.specs.FaultNames.{fault_name};
 ghost use Rattle.fw_rows.specs.declared.column.Column.{Column as ColumnValue};
 
 use crate::fields::first_record;
-use crate::findings::{column_name, column_of, expected_of, shown_value, value_at};
+use crate::findings::{column_name, column_of, expected_of, value_of};
 use fw_cut::{Part, cut_off};
 use fw_rows::RecordFault;
 use std::alloc::{AllocError, Global};
@@ -23,17 +23,18 @@ pub struct Located {
     pub code: &'static str,
     /// The name of the column, or the empty text where the fault is of the whole record.
     pub column: &'static str,
-    /// The first 60 characters of the value.
+    /// The value; of one that is longer than 60 characters the first 60, and `...` behind them. Where the record has too many fields or too few,
+    /// how many it has, and how many the header has.
     pub value: String,
     /// What was expected.
     pub expected: &'static str,
 }
 
-/// How many line feeds there are.
-pub fn line_feeds(text: &[u8]) -> u64
-    ensures { result ≡ line_feeds_in text.now }
+/// How many lines end in a text, where this byte ends them.
+pub fn line_ends(text: &[u8], line_end: u8) -> u64
+    ensures { result ≡ line_ends_in line_end text.now }
 {
-    text.iter().filter(|byte| **byte == b'\n').count() as u64
+    text.iter().filter(|byte| **byte == line_end).count() as u64
 }
 
 // Whether a byte ends no line.
@@ -56,19 +57,20 @@ pub(crate) fn blank(text: &[u8]) -> usize
     text.len()
 }
 
-/// Where the fault of a part's record stands. The number counts the records of the part from 1.
+/// Where the fault of a part's record stands. The number counts the records of the part from 1, and `line_end` is the byte that ends lines.
 pub fn locate(
     alloc: Global,
     part: &Part,
+    line_end: u8,
     number: u32,
     fault: RecordFault,
 ) -> Result<Located, AllocError>
     ensures code { IfOk result (λ l. l.code.now ≡ fault_name fault) }
     ensures column { IfOk result (λ l. (c : Option ColumnValue) × CanStandIn fault c × (l.column.now ≡ column_text c)) }
     // The first record stands behind the empty lines.
-    ensures first { IfOk result (λ l. number ≤ 1 → l.lines_before ≡ line_feeds_in (before_record (records_in part.now) 0)) }
+    ensures first { IfOk result (λ l. number ≤ 1 → l.lines_before ≡ line_ends_in line_end (before_record (records_in part.now) 0)) }
     // Each other one stands behind as many whole records as its number says.
-    ensures later { IfOk result (λ l. 1 < number → (cut : Cut) × Cuts (records_in part.now) (number - 1) cut × (l.lines_before ≡ line_feeds_in (before_record (records_in part.now) cut.end))) }
+    ensures later { IfOk result (λ l. 1 < number → (cut : Cut) × Cuts (records_in part.now) (number - 1) cut × (l.lines_before ≡ line_ends_in line_end (before_record (records_in part.now) cut.end))) }
 {
     let text = part.text.as_slice();
     let (head, body) = text.split_at(part.header.min(text.len()));
@@ -83,10 +85,10 @@ pub fn locate(
     let record = first_record(alloc, rest)?;
     let column = column_of(&header, &record, fault);
     Ok(Located {
-        lines_before: line_feeds(before),
+        lines_before: line_ends(before, line_end),
         code: fault.name(),
         column: column_name(column),
-        value: shown_value(alloc, value_at(&header, &record, column))?,
+        value: value_of(alloc, &header, &record, column)?,
         expected: expected_of(fault),
     })
 }

@@ -1,16 +1,26 @@
 //! What was found, as text and as JSON.
 ghost use Rattle.std.specs.Prelude.{◌≡◌, [], length, string_bytes, IfOk};
-ghost use Rattle.fw_check.specs.Answers.{IsAnswer, IsJsonAnswer, json_head, sums_text, summary_text};
+ghost use Rattle.fw_check.specs.Answers.{IsAnswer, IsJsonAnswer, counted_text, json_head, plural, sums_text, summary_text};
+ghost use Rattle.fw_table.specs.Shown.{shown_text};
 
 use crate::checker::Checker;
 use crate::findings::{Finding, Place};
 use crate::statistics::Statistics;
 use fw_charge::Category;
+use fw_table::shown_text;
 use indexmap::IndexMap;
 use std::alloc::{AllocError, Global};
 
-/// What was found in a text, for people.
+/// What was found in a text, for people. Its name is shown so that it acts on no terminal ([`shown_text`]).
 pub fn as_text(alloc: Global, name: &str, checker: &Checker) -> Result<String, AllocError>
+    ensures { IfOk result (λ text. IsAnswer (shown_text name.now) checker.now (string_bytes text)) }
+{
+    let name = shown_text(alloc, name)?;
+    text_of(alloc, name.as_str(), checker)
+}
+
+// What was found in a text of this name, which is shown already.
+fn text_of(alloc: Global, name: &str, checker: &Checker) -> Result<String, AllocError>
     ensures { IfOk result (λ text. IsAnswer name.now checker.now (string_bytes text)) }
 {
     let findings = findings_text(alloc, name, checker.findings.as_slice())?;
@@ -27,10 +37,26 @@ pub fn as_text(alloc: Global, name: &str, checker: &Checker) -> Result<String, A
 fn summary_text(alloc: Global, name: &str, checker: &Checker) -> Result<String, AllocError>
     ensures { IfOk result (λ text. string_bytes text ≡ summary_text name.now checker.now) }
 {
-    let records = checker.records;
+    let records = counted_text(alloc, checker.records, "record")?;
     let bad = checker.bad_records;
-    let faults = checker.faults;
-    format!(in alloc; "{name}: {records} records, {bad} of them with faults; {faults} faults\n")
+    let faults = counted_text(alloc, checker.faults, "fault")?;
+    format!(in alloc; "{name}: {records}, {bad} of them with faults; {faults}\n")
+}
+
+// A count and what is counted, as `5 records`.
+fn counted_text(alloc: Global, count: u64, word: &str) -> Result<String, AllocError>
+    ensures { IfOk result (λ text. string_bytes text ≡ counted_text count word.now) }
+{
+    let end = plural(count);
+    format!(in alloc; "{count} {word}{end}")
+}
+
+// What a word ends with where it stands behind a count.
+#[tactic(auto, unfolding(crate::specs::Answers::plural))]
+fn plural(count: u64) -> &'static str
+    ensures { result.now ≡ plural count }
+{
+    if count == 1 { "" } else { "s" }
 }
 
 // The groups of faults; nothing where there is none.
@@ -59,11 +85,25 @@ fn put_finding(text: &mut String, name: &str, finding: &Finding) -> Result<(), A
     let column = finding.column;
     let count = finding.count;
     let expected = finding.expected;
-    write!(text, "\n{code} {column}: {count}; expected {expected}\n")?;
+    if column.is_empty() {
+        write!(text, "\n{code}: {count}; expected {expected}\n")?;
+    } else {
+        write!(text, "\n{code} {column}: {count}; expected {expected}\n")?;
+    }
     for place in finding.places.as_slice() {
-        let line = place.line;
-        let record = place.record;
-        let value = place.value.as_str();
+        put_place(text, name, place)?;
+    }
+    Ok(())
+}
+
+// A place of a fault: the header has no number among the records.
+fn put_place(text: &mut String, name: &str, place: &Place) -> Result<(), AllocError> {
+    let line = place.line;
+    let record = place.record;
+    let value = place.value.as_str();
+    if record == 0 {
+        write!(text, "  {name}:{line}: the header\n")?;
+    } else {
         write!(text, "  {name}:{line}: record {record}: {value:?}\n")?;
     }
     Ok(())

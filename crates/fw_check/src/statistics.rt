@@ -29,7 +29,7 @@ pub struct Statistics {
     pub categories: [u64; Category::COUNT],
     /// The hours in which rows start, counted from 1970, each with the number of its rows.
     pub hours: IndexMap<u32, u64>,
-    /// The currencies of all records.
+    /// The currencies of these rows, each with the number of rows.
     pub currencies: IndexMap<String, u64>,
     /// The tags.
     pub tags: Coverage,

@@ -1,10 +1,7 @@
 //! `focusd add`: commitments, policies and purchases are taken from TOML files into a warehouse.
-ghost use Rattle.std.specs.Prelude.{◌≡◌, Some};
-ghost use Rattle.clap.specs.declared.builder.action.ArgAction.TheVariants.{SetTrue};
-
-use crate::ids::{DRY_RUN, ORIGIN, YES};
-use crate::options::{command_with, files_argument, folder_option};
-use clap::{Arg, ArgAction, Command};
+use crate::ids::ORIGIN;
+use crate::options::{command_with, dry_run_option, files_argument, folder_option, yes_option};
+use clap::{Arg, Command};
 use std::alloc::{AllocError, Global};
 
 const HELP: &str =
@@ -45,33 +42,19 @@ fn origin_option<'a>(alloc: Global) -> Arg<'a> {
         .help("Who sends the files")
 }
 
-// The option that writes nothing.
-fn dry_run_option<'a>(alloc: Global) -> Arg<'a>
-    ensures { result.action ≡ Some SetTrue }
-{
-    Arg::new(alloc, DRY_RUN)
-        .long("dry-run")
-        .action(ArgAction::SetTrue)
-        .help("Writes nothing: says what each file is, and which rows it would apply to")
-}
-
-// The option that lets a policy take the place of one by another key, and an equal purchase be added again.
-fn yes_option<'a>(alloc: Global) -> Arg<'a>
-    ensures { result.action ≡ Some SetTrue }
-{
-    Arg::new(alloc, YES)
-        .long("yes")
-        .action(ArgAction::SetTrue)
-        .help("Lets a policy take the place of another key's, and adds an equal purchase again")
-}
-
 // The options, in the order in which the help has them.
 fn options<'a>(alloc: Global) -> Result<Vec<Arg<'a>>, AllocError> {
     Ok(vec![in alloc;
         folder_option(alloc),
         origin_option(alloc),
-        dry_run_option(alloc),
-        yes_option(alloc),
+        dry_run_option(
+            alloc,
+            "Writes nothing: says what each file is, and which rows it would apply to",
+        ),
+        yes_option(
+            alloc,
+            "Lets a policy take the place of another key's, and adds an equal purchase again",
+        ),
         files_argument(
             alloc,
             "A TOML with a commitment, a policy or a purchase, or `-` for standard input",

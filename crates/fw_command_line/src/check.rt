@@ -12,6 +12,9 @@ const HELP: &str =
 for a harmless one, and the record is checked again. Faults are grouped by code and column, each group with its first three
 places. Rows, hours, sums and tags are those of the records without a fault. `-` is standard input.
 
+No warehouse is read. So it doesn't say what `focusd import` warns of or refuses: rows of hours and sub-accounts that another
+origin has too, posts behind those of the files, rows that won't fit, and ids of commitments of the warehouse.
+
 Example:
   focusd check january.csv
 

@@ -1,5 +1,8 @@
 //! The ids by which what the command line took is asked for.
 
+/// The id of the option that takes all posts of an origin.
+pub const ALL: &str = "all";
+
 /// The id of the option that says how many analysts view a warehouse while files are loaded.
 pub const ANALYSTS: &str = "analysts";
 
@@ -30,11 +33,17 @@ pub const FORMAT: &str = "format";
 /// The id of the option that says when the range begins.
 pub const FROM: &str = "from";
 
+/// The id of the option that names the folder of a warehouse that is made.
+pub const INTO: &str = "into";
+
 /// The id of the option that names who sends the entries, or the first part of such names.
 pub const ORIGIN: &str = "origin";
 
 /// The id of the option that prints no progress.
 pub const QUIET: &str = "quiet";
+
+/// The id of the option that names an entry by its number among its origin's.
+pub const SEQ: &str = "seq";
 
 /// The id of the option that names the tag.
 pub const TAG: &str = "tag";
@@ -48,5 +57,5 @@ pub const TOP: &str = "top";
 /// The id of the option that says how many workers read posts and make a report.
 pub const WORKERS: &str = "workers";
 
-/// The id of the option that lets a policy take the place of one by another key.
+/// The id of the option that goes on without asking.
 pub const YES: &str = "yes";

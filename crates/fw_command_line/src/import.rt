@@ -17,6 +17,10 @@ An import that was stopped goes on where it stopped: run it again with the same 
 compared with the file; where they differ, as when a file has changed, the import stops and says so. A post is taken whole
 or not at all, and it is on the disk, by the word of the system, before the next one is read.
 
+Where the rows won't fit into the warehouse, that is said, and nothing is imported. Two warnings change no status. One names an
+hour and a sub-account of the new rows of which another origin has rows too: the same export may have been imported before. One
+says how many posts that count the origin has behind those of the files: an export may have shrunk, or a file is missing.
+
 Progress is printed to standard error where that is a terminal: the rows, the megabytes, and of files also the share that was
 read and the time that is left.
 

@@ -6,6 +6,7 @@
 mod add;
 mod check;
 mod checkpoint;
+mod compact;
 mod coverage;
 mod dump;
 mod explain;
@@ -15,13 +16,15 @@ mod line;
 mod lines;
 mod load;
 mod options;
+mod replace;
 mod report;
 mod run;
 mod status;
 mod verify;
+mod withdraw;
 
 pub use ids::{
-    ANALYSTS, BY, CODE, CREATE, CURRENCY, DIR, DRY_RUN, FILES, FORMAT, FROM, ORIGIN, QUIET, TAG,
-    TO, TOP, WORKERS, YES,
+    ALL, ANALYSTS, BY, CODE, CREATE, CURRENCY, DIR, DRY_RUN, FILES, FORMAT, FROM, INTO, ORIGIN,
+    QUIET, SEQ, TAG, TO, TOP, WORKERS, YES,
 };
 pub use line::command_line;

@@ -1,7 +1,7 @@
 //! The whole command line.
 use crate::{
-    add, check, checkpoint, coverage, dump, explain, import, lines, load, report, run, status,
-    verify,
+    add, check, checkpoint, compact, coverage, dump, explain, import, lines, load, replace, report,
+    run, status, verify, withdraw,
 };
 use clap::Command;
 use std::alloc::{AllocError, Global};
@@ -54,6 +54,8 @@ enum Name {
     Import,
     Load,
     Add,
+    Replace,
+    Withdraw,
     Check,
     Report,
     Lines,
@@ -61,17 +63,20 @@ enum Name {
     Status,
     Verify,
     Checkpoint,
+    Compact,
     Dump,
     Explain,
 }
 
 impl Name {
     /// All commands, in the order in which the help has them.
-    const ALL: [Name; 13] = [
+    const ALL: [Name; 16] = [
         Name::Run,
         Name::Import,
         Name::Load,
         Name::Add,
+        Name::Replace,
+        Name::Withdraw,
         Name::Check,
         Name::Report,
         Name::Lines,
@@ -79,6 +84,7 @@ impl Name {
         Name::Status,
         Name::Verify,
         Name::Checkpoint,
+        Name::Compact,
         Name::Dump,
         Name::Explain,
     ];
@@ -90,6 +96,8 @@ impl Name {
             Name::Import => import::command(alloc),
             Name::Load => load::command(alloc),
             Name::Add => add::command(alloc),
+            Name::Replace => replace::command(alloc),
+            Name::Withdraw => withdraw::command(alloc),
             Name::Check => check::command(alloc),
             Name::Report => report::command(alloc),
             Name::Lines => lines::command(alloc),
@@ -97,6 +105,7 @@ impl Name {
             Name::Status => status::command(alloc),
             Name::Verify => verify::command(alloc),
             Name::Checkpoint => checkpoint::command(alloc),
+            Name::Compact => compact::command(alloc),
             Name::Dump => dump::command(alloc),
             Name::Explain => explain::command(alloc),
         }

@@ -1,8 +1,8 @@
 //! The options that several commands have.
-ghost use Rattle.std.specs.Prelude.{◌≡◌, Some, true, option_map, codes};
+ghost use Rattle.std.specs.Prelude.{◌≡◌, Some, false, true, option_map, codes};
 ghost use Rattle.clap.specs.declared.builder.action.ArgAction.TheVariants.{SetTrue};
 
-use crate::ids::{CREATE, CURRENCY, DIR, FILES, FORMAT, FROM, QUIET, TO};
+use crate::ids::{CREATE, CURRENCY, DIR, DRY_RUN, FILES, FORMAT, FROM, ORIGIN, QUIET, TO, YES};
 use clap::{Arg, ArgAction, Command};
 use std::alloc::{AllocError, Global};
 
@@ -79,31 +79,74 @@ pub(crate) fn quiet_option<'a>(alloc: Global) -> Arg<'a>
         .help("Prints no progress")
 }
 
+/// The option that writes nothing.
+pub(crate) fn dry_run_option<'a>(alloc: Global, help: &'a str) -> Arg<'a>
+    ensures { result.action ≡ Some SetTrue }
+{
+    Arg::new(alloc, DRY_RUN)
+        .long("dry-run")
+        .action(ArgAction::SetTrue)
+        .help(help)
+}
+
+/// The option that goes on without asking.
+pub(crate) fn yes_option<'a>(alloc: Global, help: &'a str) -> Arg<'a>
+    ensures { result.action ≡ Some SetTrue }
+{
+    Arg::new(alloc, YES)
+        .long("yes")
+        .action(ArgAction::SetTrue)
+        .help(help)
+}
+
+/// The option that names who sent the posts.
+pub(crate) fn poster_option<'a>(alloc: Global) -> Arg<'a> {
+    Arg::new(alloc, ORIGIN)
+        .long("origin")
+        .value_name("NAME")
+        .required(true)
+        .help("Who sent the posts")
+}
+
 // The option that takes a time.
 fn time_option<'a>(alloc: Global, id: &'a str, help: &'a str) -> Arg<'a>
     ensures name { result.long ≡ Some id.entry }
+    ensures given { result.required ≡ false }
+{
+    Arg::new(alloc, id).long(id).value_name("T").help(help)
+}
+
+// The option that takes a time, where it has to be given.
+fn needed_time<'a>(alloc: Global, id: &'a str, help: &'a str) -> Arg<'a>
+    ensures name { result.long ≡ Some id.entry }
     ensures required { result.required ≡ true }
 {
-    Arg::new(alloc, id)
-        .long(id)
-        .required(true)
-        .value_name("T")
-        .help(help)
+    time_option(alloc, id, help).required(true)
 }
 
 /// The option that says when the range begins.
 pub(crate) fn from_option<'a>(alloc: Global) -> Arg<'a> {
-    time_option(alloc, FROM, "When the range begins")
+    needed_time(alloc, FROM, FROM_HELP)
 }
 
 /// The option that says when the range ends.
 pub(crate) fn to_option<'a>(alloc: Global) -> Arg<'a> {
-    time_option(
-        alloc,
-        TO,
-        "When the range ends; the hour that begins then is not in it",
-    )
+    needed_time(alloc, TO, TO_HELP)
 }
+
+/// The option that says when the range begins, where there needn't be one.
+pub(crate) fn perhaps_from_option<'a>(alloc: Global) -> Arg<'a> {
+    time_option(alloc, FROM, FROM_HELP)
+}
+
+/// The option that says when the range ends, where there needn't be one.
+pub(crate) fn perhaps_to_option<'a>(alloc: Global) -> Arg<'a> {
+    time_option(alloc, TO, TO_HELP)
+}
+
+const FROM_HELP: &str = "When the range begins";
+
+const TO_HELP: &str = "When the range ends; the hour that begins then is not in it";
 
 /// A command that takes these options.
 pub(crate) fn command_with<'a>(

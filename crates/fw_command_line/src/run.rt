@@ -5,13 +5,15 @@ use clap::{Arg, Command, value_parser};
 use std::alloc::{AllocError, Global};
 
 const SCRIPT: &str = "Commands of a script, one a line, which a line feed alone ends:
-  post ORIGIN SEQUENCE LINES    accept the charge rows of the CSV on the next LINES lines
-  commit ORIGIN SEQUENCE LINES  accept the commitment whose TOML stands on the next LINES lines
-  policy ORIGIN SEQUENCE LINES  share costs by the policy whose TOML stands on the next LINES lines
-  report KEY FROM TO            sum the costs of the hours from FROM up to, not including, TO, by the tag KEY
-  lines FROM TO                 list what these hours cost, line by line: purchases, rows, used and unused parts
-  state                         count the entries, rows and commitments, and whether a policy holds (1) or not (0)
-  checkpoint                    write the whole warehouse anew, so that the next run opens it without reading a long log
+  post ORIGIN SEQUENCE LINES     accept the charge rows of the CSV on the next LINES lines
+  commit ORIGIN SEQUENCE LINES   accept the commitment whose TOML stands on the next LINES lines
+  add ORIGIN SEQUENCE LINES      add the purchase whose TOML stands on the next LINES lines to its commitment
+  withdraw ORIGIN SEQUENCE POST  count no more the rows that ORIGIN posted under the number POST
+  policy ORIGIN SEQUENCE LINES   share costs by the policy whose TOML stands on the next LINES lines
+  report KEY FROM TO             sum the costs of the hours from FROM up to, not including, TO, by the tag KEY
+  lines FROM TO                  list what these hours cost, line by line: purchases, rows, used and unused parts
+  state                          count the entries, rows and commitments, and whether a policy holds (1) or not (0)
+  checkpoint                     write the whole warehouse anew, so that the next run opens it without reading a long log
 
 ORIGIN names the sender: 1 to 64 ASCII letters, digits, `-`, `_` and `.`. SEQUENCE numbers this origin's entries: 1, 2, 3 ..
 So an entry that is sent again is not billed twice, and a skipped number is reported.

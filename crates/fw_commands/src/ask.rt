@@ -1,12 +1,12 @@
 //! Questions to the warehouse of a folder.
-use crate::folder::open_folder;
 use clap::ArgMatches;
 use fw_command_line::DIR;
-use fw_console::{Fault, advised, always_advised, print_answer};
+use fw_console::{Fault, advised, always_advised, open_warehouse, print_answer, warn_unfinished};
 use fw_views::{Question, answer};
 use std::process::ExitCode;
 
-/// Opens the warehouse of the folder that the options name, and prints its answer to a question. What `verify` finds is printed whole
+/// Opens the warehouse of the folder that the options name, and prints its answer to a question. Where
+/// rows are being replaced and the replacement was stopped, that is said too. What `verify` finds is printed whole
 /// also where nobody looks at a terminal.
 pub(crate) fn ask(rt: &HostRuntime, options: &ArgMatches<'_>, question: &Question<'_>) -> ExitCode {
     let folder = options.get_str(DIR).unwrap_or("");
@@ -19,6 +19,7 @@ pub(crate) fn ask(rt: &HostRuntime, options: &ArgMatches<'_>, question: &Questio
 
 // The answer of the warehouse of a folder.
 fn answer_in(rt: &HostRuntime, folder: &str, question: &Question<'_>) -> Result<Vec<u8>, Fault> {
-    let store = open_folder(rt, folder)?;
+    let store = open_warehouse(rt, folder)?;
+    warn_unfinished(rt, folder)?;
     Ok(answer(rt.alloc(), &store, question)?)
 }

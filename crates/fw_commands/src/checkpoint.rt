@@ -1,8 +1,7 @@
 //! `focusd checkpoint`: the warehouse is written anew.
-use crate::folder::open_folder;
 use clap::ArgMatches;
 use fw_command_line::DIR;
-use fw_console::{Fault, advised, print_answer};
+use fw_console::{Fault, advised, open_warehouse, print_answer};
 use std::process::ExitCode;
 
 /// Makes a checkpoint of the warehouse, and prints that it is made.
@@ -14,6 +13,6 @@ pub fn make_checkpoint(rt: &HostRuntime, options: &ArgMatches<'_>) -> ExitCode {
 
 // Makes a checkpoint of the warehouse of a folder.
 fn checkpoint(rt: &HostRuntime, folder: &str) -> Result<(), Fault> {
-    let mut store = open_folder(rt, folder)?;
+    let mut store = open_warehouse(rt, folder)?;
     Ok(store.checkpoint(rt.alloc())?)
 }

@@ -1,9 +1,8 @@
 //! `focusd coverage`: how well commitments were used in a range of time.
 use crate::ask::ask;
-use crate::range::{read_range, wrong_time};
 use clap::ArgMatches;
 use fw_command_line::FORMAT;
-use fw_console::Fault;
+use fw_console::{Fault, read_range, wrong_time};
 use fw_views::{Format, Question};
 use std::process::ExitCode;
 

@@ -2,13 +2,13 @@
 ghost use Rattle.std.specs.Prelude.{◌≡◌};
 ghost use Rattle.std.specs.Process.{exit_status};
 
-use crate::folder::open_folder;
 use clap::ArgMatches;
 use fw_command_line::DIR;
-use fw_console::{Fault, advised};
+use fw_console::{Fault, advised, open_warehouse};
 use fw_dump::{DumpFault, TextFault, dump};
 use fw_serve::ServeFault;
 use fw_snapshot::State;
+use fw_table::shown_text;
 use std::io::ErrorKind;
 use std::process::ExitCode;
 
@@ -20,7 +20,7 @@ pub fn print_dump(rt: &HostRuntime, options: &ArgMatches<'_>) -> ExitCode {
 
 // Prints the script of the warehouse of a folder.
 fn dump_folder(rt: &HostRuntime, folder: &str) -> Result<ExitCode, Fault> {
-    let store = open_folder(rt, folder)?;
+    let store = open_warehouse(rt, folder)?;
     dump_state(rt, folder, store.state().state())
 }
 
@@ -30,12 +30,15 @@ fn dump_state(rt: &HostRuntime, folder: &str, state: &State) -> Result<ExitCode,
         Ok(()) => Ok(ExitCode::SUCCESS),
         Err(DumpFault::Write(ErrorKind::BrokenPipe)) => Ok(ExitCode::SUCCESS),
         Err(DumpFault::Write(_)) => Err(Fault::Serve(ServeFault::Write)),
-        Err(DumpFault::Entry { number, why }) => Ok(stopped(rt, folder, number, why)),
+        Err(DumpFault::Entry { number, why }) => {
+            let name = shown_text(rt.alloc(), folder)?;
+            Ok(stopped(rt, name.as_str(), number, why))
+        }
         Err(DumpFault::NoMemory) => Err(Fault::NoMemory),
     }
 }
 
-// Says that a dump stopped before an entry, and why.
+// Says that a dump of a folder of this name stopped before an entry, and why.
 fn stopped(rt: &HostRuntime, folder: &str, number: u64, why: TextFault) -> ExitCode
     ensures { exit_status result ≡ 1 }
 {

@@ -1,8 +1,7 @@
 //! `focusd lines`: each line behind the costs of a range of time.
 use crate::ask::ask;
-use crate::range::{read_range, wrong_time};
 use clap::ArgMatches;
-use fw_console::Fault;
+use fw_console::{Fault, read_range, wrong_time};
 use fw_views::Question;
 use std::process::ExitCode;
 

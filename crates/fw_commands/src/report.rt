@@ -4,11 +4,10 @@ ghost use Rattle.std.specs.Process.{exit_status};
 ghost use Rattle.fw_console.specs.Statuses.{wrong_use_status};
 
 use crate::ask::ask;
-use crate::range::{read_range, wrong_time};
 use clap::ArgMatches;
 use fw_calendar::Step;
 use fw_command_line::{BY, FORMAT, TAG, TOP};
-use fw_console::{Fault, WRONG_USE};
+use fw_console::{Fault, WRONG_USE, read_range, wrong_time};
 use fw_query::Query;
 use fw_series::SeriesFormat;
 use fw_views::{Format, Question, SeriesOptions};

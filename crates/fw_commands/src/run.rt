@@ -1,15 +1,17 @@
 //! `focusd run`: a script is read from standard input and answered.
-ghost use Rattle.std.specs.Prelude.{◌≤◌};
+ghost use Rattle.std.specs.Prelude.{◌≡◌, ◌≤◌};
+ghost use Rattle.std.specs.Process.{exit_status};
+ghost use Rattle.fw_console.specs.Statuses.{wrong_use_status};
 ghost use Rattle.fw_serve.specs.Served.{most_workers};
 
 use clap::ArgMatches;
-use fw_command_line::{CREATE, DIR, WORKERS};
+use fw_command_line::{CREATE, CURRENCY, DIR, WORKERS};
 use fw_console::{Fault, advised, read_currency, wrong_use};
 use fw_disk::{FileVolume, NullVolume, Volume};
 use fw_recover::{Store, StoreFault};
 use fw_rows::Currency;
 use fw_serve::serve;
-use std::io::{BufWriter, LineWriter, Write};
+use std::io::{BufWriter, IsTerminal, LineWriter, Write};
 use std::process::ExitCode;
 use std::thread::Threads;
 
@@ -23,7 +25,7 @@ pub fn serve_script(
     options: &ArgMatches<'_>,
 ) -> Result<ExitCode, Fault> {
     let Some(currency) = read_currency(options) else {
-        return Ok(wrong_use(rt, "currency"));
+        return Ok(wrong_currency(rt, options));
     };
     let workers = read_workers(options);
     match options.get_str(DIR) {
@@ -40,6 +42,18 @@ pub fn serve_script(
         }
         None => serve_memory(rt, threads, currency, workers),
     }
+}
+
+// Says that the currency is none: the line that scripts know and, for a person at a terminal, what is wrong.
+fn wrong_currency(rt: &HostRuntime, options: &ArgMatches<'_>) -> ExitCode
+    ensures { exit_status result ≡ wrong_use_status }
+{
+    let status = wrong_use(rt, "currency");
+    if rt.stderr().is_terminal() {
+        let text = options.get_str(CURRENCY).unwrap_or("");
+        let _ = eprintln!(rt; "--currency: {text:?} is not three capital letters, as USD");
+    }
+    status
 }
 
 // How many workers read posts and share the rows of a report. The command line lets no other number pass.

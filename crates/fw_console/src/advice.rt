@@ -6,6 +6,7 @@ ghost use Rattle.fw_console.specs.Statuses.{status_of};
 use crate::fault::{Fault, failed};
 use fw_disk::{FolderFault, Side};
 use fw_recover::StoreFault;
+use fw_table::shown_text;
 use std::io::{self, IsTerminal};
 use std::process::ExitCode;
 
@@ -35,10 +36,17 @@ fn ended(rt: &HostRuntime, folder: &str, done: Result<ExitCode, Fault>, advises:
         Err(fault) => {
             let status = failed(rt, &fault);
             if advises {
-                let _ = print_advice(rt, folder, &fault);
+                advise(rt, folder, &fault);
             }
             status
         }
+    }
+}
+
+// Prints what helps, with the folder's name as a terminal may show it. Where memory for that is refused, nothing more is said.
+fn advise(rt: &HostRuntime, folder: &str, fault: &Fault) {
+    if let Ok(name) = shown_text(rt.alloc(), folder) {
+        let _ = print_advice(rt, name.as_str(), fault);
     }
 }
 

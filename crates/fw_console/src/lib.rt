@@ -1,14 +1,22 @@
-//! What the commands of `focusd` share: faults and exit statuses, the standard streams, progress, and the currency that an option names.
+//! What the commands of `focusd` share: faults and exit statuses, the standard streams, progress, the folder of a warehouse, and the currency and the range of time that options name.
 #![tactic(auto)]
 
 mod advice;
 mod currency;
 mod fault;
+mod folder;
+mod origin;
 mod output;
 mod progress;
+mod range;
+mod unfinished;
 
 pub use advice::{advised, always_advised};
 pub use currency::read_currency;
 pub use fault::{Fault, WRONG_USE, failed, wrong_use};
+pub use folder::open_warehouse;
+pub use origin::wrong_origin;
 pub use output::print_answer;
-pub use progress::Progress;
+pub use progress::{Progress, bytes_of};
+pub use range::{read_range, wrong_time};
+pub use unfinished::{begin_replacement, end_replacement, unfinished_origin, warn_unfinished};

@@ -56,8 +56,9 @@ impl Progress {
     // Writes the line of progress anew, so long after the start.
     fn print(&self, rt: &HostRuntime, since: Duration) {
         let rows = self.rows;
+        let word = if rows == 1 { "row" } else { "rows" };
         let megabytes = self.bytes / MEGABYTE;
-        let _ = eprint!(rt; "\r{rows} rows, {megabytes} MB");
+        let _ = eprint!(rt; "\r{rows} {word}, {megabytes} MB");
         if let Some(total) = self.total {
             let share = share_of(self.bytes, total);
             let all = total / MEGABYTE;
@@ -102,8 +103,8 @@ const MEGABYTE: u64 = 1_000_000;
 // What a terminal takes as: nothing stands behind this on the line.
 const CLEAR: &str = "\u{1b}[K";
 
-// The bytes that the files have together. None where one has no length, as standard input or a pipe, or can't be looked at.
-fn bytes_of(rt: &HostRuntime, files: &[&str]) -> Option<u64> {
+/// The bytes that files have together. None where one has no length, as standard input or a pipe, or can't be looked at.
+pub fn bytes_of(rt: &HostRuntime, files: &[&str]) -> Option<u64> {
     let mut total: u64 = 0;
     for file in files {
         let found = fs::metadata(rt, *file).ok()?;

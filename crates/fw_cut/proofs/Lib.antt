@@ -3,3 +3,4 @@ mod RunFacts
 mod CutFacts
 mod PieceFacts
 mod PartFacts
+mod CountFacts

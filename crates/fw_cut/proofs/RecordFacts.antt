@@ -1,5 +1,5 @@
 -- The records of texts that stand one behind the other.
-use Rattle.std.proofs.Common.{◌≡◌, ◌<◌, ◌≤◌, ◌+◌, ◌-◌, ◌==◌, ℕ, zero, suc, true, false, Option, Some, None, List, [], ◌∷◌, ◌++◌, length, refl, sym, ap, ◌∙◌, arith, inl, inr, append-nil, append_assoc}
+use Rattle.std.proofs.Common.{◌≡◌, ◌<◌, ◌≤◌, ◌+◌, ◌-◌, ◌==◌, ℕ, zero, suc, true, false, Option, Some, None, List, [], ◌∷◌, ◌++◌, length, refl, sym, ap, ◌∙◌, arith, inl, inr, append-nil, append_assoc, if◌then◌else◌}
 use Rattle.std.proofs.lemmas.Bool.{cases_Bool}
 use Rattle.csv.specs.Machine.{Read, Feeds, step, is_end, fields_after, field_after, next_record, ends_at_end}
 use Rattle.csv.specs.Reading.{default_config, records_from, records_next}
@@ -148,3 +148,18 @@ no-end-few x to f p h =
     let one = same_fuel (length x + 1) (suc (length x)) st.StartRecord x (omega arith) (omega arith) in
     let next = fed-on st.StartRecord to [] f [] p x h in
     rw one (rw next (next-at-end (length x) to f p))
+
+next-count : (m : ℕ) (s : State) (f : Record) (p : List ℕ) → length (records_next (records_from default_config m) (next_record default_config s f p [])) ≡ (if ends_at_end s then 1 else 0)
+unfolding next_record
+next-count m s f p = elim (cases_Bool (ends_at_end s)) [
+  | inl e ↦ let none = none-left m in rw (e, none) refl
+  | inr e ↦ rw e refl
+]
+
+-- it has one where the end of the text ends it
+pub no-end-count : (x : List ℕ) (to : State) (f : Record) (p : List ℕ) → Feeds default_config st.StartRecord [] [] x to f p false → length (all_records x) ≡ (if ends_at_end to then 1 else 0)
+unfolding all_records records_from
+no-end-count x to f p h =
+    let one = same_fuel (length x + 1) (suc (length x)) st.StartRecord x (omega arith) (omega arith) in
+    let next = fed-on st.StartRecord to [] f [] p x h in
+    rw one (rw next (next-count (length x) to f p))

@@ -1,5 +1,5 @@
 -- A text that is read and cut into parts.
-use Rattle.std.specs.Prelude.{◌≡◌, ◌⊎◌, ◌≤◌, ℕ, Bool, true, List, ◌++◌, Option, Some, None, length, ⊤}
+use Rattle.std.specs.Prelude.{◌≡◌, ◌⊎◌, ◌≤◌, ℕ, Bool, true, List, ◌++◌, Option, Some, None, drop, length, ⊤}
 use Rattle.std.specs.Io.KnownBytes.{IsAtEnd, prepend_known}
 use Rattle.fw_charge.specs.Charge.{most_post_rows}
 use Rattle.fw_cut.specs.Records.{all_records, records_in, IsWhole}
@@ -41,6 +41,11 @@ RecordsThen None bytes new = ⊤
 RecordsThen (Some old) bytes None = ⊥
 RecordsThen (Some old) bytes (Some new) = (old ≡ bytes ++ new) × (all_records old ≡ all_records bytes ++ all_records new)
 
+-- so many records are left
+abbrev pub Counted : Option (List ℕ) → ℕ → Type 0
+Counted None count = ⊤
+Counted (Some left) count = count ≡ length (all_records left)
+
 -- the most records of a part: as many as the rows that a post may have
 abbrev pub most_records : ℕ
 most_records = most_post_rows
@@ -54,6 +59,10 @@ pub record IsPart (header : List ℕ) (old new : Option (List ℕ)) (part : Part
   pub read : records_in part.text.items ≡ records_in header ++ all_records bytes
   pub next : RecordsThen old bytes new
   pub last : part.is_last ≡ true → IsAtEnd new
+
+-- the bytes of a part behind its header
+abbrev pub body_of : Part → List ℕ
+body_of part = drop part.header part.text.items
 
 -- where a part can end: behind whole records, or at the end of the text
 pub record CanEnd {R : Type 0} (c : CutterState R) (end : ℕ) (bytes : List ℕ) : Type 0 where

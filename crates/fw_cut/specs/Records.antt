@@ -1,5 +1,5 @@
 -- The records of a text, and the texts of whole records.
-use Rattle.std.specs.Prelude.{◌≡◌, ℕ, List, [], ◌∷◌, ◌++◌, true, if◌then◌else◌}
+use Rattle.std.specs.Prelude.{◌≡◌, ◌==◌, ◌&&◌, not, ℕ, Bool, List, [], ◌∷◌, ◌++◌, true, if◌then◌else◌}
 use Rattle.csv.specs.Machine.{Feeds}
 use Rattle.csv.specs.Reading.{default_config, records, strip_bom, is_bom}
 use Rattle.csv.specs.declared.parser.State.{State}
@@ -31,3 +31,7 @@ IsWhole text = (more : List ℕ) → all_records (text ++ more) ≡ all_records 
 unfoldable pub Spells : State → List ℕ → List Record → State → Type 0
 Spells s bytes [] t = (bytes ≡ []) × (t ≡ s)
 Spells s bytes (r ∷ rs) t = (first rest : List ℕ) × (m : State) × (left : List ℕ) × (bytes ≡ first ++ rest) × Feeds default_config s [] [] first m r left true × Spells m rest rs t
+
+-- whether a byte ends no line: before a record, one that does is passed over
+abbrev pub is_content : ℕ → Bool
+is_content b = not (b == 10) && not (b == 13)

@@ -2,8 +2,9 @@
 ghost use Rattle.std.specs.Prelude.{◌≡◌, ◌≤◌, ◌^◌, length, take, drop, IfOk, IfSome, OnOk};
 ghost use Rattle.std.specs.Io.KnownBytes.{Keeps};
 ghost use Rattle.fw_cut.specs.Records.{mark_len};
-ghost use Rattle.fw_cut.specs.Parts.{left_of, BeginsWith, IsPart, CanEnd};
+ghost use Rattle.fw_cut.specs.Parts.{left_of, BeginsWith, Counted, IsPart, CanEnd};
 
+use crate::counting::part_count;
 use crate::cutting::cut_off;
 use crate::fault::CutFault;
 use crate::input::fill;
@@ -94,7 +95,7 @@ impl<R: Read + Drop> Cutter<R> {
     /// byte order mark may stand before it.
     ///
     /// # Errors
-    /// `NoRecord` where the text ends before a line feed or carriage return ends the header, `TooLong` for a header of more than 2 MiB,
+    /// `NoRecord` where the text ends before a line feed or carriage return ends the header, `LongHeader` for a header of more than 2 MiB,
     /// `Read` where a read failed, `NoMemory`.
     pub fn open(alloc: Global, reader: R) -> Result<Cutter<R>, CutFault>
         ensures { IfOk result (λ c. BeginsWith (R.remaining reader) c.header (left_of R.remaining c)) }
@@ -108,7 +109,7 @@ impl<R: Read + Drop> Cutter<R> {
             return Err(if at_end {
                 CutFault::NoRecord
             } else {
-                CutFault::TooLong
+                CutFault::LongHeader
             });
         }
         let rest = rest_of(alloc, &buffer, mark + cut.end)?;
@@ -131,6 +132,16 @@ impl<R: Read> Cutter<R> {
         &self.header
     }
 
+    /// The byte that ends the lines of the text: a carriage return where one alone ends the header, else a line feed. It is asked for before the first
+    /// part.
+    pub fn line_end(&self) -> u8 {
+        if self.header.last() == Some(&b'\r') && self.buffer.first() != Some(&b'\n') {
+            b'\r'
+        } else {
+            b'\n'
+        }
+    }
+
     /// The next part: the header, and the records that are next, as many as there are within 2 MiB and at most [`MOST_POST_ROWS`]. The last part has all
     /// that is left, which may be no record. A record that is longer is in a part of its own or with those behind it within 4 MiB.
     ///
@@ -149,6 +160,27 @@ impl<R: Read> Cutter<R> {
         if let Some(end) = self.end_of_part() {
             let part = self.taken(alloc, end)?;
             return Ok(part);
+        }
+        Err(CutFault::TooLong)
+    }
+
+    /// How many records are left. It reads to the end, one part after the other.
+    ///
+    /// # Errors
+    /// Those of [`Cutter::next_part`]; `TooLong` also where there are more records than 64 bits count.
+    pub fn count_left(&mut self, alloc: Global) -> Result<u64, CutFault>
+        ensures { IfOk result (λ count. Counted (left_of R.remaining self.old) count) }
+    {
+        let mut count: u64 = 0;
+        for _ in 0..u64::MAX {
+            let part = self.next_part(alloc)?;
+            let Some(more) = count.checked_add(part_count(&part) as u64) else {
+                return Err(CutFault::TooLong);
+            };
+            count = more;
+            if part.is_last {
+                return Ok(count);
+            }
         }
         Err(CutFault::TooLong)
     }

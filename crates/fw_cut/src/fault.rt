@@ -14,9 +14,12 @@ pub enum CutFault {
     /// The text ends within its first record, the header, or has no record.
     #[error("no record follows the header")]
     NoRecord,
-    /// A record has more than 4 MiB, the header more than 2 MiB. Often a quote that isn't closed is the cause.
+    /// A record has more than 4 MiB. Often a quote that isn't closed is the cause.
     #[error("a record is longer than 4 MiB")]
     TooLong,
+    /// The header has more than 2 MiB. Often a quote that isn't closed is the cause.
+    #[error("the header is longer than 2 MiB")]
+    LongHeader,
     /// Memory ran out.
     #[error("out of memory")]
     NoMemory,

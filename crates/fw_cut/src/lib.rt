@@ -4,6 +4,7 @@
 //! records, in order; a line feed within quotes ends no record.
 #![tactic(auto)]
 
+mod counting;
 mod cutter;
 mod cutting;
 mod fault;

@@ -10,7 +10,7 @@ pub fn expected_in_commitment(field: CommitmentField) -> &'static str {
             "\"category\" must be \"Usage\", a quantity each hour, or \"Spend\", a cost each hour"
         }
         CommitmentField::Start => {
-            "\"start\" must be the time of a whole hour, as 2024-09-01T00:00Z, in quotes"
+            "\"start\" must be the time of a whole hour from 1970 on, as 2024-09-01T00:00Z, in quotes"
         }
         CommitmentField::Hours => {
             "\"hours\" must be a whole number from 1 to 26304, without quotes"
@@ -32,7 +32,7 @@ pub fn expected_in_commitment(field: CommitmentField) -> &'static str {
             "\"tags\" must be a table of at most 256 texts, each key and each text of at most 1024 bytes"
         }
         CommitmentField::Purchase => {
-            "there must be 1 to 64 [[purchase]], each with \"at\", a time as 2024-09-01T00:00Z, and \"billed\", an amount of at least 0, both in quotes, and nothing else; together at most 100000000"
+            "there must be 1 to 64 [[purchase]], each with \"at\", a time from 1970 on, as 2024-09-01T00:00Z, and \"billed\", an amount of at least 0, both in quotes, and nothing else; together at most 100000000"
         }
         CommitmentField::At =>
             "\"at\" must be a time from 1970 on, as 2024-09-01T00:00Z, in quotes",

@@ -1,4 +1,4 @@
-//! Each code that the program prints, by its letter and number, in the order of the formats' tables.
+//! Each code that the program prints, by its letter and number, in the order of the formats' tables, and last the one fault without a number.
 //!
 //! They stand in two tables, each behind a function. The proof of a function that names a table contains all the table's words,
 //! and with one table of all codes it is over the prover's step limit.
@@ -255,8 +255,8 @@ const COMMAND_CODES: &[Explanation] = &[
     Explanation {
         code: "F1",
         name: "Read",
-        meaning: "standard input could not be read; nothing was run",
-        remedy: "Look at what feeds the pipe, and run the command again.",
+        meaning: "standard input, or a file that was given to focusd load, could not be read; nothing was run, and nothing was loaded",
+        remedy: "Look at what feeds the pipe, or at the file that the next line names: whether it is there, is a file and may be read. Then run the command again.",
     },
     Explanation {
         code: "F2",
@@ -267,8 +267,26 @@ const COMMAND_CODES: &[Explanation] = &[
     Explanation {
         code: "F3",
         name: "TooLong",
-        meaning: "the script has more than 2^30 bytes; nothing was run",
-        remedy: "Cut it into several scripts and run them one after the other.",
+        meaning: "the script, or a file that was given to focusd load, has more than 2^30 bytes; nothing was run, and nothing was loaded",
+        remedy: "Cut a script into several, and run them one after the other. Give a long file to focusd import, which takes files of any length.",
+    },
+    Explanation {
+        code: "G1",
+        name: "Counts",
+        meaning: "focusd load was given more than 64 files; nothing was loaded",
+        remedy: "Load at most 64 files at a time, each time under another --origin; or give all of them to focusd import, which takes any number.",
+    },
+    Explanation {
+        code: "G2",
+        name: "Readers",
+        meaning: "the warehouse could not be shared with the analysts of focusd load; nothing was loaded",
+        remedy: "Ask for fewer by --analysts, and run the command again.",
+    },
+    Explanation {
+        code: "G3",
+        name: "Unpublished",
+        meaning: "files were stored by focusd load, and could not be shown to its analysts; they are there when the folder is opened again",
+        remedy: "Run the command again with the same files: none counts twice.",
     },
     Explanation {
         code: "K1",
@@ -335,5 +353,11 @@ const COMMAND_CODES: &[Explanation] = &[
         name: "Differs",
         meaning: "an entry of the warehouse can't be dumped: what a script can say of it reads as another entry; it has a value that no text reads as, as a time after 9999-12-30T22:00:00Z, or focusd has a defect",
         remedy: "The script that was printed ends before this entry. Files that no other program has written have no such value: then report the defect, with the entry's origin and number.",
+    },
+    Explanation {
+        code: "NoMemory",
+        name: "",
+        meaning: "the system gave focusd no more memory; what was accepted stays accepted, and nothing else was changed",
+        remedy: "Close other programs, or raise the limit of memory that focusd runs under. Then run the command again and send what wasn't accepted: none counts twice.",
     },
 ];

@@ -6,9 +6,9 @@ use crate::codes::{command_codes, content_codes};
 /// What a code means.
 #[derive(Clone, Copy, Debug)]
 pub struct Explanation {
-    /// The code, as `V5`.
+    /// The code, as `V5`, or `NoMemory`, which has no number.
     pub code: &'static str,
-    /// The name that is printed behind it, as `Cost`.
+    /// The name that is printed behind it, as `Cost`; empty where nothing is.
     pub name: &'static str,
     /// What is wrong, in words.
     pub meaning: &'static str,
@@ -16,7 +16,7 @@ pub struct Explanation {
     pub remedy: &'static str,
 }
 
-/// The explanation of a code, as `V5`, or `None` where no such code is printed.
+/// The explanation of a code, as `V5` or `NoMemory`, or `None` where no such code is printed.
 pub fn explain(code: &str) -> Option<&'static Explanation>
     ensures { IfSome result (λ e. e.now.code.now ≡ code.now) }
 {

@@ -1,13 +1,15 @@
 //! `focusd check`: all faults of CSV exports, and what is in them.
 ghost use Rattle.std.specs.Prelude.{◌≡◌, ◌≤◌, IfOk, IsTrue};
 
+use crate::messages::say_cut_fault;
+use crate::opening::open_export;
 use clap::ArgMatches;
 use fw_check::{Checker, as_json, as_text};
 use fw_command_line::{CURRENCY, FILES, FORMAT, QUIET};
 use fw_console::{Fault, Progress, print_answer, wrong_use};
 use fw_cut::{CutFault, Cutter, Part};
 use fw_rows::{Currency, RowFault};
-use std::fs;
+use fw_table::shown_text;
 use std::io::Read;
 use std::process::ExitCode;
 
@@ -49,12 +51,9 @@ fn check_named(
             progress,
         );
     }
-    match fs::open(rt, file) {
-        Ok(opened) => check_file(rt, file, opened, currency, is_json, progress),
-        Err(error) => {
-            let _ = eprintln!(rt; "focusd: {file}: {error}");
-            Ok(false)
-        }
+    match open_export(rt, file, progress)? {
+        Some(opened) => check_file(rt, file, opened, currency, is_json, progress),
+        None => Ok(false),
     }
 }
 
@@ -70,11 +69,20 @@ fn check_file<R: Read + Drop>(
     let mut checker = Checker::new(rt.alloc(), currency);
     match Cutter::open(rt.alloc(), reader) {
         Ok(mut cutter) => check_cut(rt, name, &mut cutter, &mut checker, is_json, progress),
-        Err(fault) => refused(rt, name, fault),
+        Err(CutFault::NoRecord) => {
+            checker.end(rt.alloc())?;
+            print_found(rt, name, &checker, is_json)?;
+            Ok(false)
+        }
+        Err(fault) => {
+            progress.end(rt);
+            say_cut_fault(rt, name, 1, 1, fault)?;
+            Ok(false)
+        }
     }
 }
 
-// Checks a file that is cut into parts, and prints what was found.
+// Checks a file that is cut into parts, and prints what was found, also where it can't be read to its end.
 fn check_cut<R: Read>(
     rt: &HostRuntime,
     name: &str,
@@ -85,12 +93,13 @@ fn check_cut<R: Read>(
 ) -> Result<bool, Fault>
     ensures clean { IfOk result (λ is_clean. IsTrue is_clean → (checker.new.faults ≡ 0) × 1 ≤ checker.new.records) }
 {
-    if !check_parts(rt, name, cutter, checker, progress)? {
-        return Ok(false);
-    }
+    let is_whole = check_parts(rt, name, cutter, checker, progress)?;
     progress.end(rt);
+    if is_whole {
+        checker.end(rt.alloc())?;
+    }
     print_found(rt, name, checker, is_json)?;
-    Ok(checker.faults == 0 && checker.records > 0)
+    Ok(is_whole && checker.faults == 0 && checker.records > 0)
 }
 
 // Prints what was found in a file.
@@ -108,7 +117,7 @@ fn print_found(
     print_answer(rt, answer.as_bytes())
 }
 
-// Checks the parts of a file in order; false where it was refused, which was said.
+// Checks the header of a file, and where that is right its parts in order; false where it can't be read to its end, which was said.
 fn check_parts<R: Read>(
     rt: &HostRuntime,
     name: &str,
@@ -116,8 +125,12 @@ fn check_parts<R: Read>(
     checker: &mut Checker,
     progress: &mut Progress,
 ) -> Result<bool, Fault> {
-    checker.pass_header(cutter.header());
+    checker.check_header(rt.alloc(), cutter.header())?;
+    checker.pass_header(cutter.header(), cutter.line_end());
     progress.took(rt, 0, cutter.header().len());
+    if checker.faults > 0 {
+        return Ok(true);
+    }
     for _ in 0..u64::MAX {
         match check_next(rt, name, cutter, checker, progress)? {
             Checked::Part => {}
@@ -150,7 +163,9 @@ fn check_next<R: Read>(
         Ok(part) => check_part(rt, name, &part, checker, progress),
         Err(fault) => {
             progress.end(rt);
-            let _said = refused(rt, name, fault)?;
+            let line = checker.lines.saturating_add(1);
+            let record = checker.records.saturating_add(1);
+            say_cut_fault(rt, name, line, record, fault)?;
             Ok(Checked::Refused)
         }
     }
@@ -170,6 +185,8 @@ fn check_part(
         Err(RowFault::NoMemory) => return Err(Fault::NoMemory),
         Err(fault) => {
             progress.end(rt);
+            let name = shown_text(rt.alloc(), name)?;
+            let name = name.as_str();
             let _ = eprintln!(rt; "focusd: {name}: {fault}");
             return Ok(Checked::Refused);
         }
@@ -181,13 +198,4 @@ fn check_part(
     } else {
         Checked::Part
     })
-}
-
-// Says why a file can't be cut.
-fn refused(rt: &HostRuntime, name: &str, fault: CutFault) -> Result<bool, Fault> {
-    if let CutFault::NoMemory = fault {
-        return Err(Fault::NoMemory);
-    }
-    let _ = eprintln!(rt; "focusd: {name}: {fault}");
-    Ok(false)
 }

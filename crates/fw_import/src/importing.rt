@@ -54,7 +54,7 @@ pub fn import_part<V: Volume>(
     ensures any_moment { MayStop V.tells V.view store.old store.new }
 {
     let currency = store.state().state().currency();
-    let entry = entry_of(alloc, currency, origin, number, text)?;
+    let entry = read_part(alloc, currency, origin, number, text)?;
     let rows = row_count(&entry);
     let outcome = submit(alloc, store, &entry)?;
     Ok(Taken { outcome, rows })
@@ -73,8 +73,12 @@ fn row_count(entry: &Entry) -> u64
     }
 }
 
-// The rows of a text as an entry.
-fn entry_of(
+/// The rows of a CSV text as the post of an origin under a number.
+///
+/// # Errors
+/// `Rows` where the text has a fault, the first one; `Entry` where the name of the origin, the number or the size is out of range;
+/// `NoMemory`.
+pub fn read_part(
     alloc: Global,
     currency: Currency,
     origin: &str,

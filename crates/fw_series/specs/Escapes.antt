@@ -1,6 +1,7 @@
 -- Texts of others within HTML.
 use Rattle.std.specs.Prelude.{ℕ, Bool, ◌==◌, ◌||◌, List, [], ◌∷◌, codes, if◌then◌else◌}
 use Rattle.std.specs.List.{flat_map}
+use Rattle.fw_table.specs.Shown.{shown_text}
 
 -- what stands for a byte of a text in HTML
 unfoldable pub reference : ℕ → List ℕ
@@ -10,6 +11,10 @@ reference byte =
 -- a text in HTML
 abbrev pub escaped : List ℕ → List ℕ
 escaped text = flat_map reference text
+
+-- what a page has of a text: what is shown of it, in HTML
+abbrev pub on_page : List ℕ → List ℕ
+on_page text = escaped (shown_text text)
 
 -- whether a byte begins or ends a tag, or ends a value in quotes
 abbrev pub is_markup : ℕ → Bool

@@ -1,5 +1,5 @@
 //! Charts of a page: a stack for each period, or a bar for each group.
-use crate::escapes::push_escaped;
+use crate::escapes::push_shown;
 use crate::lines::{Line, lines_of};
 use crate::names::name_of;
 use crate::series::{Part, Series};
@@ -10,7 +10,7 @@ use std::alloc::{AllocError, Global};
 /// How many groups have a colour; all others are grey.
 pub(crate) const COLOURS: usize = 8;
 
-/// How high a chart is, in the units of its drawing.
+/// How high a chart is, and how wide the room for bars, in the units of the drawing.
 const HEIGHT: u128 = 1_000;
 
 /// How wide a period is, and its stack, and where the stack begins.
@@ -64,6 +64,18 @@ impl Reach {
         self.scaled(self.above.saturating_add(below))
     }
 
+    // The bar of a charge within this reach: it begins where zero is, or ends there where the charge is below zero.
+    fn bar(self, charged: i128) -> Bar {
+        let length = self.scaled(charged.unsigned_abs());
+        let zero = self.scaled(self.below);
+        let start = if charged < 0 {
+            zero.saturating_sub(length)
+        } else {
+            zero
+        };
+        Bar { start, length }
+    }
+
     // An amount in the units of the drawing.
     fn scaled(self, amount: u128) -> u128 {
         let whole = self.above.saturating_add(self.below);
@@ -72,6 +84,13 @@ impl Reach {
             .checked_div(whole)
             .unwrap_or(0)
     }
+}
+
+/// A bar across a drawing that is as wide as it is high: where it begins, counted from the left, and how long it is.
+#[derive(Clone, Copy, Debug)]
+struct Bar {
+    start: u128,
+    length: u128,
 }
 
 /// The class of a line's colour: its place among the names, or the one of all others.
@@ -182,7 +201,7 @@ fn push_stack(
             "<rect class=\"{class}\" x=\"{left}\" y=\"{top}\" width=\"{STACK_WIDTH}\" height=\"{height}\"><title>{period}, "
         )?;
         put(page, shape.as_str())?;
-        push_escaped(page, name_of(line))?;
+        push_shown(alloc, page, name_of(line))?;
         let cost = cents_text(alloc, line.costs.charged)?;
         put(page, ": ")?;
         put(page, cost.as_str())?;
@@ -212,7 +231,8 @@ fn push_ends(
     put(page, "</span></p>")
 }
 
-/// Adds a bar for each line, as long as its part of the greatest charge.
+/// Adds a bar for each line, as long as its part of all that the bars reach over: to the right of zero, or to the left where the charge is below
+/// zero.
 pub(crate) fn push_bars(
     alloc: Global,
     page: &mut Vec<u8>,
@@ -225,7 +245,7 @@ pub(crate) fn push_bars(
     }
     put(page, "<div class=\"bars\">")?;
     for line in lines {
-        push_bar(alloc, page, line, reach.above, names)?;
+        push_bar(alloc, page, line, reach, names)?;
     }
     put(page, "</div>")
 }
@@ -235,19 +255,23 @@ fn push_bar(
     alloc: Global,
     page: &mut Vec<u8>,
     line: &Line<'_>,
-    most: u128,
+    reach: Reach,
     names: &[String],
 ) -> Result<(), AllocError> {
-    let above = Reach::NONE.with(line.costs.charged).above;
-    let tenths = above.saturating_mul(1_000).checked_div(most).unwrap_or(0);
+    let bar = reach.bar(line.costs.charged);
+    let start = percent_text(alloc, bar.start)?;
+    let length = percent_text(alloc, bar.length)?;
     let class = class_of(alloc, line, names)?;
     let cost = cents_text(alloc, line.costs.charged)?;
     put(page, "<span>")?;
-    push_escaped(page, name_of(line))?;
+    push_shown(alloc, page, name_of(line))?;
     let bar = format!(in alloc;
-        "</span><span class=\"bar\"><i class=\"{class}\" style=\"width:{}.{}%\"></i></span><span class=\"number\">{cost}</span>",
-        tenths / 10,
-        tenths % 10
+        "</span><span class=\"bar\"><i class=\"{class}\" style=\"margin-left:{start};width:{length}\"></i></span><span class=\"number\">{cost}</span>"
     )?;
     put(page, bar.as_str())
+}
+
+// A length in thousandths of the drawing, as percent.
+fn percent_text(alloc: Global, thousandths: u128) -> Result<String, AllocError> {
+    format!(in alloc; "{}.{}%", thousandths / 10, thousandths % 10)
 }

@@ -2,13 +2,23 @@
 ghost use Rattle.std.specs.Prelude.{◌≡◌, ◌++◌, IfOk, OnOk, Some, string_bytes};
 ghost use Rattle.serde_json.specs.Data.{string};
 ghost use Rattle.serde_json.specs.Read.{read};
-ghost use Rattle.fw_series.specs.Escapes.{escaped, reference};
+ghost use Rattle.fw_series.specs.Escapes.{escaped, on_page, reference};
 
+use fw_table::shown_text;
 use serde_json::Value;
 use std::alloc::{AllocError, Global};
 
-/// Adds a text to a page so that none of it is markup: `&`, `<`, `>`, `"` and `'` become references, as `&lt;`.
-pub(crate) fn push_escaped(page: &mut Vec<u8>, text: &str) -> Result<(), AllocError>
+/// Adds what is shown of a text ([`shown_text`]) to a page so that none of it is markup: `&`, `<`, `>`, `"` and `'` become references,
+/// as `&lt;`.
+pub(crate) fn push_shown(alloc: Global, page: &mut Vec<u8>, text: &str) -> Result<(), AllocError>
+    ensures { OnOk result (page.new.items ≡ page.old.items ++ on_page text.now) }
+{
+    let shown = shown_text(alloc, text)?;
+    push_escaped(page, shown.as_str())
+}
+
+// Adds a text to a page so that none of it is markup.
+fn push_escaped(page: &mut Vec<u8>, text: &str) -> Result<(), AllocError>
     ensures { OnOk result (page.new.items ≡ page.old.items ++ escaped text.now) }
 {
     for byte in text.as_bytes() {

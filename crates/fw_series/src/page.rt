@@ -1,6 +1,6 @@
 //! Reports as a page of HTML: one file that needs nothing else.
 use crate::chart::{COLOURS, class_of, push_bars, push_stacks, put};
-use crate::escapes::push_escaped;
+use crate::escapes::push_shown;
 use crate::lines::{Line, lines_of};
 use crate::names::{chosen, name_of};
 use crate::series::{Part, Series};
@@ -100,14 +100,14 @@ fn push_head(alloc: Global, page: &mut Vec<u8>, view: &View<'_>) -> Result<(), A
     let to = hour_text(alloc, view.to)?;
     put(page, HEAD)?;
     put(page, "Costs by ")?;
-    push_escaped(page, view.tag)?;
+    push_shown(alloc, page, view.tag)?;
     put(page, STYLE)?;
     put(page, "<h1>Costs by ")?;
-    push_escaped(page, view.tag)?;
+    push_shown(alloc, page, view.tag)?;
     put(page, "</h1>\n<p class=\"quiet\">")?;
     let range = format!(in alloc; "{from} to {to}, in ")?;
     put(page, range.as_str())?;
-    push_escaped(page, view.currency)?;
+    push_shown(alloc, page, view.currency)?;
     put(page, "; the chart shows ChargedCost</p>\n")
 }
 
@@ -123,7 +123,7 @@ fn push_legend(
         let class = class_of(alloc, line, colours)?;
         let item = format!(in alloc; "<li><i class=\"{class}\"></i>")?;
         put(page, item.as_str())?;
-        push_escaped(page, name_of(line))?;
+        push_shown(alloc, page, name_of(line))?;
         put(page, "</li>")?;
     }
     put(page, "</ul>\n")
@@ -144,7 +144,7 @@ fn push_periods(
     )?;
     for line in drawn {
         put(page, "<th>")?;
-        push_escaped(page, name_of(line))?;
+        push_shown(alloc, page, name_of(line))?;
         put(page, "</th>")?;
     }
     put(page, "<th>Total</th></tr></thead>\n<tbody>\n")?;
@@ -215,7 +215,7 @@ fn push_groups(
     let lines = lines_of(alloc, report, names)?;
     for line in &lines {
         put(page, "<tr><td>")?;
-        push_escaped(page, name_of(line))?;
+        push_shown(alloc, page, name_of(line))?;
         put(page, "</td>")?;
         push_costs(alloc, page, &line.costs, &sums)?;
     }

@@ -26,6 +26,18 @@ const FINDINGS: &[(&str, &str, u64, u64)] = &[
     ("V1 Fields", "", 1, 7),
 ];
 
+/// A header that lacks four columns and has one twice.
+const HEADER: &str = "BilledCost,Tags,EffectiveCost,BilledCost\n";
+
+/// The codes and columns of its faults, in order.
+const HEADER_FINDINGS: &[(&str, &str)] = &[
+    ("H1 MissingColumn", "BillingCurrency"),
+    ("H1 MissingColumn", "ChargeCategory"),
+    ("H1 MissingColumn", "ChargePeriodStart"),
+    ("H1 MissingColumn", "ChargePeriodEnd"),
+    ("H2 DoubleColumn", "BilledCost"),
+];
+
 /// What is found in the text.
 fn checked(alloc: Global) -> Result<Checker, RowFault> {
     let Some(currency) = Currency::new(b"USD") else {
@@ -35,7 +47,7 @@ fn checked(alloc: Global) -> Result<Checker, RowFault> {
     let Ok(mut cutter) = Cutter::open(alloc, TEXT.as_bytes()) else {
         return Err(RowFault::NoMemory);
     };
-    checker.pass_header(cutter.header());
+    checker.pass_header(cutter.header(), cutter.line_end());
     let Ok(part) = cutter.next_part(alloc) else {
         return Err(RowFault::NoMemory);
     };
@@ -68,12 +80,53 @@ fn is_right(checker: &Checker) -> bool {
         && checker.statistics.billed == 4_000_000_000
         && checker.statistics.effective == 6_000_000_000
         && checker.statistics.hours.len() == 2
+        && checker.statistics.currencies.len() == 1
 }
 
 /// Whether the text's faults are found.
 fn are_found(alloc: Global) -> Result<bool, RowFault> {
     let checker = checked(alloc)?;
     Ok(is_right(&checker))
+}
+
+/// Whether the faults of the header are found, and no other.
+fn are_found_in_header(alloc: Global) -> Result<bool, RowFault> {
+    let Some(currency) = Currency::new(b"USD") else {
+        return Err(RowFault::NoRows);
+    };
+    let mut checker = Checker::new(alloc, currency);
+    checker.check_header(alloc, HEADER.as_bytes())?;
+    checker.end(alloc)?;
+    for (finding, (code, column)) in checker.findings.iter().zip(HEADER_FINDINGS) {
+        if finding.code != *code || finding.column != *column {
+            return Ok(false);
+        }
+    }
+    Ok(checker.findings.len() == HEADER_FINDINGS.len() && checker.faults == 5)
+}
+
+#[test]
+fn finds_each_fault_of_a_header(rt: HostRuntime) -> Result<(), Fail> {
+    check(&rt, are_found_in_header(rt.alloc()))
+}
+
+/// Whether a text without a record has a fault.
+fn is_empty_found(alloc: Global) -> Result<bool, RowFault> {
+    let Some(currency) = Currency::new(b"USD") else {
+        return Err(RowFault::NoRows);
+    };
+    let mut checker = Checker::new(alloc, currency);
+    checker.end(alloc)?;
+    let code = match checker.findings.first() {
+        Some(finding) => finding.code,
+        None => "",
+    };
+    Ok(code == "V14 NoRows" && checker.faults == 1)
+}
+
+#[test]
+fn finds_that_there_is_no_record(rt: HostRuntime) -> Result<(), Fail> {
+    check(&rt, is_empty_found(rt.alloc()))
 }
 
 #[test]

@@ -77,15 +77,44 @@ const LENGTHS: &[(usize, &[usize])] = &[
     (9000, &[36864, 36864, 7273]),
 ];
 
-/// Whether each text has parts of its lengths.
+/// Whether each text has parts of its lengths, and as many records as are counted.
 fn are_cut(alloc: Global) -> Result<bool, CutFault> {
     for (records, lengths) in LENGTHS {
         let text = long_text(alloc, *records)?;
         if part_lengths(alloc, &text)?.as_slice() != *lengths {
             return Ok(false);
         }
+        if Cutter::open(alloc, text.as_slice())?.count_left(alloc)? != *records as u64 {
+            return Ok(false);
+        }
     }
     Ok(true)
+}
+
+/// Texts with their header, and how many records follow it.
+const COUNTS: &[(&str, u64)] = &[
+    ("h\n", 0),
+    ("h\n\r\n\n", 0),
+    ("h\na", 1),
+    ("h\n\na\n\nb\n", 2),
+    ("h\n\"", 1),
+    ("h\na,\n,", 2),
+    ("h\n\"a\nb\"\nc", 2),
+];
+
+/// Whether each text has its number of records.
+fn are_counted(alloc: Global) -> Result<bool, CutFault> {
+    for (text, count) in COUNTS {
+        if Cutter::open(alloc, text.as_bytes())?.count_left(alloc)? != *count {
+            return Ok(false);
+        }
+    }
+    Ok(true)
+}
+
+#[test]
+fn records_are_counted(rt: HostRuntime) -> Result<(), Fail> {
+    check(&rt, are_counted(rt.alloc()))
 }
 
 #[test]

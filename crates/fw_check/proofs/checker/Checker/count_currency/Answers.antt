@@ -19,8 +19,8 @@ code_is_utf8 code valid = IsUtf8-from_ascii code (IsAscii-from_all code (All-wea
 pub returns-in_default : goal.returns-in_default
 returns-in_default c = absurd (c.in_default.ensures.cases.0 (subst IsUtf8 (sym c.code.ensures.letters) (code_is_utf8 c.args.self.now.currency c.code.ensures.valid)))
 
-pub returns : goal.returns
-returns c =
+pub returns-clause-counts : goal.returns-clause-counts
+returns-clause-counts c =
     let old : CheckValue = checked c.args.self.now in
     let entries = c.args.self.now.statistics.currencies.entries in
     let text : c.in-Ok.text.now ≡ c.args.self.now.currency = c.in-Ok.ensures.cases.0 ∙ c.code.ensures.letters in
@@ -28,6 +28,7 @@ returns c =
     c.in_ok-count_text.ensures ∙ ap (λ t. counted bytes_eq t c.args.count (text_counts entries)) text in
     λ j. record {
       currency = old.currency;
+      line_end = old.line_end;
       records = old.records;
       lines = old.lines;
       bad_records = old.bad_records;

@@ -4,16 +4,16 @@ ghost use Rattle.std.specs.Process.{exit_status};
 ghost use Rattle.fw_calendar.specs.Times.{IsTimeText};
 ghost use Rattle.fw_console.specs.Statuses.{wrong_use_status};
 
+use crate::fault::{Fault, WRONG_USE};
 use clap::ArgMatches;
 use fw_calendar::read_time;
 use fw_command_line::{FROM, TO};
-use fw_console::{Fault, WRONG_USE};
 use std::alloc::Global;
 use std::process::ExitCode;
 
 /// The first hour of the range and the hour after the last, counted from 1970, or the id of the option that is no time.
 /// `Range` where the range has no hour, which is said before a warehouse is opened.
-pub(crate) fn read_range(
+pub fn read_range(
     alloc: Global,
     options: &ArgMatches<'_>,
 ) -> Result<Result<(u64, u64), &'static str>, Fault>
@@ -39,13 +39,13 @@ fn range_of(alloc: Global, from: &str, to: &str) -> Result<Result<(u64, u64), &'
     }
 }
 
-/// Says that the value of an option is no time.
-pub(crate) fn wrong_time(rt: &HostRuntime, options: &ArgMatches<'_>, id: &str) -> ExitCode
+/// Says that the value of an option is no time, or one before 1970 or after 9999.
+pub fn wrong_time(rt: &HostRuntime, options: &ArgMatches<'_>, id: &str) -> ExitCode
     ensures { exit_status result ≡ wrong_use_status }
 {
     let text = options.get_str(id).unwrap_or("");
     let _ = eprintln!(rt;
-        "focusd: --{id}: {text:?} is not a time: write a month (2024-01), a date (2024-01-31) or a whole hour (2024-01-31T14:00Z)"
+        "focusd: --{id}: {text:?} is not a time from 1970 to 9999: write a month (2024-01), a date (2024-01-31) or a whole hour (2024-01-31T14:00Z)"
     );
     ExitCode::from(WRONG_USE)
 }

@@ -1,7 +1,7 @@
 use Rattle.std.proofs.Common.{◌≡◌, ◌∙◌, ◌++◌, ℕ, List, string_bytes}
 use Rattle.fw_check.specs.Answers.{summary_text, sums_text}
 use Rattle.fw_check.proofs.AnswerFacts.{regroup_4}
-use Rattle.fw_check.proofs.report.as_text.Goals as goal
+use Rattle.fw_check.proofs.report.text_of.Goals as goal
 
 pub returns : goal.returns
 returns c =

@@ -1,0 +1,110 @@
+//! Whether the rows of files fit into a warehouse, before the first of them is posted.
+use crate::house::House;
+use fw_console::{Fault, bytes_of};
+use fw_cut::{CutFault, Cutter};
+use fw_import::{fits, surely_fits};
+use std::fs;
+
+/// Whether the rows of files fit into a warehouse, as the posts of an origin; where they don't, that is said. Files that are no plain files, or so short that
+/// their rows fit in any case, aren't read.
+pub(crate) fn do_fit(
+    rt: &HostRuntime,
+    house: &House,
+    origin: &str,
+    files: &[&str],
+) -> Result<bool, Fault> {
+    let Some(bytes) = plain_bytes(rt, files) else {
+        return Ok(true);
+    };
+    let posted = house.rows_posted();
+    if surely_fits(posted, bytes) {
+        return Ok(true);
+    }
+    let Some(rows) = count_rows(rt, files)? else {
+        return Ok(true);
+    };
+    let sent = rows_sent(rt, house, origin)?;
+    if fits(posted, sent, rows) {
+        return Ok(true);
+    }
+    say_too_many(rt, house, origin, files.len(), rows, sent);
+    Ok(false)
+}
+
+// The bytes of files, where each is a plain file.
+fn plain_bytes(rt: &HostRuntime, files: &[&str]) -> Option<u64> {
+    for file in files {
+        if *file == "-" {
+            return None;
+        }
+    }
+    bytes_of(rt, files)
+}
+
+// How many records files have behind their headers. None where one can't be read or cut: its import says why.
+fn count_rows(rt: &HostRuntime, files: &[&str]) -> Result<Option<u64>, Fault> {
+    let mut rows: u64 = 0;
+    for file in files {
+        match rows_in(rt, file)? {
+            Some(more) => rows = rows.saturating_add(more),
+            None => return Ok(None),
+        }
+    }
+    Ok(Some(rows))
+}
+
+// How many records a file has behind its header.
+fn rows_in(rt: &HostRuntime, file: &str) -> Result<Option<u64>, Fault> {
+    let Ok(opened) = fs::open(rt, file) else {
+        return Ok(None);
+    };
+    match Cutter::open(rt.alloc(), opened) {
+        Ok(mut cutter) => counted(cutter.count_left(rt.alloc())),
+        Err(fault) => counted(Err(fault)),
+    }
+}
+
+// A count, where there is one.
+fn counted(count: Result<u64, CutFault>) -> Result<Option<u64>, Fault> {
+    match count {
+        Ok(rows) => Ok(Some(rows)),
+        Err(CutFault::NoMemory) => Err(Fault::NoMemory),
+        Err(CutFault::Read | CutFault::NoRecord | CutFault::TooLong | CutFault::LongHeader) => {
+            Ok(None)
+        }
+    }
+}
+
+// How many rows an origin has posted, also those of posts that were withdrawn: its posts stand for the first records of the files.
+fn rows_sent(rt: &HostRuntime, house: &House, origin: &str) -> Result<u64, Fault> {
+    let mut rows: u64 = 0;
+    for post in house.posts_of(rt.alloc(), origin)?.as_slice() {
+        rows = rows.saturating_add(post.rows);
+    }
+    Ok(rows)
+}
+
+// Says that the rows of so many files are too many, and what to do.
+fn say_too_many(rt: &HostRuntime, house: &House, origin: &str, files: usize, rows: u64, sent: u64) {
+    let posted = house.rows_posted();
+    let files_have = if files == 1 { "file has" } else { "files have" };
+    let more = if rows == 1 { "row" } else { "rows" };
+    let rows_were = if posted == 1 { "row was" } else { "rows were" };
+    let _ = eprintln!(rt;
+        "focusd: the rows don't fit: {files} {files_have} {rows} {more}, {posted} {rows_were} posted before, {sent} of them by {origin}, and a warehouse takes at most 4194304 rows (J1 Full). Nothing was imported."
+    );
+    say_how_to_fit(rt, house, rows.saturating_sub(sent));
+}
+
+/// Says what to do where so many more rows don't fit.
+pub(crate) fn say_how_to_fit(rt: &HostRuntime, house: &House, more: u64) {
+    let gone = house.rows_posted().saturating_sub(house.rows());
+    if gone > 0 && fits(house.rows(), 0, more) {
+        let were = if gone == 1 { "was" } else { "were" };
+        let _ = eprintln!(rt;
+            "{gone} of the rows posted {were} withdrawn: `focusd compact` makes room of them."
+        );
+    } else {
+        let _ = eprintln!(rt; "Import the files into another warehouse, e.g. one for each year.");
+    }
+}
