@@ -1,8 +1,9 @@
 #!/usr/bin/env python3
 """Runs the commands for people of a built program, and compares what they print with what another program computed.
 
-    examples/test_commands.py PROGRAM
+    examples/test_commands.py PROGRAM [TEST ..]
 
+A TEST is a class, or a test of one, as Files.test_an_import_is_taken_once; without any all are run.
 The warehouse is made from a script by `focusd run --dir`. What reports and lines must be comes from expected.py; a table is
 made of that here, by Python's decimal.
 """
@@ -38,6 +39,15 @@ def focusd(*words, given=b""):
     """The status, standard output and standard error of a run."""
     ran = subprocess.run([PROGRAM, *words], input=given, capture_output=True)
     return ran.returncode, ran.stdout.decode(), ran.stderr.decode()
+
+
+def with_no_reader(words):
+    """The status and standard error of a run whose standard output nobody reads."""
+    read, write = os.pipe()
+    os.close(read)
+    ran = subprocess.run([PROGRAM, *words], stdin=subprocess.DEVNULL, stdout=write, stderr=subprocess.PIPE)
+    os.close(write)
+    return ran.returncode, ran.stderr
 
 
 def warehouse_of(script, currency="USD"):
@@ -301,6 +311,23 @@ class Commands(unittest.TestCase):
             self.assertEqual([it.split(", ", 1)[1] for it in page.titles[1:]], [f"{it}: {names.index(it) + 1}.00" for it in ordered])
             self.assertNotIn("b", page.tags)
 
+    def test_bars_of_a_page(self):
+        """Each bar is as long as its part of the room, to the right of zero, or to the left where the charge is below zero."""
+        head = "BilledCost,EffectiveCost,BillingCurrency,ChargeCategory,ChargePeriodStart,ChargePeriodEnd,Tags"
+        for costs, bars in (
+            ({"a": 30, "b": -10, "c": 0}, {"a": ("25.0", "75.0"), "b": ("0.0", "25.0"), "c": ("25.0", "0.0")}),
+            ({"a": -5, "b": -20}, {"a": ("75.0", "25.0"), "b": ("0.0", "100.0")}),
+            ({"a": 20, "b": 5}, {"a": ("0.0", "100.0"), "b": ("0.0", "25.0")}),
+            ({"a": 0}, {"a": ("0.0", "0.0")}),
+        ):
+            rows = [f'{cost},{cost},USD,Usage,2024-01-01T00:00Z,2024-01-01T01:00Z,"{{""team"":""{name}""}}"' for name, cost in costs.items()]
+            script = f"post a 1 {len(rows) + 1}\n" + "\n".join([head, *rows]) + "\n"
+            with tempfile.TemporaryDirectory() as folder:
+                self.assertEqual(focusd("run", "--dir", folder, "--create", given=script.encode())[0], 0)
+                text = focusd("report", "--dir", folder, "--tag", "team", *MONTH, "--format", "html")[1]
+            found = re.findall(r'<span>(\w+)</span><span class="bar"><i class="c\d" style="margin-left:([\d.]+)%;width:([\d.]+)%"></i>', text)
+            self.assertEqual({name: (start, width) for name, start, width in found}, bars)
+
     def test_times(self):
         for low, high, first, end in (
             ("2024-01", "2024-02", "2024-01-01T00:00Z", "2024-02-01T00:00Z"),
@@ -407,9 +434,23 @@ class Commands(unittest.TestCase):
             status, printed, _ = focusd("explain", code.split()[0])
             self.assertEqual((status, printed.split(":")[0]), (0, code))
 
+    def test_each_code_in_the_sources_is_explained(self):
+        codes = set()
+        for source in (HERE.parent / "crates").glob("*/src/**/*.rt"):
+            if "fw_explain" not in source.parts:
+                codes |= set(re.findall(r'"([A-Z][0-9]+ [A-Z][A-Za-z0-9]+)', source.read_text()))
+        self.assertTrue({"V5 Cost", "G1 Counts", "G2 Readers", "G3 Unpublished"} <= codes, codes)
+        for code in [*sorted(codes), "NoMemory"]:
+            status, printed, said = focusd("explain", code.split()[0])
+            self.assertEqual((status, printed.split(":")[0], said), (0, code, ""))
+        for code in ("F1", "F3"):
+            self.assertIn("focusd load", focusd("explain", code)[1])
+
     def test_what_is_wrong(self):
         for words, wanted, named in (
             (("report", "--dir", self.folder, "--tag", "t", "--from", "2024-13", "--to", "2024-02"), 2, "--from"),
+            (("report", "--dir", self.folder, "--tag", "t", "--from", "1969-12", "--to", "2024-02"), 2, '--from: "1969-12" is not a time from 1970 to 9999:'),
+            (("report", "--dir", self.folder, "--tag", "t", "--from", "2024-01", "--to", "10000-01"), 2, '--to: "10000-01" is not a time from 1970 to 9999:'),
             (("report", "--dir", self.folder, "--tag", "t", "--from", "2024-01", "--to", "soon"), 2, "--to"),
             (("report", "--dir", self.folder, "--tag", "t", "--from", "2024-02", "--to", "2024-01"), 2, "--from"),
             (("report", "--dir", self.folder, "--from", "2024-01", "--to", "2024-02"), 2, "--tag"),
@@ -436,12 +477,65 @@ class Commands(unittest.TestCase):
             run.stdout.close()
             self.assertEqual((run.stderr.read(), run.wait()), (b"", 0))
 
+    def test_a_help_whose_reader_stops_early_and_one_that_is_full(self):
+        for words in (("--version",), ("--help",), ("report", "--help")):
+            with open("/dev/full", "wb") as full:
+                ran = subprocess.run([PROGRAM, *words], stdout=full, stderr=subprocess.PIPE)
+            self.assertEqual((ran.returncode, ran.stderr), (1, b"focusd: F2 Write\n"))
+            self.assertEqual(with_no_reader(words), (0, b""), words)
+
+    def test_arguments_that_are_not_utf8(self):
+        for words, place in (([b"caf\xe9"], 1), (["check", "a.csv", b"caf\xe9.csv", b"\xff"], 3), (["status", "--dir", b"\xff"], 3)):
+            ran = subprocess.run([PROGRAM, *words], capture_output=True)
+            said = f"focusd: argument {place} is not UTF-8: a file or a folder whose name is not UTF-8 can't be named; rename it\n"
+            self.assertEqual((ran.returncode, ran.stdout, ran.stderr.decode()), (2, b"", said), words)
+
+    def test_a_currency_that_is_none(self):
+        # The line that scripts know, and the option and what it takes, where nothing reads standard error.
+        self.assertEqual(focusd("run", "--currency", "eu"), (2, "", "focusd: currency\n"))
+        ours, terminal = os.openpty()
+        run = subprocess.run([PROGRAM, "run", "--currency", "eu"], stdin=subprocess.DEVNULL, stderr=terminal)
+        os.close(terminal)
+        said = b""
+        while said.count(b"\n") < 2:
+            said += os.read(ours, 4096)
+        os.close(ours)
+        self.assertEqual((run.returncode, said.decode().splitlines()), (2, ["focusd: currency", '--currency: "eu" is not three capital letters, as USD']))
+
+    def test_nothing_is_made_in_a_folder_without_a_warehouse(self):
+        right = str(HERE / "focus-export.csv")
+        asking = ("report", "--tag", "t", *MONTH), ("lines", *MONTH), ("coverage", *MONTH), ("status",), ("verify",), ("dump",), ("checkpoint",)
+        correcting = ("withdraw", "--origin", "a", "--all", "--yes"), ("compact", "--into", "/no such folder/new")
+        taking = ("replace", "--origin", "a", right), ("import", "--origin", "a", right), ("add", "--origin", "a", right)
+        for words in (*asking, *correcting, *taking):
+            with tempfile.TemporaryDirectory() as folder:
+                status, printed, said = focusd(*words, "--dir", folder)
+                self.assertEqual((status, printed, said.splitlines()[0]), (1, "", "focusd: S1 NoHouse"), words)
+                self.assertEqual(os.listdir(folder), [], words)
+                # A folder that isn't there, and a file in place of one, are another fault.
+                file = pathlib.Path(folder) / "file"
+                file.write_bytes(b"")
+                for path in (file, file / "none", pathlib.Path(folder) / "none"):
+                    self.assertEqual(focusd(*words, "--dir", str(path))[2].splitlines()[0], "focusd: K1 Io", path)
+                self.assertEqual(os.listdir(folder), ["file"], words)
+
     def test_help_and_version(self):
         for words in ((), ("run",), ("import",), ("load",), ("add",), ("check",), ("report",), ("lines",), ("coverage",), ("status",), ("verify",), ("checkpoint",), ("dump",), ("explain",)):
             status, printed, said = focusd(*words, "--help")
             self.assertEqual((status, said), (0, ""), words)
             self.assertIn("Example", printed, words)
         self.assertEqual(focusd("--version")[0], 0)
+
+    def test_the_help_has_each_command_of_scripts_and_each_warning(self):
+        table = (HERE.parent / "docs" / "FORMATS.md").read_text().split("| command | meaning |\n", 1)[1].split("\n\n", 1)[0]
+        words = re.findall(r"^\| `(\w+)", table, re.M)
+        self.assertIn("withdraw", words)
+        listed = focusd("run", "--help")[1].split("Commands of a script", 1)[1].split("\n\n", 1)[0]
+        self.assertEqual(sorted(re.findall(r"^  (\w+)", listed, re.M)), sorted(words))
+        for command in ("import", "check"):
+            printed = " ".join(focusd(command, "--help")[1].split())
+            for said in ("another origin has", "posts", "behind those of the files", "won't fit"):
+                self.assertIn(said, printed, command)
 
 
 class WithdrawnPosts(Commands):
@@ -511,19 +605,126 @@ class Outside(unittest.TestCase):
             if count:
                 self.assertEqual(len(printed.splitlines()), count, printed)
 
+    ACTING = "[\x00-\x09\x0b-\x1f\x7f-\x9f\u061c\u200e\u200f\u2028-\u202e\u2066-\u2069]"
+
+    def test_pages(self):
+        for words in ((), ("--by", "day")):
+            status, printed, said = focusd("report", "--dir", self.folder, "--tag", self.TEXT, *MONTH, "--format", "html", *words)
+            self.assertEqual((status, said), (0, ""), words)
+            self.assertNotRegex(printed, self.ACTING, words)
+            page = Page(printed)
+            self.assertEqual(page.titles[0], f"Costs by {self.SHOWN}")
+            self.assertIn(self.SHOWN, [row[0] for table in page.tables for row in table])
+
+    def test_csv_and_json_have_texts_as_they_are(self):
+        words = ("report", "--dir", self.folder, "--tag", self.TEXT, *MONTH, "--format")
+        found = json.loads(focusd(*words, "json")[1])
+        self.assertEqual((found["tag"], found["groups"][-1]["group"]), (self.TEXT, self.TEXT))
+        found = list(expected.csv.reader(io.StringIO(focusd(*words, "csv")[1], newline="")))
+        self.assertEqual(found[-1][0], self.TEXT)
+
+    def test_messages(self):
+        """Names of files and words of the command line."""
+        name = "a\x1b[2J\u202e.csv"
+        for words in (
+            ("load", str(pathlib.Path(self.folder) / name)),
+            ("load", self.folder + "/none\x1b[2J\u202e", self.folder),
+            (name,),
+            ("report", "--" + name),
+            ("report", "--dir", self.folder, "--tag", "t", "--from", name, "--to", "2024-01"),
+            ("report", "--dir", self.folder, "--tag", "t", *MONTH, "--top", name),
+            ("explain", name),
+            ("load", "--currency", name, "x"),
+            ("verify", "--dir", self.folder + "/none\x1b[2J\u202e"),
+        ):
+            status, printed, said = focusd(*words)
+            self.assertNotEqual(status, 0, words)
+            self.assertEqual(printed, "", words)
+            self.assertNotRegex(said, self.ACTING, words)
+            self.assertIn("\\u{1b}[2J\\u{202e}", said, words)
+
+    def said(self, status, *words):
+        """What a run that ends with this status prints. It names a file, as a terminal may show it."""
+        ended, printed, said = focusd(*words)
+        self.assertEqual(ended, status, (words, said))
+        self.assertNotRegex(printed + said, self.ACTING, words)
+        self.assertIn("\\u{1b}[2J\\u{202e}", printed + said, words)
+        return printed + said
+
+    def test_names_of_files(self):
+        head = "BilledCost,EffectiveCost,BillingCurrency,ChargeCategory,ChargePeriodStart,ChargePeriodEnd"
+        row = "0,0,USD,Tax,2024-01-01T00:00Z,2024-01-01T01:00Z"
+        top = pathlib.Path(self.folder)
+
+        def file(name, text):
+            path = top / f"{name}\x1b[2J\u202e"
+            path.write_text(text, encoding="utf-8")
+            return str(path)
+
+        good, two = file("good", f"{head}\n{row}\n"), file("two", f"{head}\n{row}\n{row}\n")
+        wrong, fields = file("wrong", f"{head}\n{row.replace('Tax', 'Rent')}\n"), file("fields", f"{head}\n{row},1\n")
+        lacking, none, long = file("lacking", "a\n1\n"), file("none", ""), file("long", f'{head}\n"{"x" * (5 << 20)}')
+        own = file("own", f"{head},CommitmentDiscountId,CommitmentDiscountCategory,CommitmentDiscountStatus\n{row},cd-1,Usage,Used\n")
+        folder, missing = top / "folder\x1b[2J\u202e", top / "missing\x1b[2J\u202e"
+        folder.mkdir()
+        for name in (wrong, fields, lacking, none, long, str(folder), str(missing)):
+            self.said(1, "check", name)
+            for command in ("import", "replace"):
+                self.said(1, command, "--dir", self.folder, "--origin", "new", name)
+        words = ("import", "--dir", self.folder, "--origin", "new")
+        self.assertIn("focusd: warning: ", self.said(0, *words, good))
+        self.said(1, *words, two)
+        self.assertEqual(focusd("run", "--dir", self.folder, given=b"withdraw new 2 1\n")[1], "accepted 5\n")
+        self.said(1, *words, good)
+        toml = 'id = "cd-1"\ncategory = "Usage"\nstart = "2024-01-01T00:00Z"\nhours = 1\ncapacity = "1"\nunit = "h"\nskus = ["v"]\n'
+        toml += '[[purchase]]\nat = "2024-01-01T00:00Z"\nbilled = "1"\n'
+        add = ("add", "--dir", self.folder, "--origin", "billing")
+        for name in (wrong, none, str(folder), str(missing), file("no hour.toml", toml.replace("hours = 1", "hours = 0"))):
+            self.said(1, *add, name)
+        right = file("right.toml", toml)
+        for more in (("--dry-run",), (), ()):
+            self.said(0, *add, *more, right)
+        self.said(1, *add, file("other.toml", toml.replace("hours = 1", "hours = 2")))
+        self.said(1, "import", "--dir", self.folder, "--origin", "last", own)
+
+    def test_the_name_of_a_folder(self):
+        folder = pathlib.Path(self.folder) / "costs\x1b[2J\u202e"
+        folder.mkdir()
+        self.assertEqual(focusd("run", "--dir", str(folder), "--create")[0], 0)
+        self.said(2, "import", "--dir", str(folder), "--origin", "a", "--currency", "EUR", "a file")
+        (folder / "replacing").write_text("a\x1b[2J\u202e\n", encoding="utf-8")
+        # The origin stands there twice, and the folder once.
+        self.assertEqual(self.said(0, "status", "--dir", str(folder)).count("\\u{1b}[2J\\u{202e}"), 3)
+
+    def test_check(self):
+        file = pathlib.Path(self.folder) / "a\x1b[2J\u202e.csv"
+        head = "BilledCost,EffectiveCost,BillingCurrency,ChargeCategory,ChargePeriodStart,ChargePeriodEnd"
+        file.write_text(f"{head}\n\x1b[2J\u202e,1,USD,Tax,2024-01-01T00:00Z,2024-01-01T01:00Z\n", encoding="utf-8")
+        status, printed, said = focusd("check", str(file))
+        self.assertEqual((status, said), (1, ""))
+        self.assertNotRegex(printed, self.ACTING)
+        self.assertEqual(printed.count("\\u{1b}[2J\\u{202e}"), 3)
+
 
 class Files(unittest.TestCase):
     """Import and check, over the shipped export."""
 
     EXPORT = HERE / "focus-export.csv"
     SEPTEMBER = ("--tag", "team", "--from", "2024-09", "--to", "2024-10", "--format", "csv")
+    HEADER = b"BilledCost,EffectiveCost,BillingCurrency,ChargeCategory,ChargePeriodStart,ChargePeriodEnd\n"
+    ROW = b"0.1,0.1,USD,Tax,2024-01-01T00:00Z,2024-01-01T01:00Z\n"
 
     def setUp(self):
-        made = tempfile.TemporaryDirectory()
+        made, room = tempfile.TemporaryDirectory(), tempfile.TemporaryDirectory()
         self.addCleanup(made.cleanup)
-        self.folder = made.name
+        self.addCleanup(room.cleanup)
+        self.folder, self.room = made.name, pathlib.Path(room.name)
         status, _, said = focusd("run", "--dir", self.folder, "--create")
         self.assertEqual((status, said), (0, ""))
+
+    def file(self, name, text):
+        (self.room / name).write_bytes(text)
+        return str(self.room / name)
 
     def imported(self, file):
         return focusd("import", "--quiet", "--dir", self.folder, "--origin", "aws", str(file))
@@ -552,12 +753,245 @@ class Files(unittest.TestCase):
             self.assertEqual(focusd("report", "--dir", folder, *self.SEPTEMBER)[1], self.report())
 
     def test_a_new_warehouse_has_the_currency_that_was_named(self):
+        euros = self.file("euros.csv", self.EXPORT.read_bytes().replace(b"USD", b"EUR"))
         with tempfile.TemporaryDirectory() as folder:
-            words = ("import", "--quiet", "--dir", folder, "--origin", "aws", "--create", "--currency", "EUR", str(self.EXPORT))
-            status, _, said = focusd(*words)
-            self.assertEqual(status, 1)
-            self.assertIn("BillingCurrency", said)
+            words = ("import", "--quiet", "--dir", folder, "--origin", "aws", "--create")
+            # Nothing is made until the first post is known to be right.
+            for more in (("--currency", "EUR", str(self.EXPORT)), (euros,), (self.file("none.csv", self.HEADER),), (self.file("empty.csv", b""),), ("no such file",)):
+                status, printed, said = focusd(*words, *more)
+                self.assertEqual((status, printed), (1, ""), more)
+                self.assertEqual(focusd("status", "--dir", folder), (1, "", "focusd: S1 NoHouse\n"), more)
+            status, _, said = focusd(*words, euros)
+            self.assertIn(':2: record 1, BillingCurrency: "EUR": V6 Currency: expected USD, the currency of the warehouse that would be made', said)
+            self.assertEqual(focusd(*words, "--currency", "EUR", euros)[0], 0)
             self.assertIn(["Currency", "EUR"], [line.split() for line in focusd("status", "--dir", folder)[1].splitlines()])
+            # The currency of a warehouse that there is needn't be named, and another one is refused by name of both.
+            self.assertEqual(focusd(*words, euros)[0], 0)
+            status, printed, said = focusd(*words, "--currency", "USD", euros)
+            self.assertEqual((status, printed), (2, ""))
+            self.assertEqual(said, f"focusd: --currency USD: the currency of the warehouse in {folder} is EUR\n")
+            status, _, said = focusd(*words[:-1], str(self.EXPORT))
+            self.assertEqual(status, 1)
+            self.assertIn('BillingCurrency: "USD": V6 Currency: expected EUR, the currency of the warehouse\n', said)
+
+    def test_an_origin_that_is_none_is_refused_before_anything_is_opened(self):
+        for origin in ("a b", "", "a" * 65, "é"):
+            for folder in (self.folder, "/no such folder"):
+                status, printed, said = focusd("import", "--dir", folder, "--create", "--origin", origin, str(self.EXPORT))
+                self.assertEqual((status, printed), (2, ""), origin)
+                self.assertIn("focusd: --origin: ", said)
+
+    def test_rows_that_another_origin_has_are_warned_of_once(self):
+        self.assertEqual(self.imported(self.EXPORT)[2], "")
+        self.assertEqual(self.imported(self.EXPORT)[2], "")
+        export = self.EXPORT.read_bytes()
+        header, *rows = export.splitlines(keepends=True)
+        long = self.file("long.csv", header + b"".join(rows) * 30)
+        status, printed, said = focusd("import", "--quiet", "--dir", self.folder, "--origin", "again", long)
+        self.assertEqual((status, printed.split(";")[0]), (0, "imported 9000 rows, 0 were there already"))
+        posts = int(printed.split()[-2])
+        self.assertGreater(posts, 1)
+        self.assertEqual(said.count("warning"), 1)
+        self.assertRegex(said, r"^focusd: warning: .*long\.csv has rows of 2024-09-\d\dT\d\d:00Z .*, and so has the origin aws\.\n")
+        self.assertIn("focusd replace", said)
+        # Rows that were there already are no news, nor are those of another hour, nor those that count no more.
+        self.assertEqual(focusd("import", "--quiet", "--dir", self.folder, "--origin", "again", long)[2], "")
+        later = self.file("later.csv", export.replace(b"2024-09-", b"2025-09-").replace(b"2024-10-", b"2025-10-"))
+        self.assertEqual(focusd("import", "--quiet", "--dir", self.folder, "--origin", "later", later)[2], "")
+        gone = "withdraw aws 2 1\n" + "".join(f"withdraw again {posts + it} {it}\n" for it in range(1, posts + 1))
+        self.assertEqual(focusd("run", "--dir", self.folder, given=gone.encode())[1].count("accepted"), posts + 1)
+        self.assertEqual(focusd("import", "--quiet", "--dir", self.folder, "--origin", "anew", str(self.EXPORT))[2], "")
+
+    def test_posts_behind_those_of_the_files_are_warned_of(self):
+        one, two = self.file("one.csv", self.HEADER + self.ROW * 4096), self.file("two.csv", self.HEADER + self.ROW * 5)
+        words = ("import", "--quiet", "--dir", self.folder, "--origin", "feed")
+        self.assertEqual(focusd(*words, one, two, two), (0, "imported 4106 rows, 0 were there already; 3 posts\n", ""))
+        status, printed, said = focusd(*words, one)
+        self.assertEqual((status, printed), (0, "imported 0 rows, 4096 were there already; 1 post\n"))
+        self.assertIn("focusd: warning: feed has 2 posts more, from entry 2 on, with 10 rows that count and that the files don't have.\n", said)
+        self.assertIn("focusd replace", said)
+        # Posts that were withdrawn count no more.
+        self.assertEqual(focusd("run", "--dir", self.folder, given=b"withdraw feed 4 2\n")[1], "accepted 4\n")
+        self.assertIn("feed has 1 post more, from entry 3 on, with 5 rows that count and", focusd(*words, one)[2])
+        self.assertEqual(focusd("run", "--dir", self.folder, given=b"withdraw feed 5 3\n")[1], "accepted 5\n")
+        self.assertEqual(focusd(*words, one)[2], "")
+
+    def test_rows_of_an_own_commitment_are_placed(self):
+        commitment = b'commit c 1 8\nid = "cd-7"\ncategory = "Usage"\nstart = "2024-01-01T00:00Z"\nhours = 2\ncapacity = "2"\nunit = "Hours"\nskus = ["vm"]\n'
+        commitment += b'purchase = [{ at = "2024-01-01T00:00Z", billed = "3" }]\n'
+        self.assertEqual(focusd("run", "--dir", self.folder, given=commitment)[1], "accepted 1\n")
+        header = self.HEADER.replace(b"\n", b",CommitmentDiscountId,CommitmentDiscountCategory,CommitmentDiscountStatus\n")
+        rows = [self.ROW.replace(b"\n", it) for it in (b",,,\n", b",cd-8,Usage,Used\n", b",cd-7,Usage,Used\n")]
+        file = self.file("own.csv", header + rows[0] * 4096 + rows[1] + b"\n" + rows[2])
+        status, printed, said = self.imported(file)
+        self.assertEqual((status, printed), (1, ""))
+        self.assertTrue(said.startswith(f'focusd: {file}:4100: record 4098, CommitmentDiscountId: "cd-7": J4 OwnCommitment: expected '), said)
+
+    def test_an_answer_that_cannot_be_printed(self):
+        for words in (("import", "--quiet", "--dir", self.folder, "--origin", "aws", str(self.EXPORT)), ("check", str(self.EXPORT))):
+            with open("/dev/full", "w") as full:
+                ran = subprocess.run([PROGRAM, *words], stdout=full, stderr=subprocess.PIPE)
+            self.assertEqual((ran.returncode, ran.stderr), (1, b"focusd: F2 Write\n"), words)
+
+    def test_rows_that_do_not_fit_are_refused_before_the_first_post(self):
+        posts, rows, row = 1024, 4096, b"0,0,USD,Tax,20240101T00Z,20240101T00Z\n"
+        full, more = self.file("full.csv", self.HEADER + row * rows), self.file("more.csv", self.HEADER + row)
+        with tempfile.TemporaryDirectory() as folder:
+            words = ("import", "--quiet", "--dir", folder, "--origin")
+            # The same file again and again is as long as one that has all the rows.
+            status, printed, said = focusd(*words, "a", "--create", *[full] * posts, more)
+            self.assertEqual((status, printed), (1, ""))
+            self.assertIn("the rows don't fit: 1025 files have 4194305 rows, 0 rows were posted before, 0 of them by a, and a warehouse takes at most 4194304 rows", said)
+            self.assertIn("another warehouse", said)
+            self.assertEqual(focusd("status", "--dir", folder)[0], 1)
+            # A warehouse that is full, of which one post counts no more. A checkpoint spares each of the next commands the log.
+            content = self.HEADER + row * rows
+            script = [b"post %s %d %d\n%s" % (b"z", number, rows + 1, content) for number in range(1, posts)]
+            script += [b"post a 1 %d\n%s" % (rows + 1, content), b"withdraw z %d 7\ncheckpoint\n" % posts]
+            status, printed, said = focusd("run", "--workers", "4", "--dir", folder, "--create", given=b"".join(script))
+            self.assertEqual((status, printed.splitlines()[-2:], said), (0, [f"accepted {posts + 1}", "checkpointed"], ""))
+            # What is there already takes no more room.
+            self.assertEqual(focusd(*words, "a", full)[:2], (0, f"imported 0 rows, {rows} were there already; 1 post\n"))
+            for origin, files, refusal in (
+                ("a", (full, more), "2 files have 4097 rows, 4194304 rows were posted before, 4096 of them by a,"),
+                ("b", (more,), "1 file has 1 row, 4194304 rows were posted before, 0 of them by b,"),
+            ):
+                status, printed, said = focusd(*words, origin, *files)
+                self.assertEqual((status, printed), (1, ""))
+                self.assertIn(refusal, said)
+                self.assertIn("4096 of the rows posted were withdrawn: `focusd compact` makes room of them.", said)
+            # Standard input isn't looked at first.
+            ran = focusd(*words, "b", "-", given=self.HEADER + row)
+            self.assertEqual(ran[:2], (1, ""))
+            self.assertIn(":2: the post from record 1 on: J1 Full: 4194304 rows were posted", ran[2])
+
+    def test_a_check_of_a_header_lists_all_that_is_wrong_with_it(self):
+        lacking = b"BilledCost,BilledCost,Tags,Note,Tags,Note,Tags\n1,1,,,,,\n"
+        wanted = [["H1 MissingColumn", it] for it in ("EffectiveCost", "BillingCurrency", "ChargeCategory", "ChargePeriodStart", "ChargePeriodEnd")]
+        wanted += [["H2 DoubleColumn", "BilledCost"], ["H2 DoubleColumn", "Tags"]]
+        doubled = self.HEADER.replace(b"\n", b",SkuId,BilledCost,SkuId\n") + self.ROW
+        for text, findings in (
+            (lacking, wanted),
+            (doubled, [["H2 DoubleColumn", "BilledCost"], ["H2 DoubleColumn", "SkuId"]]),
+            (b"a\n", [["H1 MissingColumn", "BilledCost"], *wanted[:5]]),
+            (self.HEADER, [["V14 NoRows", ""]]),
+            (self.HEADER + b"\n\n", [["V14 NoRows", ""]]),
+            (self.HEADER[:-1], [["V14 NoRows", ""]]),
+            (b"", [["V14 NoRows", ""]]),
+        ):
+            file = self.file("header.csv", text)
+            status, printed, said = focusd("check", "--format", "json", file)
+            self.assertEqual((status, said), (1, ""), text)
+            found = json.loads(printed)
+            self.assertEqual([[it["code"], it["column"]] for it in found["findings"]], findings, text)
+            self.assertEqual((found["faults"], found["records"]), (len(findings), 0), text)
+            self.assertEqual({(it["count"], *map(tuple, map(dict.items, it["places"]))) for it in found["findings"]}, {(1, (("line", 1), ("record", 0), ("value", "")))})
+            printed = focusd("check", file)[1]
+            for code, column in findings:
+                self.assertIn(f"\n{code}{column and ' '}{column}: 1; expected ", printed)
+            self.assertIn(f"\n  {file}:1: the header\n", printed)
+
+    def test_a_check_prints_what_it_found_before_a_record_that_is_too_long(self):
+        wrong = self.ROW.replace(b"Tax", b"Rent")
+        file = self.file("long.csv", self.HEADER + self.ROW + b"\n" + wrong + b'"' + b"x" * (5 << 20) + self.ROW)
+        status, printed, said = focusd("check", "--format", "json", file)
+        found = json.loads(printed)
+        self.assertEqual((status, [it["code"] for it in found["findings"]], found["records"]), (1, ["V3 Category"], 2))
+        self.assertEqual(said, f"focusd: {file}:5: record 3 is longer than 4 MiB; is a quote not closed?\n")
+        self.assertIn("V3 Category ChargeCategory: 1; ", focusd("check", file)[1])
+        file = self.file("header.csv", b'"' + b"x" * (3 << 20))
+        for words in (("check", file), ("import", "--quiet", "--dir", self.folder, "--origin", "a", file)):
+            status, _, said = focusd(*words)
+            self.assertEqual((status, said), (1, f"focusd: {file}:1: the header is longer than 2 MiB; is a quote not closed?\n"), words)
+
+    def test_lines_that_a_carriage_return_ends(self):
+        """A record with a fault is placed by lines of each kind, also behind several parts."""
+        wrong = self.ROW.replace(b"Tax", b"Rent")
+        rows = [self.HEADER, self.ROW, b"\n", wrong, *[self.ROW] * 9000, b"\n", b"\n", wrong, self.ROW, wrong]
+        places = [(4, 2), (9007, 9003), (9009, 9005)]
+        for end in (b"\n", b"\r\n", b"\r"):
+            file = self.file("lines.csv", b"".join(rows).replace(b"\n", end))
+            status, printed, said = focusd("check", "--format", "json", file)
+            found = json.loads(printed)
+            self.assertEqual((status, said, found["records"], found["faults"]), (1, "", 9005, 3), end)
+            self.assertEqual([(it["line"], it["record"]) for it in found["findings"][0]["places"]], places, end)
+            # The first fault in the first part, and one behind two parts that are taken.
+            for some, (line, record) in ((rows, places[0]), ([*rows[:3], self.ROW, *rows[4:]], places[1])):
+                file = self.file("lines.csv", b"".join(some).replace(b"\n", end))
+                with tempfile.TemporaryDirectory() as folder:
+                    self.assertEqual(focusd("run", "--dir", folder, "--create")[0], 0)
+                    for command in ("import", "replace"):
+                        status, printed, said = focusd(command, "--quiet", "--dir", folder, "--origin", "aws", file)
+                        self.assertEqual((status, printed), (1, ""), (end, command))
+                        self.assertTrue(said.startswith(f'focusd: {file}:{line}: record {record}, ChargeCategory: "Rent": V3 Category: '), (end, said))
+
+    def test_a_record_that_is_too_long_behind_two_parts(self):
+        for end in (b"\n", b"\r"):
+            file = self.file("long.csv", b"".join([self.HEADER, self.ROW * 9000, b'"', b"x" * (5 << 20)]).replace(b"\n", end))
+            said = f"focusd: {file}:9002: record 9001 is longer than 4 MiB; is a quote not closed?\n"
+            self.assertEqual(focusd("check", file)[2], said)
+            with tempfile.TemporaryDirectory() as folder:
+                self.assertEqual(focusd("import", "--quiet", "--dir", folder, "--create", "--origin", "aws", file), (1, "", said))
+
+    def test_a_folder_in_place_of_a_file(self):
+        folder = str(self.room)
+        for words, before, after in (
+            (("check", folder), "focusd: ", ""),
+            (("import", "--dir", self.folder, "--origin", "a", folder), "focusd: ", ""),
+            (("replace", "--dir", self.folder, "--origin", "a", folder), "focusd: ", "focusd: nothing was replaced\n"),
+            (("add", "--dir", self.folder, "--origin", "a", folder), "", "focusd: nothing was added\n"),
+        ):
+            self.assertEqual(focusd(*words), (1, "", f"{before}{folder}: it is a folder, and not a file\n{after}"), words)
+
+    def test_a_message_has_a_line_of_its_own_behind_the_progress(self):
+        one, none = self.file("one.csv", self.HEADER + self.ROW), str(self.room / "none.csv")
+        for words in (("import", "--dir", self.folder, "--origin", "a"), ("replace", "--dir", self.folder, "--origin", "a"), ("check",)):
+            ours, terminal = os.openpty()
+            run = subprocess.run([PROGRAM, *words, one, none], stdin=subprocess.DEVNULL, stdout=subprocess.DEVNULL, stderr=terminal)
+            os.close(terminal)
+            said = b""
+            while b"No such file" not in said:
+                said += os.read(ours, 4096)
+            os.close(ours)
+            self.assertEqual(run.returncode, 1)
+            self.assertRegex(said.decode(), r"^\r0 rows, 0 MB\x1b\[K\r1 row, 0 MB\x1b\[K\r\nfocusd: .*none\.csv: No such file", words)
+
+    def test_a_record_with_too_few_fields_or_too_many(self):
+        for row, fields in ((self.ROW.replace(b"\n", b",1,2\n"), "8 fields"), (b"1\n", "1 field")):
+            file = self.file("fields.csv", self.HEADER + row)
+            wanted = f"focusd: {file}:2: record 1: {fields}; the header has 6: V1 Fields: expected as many fields as the header\n"
+            self.assertEqual(self.imported(file)[2].splitlines(keepends=True)[0], wanted)
+            status, _, said = focusd("replace", "--dir", self.folder, "--origin", "aws", file)
+            self.assertEqual((status, said), (1, wanted + "focusd: nothing was replaced\n"))
+
+    def test_times_out_of_range(self):
+        file = self.file("times.csv", self.HEADER + b"".join(b"0,0,USD,Tax,%s,%s\n" % (it, it) for it in (b"1969-12-31T23:00:00Z", b"9999-12-30T22:00:01Z", b"9999-12-30T22:00:00Z", b"1970-01-01T00:00:00Z")))
+        found = json.loads(focusd("check", "--format", "json", file)[1])
+        expected_time = "a time on a whole second from 1970 to 9999-12-30T22:00:00Z, as 2024-01-01T00:00:00Z"
+        self.assertEqual([(it["code"], it["column"], it["expected"], it["count"]) for it in found["findings"]], [("V7 Time", it, expected_time, 2) for it in ("ChargePeriodStart", "ChargePeriodEnd")])
+        self.assertEqual(found["rows"], 2)
+        self.assertIn(f'"1969-12-31T23:00:00Z": V7 Time: expected {expected_time}\n', self.imported(file)[2])
+
+    def test_counts_agree_with_their_nouns(self):
+        wrong = self.ROW.replace(b"Tax", b"Rent")
+        for text, said in (
+            (b"", "0 records, 0 of them with faults; 1 fault"),
+            (self.ROW, "1 record, 0 of them with faults; 0 faults"),
+            (wrong, "1 record, 1 of them with faults; 1 fault"),
+            (self.ROW + wrong * 2, "3 records, 2 of them with faults; 2 faults"),
+        ):
+            file = self.file("counts.csv", self.HEADER + text)
+            self.assertEqual(focusd("check", file)[1].splitlines()[0], f"{file}: {said}")
+        one = self.file("one.csv", self.HEADER + self.ROW)
+        words = ("import", "--quiet", "--dir", self.folder, "--origin", "feed")
+        self.assertEqual(focusd(*words, one, one), (0, "imported 2 rows, 0 were there already; 2 posts\n", ""))
+        self.assertIn("feed has 1 post more, from entry 2 on, with 1 row that counts and that the files don't have.", focusd(*words, one)[2])
+        self.assertEqual(focusd(*words, one, one, one), (0, "imported 1 row, 2 were there already; 3 posts\n", ""))
+
+    def test_a_check_counts_the_currencies_of_right_records(self):
+        rows = self.ROW + self.ROW.replace(b"USD", b"EUR") + self.ROW.replace(b"Tax", b"Rent") + self.ROW
+        found = json.loads(focusd("check", "--format", "json", self.file("two.csv", self.HEADER + rows))[1])
+        self.assertEqual((found["currencies"], found["rows"], found["badRecords"]), ({"USD": 2}, 2, 2))
 
     def test_a_file_that_changed_is_refused(self):
         self.assertEqual(self.imported(self.EXPORT)[0], 0)
@@ -593,6 +1027,21 @@ class Files(unittest.TestCase):
         self.assertEqual({(it["code"].split()[0], it["column"]): it["count"] for it in found["findings"]}, planted)
         self.assertEqual(found["records"], len(records) - 1)
         self.assertEqual(focusd("check", str(self.EXPORT))[0], 0)
+
+    def test_what_check_shows_of_values(self):
+        head = "BilledCost,EffectiveCost,BillingCurrency,ChargeCategory,ChargePeriodStart,ChargePeriodEnd"
+        rest = "1,USD,Tax,2024-01-01T00:00Z,2024-01-01T01:00Z"
+        values = ["x" * 60, "x" * 61, "\u00e9" * 61]
+        lines = [head, *(f"{value},{rest}" for value in values), f"1,{rest},more", "1"]
+        file = pathlib.Path(self.folder).parent / (pathlib.Path(self.folder).name + ".csv")
+        self.addCleanup(file.unlink)
+        file.write_text("".join(f"{line}\n" for line in lines), encoding="utf-8")
+        found = json.loads(focusd("check", "--format", "json", str(file))[1])
+        shown = {it["code"]: [place["value"] for place in it["places"]] for it in found["findings"]}
+        self.assertEqual(shown, {
+            "V5 Cost": ["x" * 60, "x" * 60 + "...", "\u00e9" * 60 + "..."],
+            "V1 Fields": ["7 fields; the header has 6", "1 field; the header has 6"],
+        })  # fmt: skip
 
     # What each planted fault is called, and what it does to a record: fields by their columns.
     PLANTS = (
@@ -767,16 +1216,26 @@ class Loads(unittest.TestCase):
             (("load",), 2, "FILE"),
             (("load", "--analysts", "0", self.right), 2, "--analysts"),
             (("load", "--analysts", "17", self.right), 2, "--analysts"),
-            (("load", "--currency", "usd", self.right), 2, "focusd: currency"),
+            (("load", "--currency", "usd", self.right), 2, 'focusd: --currency: "usd" is not three capital letters, as USD'),
             (("load", *[self.right] * 65), 1, "focusd: G1 Counts"),
             # A file that can't be read is found before the folder is looked at.
-            (("load", "--dir", str(self.room / "none"), str(self.room / "none.csv")), 1, "focusd: F1 Read"),
+            (("load", "--dir", str(self.room / "none"), str(self.room / "none.csv")), 1, f"focusd: F1 Read\n{self.room}/none.csv: "),
+            (("load", self.right, str(self.room)), 1, f"focusd: F1 Read\n{self.room}: it is a folder, and not a file\n"),
             (("load", "--dir", str(self.room / "none"), self.right), 1, "focusd: K1 Io"),
             (("load", "--dir", str(self.room / "costs"), self.right), 1, "focusd: S1 NoHouse"),
         ):
             status, printed, said = focusd(*words)
             self.assertEqual((status, printed), (wanted, ""), words)
             self.assertIn(named, said, words)
+
+    def test_a_reader_that_stops_early_and_one_that_is_full(self):
+        words = ("load", "--dir", str(self.room / "costs"), "--create", self.right)
+        self.assertEqual(with_no_reader(words), (0, b""))
+        wanted = "1 already 1\nstale 0\nstate 1 1 0 0\n"
+        self.assertEqual(focusd("load", "--dir", str(self.room / "costs"), self.right), (0, wanted, ""))
+        with open("/dev/full", "wb") as full:
+            ran = subprocess.run([PROGRAM, "load", self.right], stdout=full, stderr=subprocess.PIPE)
+        self.assertEqual((ran.returncode, ran.stderr), (1, b"focusd: F2 Write\n"))
 
     def test_an_origin_that_is_none(self):
         wanted = "1 refused E1 Origin\nstale 0\nstate 0 0 0 0\n"
@@ -944,7 +1403,8 @@ billed = "1.5"
     def test_faults_of_commitments(self):
         file = self.file("cd.toml", "")
         for old, new, said in (
-            ('"2024-01-01T00:00Z"\nhours', '"2024-01-01"\nhours', 'cd.toml: line 3: start = "2024-01-01": "start" must be the time of a whole hour, as 2024-09-01T00:00Z, in quotes (C2 Field)\n'),
+            ('"2024-01-01T00:00Z"\nhours', '"2024-01-01"\nhours', 'cd.toml: line 3: start = "2024-01-01": "start" must be the time of a whole hour from 1970 on, as 2024-09-01T00:00Z, in quotes (C2 Field)\n'),
+            ('"2024-01-01T00:00Z"\nhours', '"1969-12-31T23:00Z"\nhours', 'cd.toml: line 3: start = "1969-12-31T23:00Z": "start" must be the time of a whole hour from 1970 on, '),
             ('id = "cd-1"\n', "", 'cd.toml: id is missing: "id" must be a text of 1 to 256 bytes, as "cd-1" (C2 Field)\n'),
             ("hours = 3", "hours = 0", 'cd.toml: line 4: hours = 0: "hours" must be a whole number from 1 to 26304, without quotes (C3 Limit)\n'),
             ("hours = 3", 'hours = "3"', 'cd.toml: line 4: hours = "3": "hours" must be a whole number from 1 to 26304, without quotes (C2 Field)\n'),
@@ -1452,7 +1912,8 @@ class Dumps(unittest.TestCase):
         export = pathlib.Path(folder) / "feeds.csv"
         with open(export, "w", newline="", encoding="utf-8") as out:
             csv.writer(out, lineterminator="\n").writerows([self.COLUMNS, *[self.row(SkuId="\n" * 256)] * 4096])
-        self.done("import", "--quiet", "--dir", folder, "--origin", "feeds", str(export))
+        # Another origin has rows of the same hour, which is said.
+        self.assertEqual(focusd("import", "--quiet", "--dir", folder, "--origin", "feeds", str(export))[0], 0)
         status, printed, said = focusd("dump", "--dir", folder)
         self.assertEqual((status, printed, said.splitlines()[0]), (1, first, "focusd: D1 TooManyLines"))
         self.assertIn("entry 2 of the warehouse has more than 1,000,000 lines", said)
@@ -1481,8 +1942,31 @@ class Dumps(unittest.TestCase):
             self.assertEqual((ran.returncode, ran.stderr), (1, b"focusd: F2 Write\n"))
 
 
+class Month(unittest.TestCase):
+    """README's month: its commands, one after the other, and what stands under each."""
+
+    def test_each_command_prints_what_stands_under_it(self):
+        month = (HERE.parent / "README.md").read_text(encoding="utf-8").split("\n## A month\n")[1].split("\n## ")[0]
+        blocks = "\n".join(line[4:] for line in month.split("\n") if line.startswith("    "))
+        steps = [step.split("\n", 1) for step in blocks.removeprefix("$ ").split("\n$ ")]
+        words = " ".join(step[0] for step in steps)
+        for command in ("check", "import", "add", "report", "coverage", "replace", "dump"):
+            self.assertIn(f"focusd {command} ", words)
+        with tempfile.TemporaryDirectory() as folder:
+            pathlib.Path(folder, "examples").symlink_to(HERE)
+            pathlib.Path(folder, "focusd").symlink_to(PROGRAM)
+            shell = {**os.environ, "PATH": f"{folder}:{os.environ['PATH']}"}
+            for command, *shown in steps:
+                with self.subTest(command):
+                    ran = subprocess.run(["sh", "-c", command], cwd=folder, env=shell, capture_output=True)
+                    self.assertEqual((ran.returncode, ran.stderr.decode()), (0, ""))
+                    if shown:
+                        self.assertEqual(ran.stdout.decode(), f"{shown[0]}\n")
+
+
 class Bodies(unittest.TestCase):
-    """Bodies made byte by byte, as FORMATS has them, of the entries of README's script. Earlier programs wrote the rows one by one."""
+    """Bodies made byte by byte, as FORMATS has them, of the entries of the script in README.md beside this file. Earlier programs wrote the rows one by
+    one."""
 
     RANGE = ("2024-01-01T00:00Z", "2024-01-01T03:00Z")
     # The hour at which it begins, counted from 1970.
@@ -1492,7 +1976,7 @@ class Bodies(unittest.TestCase):
 
     @classmethod
     def setUpClass(cls):
-        blocks = (HERE.parent / "README.md").read_text(encoding="utf-8").split("\n```\n")
+        blocks = (HERE / "README.md").read_text(encoding="utf-8").split("\n```\n")
         at = next(number for number, block in enumerate(blocks) if block.startswith("commit billing 1 "))
         cls.script, answers = blocks[at] + "\n", blocks[at + 2] + "\n"
         accepted, cls.answers = answers[: answers.index("bytes ")], answers[answers.index("bytes ") :]
@@ -1886,7 +2370,7 @@ to = { team-4 = 3, shared = 1 }
 
 
 if __name__ == "__main__":
-    if len(sys.argv) != 2 or sys.argv[1].startswith("-"):
+    if len(sys.argv) < 2 or sys.argv[1].startswith("-"):
         print(__doc__)
         sys.exit(2)
     PROGRAM = str(pathlib.Path(sys.argv.pop(1)).resolve())

@@ -22,7 +22,7 @@ BASH = "share/bash-completion/completions/focusd"
 ZSH = "share/zsh/site-functions/_focusd"
 FISH = "share/fish/vendor_completions.d/focusd.fish"
 # Options whose value is a folder, and arguments that are files.
-FOLDERS = ("--dir",)
+FOLDERS = ("--dir", "--into")
 FILES = ("FILE",)
 
 

@@ -31,6 +31,9 @@ def number_from(least, most):
 
 DIR, FLAG = Option(required=True), Option(takes=False)
 FROM_TO = {"from": Option(required=True), "to": Option(required=True)}
+PERHAPS = {"from": Option(), "to": Option()}
+# An origin, where a command looks at it before it does anything.
+ORIGIN = re.compile(r"[A-Za-z0-9._-]{1,64}")
 # The options of each command, and the least and the most of the words that it takes beside.
 MANY = 10**9
 COMMANDS = {
@@ -50,6 +53,9 @@ COMMANDS = {
     "status": ({"dir": DIR}, 0, 0),
     "verify": ({"dir": DIR}, 0, 0),
     "checkpoint": ({"dir": DIR}, 0, 0),
+    "compact": ({"dir": DIR, "into": DIR, "quiet": FLAG}, 0, 0),
+    "replace": ({"dir": DIR, "origin": DIR, **PERHAPS, "dry-run": FLAG, "quiet": FLAG}, 1, MANY),
+    "withdraw": ({"dir": DIR, "origin": DIR, "seq": Option(), **PERHAPS, "all": FLAG, "dry-run": FLAG, "yes": FLAG}, 0, 0),
     "dump": ({"dir": DIR}, 0, 0),
     "explain": ({}, 1, 1),
 }  # fmt: skip
@@ -129,10 +135,18 @@ def rules_hold(command, given, others):
         return False
     if "top" in given and not number_from(1, 1_000)(given["top"]):
         return False
-    if "from" not in given:
+    if command != "load" and not ORIGIN.fullmatch(given.get("origin", "a")):
+        return False
+    if command == "withdraw" and ("seq" in given) + ("all" in given) + ("from" in given or "to" in given) != 1:
+        return False
+    if "seq" in given and not number_from(1, 2**64 - 1)(given["seq"]):
+        return False
+    if "from" not in given and "to" not in given:
         return True
+    if "from" not in given or "to" not in given:
+        return False
     low, high = time_of(given["from"]), time_of(given["to"])
-    return low is not None and high is not None and low < high and high - low <= MOST_HOURS
+    return low is not None and high is not None and low < high and (high - low <= MOST_HOURS or command in ("replace", "withdraw"))
 
 
 def time_of(text):

@@ -292,7 +292,7 @@ class Csv(ScriptReader):
         if alarm:
             return [(None, alarm)]
         try:
-            told = {found["file"]: found for found in map(json.loads, ended.out.decode().splitlines())}
+            told = {found["file"]: found for found in map(json.loads, ended.out.decode().split("\n")[:-1])}
         except (ValueError, KeyError) as why:
             return [(None, f"check writes what isn't a line of JSON for each file: {why}")]
         faults, all_right = [], True
@@ -313,9 +313,9 @@ class Csv(ScriptReader):
             try:
                 found = oracle.rows_of(one, b"USD")
             except oracle.Refused as fault:
-                code = str(fault).split(" ")[0]
-                # An import cuts what has too many rows for a post, and says of a header what is wrong without its code.
-                bad = bad or (name, code) if code[0] == "V" and code not in ("V14", "V15") else bad
+                code = str(fault).split(" ")[0] if is_ended(one, next(texts.records(one), None)) else "V14"
+                # An import cuts what has too many rows for a post.
+                bad = bad or (name, code) if code != "V15" else bad
                 continue
             taken.append(name)
             rows += len(found)
@@ -342,14 +342,14 @@ class Checked:
 
     def __init__(self, text):
         found = texts.records(text)
-        self.refusal, self.rows, self.faults, self.currencies = None, [], [], collections.Counter()
-        try:
-            header = oracle.Header(next(found, []))
-        except oracle.Refused as fault:
-            self.refusal = str(fault)
-            self.records, self.is_clean = len(list(found)), False
+        names = next(found, None)
+        # The faults of the whole text, each with its column, and those of records, each with the record's number.
+        self.whole = header_faults(names) if is_ended(text, names) else NO_ROWS
+        self.rows, self.faults, self.currencies = [], [], collections.Counter()
+        self.records, self.is_clean = 0, False
+        if self.whole:
             return
-        number = 0
+        header, number = oracle.Header(names), 0
         for number, fields in enumerate(found, 1):
             place = header.places[2]
             self.currencies[fields[place].decode() if place < len(fields) and is_text(fields[place]) else ""] += 1
@@ -357,16 +357,11 @@ class Checked:
                 self.rows.append(header.row(fields, b"USD"))
             except oracle.Refused as fault:
                 self.faults.append((str(fault).split(" ")[0], number))
+        self.whole = [] if number else NO_ROWS
         self.records, self.is_clean = number, number > 0 and not self.faults
 
     def fault(self, told, complaints):
         """What is wrong with what is told of the file."""
-        if self.refusal:
-            column = self.refusal.split(" ")[2]
-            right = told is None and any(column in line or not self.records for line in complaints)
-            return "" if right else f"the header is refused {self.refusal}, and it says {told} {complaints}"
-        if told is None and not self.records and complaints:
-            return ""
         if told is None:
             return f"there is no line of the file, which has {self.records} records; standard error {complaints}"
         tags = collections.Counter(key for row in self.rows for key in row.tags)
@@ -382,8 +377,12 @@ class Checked:
         return "; ".join(other)
 
     def finding_faults(self, findings):
+        whole = [it for it in findings if it["places"][0]["record"] == 0]
+        found = sorted((it["code"].split(" ")[0], it["column"]) for it in whole)
+        if found != sorted(self.whole) or any(it["count"] != 1 for it in whole):
+            yield f"of the whole text it finds {found}, not {self.whole}"
         counts, first = collections.Counter(), {}
-        for it in findings:
+        for it in (it for it in findings if it not in whole):
             code = it["code"].split(" ")[0]
             counts[code] += it["count"]
             first[code] = min(first.get(code, it["places"][0]["record"]), it["places"][0]["record"])
@@ -394,6 +393,21 @@ class Checked:
                 yield f"{code} is counted {counts[code]} times, and is the first fault of {count} records"
             elif first[code] > min(number for other, number in self.faults if other == code):
                 yield f"{code} is first found in record {first[code]}"
+
+
+# What `focusd check` has to say of a text without a record.
+NO_ROWS = [("V14", "")]
+
+
+def is_ended(text, names):
+    """Whether the text goes on behind its header, which has these names, or at least ends it."""
+    return names is not None and next(texts.records(text + b"x")) == names
+
+
+def header_faults(names):
+    """The faults of a header, each with its column."""
+    missing = [("H1", column.decode()) for column in oracle.COLUMNS[: oracle.REQUIRED] if column not in names]
+    return missing + [("H2", column.decode()) for column in oracle.COLUMNS if names.count(column) > 1]
 
 
 def is_text(field):
