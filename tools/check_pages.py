@@ -2,7 +2,7 @@
 """Checks the pages: README.md, CONTRIBUTING.md, and the Markdown files of docs, examples, bench and tools/fuzz.
 
     tools/check_pages.py              prints each fault as PAGE:LINE: FAULT
-    tools/check_pages.py --figures    prints the size of each page, its words a sentence and its longest line too
+    tools/check_pages.py --figures    prints the size of each page, its words a sentence, its longest lines and its longest sentence too
 
 For example, `docs/DISK.md:12: no heading of README.md has the anchor #run-it`. These are faults:
 
@@ -14,6 +14,9 @@ For example, `docs/DISK.md:12: no heading of README.md has the anchor #run-it`. 
 - a clause that the function beside it lacks: "`serve`, clause `done`", "clause `done` of `serve`", `serve.done`
 - a row of a table of cases without its file, or of a table of definitions whose file doesn't define the name
 - a line of prose of more than 100 columns that can be broken
+- a page of more lines than it may have: README.md (150), CONTRIBUTING.md (200), docs/PROOFS.md (300)
+- a page whose sentences have more than 18 words on average: those of paragraphs and list items, a code span as one word
+- a decision of more than 80 words: the text of a section of docs/DECISIONS.md, from its heading to the next one
 
 In a path `..` and a part in capitals, as NAME, stand for anything (but not in the name of a page), and an extension may
 be left out. A file named by its end alone, as `src/lib.rt`, has to be in a crate that its section names, if any.
@@ -35,6 +38,9 @@ from changes import GitError, files_of, output_of
 TOP = os.path.dirname(os.path.dirname(os.path.abspath(__file__)))
 PAGE = re.compile(r"README\.md|CONTRIBUTING\.md|(docs|examples|bench|tools/fuzz)/[^/]+\.md")
 MOST_COLUMNS = 100
+MOST_LINES = {"README.md": 150, "CONTRIBUTING.md": 200, "docs/PROOFS.md": 300}
+MOST_WORDS_A_SENTENCE = 18
+DECISIONS, MOST_WORDS_OF_A_DECISION = "docs/DECISIONS.md", 80
 
 # Names that stand for something outside of the repository, each with the reason.
 OUTSIDE = {
@@ -53,6 +59,7 @@ LINK = re.compile(r"\]\(([^()\s]*)\)|^\s*\[[^\]]+\]:\s*(\S+)", re.MULTILINE)
 # What a line isn't broken in: a link, a code span with what touches it, a word.
 ATOM = re.compile(r"(?:!?\[[^\]]*\]\([^()]*\)|`[^`]*`|\S)+")
 SENTENCE_END = re.compile(r"(?<!\.)[.?!][)\"'*_\]]*(?=\s|$)")
+WORD = re.compile(r"\S*\w\S*")
 
 CRATE = re.compile(r"\bfw_[a-z]\w*\b(?!\*)")
 ITEM = re.compile(r"\w+(?:::\w+)+")
@@ -522,6 +529,21 @@ def check_lines(page):
             yield Fault(page.path, number, f"{len(line)} columns, more than {MOST_COLUMNS}")
 
 
+def check_sizes(page):
+    """The page that is too long, or whose sentences are, and the decisions that are."""
+    most = MOST_LINES.get(page.path)
+    if most and len(page.lines) > most:
+        yield Fault(page.path, most + 1, f"{len(page.lines)} lines, more than {most}")
+    mean = words_a_sentence(page)
+    if mean > MOST_WORDS_A_SENTENCE:
+        line, longest = longest_sentence(page)
+        what = f"{mean:.2f} words a sentence on average, more than {MOST_WORDS_A_SENTENCE}; the longest sentence, of {longest}, begins here"
+        yield Fault(page.path, line, what)
+    for line, heading, words in sections_of(page) if page.path == DECISIONS else ():
+        if words > MOST_WORDS_OF_A_DECISION:
+            yield Fault(page.path, line, f'the decision "{heading}" has {words} words, more than {MOST_WORDS_OF_A_DECISION}')
+
+
 def faults_of(repository):
     """The faults of all pages, and the pages."""
     pages = {page.path: page for page in repository.pages()}
@@ -533,29 +555,61 @@ def faults_of(repository):
             *check_clauses(page, repository),
             *check_tables(page, repository),
             *check_lines(page),
+            *check_sizes(page),
         ]
     return sorted(set(faults), key=lambda fault: (fault.page, fault.line, fault.what)), list(pages.values())
 
 
-def words_a_sentence(page):
-    """The mean number of words of a sentence in paragraphs and list items. A code span is one word."""
-    words = sentences = 0
-    for _, lines in page.blocks():
+def without_spans(lines):
+    """The text of a block, its marker left out and each code span as one word of as many lines."""
+    text = SPAN.sub(lambda found: "x" + "\n" * found[0].count("\n"), "\n".join(lines))
+    return MARKER.sub("", text, count=1) if MARKER.match(text) else text
+
+
+def sentences_of(page):
+    """The sentences of paragraphs and list items: the line at which each begins, and how many words it has. A code span is one word."""
+    for line, lines in page.blocks():
         if not lines[0].lstrip().startswith("|"):
-            text = SPAN.sub("x", "\n".join(lines))
-            some = [len(re.findall(r"\S*\w\S*", part)) for part in SENTENCE_END.split(MARKER.sub("", text, count=1))]
-            words, sentences = words + sum(some), sentences + sum(count > 0 for count in some)
-    return words / max(sentences, 1)
+            text, at = without_spans(lines), 0
+            for end in [*(found.end() for found in SENTENCE_END.finditer(text)), len(text)]:
+                words = [found.start() for found in WORD.finditer(text, at, end)]
+                if words:
+                    yield line + text.count("\n", 0, words[0]), len(words)
+                at = end
+
+
+def words_a_sentence(page):
+    """The mean number of words of a sentence in paragraphs and list items."""
+    words = [count for _, count in sentences_of(page)]
+    return sum(words) / max(len(words), 1)
+
+
+def sections_of(page):
+    """The sections behind the first heading of a page: the line and the text of each heading, and the words up to the next one, tables included."""
+    counts, sections = {}, page.sections()
+    for line, lines in page.blocks():
+        number = sections[line - 1]
+        counts[number] = counts.get(number, 0) + len(WORD.findall(without_spans(lines)))
+    for line, (text, kind) in enumerate(zip(page.lines, page.kinds), 1):
+        if kind == HEADING and sections[line - 1] > 1:
+            yield line, text.lstrip("#").strip(), counts.get(sections[line - 1], 0)
+
+
+def longest_sentence(page):
+    """The line and the number of words of the longest sentence of a page."""
+    return max(sentences_of(page), key=lambda sentence: sentence[1], default=(0, 0))
 
 
 def figures(pages):
     """The lines of the table of figures."""
-    yield f"{'page':24} {'bytes':>8} {'lines':>7} {'words a sentence':>17} {'longest line':>13} {'longest of prose':>17}"
+    heads = ("bytes", "lines", "words a sentence", "longest line", "longest of prose", "longest sentence", "at line")
+    yield " ".join([f"{'page':24}", *(f"{head:>{len(head) + 1}}" for head in heads)])
     for page in pages:
         longest = max(map(len, page.lines), default=0)
         of_prose = max((len(line) for line, kind in zip(page.lines, page.kinds) if kind == PROSE), default=0)
-        size = len(page.text.encode())
-        yield f"{page.path:24} {size:8} {len(page.lines):7} {words_a_sentence(page):17.1f} {longest:13} {of_prose:17}"
+        at, words = longest_sentence(page)
+        cells = (len(page.text.encode()), len(page.lines), f"{words_a_sentence(page):.1f}", longest, of_prose, words, at)
+        yield " ".join([f"{page.path:24}", *(f"{cell:>{len(head) + 1}}" for head, cell in zip(heads, cells))])
 
 
 def main():

@@ -170,7 +170,7 @@ class Repositories(unittest.TestCase):
         self.assert_passes(
             "`parse`, clause `done`; `fw_low::parse`, clauses `done` and `each_digit`; its clauses `small`,\n`kept`: `Amount::of`, clause `kept`"
             " (clause `over`), `parse.done`, clause `each_digit` of `parse`,\n`Amount`, clauses `small`, `calm`; `Disk`, clause"
-            " `calm`, `other.word`\n"
+            " `calm`, `other.word`\n\nSo much.\n"
         )
         self.assertEqual(self.faults("`parse`, clauses `done`, `small`\n"), ["1: parse has no clause small"])
         self.assertEqual(self.faults("clause `over` of `parse`\n"), ["1: parse has no clause over"])
@@ -195,11 +195,38 @@ class Repositories(unittest.TestCase):
         self.assertEqual(self.faults(cases + "| `a-case` | x |\n", "examples/README.md"), ["4: there is no case a-case"])
 
     def test_long_lines(self):
-        long, word = "ab " * 40, "a" * 120
+        long, word = "ab. " * 30, "a" * 120
         self.assertEqual(self.faults(f"{long}\n"), ["1: 120 columns, more than 100"])
         self.assertEqual(self.faults(f"1. x\n   - {long.strip()}\n"), ["2: 124 columns, more than 100"])
         self.assert_passes(f"# {long}\n\n| {long} |\n\n    {long}\n\n```\n{long}\n```\n\n{word}\n- {word}\n`{long}`,\n[{long}](docs/OTHER.md)\n")
-        self.assert_passes(("ab " * 34)[:100] + "\n")
+        self.assert_passes("ab. " * 25 + "\n")
+
+    def test_lines_of_a_page(self):
+        for page, most in [("README.md", 150), ("CONTRIBUTING.md", 200), ("docs/PROOFS.md", 300)]:
+            self.assert_passes("- a\n" * most, page)
+            self.assertEqual(self.faults("- a\n" * (most + 1), page), [f"{most + 1}: {most + 1} lines, more than {most}"])
+        self.assert_passes("- a\n" * 1000, "docs/FORMATS.md")
+
+    def test_words_of_sentences(self):
+        most, over = "a " * 17 + "end.\n", "a " * 18 + "end.\n"
+        self.assert_passes(most)
+        self.assert_passes(f"{over}\n{'a ' * 16}end.\n")
+        self.assert_passes(f"| {'a ' * 40}|\n\n# {'a ' * 40}\n\n    {'a ' * 40}\n\n`{'a ' * 40}`\n")
+        what = "words a sentence on average, more than 18; the longest sentence, of"
+        self.assertEqual(self.faults(over), [f"1: 19.00 {what} 19, begins here"])
+        self.assertEqual(self.faults(f"# A\n\n- {most}- {over}", "docs/A.md"), [f"4: 18.50 {what} 19, begins here"])
+        self.assertEqual(self.faults(f"It is `a\nspan`. And\n{'a ' * 46}\n"), [f"2: 25.00 {what} 47, begins here"])
+
+    def test_words_of_decisions(self):
+        def fault(line, name, words):
+            return f'{line}: the decision "{name}" has {words} words, more than 80'
+
+        eighty = "a b c d e f g `h i`.\n" * 10
+        self.assert_passes(f"# Decisions\n\n{eighty * 2}\n## A\n\n{eighty}\n## B\n\n### C\n\n{eighty}", "docs/DECISIONS.md")
+        self.assertEqual(self.faults(f"# Decisions\n\n## A\n\n{eighty}More.\n", "docs/DECISIONS.md"), [fault(3, "A", 81)])
+        text = f"# Decisions\n\n## A\n\n### B `b`\n\n{eighty}\n- c\n- d\n\n### E\n\n| a |\n|---|\n| b c |\n\n{eighty}\n"
+        self.assertEqual(self.faults(text, "docs/DECISIONS.md"), [fault(5, "B `b`", 82), fault(21, "E", 83)])
+        self.assert_passes(text, "docs/OTHER_DECISIONS.md")
 
     def run_tool(self, *words):
         """The status of the tool, and what it prints."""
@@ -210,7 +237,7 @@ class Repositories(unittest.TestCase):
         write(self.top, {"README.md": "# A\n\nOne two three. Four `a b c`.\n"})
         status, said, _ = self.run_tool("--figures")
         self.assertEqual((status, said.splitlines()[-1]), (0, "2 pages, 0 faults"))
-        self.assertIn(["README.md", "34", "3", "2.5", "28", "28"], [line.split() for line in said.splitlines()])
+        self.assertIn(["README.md", "34", "3", "2.5", "28", "28", "3", "3"], [line.split() for line in said.splitlines()])
         write(self.top, {"README.md": "`fw_gone`\n"})
         self.assertEqual(self.run_tool()[:2], (1, "README.md:1: fw_gone is no crate\n2 pages, 1 fault\n"))
         os.remove(os.path.join(self.top, "crates.txt"))
@@ -256,6 +283,8 @@ class Pages(unittest.TestCase):
             ("One two. Three four five six!\n", 3),
             ("1, 2, 3 .. and 4.5 go on.\n", 7),
             ("(It is so.) Is it?\n", 2.5),
+            ("It has 26. It ends here.\n", 3),
+            ("7. It has 26. It ends here.\n", 3),
             ("- `a b. c` is one\n- two words\n", 2.5),
             ("| a b c. d |\n\n    x y z\n\n# A b\n\nc\n", 1),
             ("", 0),

@@ -1,0 +1,269 @@
+#!/usr/bin/env python3
+"""Writes docs/PLANTED.md: what wrong bodies show of the contracts, and which public functions have none.
+
+    tools/planted.py            writes the page
+    tools/planted.py --check    says whether the page is what it would write
+
+It counts the public functions, their clauses and the must-fail edits of each crate. What planted bodies showed stands in
+tools/planted.toml.
+
+Public is a function that is declared `pub`, or that a public trait asks for. A function has a clause where an `ensures`
+says something of what it returns or leaves. Crates of tests, `fw_test_*`, aren't counted.
+
+Exit status: 0 where the page is written, or is up to date; 1 where it is out of date; 2 where it can't be said.
+"""
+
+import argparse
+import os
+import re
+import sys
+import textwrap
+import tomllib
+from dataclasses import dataclass, field
+
+from changes import GitError, files_of
+from functions import CLAUSES, NAME, OPENS, closing, tokens_of
+
+TOP = os.path.dirname(os.path.dirname(os.path.abspath(__file__)))
+PAGE, DATA = "docs/PLANTED.md", "tools/planted.toml"
+MOST_COLUMNS = 100
+
+INTRODUCTION = """
+A contract may say less than its author thinks. What it refuses shows how much it says. So wrong bodies are put under the
+contracts, and the prover has to reject each. A body that it accepts is *let through*: it meets its contract.
+
+There are two kinds. A *must-fail edit* is a mutation that the prover must reject: a file in `crates/CRATE/must-fail`, named
+by what the wrong body does. `tools/edits.py CRATE` tries the edits of a crate. *Planted bodies* are written by `rt plant`,
+or by hand. They give up, as by a constant or a fault; or they call the function and change an argument, its answer or a
+field.
+
+`tools/planted.py` writes this page, and `tools/planted.py --check` compares it with the crates.
+"""
+CRATES = """
+A function is public where it is declared `pub`, or where a public trait asks for it. It has a clause where an `ensures`
+says something of what it returns or leaves. A law is a function that returns and changes nothing: its contract is a fact.
+A function without a clause is proved all the same: it is safe, and it returns.
+"""
+WITHOUT = """
+Of these the prover shows that they are safe and that they return, and nothing else. Tests show what they do.
+"""
+PLANTED = """
+Each row is of the code at its commit. What changed since wasn't planted again, and a crate without a row wasn't planted.
+*Same* are bodies that turned out to be the function itself. *Not judged* are bodies at which the tactics met a limit, or
+for which there was no time. In `fw_query` the first row has what is now in `fw_sums` and `fw_coverage`, and its parts were
+planted again.
+"""
+THROUGH = """
+Each of these meets its contract, for the reason beside it.
+"""
+UNJUDGED = """
+Nothing is known of these bodies. Where must-fail edits turn the same clauses, they are refused.
+"""
+LIMITS = """
+- A refusal says that the tactics didn't prove the body, and not that nothing can. A `serve` that always answers `Read` was
+  refused, though by its contract it may.
+- A body that answers wherever it may that memory ran out isn't tried. It meets each contract that allows that answer, as
+  those of `Inbox::push`, `Inbox::take`, `judge_hand` and `run_events`.
+- `rt plant` writes the doc comment of an enum's variant into a body, where it hides the end of the line. Nothing compiles
+  then, and nothing is judged. The figures are those of a copy of the tool that passes over doc comments.
+"""
+
+
+class PlantedError(Exception):
+    """Why the page can't be written."""
+
+
+@dataclass(frozen=True)
+class Function:
+    """A public function: its name, behind that of its type; how many `ensures` it has; whether it is a law, which returns and changes nothing."""
+
+    name: str
+    clauses: int
+    is_law: bool
+
+
+@dataclass
+class Crate:
+    """A crate: its public functions, and the names of its must-fail edits."""
+
+    functions: list = field(default_factory=list)
+    edits: set = field(default_factory=set)
+
+    def without_clause(self):
+        """The names of the public functions of which no clause says anything."""
+        return [it.name for it in self.functions if not it.clauses]
+
+
+def head_of(tokens, at):
+    """Of the function whose name stands at a number: how many `ensures` it has, whether it is a law, and where its head ends."""
+    clauses, in_clause, acts, at = 0, False, False, at + 1
+    while at < len(tokens):
+        word = tokens[at][0]
+        if word == ";" or word == "{" and not in_clause:
+            break
+        if word in CLAUSES:
+            in_clause = True
+            clauses += word == "ensures"
+        elif word == "->":
+            acts = True
+        elif word in OPENS:
+            end = closing(tokens, at)
+            acts = acts or not in_clause and any(it == "mut" for it, _ in tokens[at:end])
+            at, in_clause = end, in_clause and word != "{"
+        at += 1
+    return clauses, clauses > 0 and not acts, at
+
+
+def public_functions(text):
+    """The public functions of a source file."""
+    tokens, owner, depth, in_trait, at = list(tokens_of(text)), "", 0, False, 0
+    while at < len(tokens):
+        word, before = tokens[at][0], tokens[at - 1][0] if at else ""
+        if word in ("impl", "trait") and not depth:
+            opened = next((number for number in range(at, len(tokens)) if tokens[number][0] == "{"), len(tokens) - 1)
+            owner, in_trait = owner_name(tokens, at, opened), word == "trait" and before == "pub"
+            at, depth = opened, 1
+        elif word == "fn" and at + 1 < len(tokens) and NAME.fullmatch(tokens[at + 1][0]):
+            name = tokens[at + 1][0]
+            clauses, is_law, end = head_of(tokens, at + 1)
+            if before == "pub" or in_trait:
+                yield Function(f"{owner}::{name}" if owner else name, clauses, is_law)
+            at = closing(tokens, end) if end < len(tokens) and tokens[end][0] == "{" else end
+        elif word in "{}":
+            depth += 1 if word == "{" else -1
+            if not depth:
+                owner, in_trait = "", False
+        at += 1
+
+
+def owner_name(tokens, at, opened):
+    """The type of the `impl`, or the trait, whose keyword stands at a number and whose block opens at another."""
+    depth, found, is_past_where = 0, "", False
+    for number in range(at + 1, opened):
+        word = tokens[number][0]
+        depth += (word == "<") - (word == ">")
+        is_past_where = is_past_where or word == "where"
+        if word == "for" and not depth:
+            found = ""
+        elif not depth and not is_past_where and not found and NAME.fullmatch(word) and word not in ("mut", "dyn", "unsafe"):
+            found = word
+    return found
+
+
+def crates_of(top):
+    """The crates, by name."""
+    crates = {}
+    for path in files_of(top):
+        found = re.fullmatch(r"crates/(\w+)/(?:src/.*\.rt|must-fail/(\w+)\.edit)", path)
+        if not found or found[1].startswith("fw_test_"):
+            continue
+        crate = crates.setdefault(found[1], Crate())
+        if found[2]:
+            crate.edits.add(found[2])
+        else:
+            with open(os.path.join(top, path), encoding="utf-8") as file:
+                crate.functions += public_functions(file.read())
+    return crates
+
+
+def data_of(top):
+    """What tools/planted.toml says."""
+    try:
+        with open(os.path.join(top, DATA), "rb") as file:
+            data = tomllib.load(file)
+        return data["runs"], data["through"], data["unjudged"]
+    except (KeyError, tomllib.TOMLDecodeError) as error:
+        raise PlantedError(f"{DATA}: {error}") from error
+
+
+def prose(text):
+    """Paragraphs and list items, each wrapped anew; a code span isn't broken."""
+    blocks = re.split(r"\n\n|\n(?=- )", text.strip())
+    wrapped = []
+    for block in blocks:
+        kept = re.sub(r"`[^`]+`", lambda found: found[0].replace(" ", "\0"), " ".join(block.split()))
+        indent = "  " if block.startswith("- ") else ""
+        lines = textwrap.wrap(kept, MOST_COLUMNS, subsequent_indent=indent, break_long_words=False, break_on_hyphens=False)
+        wrapped.append("\n".join(lines).replace("\0", " "))
+    gap = "\n" if text.strip().startswith("- ") else "\n\n"
+    return gap.join(wrapped)
+
+
+def table(head, rows):
+    """A table."""
+    lines = [head, ["---"] * len(head), *rows]
+    return "\n".join(f"| {' | '.join(map(str, line))} |" for line in lines)
+
+
+def edit_names(crate, names, crates):
+    """The edits of these names, each with its crate where that is another one."""
+    found = []
+    for name in names:
+        having = [other for other in crates if name in crates[other].edits]
+        if not having:
+            raise PlantedError(f"{DATA}: there is no edit {name}")
+        found.append(f"`{name}`" if crate in having else f"`{having[0]}/{name}`")
+    return ", ".join(found) or "none named"
+
+
+def page_of(crates, runs, through, unjudged):
+    """The page."""
+    counted = []
+    for name, crate in sorted(crates.items()):
+        if crate.functions or crate.edits:
+            laws = sum(it.is_law for it in crate.functions)
+            counted.append([f"`{name}`", len(crate.functions), laws, len(crate.without_clause()), len(crate.edits)])
+    sums = [sum(row[column] for row in counted) for column in range(1, 5)]
+    counted.append(["all", *sums])
+    bare = [(name, crate.without_clause()) for name, crate in sorted(crates.items())]
+    without = [[f"`{name}`", ", ".join(f"`{it}`" for it in found)] for name, found in bare if found]
+    rows = [[f"`{it['crate']}`", it["bodies"], it["why"]] for it in through]
+    unknown = [[f"`{it['crate']}`", it["bodies"], edit_names(it["crate"], it["edits"], crates)] for it in unjudged]
+    parts = [
+        "# Planted bugs",
+        prose(INTRODUCTION),
+        "## Crate by crate",
+        prose(CRATES),
+        table(["crate", "public functions", "laws among them", "without a clause", "must-fail edits"], counted),
+        "## Public functions without a clause",
+        prose(WITHOUT),
+        table(["crate", "functions"], without),
+        "## Planted bodies",
+        prose(PLANTED),
+        table(["code", "functions", "refused", "same", "let through", "not judged", "commit"], [[*row[:-1], f"`{row[-1]}`"] for row in runs]),
+        "## Let through",
+        prose(THROUGH),
+        table(["crate", "bodies", "why"], rows),
+        "## Not judged",
+        prose(UNJUDGED),
+        table(["crate", "bodies", "edits of the same clauses"], unknown),
+        "## What a planted body doesn't show",
+        prose(LIMITS),
+    ]
+    return "\n\n".join(parts) + "\n"
+
+
+def main():
+    parser = argparse.ArgumentParser(description=__doc__, formatter_class=argparse.RawDescriptionHelpFormatter)
+    parser.add_argument("--check", action="store_true", help="say whether the page is what would be written")
+    parser.add_argument("--top", default=TOP, metavar="FOLDER", help="the repository (default: this one)")
+    options = parser.parse_args()
+    path = os.path.join(options.top, PAGE)
+    try:
+        text = page_of(crates_of(options.top), *data_of(options.top))
+        if not options.check:
+            with open(path, "w", encoding="utf-8") as file:
+                file.write(text)
+            return 0
+        with open(path, encoding="utf-8") as file:
+            is_same = file.read() == text
+    except (GitError, OSError, PlantedError) as error:
+        print(f"tools/planted.py: {error}", file=sys.stderr)
+        return 2
+    if not is_same:
+        print(f"{PAGE} is out of date: run tools/planted.py", file=sys.stderr)
+    return 0 if is_same else 1
+
+
+if __name__ == "__main__":
+    sys.exit(main())
