@@ -36,7 +36,8 @@ fn letters(currency: &Currency) -> &str {
     str::from_utf8(currency.code()).unwrap_or("")
 }
 
-/// Says why a file can't be cut on from a line and a record on. Status 1 is left to the caller, but for the want of memory.
+/// Says why a file can't be cut from a line and a record on. The error says that memory ran out. Where it is another
+/// fault, the caller chooses the status.
 pub fn say_cut_fault(
     rt: &HostRuntime,
     name: &str,
