@@ -25,7 +25,6 @@ Exit status: 0 where all was proved and passed, and every edit that was tried wa
 import argparse
 import os
 import re
-import resource
 import shutil
 import signal
 import subprocess
@@ -39,7 +38,7 @@ import due
 from changes import GitError, files_of, is_edit, output_of
 from due import DueError, Records
 from edits import REFUSED, Edit, Lanes, run_crate
-from meter import Meter, table
+from meter import Meter, processor, table
 
 TOP = os.path.dirname(os.path.dirname(os.path.abspath(__file__)))
 # The crates that are programs: what is built of them is kept.
@@ -169,7 +168,7 @@ class Tries:
 
 def run_gate(room, log_path, flags, of_program, number_of_crates, tries):
     """Runs `rt ci` in the room, and the edits beside it: the exit status, the steps, minutes by the clock of `rt ci` alone and of all, and processor seconds."""
-    began, used = time.monotonic(), resource.getrusage(resource.RUSAGE_CHILDREN)
+    began, used = time.monotonic(), processor()
     meter, proved = Meter(), 0
     process = subprocess.Popen(["rt", "ci", *flags], cwd=room, stdin=subprocess.DEVNULL, stdout=subprocess.PIPE, stderr=subprocess.STDOUT, start_new_session=True)
     try:
@@ -195,9 +194,7 @@ def run_gate(room, log_path, flags, of_program, number_of_crates, tries):
             process.wait()
         tries.stop()
         steps = meter.stop()
-    now = resource.getrusage(resource.RUSAGE_CHILDREN)
-    spent = now.ru_utime + now.ru_stime - used.ru_utime - used.ru_stime
-    return status or int(not all_refused), steps, proofs, time.monotonic() - began, spent
+    return status or int(not all_refused), steps, proofs, time.monotonic() - began, processor() - used
 
 
 def keep(room, out):

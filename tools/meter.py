@@ -125,6 +125,12 @@ class Meter:
         return False
 
 
+def processor():
+    """The processor seconds of all that this process has run and waited for."""
+    used = resource.getrusage(resource.RUSAGE_CHILDREN)
+    return used.ru_utime + used.ru_stime
+
+
 def table(steps):
     """The steps by crate, the dearest first: proof, tests' proof, the first edit and the mean of the others, in processor seconds and wall."""
     crates = {}
@@ -152,10 +158,10 @@ def main():
     meter, began = Meter(), time.monotonic()
     status = subprocess.run(sys.argv[1:], check=False).returncode
     steps = meter.stop()
-    used = resource.getrusage(resource.RUSAGE_CHILDREN)
+    used = processor()
     print(table(steps))
     seen = sum(step.processor for step in steps)
-    print(f"wall {(time.monotonic() - began) / 60:.1f} min, processor {(used.ru_utime + used.ru_stime) / 60:.1f} min, of which the prover {seen / 60:.1f}")
+    print(f"wall {(time.monotonic() - began) / 60:.1f} min, processor {used / 60:.1f} min, of which the prover {seen / 60:.1f}")
     sys.exit(status)
 
 
