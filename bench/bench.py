@@ -12,38 +12,25 @@ out. Progress goes to standard error.
 Exit status: 0 measured, 1 a program failed or gave a wrong answer, 2 a wrong
 command line or a machine on which nothing can be measured.
 """
-import argparse
 import csv
 import hashlib
 import os
-import platform
-import re
-import shlex
 import shutil
-import signal
 import statistics
 import subprocess
 import sys
-import tempfile
-import time
 
-HERE = os.path.dirname(os.path.abspath(__file__))
-ROOT = os.path.dirname(HERE)
-PEERS = os.path.join(HERE, "peers")
+from session import FOCUSD, PEERS, ROOT, RUST, Stopped, Turns, build_rust, load, load_since, measure, parser_of_turns, print_head, say
+from session import status_after, verdict, whole_number
+
 MAKE_EXPORT = os.path.join(ROOT, "examples", "make_export.py")
 EXPECTED = os.path.join(ROOT, "examples", "expected.py")
 SPLIT_EXPORT = os.path.join(ROOT, "tools", "split_export.py")
-DEBIAN_CRATES = "/usr/share/cargo/registry"
 HOURS = 744
 START, LOW, HIGH = "2024-01-01T00:00", "2024-01-02T00:00Z", "2024-01-31T00:00Z"
 GOAL_TIMES, BAR_TIMES = 1.0, 1.3
 GOAL_BYTES, BAR_BYTES = 100, 140
 GOAL_WALL = 0.45
-FOCUSD, RUST = "focusd", "plain Rust"
-
-
-class Stopped(Exception):
-    """Why nothing can be measured, and what to do."""
 
 
 class Data:
@@ -81,25 +68,6 @@ def make(path, command):
     os.replace(path + ".part", path)
 
 
-class Turns:
-    """The turns of a program so far, and what went wrong with it, after which it takes none."""
-
-    def __init__(self, name):
-        self.name, self.turns, self.fault = name, [], None
-
-    def keep(self, turn, options):
-        """Judges a turn, and keeps it where its answer is right."""
-        if turn.status is None:
-            self.fault = f"stopped after {options.limit} s"
-        elif turn.status:
-            self.fault = f"failed with status {turn.status}: {turn.complaint.strip()[-200:]}"
-        else:
-            self.fault = self.judge(turn.output)
-        if not self.fault:
-            self.turns.append(turn)
-            say(f"  {self.name}: {turn.seconds:.3f} s")
-
-
 class Program(Turns):
     """One way to do the job, and its turns so far."""
 
@@ -124,10 +92,6 @@ class Program(Turns):
         except (IndexError, ValueError):
             return "gave no report"
         return None
-
-    @property
-    def seconds(self):
-        return min(turn.seconds for turn in self.turns)
 
     @property
     def processor_seconds(self):
@@ -172,61 +136,6 @@ def amounts(report):
     return [int(amount.replace(".", "")) for record in records for amount in record[1:]]
 
 
-class Turn:
-    """What one run of a program took and gave; the status is None where it was stopped."""
-
-    def __init__(self, seconds, status=None, output=b"", complaint=b"", clock=b""):
-        self.seconds, self.status, self.output = seconds, status, output
-        self.complaint = complaint.decode("utf-8", "replace")
-        # The last line that GNU time wrote, nothing where it is missing.
-        words = clock.split()[-3:]
-        self.is_clocked = len(words) == 3
-        if self.is_clocked:
-            self.peak = int(words[0]) * 1024
-            self.processor_seconds = float(words[1]) + float(words[2])
-
-
-def measure(command, stdin, options):
-    """Runs a command once."""
-    clock = shutil.which("time")
-    with tempfile.NamedTemporaryFile(dir=options.scratch) as told, open(stdin, "rb") as script:
-        # GNU time tells the peak of the program alone; a child of this process would begin with its size.
-        words = [clock, "-q", "-f", "%M %U %S", "-o", told.name, *command] if clock else command
-        start = time.perf_counter()
-        pipes = {"stdout": subprocess.PIPE, "stderr": subprocess.PIPE}
-        started = subprocess.Popen(words, stdin=script, start_new_session=True, **pipes)
-        try:
-            output, complaint = started.communicate(timeout=options.limit)
-        except subprocess.TimeoutExpired:
-            os.killpg(started.pid, signal.SIGKILL)
-            started.communicate()
-            return Turn(options.limit)
-        seconds = time.perf_counter() - start
-        return Turn(seconds, started.returncode, output, complaint, told.read())
-
-
-def build_rust(options, notes, name="expert", crates=("csv", "serde-json")):
-    """The path of a plain Rust program of bench/peers, built over Debian's crates; None where it can't be built."""
-    if not shutil.which("cargo"):
-        notes.append(f"{RUST}: there is no cargo")
-        return None
-    if not os.path.isdir(DEBIAN_CRATES):
-        notes.append(f"{RUST}: Debian's {' and '.join(f'librust-{it}-dev' for it in crates)} aren't installed")
-        return None
-    # The programs share modules, so they lie beside each other.
-    folder, target = os.path.join(options.scratch, "peers"), os.path.join(options.scratch, "target")
-    shutil.copytree(PEERS, folder, dirs_exist_ok=True)
-    words = ["cargo", "build", "--release", "--offline", "--quiet", "--target-dir", target]
-    words += ["--config", 'source.crates-io.replace-with="debian"']
-    words += ["--config", f'source.debian.directory="{DEBIAN_CRATES}"']
-    say(f"building the plain Rust program {name}")
-    ran = subprocess.run(words, cwd=os.path.join(folder, name), capture_output=True, text=True)
-    if ran.returncode:
-        notes.append(f"{RUST}: not built: {ran.stderr.strip()[-300:]}")
-        return None
-    return os.path.join(target, "release", name)
-
-
 def programs_of(data, options, notes):
     """What can be measured here, focusd first."""
     programs = []
@@ -253,40 +162,6 @@ def programs_of(data, options, notes):
             programs.append(Program(f"SQLite, {how}", [*sqlite, how, *span], data, is_exact=is_exact))
         programs.append(Program(f"Python, {how}", [*python, how, *span], data, is_exact=is_exact))
     return programs
-
-
-def first_line(*command):
-    try:
-        ran = subprocess.run(command, capture_output=True, text=True)
-    except OSError:
-        return None
-    return ran.stdout.strip().partition("\n")[0] or None
-
-
-def found_in(path, pattern):
-    try:
-        with open(path, encoding="utf-8") as file:
-            found = re.search(pattern, file.read(), re.M)
-    except OSError:
-        return None
-    return found[1] if found else None
-
-
-def machine():
-    """Lines on what was measured where."""
-    model = found_in("/proc/cpuinfo", r"^model name\s*: (.*)$") or platform.machine()
-    memory = found_in("/proc/meminfo", r"^MemTotal:\s*(\d+) kB$")
-    system = found_in("/etc/os-release", r'^PRETTY_NAME="?(.*?)"?$') or platform.system()
-    gigabytes = f", {int(memory) / 1e6:.0f} GB" if memory else ""
-    yield f"Machine: {os.cpu_count()} cores ({model}){gigabytes}, {system}"
-    sqlite = first_line("sqlite3", "--version")
-    versions = [
-        first_line("rt", "version"),
-        first_line("rustc", "--version"),
-        sqlite and f"SQLite {sqlite.split()[0]}",
-        f"Python {platform.python_version()}",
-    ]
-    yield "Versions: " + ", ".join(it for it in versions if it)
 
 
 def table(programs, data):
@@ -334,44 +209,6 @@ def judged(what, value, goal, bar, note):
     return line + (f"; bar, at most {bar}: {verdict(value <= bar)}" if bar else "") + note
 
 
-def verdict(is_met):
-    return "met" if is_met else "missed"
-
-
-def load():
-    return " ".join(f"{it:.1f}" for it in os.getloadavg()[:2])
-
-
-def say(text):
-    print(text, file=sys.stderr, flush=True)
-
-
-def whole_number(text):
-    if not text.isdecimal() or int(text) < 1:
-        raise argparse.ArgumentTypeError(f"{text!r} is not a whole number from 1")
-    return int(text)
-
-
-def read_command_line():
-    parser = argparse.ArgumentParser(description=__doc__, formatter_class=argparse.RawDescriptionHelpFormatter)
-    parser.add_argument(
-        "--program",
-        default=os.path.join(ROOT, "out", "focusd"),
-        help="the built focusd (default: out/focusd)",
-    )
-    parser.add_argument("--rows", type=whole_number, default=1_000_000, help="default: 1,000,000")
-    parser.add_argument("--narrow", action="store_true", help="six columns a row in place of 15")
-    parser.add_argument("--turns", type=whole_number, default=3, help="turns of each program (default: 3)")
-    parser.add_argument("--seed", type=int, default=7, help="of the export (default: 7)")
-    parser.add_argument("--limit", type=whole_number, default=600, help="seconds for one turn (default: 600)")
-    parser.add_argument("--fast", action="store_true", help="focusd and the plain Rust program alone")
-    parser.add_argument("--workers", type=whole_number, nargs="+", default=[], help="focusd with these numbers of workers too (default: one alone)")
-    parser.add_argument("--date", default="", help="the date that the result is to carry")
-    parser.add_argument("--scratch", default=os.path.join(HERE, "scratch"), help="default: bench/scratch")
-    parser.add_argument("--data-only", action="store_true", help="make the data, print the script's path and end")
-    return parser.parse_args()
-
-
 def run(options):
     os.makedirs(options.scratch, exist_ok=True)
     data = Data(options)
@@ -391,10 +228,8 @@ def run(options):
             program.take_turn(options)
     title = f"{options.rows:,} rows of {'6' if options.narrow else '15'} columns, {data.script_bytes / 1e6:.0f} MB"
     print(f"### {title}\n")
-    print(f"Command: `{shlex.join(['python3', 'bench/bench.py', *sys.argv[1:]])}`  ")
-    for line in [f"Date: {options.date}"] * bool(options.date) + list(machine()):
-        print(f"{line}  ")
-    print(f"Load of the machine before and after: {before}; {load()}\n")
+    print_head(options)
+    print(f"{load_since(before)}\n")
     print("\n".join(table(programs, data)) + "\n")
     for line in [*goals(programs), *(f"Left out: {note}" for note in notes)]:
         print(f"- {line}")
@@ -402,12 +237,14 @@ def run(options):
 
 
 def main():
-    options = read_command_line()
-    try:
-        return run(options)
-    except Stopped as why:
-        say(f"bench.py: {why}")
-        return 2
+    parser = parser_of_turns(__doc__, turns=3, limit=600)
+    parser.add_argument("--rows", type=whole_number, default=1_000_000, help="default: 1,000,000")
+    parser.add_argument("--narrow", action="store_true", help="six columns a row in place of 15")
+    parser.add_argument("--seed", type=int, default=7, help="of the export (default: 7)")
+    parser.add_argument("--fast", action="store_true", help="focusd and the plain Rust program alone")
+    parser.add_argument("--workers", type=whole_number, nargs="+", default=[], help="focusd with these numbers of workers too (default: one alone)")
+    parser.add_argument("--data-only", action="store_true", help="make the data, print the script's path and end")
+    return status_after(run, parser.parse_args())
 
 
 if __name__ == "__main__":

@@ -11,18 +11,17 @@ bytes. Progress goes to standard error. It takes some minutes, most of them to m
 
 Exit status: 0 all answers are right, 1 one isn't, 2 a wrong command line or a machine on which nothing can be measured.
 """
-import argparse
 import collections
 import csv
 import json
 import os
-import shlex
 import shutil
 import statistics
 import sys
 import tempfile
 
-from bench import HERE, ROOT, Data, Stopped, load, machine, measure, say, verdict, whole_number
+from bench import Data
+from session import ROOT, built, load, load_since, measure, parser_of_turns, print_head, say, status_after, verdict, whole_number
 from store import posts_alone, written
 
 sys.path.insert(0, os.path.join(ROOT, "examples"))
@@ -62,8 +61,8 @@ class Sums:
 class Runs:
     """Runs of the program, what each took, and what was wrong."""
 
-    def __init__(self, options):
-        self.program, self.options, self.lines, self.wrong = os.path.abspath(options.program), options, [], []
+    def __init__(self, program, options):
+        self.program, self.options, self.lines, self.wrong = program, options, [], []
 
     def run(self, name, *words, stdin=os.devnull, shown=True):
         """Runs a command: what it took and printed."""
@@ -181,22 +180,19 @@ def dumps(runs, folders, scratch):
 
 def run(options):
     os.makedirs(options.scratch, exist_ok=True)
-    if not os.access(options.program, os.X_OK):
-        raise Stopped(f"{options.program} isn't there: build it by `examples/run --proved`")
+    program = built(options.program)
     data, before = Data(options), load()
     posts = written(os.path.join(options.scratch, os.path.basename(data.script) + ".posts"), posts_alone(data.script))
     say("summing the export")
-    sums, runs = Sums(data.export), Runs(options)
+    sums, runs = Sums(data.export), Runs(program, options)
     with tempfile.TemporaryDirectory(dir=options.scratch) as room:
         folders = {it: os.path.join(room, it) for it in ("import", "script", "copy")}
         medians = imports(runs, data, posts, folders)
         status = questions(runs, data, sums, folders["import"])
         coverage(runs, sums, folders["import"], room)
         dumps(runs, folders, room)
-    print(f"Command: `{shlex.join(['python3', 'bench/commands.py', *sys.argv[1:]])}`  ")
-    for line in [f"Date: {options.date}"] * bool(options.date) + list(machine()):
-        print(f"{line}  ")
-    print(f"Load of the machine before and after: {before}; {load()}\n")
+    print_head(options)
+    print(f"{load_since(before)}\n")
     print("\n".join(runs.table()))
     taken, beside = medians["import"], medians["the same rows by a script"]
     print(f"\nImport beside the same rows by a script, processor time, the median of {options.turns} turns: {taken:.2f} and {beside:.2f} s.")
@@ -209,21 +205,11 @@ def run(options):
 
 
 def main():
-    parser = argparse.ArgumentParser(description=__doc__, formatter_class=argparse.RawDescriptionHelpFormatter)
+    parser = parser_of_turns(__doc__, turns=3, limit=600, what="how often each import is measured")
     parser.add_argument("--rows", type=whole_number, default=1_000_000, help="default: 1,000,000")
-    parser.add_argument("--turns", type=whole_number, default=3, help="how often each import is measured (default: 3)")
     parser.add_argument("--seed", type=whole_number, default=7, help="default: 7")
-    parser.add_argument("--limit", type=whole_number, default=600, help="seconds for one run (default: 600)")
-    parser.add_argument("--date", default="", help="the date that the result carries")
-    parser.add_argument("--program", default=os.path.join(ROOT, "out", "focusd"), help="default: out/focusd")
-    parser.add_argument("--scratch", default=os.path.join(HERE, "scratch"), help="default: bench/scratch")
-    options = parser.parse_args()
-    options.narrow = False
-    try:
-        return run(options)
-    except Stopped as why:
-        say(f"commands.py: {why}")
-        return 2
+    parser.set_defaults(narrow=False)
+    return status_after(run, parser.parse_args())
 
 
 if __name__ == "__main__":

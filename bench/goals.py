@@ -10,14 +10,13 @@ beside its values is left out.
 
 Exit status: 0 all was measured, 1 a script failed or couldn't measure a goal, 2 a wrong command line.
 """
-import argparse
 import os
 import re
 import shlex
 import subprocess
 import sys
 
-from bench import FOCUSD, HERE, load, machine, say, whole_number
+from session import FOCUSD, HERE, load, load_since, parser_of, print_head, say, whole_number
 
 COVERED = 40
 
@@ -146,10 +145,8 @@ def run(options):
         more, wrong = measured(words, goals)
         rows += more
         faults += wrong
-    print(f"Command: `{shlex.join(['python3', 'bench/goals.py', *sys.argv[1:]])}`  ")
-    for line in [f"Date: {options.date}"] * bool(options.date) + list(machine()):
-        print(f"{line}  ")
-    print(f"Load of the machine before and after: {before}; {load()}\n")
+    print_head(options)
+    print(f"{load_since(before)}\n")
     print("| goal | value | met or missed | measured by |\n|---|---|---|---|")
     print("\n".join(rows))
     if faults:
@@ -158,7 +155,7 @@ def run(options):
 
 
 def main():
-    parser = argparse.ArgumentParser(description=__doc__, formatter_class=argparse.RawDescriptionHelpFormatter)
+    parser = parser_of(__doc__)
     parser.add_argument("--program", default="", help="the built focusd (default: out/focusd)")
     parser.add_argument("--rows", type=whole_number, help="default: that of each script, 1,000,000")
     parser.add_argument("--turns", type=whole_number, default=5, help="turns of each program (default: 5)")

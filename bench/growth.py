@@ -18,19 +18,20 @@ A pair is a row and a commitment that may cover it: one of its SKUs, in its hour
 time as these times a logarithm. Needs a C compiler (cc) for the first case. Progress goes to standard error.
 Exit status: 0 measured, 1 a program failed, 2 a wrong command line.
 """
-import argparse
 import datetime
 import functools
 import os
 import random
-import resource
 import shutil
 import subprocess
 import sys
 import tempfile
 
-HERE = os.path.dirname(os.path.abspath(__file__))
-ROOT = os.path.dirname(HERE)
+from session import ROOT, add_program, parser_of, say
+
+sys.path.insert(0, os.path.join(ROOT, "tools"))
+from meter import processor  # noqa: E402
+
 START = datetime.datetime(2024, 1, 1)
 HEADER = ("BilledCost,EffectiveCost,BillingCurrency,ChargeCategory,ChargePeriodStart,ChargePeriodEnd,"
           "ConsumedQuantity,ConsumedUnit,SkuId,Tags")
@@ -125,12 +126,6 @@ class Case:
         return f"report team {stamp(0)}Z {stamp(self.hours)}Z\n"
 
 
-def processor():
-    """The processor seconds of all programs that were run."""
-    used = resource.getrusage(resource.RUSAGE_CHILDREN)
-    return used.ru_utime + used.ru_stime
-
-
 def seconds(program, pieces, scratch, turns):
     """The least processor seconds of a run over a script."""
     path = os.path.join(scratch, "script")
@@ -202,18 +197,17 @@ TABLES = [
 
 
 def main():
-    parser = argparse.ArgumentParser(description=__doc__, formatter_class=argparse.RawDescriptionHelpFormatter)
+    parser = parser_of(__doc__)
     parser.add_argument("--date", default="undated", help="the date that the result carries")
-    parser.add_argument("--program", default=os.path.join(ROOT, "out", "focusd"))
-    parser.add_argument("--turns", type=int, default=3)
+    add_program(parser)
+    parser.add_argument("--turns", type=int, default=3, help="runs of each script, of which the least counts (default: 3)")
     options = parser.parse_args()
     if not os.path.exists(options.program):
-        print(f"{options.program} is missing; build it by examples/run --proved", file=sys.stderr)
+        say(f"{options.program} is missing; build it by examples/run --proved")
         return 2
     scratch = tempfile.mkdtemp(prefix="growth-")
     try:
         print(f"Date: {options.date}; load of the machine before: {os.getloadavg()[0]:.1f}\n")
-        say = lambda text: print(text, file=sys.stderr, flush=True)
         say("a report over 1,000,000 rows")
         case = Case("", 1_000_000, 1000)
         report = f"report team {stamp(24)}Z {stamp(720)}Z\n"

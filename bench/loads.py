@@ -13,7 +13,6 @@ How much groups help depends on what a sync costs. With `--slow-sync 5` each syn
 
 Exit status: 0 all answers are right, 1 one isn't, 2 a wrong command line or a machine on which nothing can be measured.
 """
-import argparse
 import os
 import shlex
 import shutil
@@ -24,7 +23,7 @@ import sys
 import tempfile
 import time
 
-from bench import HERE, ROOT, Stopped, load, machine, say, verdict, whole_number
+from session import HERE, Stopped, built, load, parser_of_turns, print_head, say, status_after, verdict
 
 IMPORTERS = (1, 8, 64)
 HEADER = "BilledCost,EffectiveCost,BillingCurrency,ChargeCategory,ChargePeriodStart,ChargePeriodEnd\n"
@@ -114,12 +113,11 @@ def slowed(options):
 def run(options):
     if options.slow_sync and os.environ.get("SLOW_SYNC") != str(options.slow_sync):
         slowed(options)
-    if not os.access(options.program, os.X_OK):
-        raise Stopped(f"{options.program} isn't there: build it by `examples/run --proved`")
+    program = built(options.program)
     os.makedirs(options.scratch, exist_ok=True)
     before = load()
     with tempfile.TemporaryDirectory(dir=options.scratch) as folder:
-        room = Room(os.path.abspath(options.program), folder)
+        room = Room(program, folder)
         sync = room.a_sync()
         starts, loads, rows = [], {it: [] for it in IMPORTERS}, {it: [] for it in IMPORTERS}
         for turn in range(options.turns):
@@ -128,9 +126,7 @@ def run(options):
             for count in IMPORTERS:
                 loads[count].append(room.loaded(count))
                 rows[count].append(room.inserted(count))
-    print(f"Command: `{shlex.join(['python3', 'bench/loads.py', *sys.argv[1:]])}`  ")
-    for line in [f"Date: {options.date}"] * bool(options.date) + list(machine()):
-        print(f"{line}  ")
+    print_head(options)
     print(f"A sync of 100 bytes takes {sync * 1e6:.0f} microseconds where the files are. Load before and after: {before}; {load()}\n")
     print("| importers | focusd, ms a load | posts/s | SQLite, one transaction a row, rows/s |")
     print("|---:|---:|---:|---:|")
@@ -145,17 +141,9 @@ def run(options):
 
 
 def main():
-    parser = argparse.ArgumentParser(description=__doc__, formatter_class=argparse.RawDescriptionHelpFormatter)
-    parser.add_argument("--turns", type=whole_number, default=21, help="default: 21")
-    parser.add_argument("--date", default="", help="the date that the result carries")
-    parser.add_argument("--program", default=os.path.join(ROOT, "out", "focusd"), help="default: out/focusd")
+    parser = parser_of_turns(__doc__, turns=21)
     parser.add_argument("--slow-sync", type=int, default=0, metavar="MS", help="each sync takes so many milliseconds longer (default: 0)")
-    parser.add_argument("--scratch", default=os.path.join(HERE, "scratch"), help="default: bench/scratch")
-    try:
-        return run(parser.parse_args())
-    except Stopped as why:
-        say(f"loads.py: {why}")
-        return 2
+    return status_after(run, parser.parse_args())
 
 
 if __name__ == "__main__":

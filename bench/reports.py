@@ -26,15 +26,13 @@ The plain Rust program (peers/reports) keeps its rows clustered by hour until ro
 librust-csv-dev, librust-serde-json-dev and librust-toml-dev. Exit status: 0 measured, 1 a program failed or the answers differ, 2 a wrong
 command line or a machine on which nothing can be measured.
 """
-import argparse
 import hashlib
 import os
 import random
-import shlex
 import statistics
 import sys
 
-from bench import FOCUSD, HERE, ROOT, RUST, Stopped, build_rust, load, machine, measure, say, verdict, whole_number
+from session import FOCUSD, RUST, Stopped, build_rust, built, load, load_since, measure, parser_of_turns, print_head, say, status_after, verdict, whole_number
 
 MOST_ROWS = 4_096
 # Pairs of reports in the two runs: without commitments a report takes a few milliseconds, of which it takes many to measure.
@@ -216,21 +214,17 @@ def compare(programs, count, options):
 
 def run(options):
     os.makedirs(options.scratch, exist_ok=True)
-    if not os.access(options.program, os.X_OK):
-        raise Stopped(f"{options.program} isn't there: build it by `examples/run --proved`")
     notes = []
-    programs = [(FOCUSD, [os.path.abspath(options.program), "run"])]
+    programs = [(FOCUSD, [built(options.program), "run"])]
     if options.workers:
         programs = [(f"{FOCUSD} --workers {it}", [*programs[0][1], "--workers", str(it)]) for it in options.workers]
     rust = not options.workers and build_rust(options, notes, "reports", ("csv", "serde-json", "toml"))
     if rust:
         programs.append((RUST, [rust]))
     before = load()
-    print(f"Command: `{shlex.join(['python3', 'bench/reports.py', *sys.argv[1:]])}`  ")
-    for line in [f"Date: {options.date}"] * bool(options.date) + list(machine()):
-        print(f"{line}  ")
+    print_head(options)
     are_equal = all([compare(programs, count, options) for count in options.commitments])
-    print(f"\nLoad of the machine before and after: {before}; {load()}")
+    print(f"\n{load_since(before)}")
     for note in notes:
         print(f"- Left out: {note}")
     if not are_equal:
@@ -239,8 +233,7 @@ def run(options):
 
 
 def main():
-    parser = argparse.ArgumentParser(description=__doc__, formatter_class=argparse.RawDescriptionHelpFormatter)
-    parser.add_argument("--program", default=os.path.join(ROOT, "out", "focusd"), help="the built focusd (default: out/focusd)")
+    parser = parser_of_turns(__doc__, turns=3, limit=600)
     parser.add_argument("--rows", type=whole_number, default=1_000_000, help="default: 1,000,000")
     parser.add_argument("--hours", type=whole_number, default=720, help="default: 720")
     parser.add_argument("--commitments", type=int, nargs="+", default=[0, 40], help="default: 0 40")
@@ -248,17 +241,8 @@ def main():
     before = parser.add_mutually_exclusive_group()
     before.add_argument("--first", action="store_true", help="let each report be the first one after an entry")
     before.add_argument("--after-post", action="store_true", help="let each report be the first one after a post of one row")
-    parser.add_argument("--turns", type=whole_number, default=3, help="default: 3")
     parser.add_argument("--seed", type=int, default=7, help="default: 7")
-    parser.add_argument("--limit", type=whole_number, default=600, help="seconds for one run (default: 600)")
-    parser.add_argument("--date", default="", help="the date that the result is to carry")
-    parser.add_argument("--scratch", default=os.path.join(HERE, "scratch"), help="default: bench/scratch")
-    options = parser.parse_args()
-    try:
-        return run(options)
-    except Stopped as why:
-        say(f"reports.py: {why}")
-        return 2
+    return status_after(run, parser.parse_args())
 
 
 if __name__ == "__main__":

@@ -9,7 +9,6 @@ minutes, and much longer where the crates' out/ folders are not there). Each fig
 several turns. Progress goes to standard error.
 Exit status: 0 measured, 1 the program couldn't be built or run, 2 a wrong command line.
 """
-import argparse
 import datetime
 import os
 import shutil
@@ -17,8 +16,8 @@ import subprocess
 import sys
 import tempfile
 
-HERE = os.path.dirname(os.path.abspath(__file__))
-ROOT = os.path.dirname(HERE)
+from session import HERE, ROOT, parser_of, say, verdict
+
 TURNS = 2_000
 STANDS_ON = "fw_charge fw_columns fw_entry fw_entry_bytes fw_row_bytes fw_segment fw_snapshot anyhow"
 
@@ -32,18 +31,18 @@ def run(folder):
     os.makedirs(f"{folder}/crates/measure/src")
     shutil.copy(f"{HERE}/state/measure.rt.txt", f"{folder}/crates/measure/src/main.rt")
     subprocess.run(["git", "init", "-q", folder], check=True)
-    print("proving and building the program", file=sys.stderr)
+    say("proving and building the program")
     crate = f"{folder}/crates/measure"
     ran = subprocess.run(["rt", "run"], cwd=crate, stdout=subprocess.PIPE, stderr=subprocess.STDOUT, text=True)
     lines = [line.split() for line in ran.stdout.splitlines() if line.startswith(("entry ", "state "))]
     if ran.returncode or not lines:
-        print(ran.stdout[-2000:], file=sys.stderr)
+        say(ran.stdout[-2000:])
         sys.exit(1)
     return lines
 
 
 def main():
-    parser = argparse.ArgumentParser(description=__doc__, formatter_class=argparse.RawDescriptionHelpFormatter)
+    parser = parser_of(__doc__)
     parser.add_argument("--date", default=datetime.date.today().isoformat(), help="the date that the result carries")
     arguments = parser.parse_args()
     with tempfile.TemporaryDirectory(prefix="measure-") as folder:
@@ -60,13 +59,13 @@ def main():
     small, large = best[1_000], best[1_000_000]
     for name, at in (("judge", 0), ("apply", 1)):
         ratio = large[at] / small[at]
-        print(f"\n{name}: 10^6 entries beside 10^3: {ratio:.2f} times (goal at most 1.2: {'met' if ratio <= 1.2 else 'missed'})")
+        print(f"\n{name}: 10^6 entries beside 10^3: {ratio:.2f} times (goal at most 1.2: {verdict(ratio <= 1.2)})")
     states = [line for line in lines if line[0] == "state"]
     rows, size = int(states[0][1]), int(states[0][2])
     print(f"\nA state of {rows:,} rows, {size:,} bytes:")
     for name, at, goal, bar in (("encode", 3, 800, 400), ("decode", 4, 400, 200)):
         speed = size / 1e6 / (min(int(line[at]) for line in states) / 1e9)
-        print(f"\n{name}: {speed:,.0f} MB/s (goal {goal}: {'met' if speed >= goal else 'missed'}; bar {bar}: {'met' if speed >= bar else 'missed'})")
+        print(f"\n{name}: {speed:,.0f} MB/s (goal {goal}: {verdict(speed >= goal)}; bar {bar}: {verdict(speed >= bar)})")
     return 0
 
 

@@ -19,13 +19,11 @@ sync costs there. Progress goes to standard error.
 It needs what bench.py needs, and dd; SQLite and PostgreSQL where they are to be measured (Debian 12: apt-get install sqlite3 postgresql).
 Exit status: 0 measured, 1 a program failed or gave a wrong answer, 2 a wrong command line or a machine on which nothing can be measured.
 """
-import argparse
 import csv
 import glob
 import itertools
 import os
 import re
-import shlex
 import shutil
 import signal
 import statistics
@@ -33,7 +31,9 @@ import subprocess
 import sys
 import time
 
-from bench import FOCUSD, HERE, ROOT, RUST, Data, Stopped, Turns, build_rust, load, machine, measure, say, verdict, whole_number
+from bench import Data
+from session import FOCUSD, RUST, Stopped, Turns, build_rust, load, load_since, measure, parser_of_turns, print_head, say, status_after, verdict
+from session import whole_number
 
 PARTS = ["ingest", "small", "checkpoint", "growth"]
 SMALL_POSTS = 5_000
@@ -67,6 +67,29 @@ def written(path, parts):
     return path
 
 
+def asked(program, folder, script, *options):
+    """A run over a folder that isn't measured."""
+    with open(script, "rb") as file:
+        ended = subprocess.run([program, "run", "--dir", folder, *options], stdin=file, stdout=subprocess.DEVNULL, stderr=subprocess.PIPE, check=False)
+    if ended.returncode:
+        raise Stopped(f"focusd ended with status {ended.returncode}: {ended.stderr.decode(errors='replace')[-200:]}")
+
+
+def times_of_answers(words, script):
+    """When each answer to a script came, which has to be `accepted`. Each answer has to come out at once."""
+    times = []
+    with open(script, "rb") as file:
+        process = subprocess.Popen(words, stdin=file, stdout=subprocess.PIPE)
+        for line in process.stdout:
+            times.append(time.perf_counter())
+            if not line.startswith(b"accepted "):
+                process.kill()
+                raise Stopped(f"focusd answers {line[:80]!r}")
+    if process.wait():
+        raise Stopped(f"focusd ended with status {process.returncode} after {len(times)} answers")
+    return times
+
+
 class Job:
     """A script of posts, and what the peers read in its place."""
 
@@ -94,10 +117,6 @@ class Peer(Turns):
         if not self.fault:
             self.start()
             self.keep(measure(self.command, stdin, options), options)
-
-    @property
-    def seconds(self):
-        return min(turn.seconds for turn in self.turns)
 
 
 class Bench:
@@ -259,7 +278,7 @@ class Bench:
             os.makedirs(memory)
             script = written(self.path(f"grown-{entries}.script"), itertools.chain(small_posts(1, entries), [b"checkpoint\n"]))
             try:
-                self.run_focusd_at(memory, script)
+                asked(self.program, memory, script, "--create")
                 shutil.copytree(memory, self.path("grown"), dirs_exist_ok=True)
             finally:
                 shutil.rmtree(memory, ignore_errors=True)
@@ -278,25 +297,13 @@ class Bench:
         print("\nFrom the answer to the first of 2,000 posts to that to the last, in one run, syncs included.\n")
         print(f"- Goal, at most {MOST_GROWTH} times: **{verdict(large <= MOST_GROWTH * small)}** ({large / small:.2f} times)\n")
 
-    def run_focusd_at(self, folder, script):
-        with open(script, "rb") as file:
-            ended = subprocess.run([self.program, "run", "--dir", folder, "--create"], stdin=file, stdout=subprocess.DEVNULL, stderr=subprocess.PIPE, check=False)
-        if ended.returncode:
-            raise Stopped(f"focusd ended with status {ended.returncode}: {ended.stderr.decode(errors='replace')[-200:]}")
-
     def seconds_a_post(self, posts):
-        """The time between the first and the last answer, by the number of posts between them. Each answer has to come out at once."""
+        """The time between the first and the last answer, by the number of posts between them."""
         with open(self.path("posts.script"), "wb") as file:
             file.write(posts)
-        times = []
-        with open(self.path("posts.script"), "rb") as script:
-            process = subprocess.Popen(self.focusd("grown"), stdin=script, stdout=subprocess.PIPE)
-            for line in process.stdout:
-                times.append(time.perf_counter())
-                if not line.startswith(b"accepted "):
-                    raise Stopped(f"focusd answers {line[:80]!r}")
-        if process.wait() or len(times) != GROWN_POSTS:
-            raise Stopped(f"focusd ended with status {process.returncode} after {len(times)} answers")
+        times = times_of_answers(self.focusd("grown"), self.path("posts.script"))
+        if len(times) != GROWN_POSTS:
+            raise Stopped(f"focusd ended with status 0 after {len(times)} answers")
         # The first tenth is left out: caches are cold, and the reader of the pipe wakes up.
         start = GROWN_POSTS // 10
         return (times[-1] - times[start]) / (GROWN_POSTS - 1 - start)
@@ -417,31 +424,13 @@ class Postgres:
         subprocess.run(self.words(["pg_ctl", "-D", data, "-m", "fast", "stop"]), capture_output=True, check=False)
 
 
-def read_command_line():
-    parser = argparse.ArgumentParser(description=__doc__, formatter_class=argparse.RawDescriptionHelpFormatter)
-    parser.add_argument("--program", default=os.path.join(ROOT, "out", "focusd"), help="the built focusd (default: out/focusd)")
-    parser.add_argument("--rows", type=whole_number, default=1_000_000, help="of `ingest` (default: 1,000,000)")
-    parser.add_argument("--entries", type=whole_number, default=1_000_000, help="of the large warehouse of `growth` (default: 1,000,000)")
-    parser.add_argument("--turns", type=whole_number, default=3, help="turns of each program (default: 3)")
-    parser.add_argument("--seed", type=int, default=7, help="of the export (default: 7)")
-    parser.add_argument("--limit", type=whole_number, default=900, help="seconds for one turn (default: 900)")
-    parser.add_argument("--only", nargs="+", choices=PARTS, default=PARTS, metavar="PART", help="the parts that are measured (default: all)")
-    parser.add_argument("--date", default="", help="the date that the result is to carry")
-    parser.add_argument("--scratch", default=os.path.join(HERE, "scratch"), help="default: bench/scratch")
-    options = parser.parse_args()
-    options.narrow = False
-    return options
-
-
 def run(options):
     os.makedirs(options.scratch, exist_ok=True)
     data = Data(options) if {"ingest", "checkpoint"} & set(options.only) else None
     bench = Bench(options)
     try:
         before = load()
-        print(f"Command: `{shlex.join(['python3', 'bench/store.py', *sys.argv[1:]])}`  ")
-        for line in [f"Date: {options.date}"] * bool(options.date) + [*machine(), bench.cost_of_a_sync()]:
-            print(f"{line}  ")
+        print_head(options, bench.cost_of_a_sync())
         print()
         if data:
             posts = written(os.path.join(options.scratch, os.path.basename(data.script) + ".posts"), posts_alone(data.script))
@@ -455,7 +444,7 @@ def run(options):
             bench.checkpoint(job)
         if "growth" in options.only:
             bench.growth()
-        print(f"Load of the machine before and after: {before}; {load()}\n")
+        print(f"{load_since(before)}\n")
         for note in dict.fromkeys(bench.notes):
             print(f"- Left out: {note}")
         return 1 if bench.failed else 0
@@ -474,14 +463,16 @@ def posts_alone(script):
 
 
 def main():
-    options = read_command_line()
+    parser = parser_of_turns(__doc__, turns=3, limit=900)
+    parser.add_argument("--rows", type=whole_number, default=1_000_000, help="of `ingest` (default: 1,000,000)")
+    parser.add_argument("--entries", type=whole_number, default=1_000_000, help="of the large warehouse of `growth` (default: 1,000,000)")
+    parser.add_argument("--seed", type=int, default=7, help="of the export (default: 7)")
+    parser.add_argument("--only", nargs="+", choices=PARTS, default=PARTS, metavar="PART", help="the parts that are measured (default: all)")
+    parser.set_defaults(narrow=False)
+    options = parser.parse_args()
     # A server that was started is stopped, and files are removed, where the bench itself is stopped.
     signal.signal(signal.SIGTERM, lambda *_: sys.exit(143))
-    try:
-        return run(options)
-    except Stopped as why:
-        say(f"store.py: {why}")
-        return 2
+    return status_after(run, options)
 
 
 if __name__ == "__main__":

@@ -13,14 +13,12 @@ reports; what counts here is the median of the turns. `tools/gate.py` leaves the
 
 Exit status: 0 measured, 1 a test failed, 2 a wrong command line or a machine on which nothing can be measured.
 """
-import argparse
 import os
 import re
-import shlex
 import statistics
 import sys
 
-from bench import HERE, ROOT, Stopped, Turns, load, machine, measure, say, verdict, whole_number
+from session import ROOT, Stopped, Turns, load, load_since, measure, parser_of_turns, print_head, say, status_after, verdict
 
 # How many times as long as at rest a view may take. For a report there is no such goal: with eight importers and a flusher there are more
 # threads than most machines have cores.
@@ -116,10 +114,8 @@ def run(options):
         say(f"turn {turn + 1} of {options.turns}")
         for test in tests:
             test.take_turn(options)
-    print(f"Command: `{shlex.join(['python3', 'bench/views.py', *sys.argv[1:]])}`  ")
-    for line in [f"Date: {options.date}"] * bool(options.date) + list(machine()):
-        print(f"{line}  ")
-    print(f"Load of the machine before and after: {before}; {load()}\n")
+    print_head(options)
+    print(f"{load_since(before)}\n")
     print("\n".join(table(tests)) + "\n")
     for line in goals(tests):
         print(f"- {line}")
@@ -127,19 +123,9 @@ def run(options):
 
 
 def main():
-    parser = argparse.ArgumentParser(description=__doc__, formatter_class=argparse.RawDescriptionHelpFormatter)
     tests = os.path.join(ROOT, "out", "tests", "fw_test_threads")
-    parser.add_argument("--program", default=tests, help="the built tests (default: out/tests/fw_test_threads)")
-    parser.add_argument("--turns", type=whole_number, default=11, help="turns of each test (default: 11)")
-    parser.add_argument("--limit", type=whole_number, default=60, help="seconds for one turn (default: 60)")
-    parser.add_argument("--date", default="", help="the date that the result is to carry")
-    parser.add_argument("--scratch", default=os.path.join(HERE, "scratch"), help="default: bench/scratch")
-    options = parser.parse_args()
-    try:
-        return run(options)
-    except Stopped as why:
-        say(f"views.py: {why}")
-        return 2
+    parser = parser_of_turns(__doc__, turns=11, limit=60, program=tests, what="turns of each test")
+    return status_after(run, parser.parse_args())
 
 
 if __name__ == "__main__":

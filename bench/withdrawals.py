@@ -15,25 +15,19 @@ before the next. Its folder is in memory (/dev/shm) where there is one, so that 
 
 Exit status: 0 measured, 1 the program failed or the reports differ, 2 a wrong command line or a machine on which nothing can be measured.
 """
-import argparse
 import os
 import random
-import shlex
 import shutil
 import statistics
-import subprocess
 import sys
 import tempfile
-import time
 
-from bench import HERE, ROOT, Stopped, load, machine, measure, say, verdict, whole_number
-from reports import HEADER, MOST_ROWS, POLICY, commitments, instant, row
-from store import small_posts
+from reports import FEW, FIRST_COVERED, HEADER, MANY, MANY_COVERED, MOST_ROWS, POLICY, commitments, instant, row
+from session import Stopped, built, load, load_since, measure, parser_of_turns, print_head, say, status_after, verdict, whole_number
+from store import asked, small_posts, times_of_answers
 
 PARTS = ["reports", "entries"]
 MOST_REPORTS, MOST_ENTRIES = 1.1, 1.3
-# Pairs of reports in the two runs, as bench/reports.py has them: without commitments, under some, and where each is the first one after an entry.
-FEW, MANY, MANY_COVERED, MANY_FIRST = 1, 201, 41, 21
 # How many posts are withdrawn in a turn, and of how many answers the first ones are left out, while caches are cold.
 WITHDRAWN, LEFT_OUT = 400, 40
 FEW_ENTRIES = 1_000
@@ -92,7 +86,7 @@ def reports_of(output):
 
 def many_pairs(count, kind):
     """How many pairs of reports the longer run has."""
-    return (MANY_COVERED if count else MANY) if kind == KINDS[0] else MANY_FIRST
+    return (MANY_COVERED if count else MANY) if kind == KINDS[0] else FIRST_COVERED
 
 
 def seconds_a_report(program, scripts, reports, options):
@@ -155,14 +149,6 @@ def measure_reports(program, options):
 # ---- entries
 
 
-def asked(program, folder, script, *options):
-    """A run over a folder that isn't measured."""
-    with open(script, "rb") as file:
-        ended = subprocess.run([program, "run", "--dir", folder, *options], stdin=file, stdout=subprocess.DEVNULL, stderr=subprocess.PIPE, check=False)
-    if ended.returncode:
-        raise Stopped(f"focusd ended with status {ended.returncode}: {ended.stderr.decode(errors='replace')[-200:]}")
-
-
 def targets(entries, count):
     """The posts that are withdrawn: spread over all of them, the first and the last one too, in a fixed order that isn't theirs."""
     chosen = [1 + place * (entries - 1) // (count - 1) for place in range(count)]
@@ -171,17 +157,8 @@ def targets(entries, count):
 
 
 def seconds_a_withdrawal(program, folder, script):
-    """The time between two answers to withdrawals, by the number of answers between them. Each answer has to come out at once."""
-    times = []
-    with open(script, "rb") as file:
-        process = subprocess.Popen([program, "run", "--dir", folder], stdin=file, stdout=subprocess.PIPE)
-        for line in process.stdout:
-            times.append(time.perf_counter())
-            if not line.startswith(b"accepted "):
-                process.kill()
-                raise Stopped(f"focusd answers {line[:80]!r}")
-    if process.wait():
-        raise Stopped(f"focusd ended with status {process.returncode} after {len(times)} answers")
+    """The time between two answers to withdrawals, by the number of answers between them."""
+    times = times_of_answers([program, "run", "--dir", folder], script)
     return (times[-1] - times[LEFT_OUT]) / (len(times) - 1 - LEFT_OUT)
 
 
@@ -239,25 +216,20 @@ def measure_entries(program, options):
 
 def run(options):
     os.makedirs(options.scratch, exist_ok=True)
-    program = os.path.abspath(options.program)
-    if not os.access(program, os.X_OK):
-        raise Stopped(f"{options.program} isn't there: build it by `examples/run --proved`")
+    program = built(options.program)
     before, are_equal = load(), True
-    print(f"Command: `{shlex.join(['python3', 'bench/withdrawals.py', *sys.argv[1:]])}`  ")
-    for line in [f"Date: {options.date}"] * bool(options.date) + list(machine()):
-        print(f"{line}  ")
+    print_head(options)
     print()
     if "reports" in options.only:
         are_equal = measure_reports(program, options)
     if "entries" in options.only:
         measure_entries(program, options)
-    print(f"Load of the machine before and after: {before}; {load()}")
+    print(load_since(before))
     return 0 if are_equal else 1
 
 
 def main():
-    parser = argparse.ArgumentParser(description=__doc__, formatter_class=argparse.RawDescriptionHelpFormatter)
-    parser.add_argument("--program", default=os.path.join(ROOT, "out", "focusd"), help="the built focusd (default: out/focusd)")
+    parser = parser_of_turns(__doc__, turns=3, limit=900)
     parser.add_argument("--rows", type=whole_number, default=1_000_000, help="of reports, those of the withdrawn posts aside (default: 1,000,000)")
     parser.add_argument("--hours", type=whole_number, default=720, help="default: 720")
     parser.add_argument("--posts", type=whole_number, default=100, help="how many posts were withdrawn (default: 100)")
@@ -265,18 +237,9 @@ def main():
     parser.add_argument("--commitments", type=int, nargs="+", default=[0, 40], help="default: 0 40")
     parser.add_argument("--entries", type=whole_number, default=1_000_000, help="posts of the large warehouse (default: 1,000,000)")
     parser.add_argument("--on-disk", action="store_true", help="withdraw in a folder in --scratch, where a sync may cost more than all else")
-    parser.add_argument("--turns", type=whole_number, default=3, help="default: 3")
     parser.add_argument("--seed", type=int, default=7, help="default: 7")
-    parser.add_argument("--limit", type=whole_number, default=900, help="seconds for one run (default: 900)")
     parser.add_argument("--only", nargs="+", choices=PARTS, default=PARTS, metavar="PART", help="the parts that are measured (default: both)")
-    parser.add_argument("--date", default="", help="the date that the result is to carry")
-    parser.add_argument("--scratch", default=os.path.join(HERE, "scratch"), help="default: bench/scratch")
-    options = parser.parse_args()
-    try:
-        return run(options)
-    except Stopped as why:
-        say(f"withdrawals.py: {why}")
-        return 2
+    return status_after(run, parser.parse_args())
 
 
 if __name__ == "__main__":
