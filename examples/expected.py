@@ -12,6 +12,7 @@ added to a commitment, and lines that name no post to withdraw; at anything
 else it stops with status 1 and says what it met, so that it never makes up an
 answer.
 """
+import argparse
 import csv
 import datetime
 import decimal
@@ -379,7 +380,7 @@ class Warehouse:
     def enter(self, origin, number, read, text):
         """Reads an entry's content, and then looks at its origin and number and at what was accepted before."""
         try:
-            refusal, size, keep = read(text)
+            found = read(text)
         except Refused as fault:
             return f"refused {fault}\n"
         if not re.fullmatch(r"[A-Za-z0-9._-]{1,64}", origin):
@@ -387,6 +388,10 @@ class Warehouse:
         number = whole_number(number)
         if number is None:
             return "refused E2 Seq\n"
+        return self.judged(origin, number, *found)
+
+    def judged(self, origin, number, refusal, size, keep):
+        """Judges an entry by its size, its number and what was accepted before, and keeps it where it is accepted."""
         if ENTRY_BYTES + len(origin) + size > MOST_BYTES:
             return "refused E3 TooLarge\n"
         last = self.origins[origin]
@@ -429,6 +434,10 @@ class Warehouse:
             rows.append(Row(named, self.times, self.currency))
         if not rows:
             raise Refused("V14 NoRows")
+        return self.post_of(rows)
+
+    def post_of(self, rows):
+        """What is to be judged of a post: its conflict, its size, and what keeps it."""
         refusal = None
         if self.posted + len(rows) > MOST_KEPT:
             refusal = "J1 Full"
@@ -444,7 +453,10 @@ class Warehouse:
         return refusal, 4 + sum(row.size() for row in rows), keep
 
     def commit(self, text):
-        commitment = Commitment(tomllib.loads(text.decode()), self.times)
+        return self.commit_of(Commitment(tomllib.loads(text.decode()), self.times), small(text))
+
+    def commit_of(self, commitment, size):
+        """The same of a commitment."""
         refusal = None
         if commitment.id in {c.id for c in self.commitments}:
             refusal = "J2 DoubleId"
@@ -452,10 +464,13 @@ class Warehouse:
             refusal = "J3 IdInUse"
         elif len(self.commitments) >= MOST_COMMITMENTS:
             refusal = "J5 TooManyCommitments"
-        return refusal, small(text), lambda sender: self.commitments.append(commitment)
+        return refusal, size, lambda sender: self.commitments.append(commitment)
 
     def add_purchase(self, text):
-        more = AddedPurchase(tomllib.loads(text.decode()), self.times)
+        return self.add_of(AddedPurchase(tomllib.loads(text.decode()), self.times))
+
+    def add_of(self, more):
+        """The same of a purchase that is added."""
         commitment = next((c for c in self.commitments if c.id == more.id), None)
         refusal = None
         if commitment is None:
@@ -484,12 +499,15 @@ class Warehouse:
 
     def set_policy(self, text):
         policy = tomllib.loads(text.decode())
-        policy = {"key": policy["key"], "rule": policy.get("rule", [])}
+        return self.policy_entry({"key": policy["key"], "rule": policy.get("rule", [])}, small(text))
+
+    def policy_entry(self, policy, size):
+        """The same of a policy."""
 
         def keep(sender):
             self.policy = policy
 
-        return None, small(text), keep
+        return None, size, keep
 
     def lines_between(self, low, high):
         """The lines of a range of hours, or None where it is no range."""
@@ -505,8 +523,11 @@ class Warehouse:
 
     def lines(self, low, high):
         lines = self.lines_between(low, high)
-        if lines is None:
-            return "refused Q1 Range\n"
+        return "refused Q1 Range\n" if lines is None else self.text_of(lines)
+
+    @staticmethod
+    def text_of(lines):
+        """The answer that these lines make."""
         return sized(record(LINES_HEADER) + "".join(record(line.fields()) for line in lines))
 
     def coverage(self, low, high):
@@ -531,8 +552,10 @@ class Warehouse:
 
     def report(self, key, low, high):
         lines = self.lines_between(low, high)
-        if lines is None:
-            return "refused Q1 Range\n"
+        return "refused Q1 Range\n" if lines is None else self.report_of(key, lines)
+
+    def report_of(self, key, lines):
+        """The report by a tag over these lines."""
         billed, direct = defaultdict(int), defaultdict(int)
         for line in lines:
             group = line.tags.get(key, "")
@@ -576,11 +599,11 @@ def answers(script):
 
 
 def main():
-    if len(sys.argv) > 2 or sys.argv[1:] in (["-h"], ["--help"]):
-        print(__doc__)
-        return 2 if len(sys.argv) > 2 else 0
+    parser = argparse.ArgumentParser(description=__doc__, formatter_class=argparse.RawDescriptionHelpFormatter)
+    parser.add_argument("script", nargs="?", metavar="FILE.script", help="the commands (default: standard input)")
+    options = parser.parse_args()
     try:
-        with open(sys.argv[1], "rb") if sys.argv[1:] else sys.stdin.buffer as script:
+        with open(options.script, "rb") if options.script else sys.stdin.buffer as script:
             for answer in answers(iter(script.readline, b"")):
                 sys.stdout.buffer.write(answer.encode())
     except (Unknown, OSError, ValueError, KeyError, csv.Error) as why:

@@ -293,7 +293,10 @@ class House:
             # Number 0 is no post's.
             answer = o.withdraw(entry.origin, b"%d" % entry.number, content)
         else:
-            made = {POST: lambda: o.post_of(content), COMMIT: lambda: o.commit_of(content), POLICY: lambda: o.policy_entry(*content), ADD: lambda: o.add_of(content)}
+            made = {
+                POST: lambda: o.post_of(content), COMMIT: lambda: o.commit_of(content, content.size()),
+                POLICY: lambda: o.policy_entry(*content), ADD: lambda: o.add_of(content),
+            }  # fmt: skip
             answer = o.enter(entry.origin, b"%d" % entry.number, lambda _: made[entry.kind](), b"")
         self.kinds.append(entry.kind)
         latest = {

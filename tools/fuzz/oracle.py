@@ -4,7 +4,7 @@ The readers are those of texts.py and toml_text.py. What rows and commitments co
 `Script` splits a script into commands, `Oracle` answers them. An answer is its text and a label, which names what was met: `refused V5`,
 `accepted`, `bad command`; reports count the cases of reports.
 
-    python3 tools/fuzz/oracle.py FILE.script          prints the answers
+    python3 tools/fuzz/oracle.py examples/first-report.script    prints the answers
 """
 
 import os
@@ -13,11 +13,11 @@ import sys
 
 HERE = os.path.dirname(os.path.abspath(__file__))
 TOP = os.path.dirname(os.path.dirname(HERE))
-sys.path.insert(0, os.path.join(TOP, "examples"))
-sys.path.insert(0, HERE)
+sys.path[:0] = [HERE, os.path.join(TOP, "tools"), os.path.join(TOP, "examples")]
 import expected  # noqa: E402
 import texts  # noqa: E402
 import toml_text  # noqa: E402
+from command_line import parser_of  # noqa: E402
 
 COLUMNS = [name.encode() for name in expected.REQUIRED + expected.OPTIONAL]
 REQUIRED = len(expected.REQUIRED)
@@ -431,7 +431,7 @@ class Oracle(expected.Warehouse):
 
     def enter(self, origin, number, read, text):
         try:
-            refusal, size, keep = read(text)
+            found = read(text)
         except Refused as fault:
             PATHS.add(path_of(fault))
             return f"refused {fault}\n"
@@ -440,73 +440,20 @@ class Oracle(expected.Warehouse):
         number = number_of(number, 2**64 - 1)
         if not number:
             return "refused E2 Seq\n"
-        if expected.ENTRY_BYTES + len(origin) + size > expected.MOST_BYTES:
-            return "refused E3 TooLarge\n"
-        last = self.origins[origin]
-        if number <= last:
-            return f"already {last}\n"
-        if number > last + 1:
-            return f"gap {last + 1}\n"
-        if refusal:
-            return f"refused {refusal}\n"
-        keep((origin, number))
-        self.origins[origin] += 1
-        self.entries += 1
-        return f"accepted {self.entries}\n"
+        return self.judged(origin, number, *found)
 
     def post(self, text):
         return self.post_of(rows_of(text, self.currency_bytes))
 
-    def post_of(self, rows):
-        """What is to be judged of a post: its conflict, its size, and what keeps it."""
-        refusal = None
-        if self.posted + len(rows) > expected.MOST_KEPT:
-            refusal = "J1 Full"
-        elif {row.id for row in rows} & {c.id for c in self.commitments}:
-            refusal = "J4 OwnCommitment"
-
-        def keep(sender):
-            self.posts[sender] = rows
-            self.posted += len(rows)
-            for row in rows:
-                self.rows[row.hour].append(row)
-
-        return refusal, 4 + sum(row.size() for row in rows), keep
-
     def commit(self, text):
-        return self.commit_of(Commitment(text))
-
-    def commit_of(self, commitment):
-        refusal = None
-        if commitment.id in {c.id for c in self.commitments}:
-            refusal = "J2 DoubleId"
-        elif commitment.id in {row.id for rows in self.rows.values() for row in rows}:
-            refusal = "J3 IdInUse"
-        elif len(self.commitments) >= expected.MOST_COMMITMENTS:
-            refusal = "J5 TooManyCommitments"
-        return refusal, commitment.size(), lambda sender: self.commitments.append(commitment)
+        commitment = Commitment(text)
+        return self.commit_of(commitment, commitment.size())
 
     def add_purchase(self, text):
         return self.add_of(AddedPurchase(text))
 
-    def add_of(self, more):
-        commitment = next((c for c in self.commitments if c.id == more.id), None)
-        refusal = None
-        if commitment is None:
-            refusal = "J8 NoSuchCommitment"
-        elif not commitment.has_room_for(more.billed):
-            refusal = "J9 PurchaseLimit"
-        return refusal, more.size(), lambda sender: commitment.purchases.append((more.hour, more.billed))
-
     def set_policy(self, text):
         return self.policy_entry(*policy_of(text))
-
-    def policy_entry(self, policy, size):
-
-        def keep(sender):
-            self.policy = policy
-
-        return None, size, keep
 
     def between(self, low, high):
         """The lines of a range of hours."""
@@ -522,27 +469,10 @@ class Oracle(expected.Warehouse):
         return low < high and high - low <= expected.MOST_HOURS
 
     def lines_of_hours(self, low, high):
-        if not self.is_range(low, high):
-            return "refused Q1 Range\n"
-        found = [expected.record(line.fields()) for line in self.between(low, high)]
-        return expected.sized(expected.record(expected.LINES_HEADER) + "".join(found))
+        return self.text_of(self.between(low, high)) if self.is_range(low, high) else "refused Q1 Range\n"
 
     def report_hours(self, key, low, high):
-        if not self.is_range(low, high):
-            return "refused Q1 Range\n"
-        billed, direct = {}, {}
-        for line in self.between(low, high):
-            group = line.tags.get(key, "")
-            billed[group] = billed.get(group, 0) + line.billed
-            direct[group] = direct.get(group, 0) + line.effective
-        if sum(abs(cost) for cost in direct.values()) > expected.MOST_TOTAL:
-            return "refused Q2 TotalTooLarge\n"
-        charges = expected.charged(direct, self.policy) if self.policy and self.policy["key"] == key else direct
-        text = expected.record(expected.REPORT_HEADER)
-        for group in sorted(charges, key=str.encode):
-            amounts = (billed.get(group, 0), direct.get(group, 0), charges[group])
-            text += expected.record([group, *map(expected.spelled, amounts)])
-        return expected.sized(text)
+        return self.report_of(key, self.between(low, high)) if self.is_range(low, high) else "refused Q1 Range\n"
 
 
 def label_of(answer):
@@ -557,10 +487,9 @@ def answers(script, currency="USD"):
 
 
 def main():
-    if len(sys.argv) != 2:
-        print(__doc__)
-        return 2
-    with open(sys.argv[1], "rb") as file:
+    parser = parser_of(__doc__)
+    parser.add_argument("script", metavar="FILE.script", help="the commands")
+    with open(parser.parse_args().script, "rb") as file:
         sys.stdout.buffer.write(answers(file.read()))
     return 0
 
