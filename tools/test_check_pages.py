@@ -9,6 +9,7 @@ import unittest
 
 sys.path.insert(0, os.path.dirname(os.path.abspath(__file__)))
 import check_pages  # noqa: E402
+from small_repository import made_for, write  # noqa: E402
 
 TOOL = os.path.join(os.path.dirname(os.path.abspath(__file__)), "check_pages.py")
 LIB = """//! Amounts, of which `gone_from_here` is no name in code.
@@ -85,21 +86,9 @@ FILES = {
 }
 
 
-def write(top, files):
-    """Writes files below a folder."""
-    for path, text in files.items():
-        os.makedirs(os.path.dirname(os.path.join(top, path)), exist_ok=True)
-        with open(os.path.join(top, path), "w", encoding="utf-8") as file:
-            file.write(text)
-
-
 class Repositories(unittest.TestCase):
     def setUp(self):
-        self.folder = tempfile.TemporaryDirectory()
-        self.addCleanup(self.folder.cleanup)
-        self.top = self.folder.name
-        subprocess.run(["git", "init", "--quiet", self.top], check=True)
-        write(self.top, FILES)
+        self.top = made_for(self, FILES)
 
     def faults(self, text, path="README.md"):
         """The faults of a page in the small repository, without their page."""

@@ -4,14 +4,14 @@
 import contextlib
 import io
 import os
-import subprocess
 import sys
-import tempfile
 import unittest
 from unittest import mock
 
 sys.path.insert(0, os.path.dirname(os.path.abspath(__file__)))
 import planted  # noqa: E402
+from command_line import TOP  # noqa: E402
+from small_repository import made_for, write  # noqa: E402
 
 SOURCE = """//! pub fn in_a_comment() {}
 /// A disk.
@@ -90,14 +90,6 @@ edits = ["no_digit"]
 }
 
 
-def write(top, files):
-    """Writes files below a folder."""
-    for path, text in files.items():
-        os.makedirs(os.path.dirname(os.path.join(top, path)), exist_ok=True)
-        with open(os.path.join(top, path), "w", encoding="utf-8") as file:
-            file.write(text)
-
-
 class Functions(unittest.TestCase):
     def test_public_functions(self):
         found = [(it.name, it.clauses, it.is_law) for it in planted.public_functions(SOURCE)]
@@ -124,11 +116,7 @@ class Prose(unittest.TestCase):
 
 class Pages(unittest.TestCase):
     def setUp(self):
-        self.folder = tempfile.TemporaryDirectory()
-        self.addCleanup(self.folder.cleanup)
-        self.top = self.folder.name
-        subprocess.run(["git", "init", "--quiet", self.top], check=True)
-        write(self.top, FILES)
+        self.top = made_for(self, FILES)
 
     def run_tool(self, *words):
         """The exit status of the tool, and what it prints on standard error."""
@@ -172,8 +160,8 @@ class Pages(unittest.TestCase):
 
 class ThisRepository(unittest.TestCase):
     def test_the_page_is_up_to_date(self):
-        with open(os.path.join(planted.TOP, planted.PAGE), encoding="utf-8") as file:
-            self.assertEqual(file.read(), planted.page_of(planted.crates_of(planted.TOP), *planted.data_of(planted.TOP)))
+        with open(os.path.join(TOP, planted.PAGE), encoding="utf-8") as file:
+            self.assertEqual(file.read(), planted.page_of(planted.crates_of(TOP), *planted.data_of(TOP)))
 
 
 if __name__ == "__main__":
