@@ -15,6 +15,7 @@ use them. All others run in one hour, and rows of that hour are enough for each 
 is the most, under policies of 64 rules: each with weights for 256 groups, and then each in proportion; and one report is asked for over
 an hour more. The last questions come after a checkpoint, so that they can be asked once more of a warehouse that is opened again.
 """
+import argparse
 import sys
 
 MOST_BYTES = 4_194_304
@@ -155,9 +156,7 @@ def at_most_hours():
 
 
 def main():
-    if sys.argv[1:]:
-        print(__doc__)
-        return 0 if sys.argv[1] in ("-h", "--help") else 2
+    argparse.ArgumentParser(description=__doc__, formatter_class=argparse.RawDescriptionHelpFormatter).parse_args()
     script = [post(1, MOST_BYTES), post(2, MOST_BYTES + 1), post(1, MOST_BYTES), post(3, MOST_BYTES)]
     script += [*posts_of_many_rows(), *posts_of_wide_rows()]
     script += [widest(1), widest(2)]

@@ -12,6 +12,7 @@
 
 The same bytes each time. The amounts are invented.
 """
+import argparse
 import datetime
 import json
 import os
@@ -148,12 +149,12 @@ class Oracle(Provider):
 
 
 def main():
-    if len(sys.argv) != 2 or sys.argv[1] in ("-h", "--help"):
-        print(__doc__)
-        return 0 if len(sys.argv) == 2 else 2
-    os.makedirs(sys.argv[1], exist_ok=True)
+    parser = argparse.ArgumentParser(description=__doc__, formatter_class=argparse.RawDescriptionHelpFormatter)
+    parser.add_argument("folder", metavar="FOLDER", help="where the exports are written; it is made where it isn't there")
+    folder = parser.parse_args().folder
+    os.makedirs(folder, exist_ok=True)
     for provider in (Amazon, Microsoft, Google, Oracle):
-        provider().write(os.path.join(sys.argv[1], provider.__name__.lower() + ".csv"))
+        provider().write(os.path.join(folder, provider.__name__.lower() + ".csv"))
     return 0
 
 

@@ -1,12 +1,14 @@
 #!/usr/bin/env python3
 """Runs the commands for people of a built program, and compares what they print with what another program computed.
 
-    examples/test_commands.py PROGRAM [TEST ..]
+    examples/test_commands.py out/focusd
+    examples/test_commands.py out/focusd Files.test_an_import_is_taken_once
 
-A TEST is a class, or a test of one, as Files.test_an_import_is_taken_once; without any all are run.
+A TEST is a class, or a test of one; without any all are run.
 The warehouse is made from a script by `focusd run --dir`. What reports and lines must be comes from expected.py; a table is
 made of that here, by Python's decimal.
 """
+import argparse
 import csv
 import datetime
 import decimal
@@ -2370,8 +2372,9 @@ to = { team-4 = 3, shared = 1 }
 
 
 if __name__ == "__main__":
-    if len(sys.argv) < 2 or sys.argv[1].startswith("-"):
-        print(__doc__)
-        sys.exit(2)
-    PROGRAM = str(pathlib.Path(sys.argv.pop(1)).resolve())
-    unittest.main()
+    parser = argparse.ArgumentParser(description=__doc__, formatter_class=argparse.RawDescriptionHelpFormatter)
+    parser.add_argument("program", metavar="PROGRAM", help="the built program")
+    parser.add_argument("tests", nargs="*", default=[], metavar="TEST", help="the tests (default: all); options of unittest, as -v, stand behind")
+    options, others = parser.parse_known_args()
+    PROGRAM = str(pathlib.Path(options.program).resolve())
+    unittest.main(argv=[sys.argv[0], *options.tests, *others])

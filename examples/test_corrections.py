@@ -1,10 +1,11 @@
 #!/usr/bin/env python3
 """Runs the commands that correct what was posted: `focusd withdraw`, `focusd replace` and `focusd compact` of a built program.
 
-    examples/test_corrections.py PROGRAM
+    examples/test_corrections.py out/focusd
 
 What must be in the warehouse afterwards is said by other means: a warehouse that was sent the rows that count and no others, and sums made here.
 """
+import argparse
 import decimal
 import os
 import pathlib
@@ -392,9 +393,8 @@ class Compactions(Corrections):
 
 
 if __name__ == "__main__":
-    if len(sys.argv) != 2 or sys.argv[1].startswith("-"):
-        print(__doc__)
-        sys.exit(2)
-    PROGRAM = str(pathlib.Path(sys.argv.pop(1)).resolve())
+    parser = argparse.ArgumentParser(description=__doc__, formatter_class=argparse.RawDescriptionHelpFormatter)
+    parser.add_argument("program", metavar="PROGRAM", help="the built program")
+    PROGRAM = str(pathlib.Path(parser.parse_args().program).resolve())
     os.chdir(HERE)
-    unittest.main()
+    unittest.main(argv=sys.argv[:1])
