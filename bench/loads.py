@@ -1,7 +1,8 @@
 #!/usr/bin/env python3
 """Measures how fast small posts are stored by 1, 8 and 64 importers at once, as Markdown.
 
-    python3 bench/loads.py --date 2026-01-31 --scratch /a/folder/on/the/disk [--slow-sync 5] > result.md
+    python3 bench/loads.py --date 2026-01-31 --scratch /a/folder/on/the/disk > result.md
+    python3 bench/loads.py --slow-sync 5 --turns 11
 
 Each turn is a new folder and one `focusd load` of N files of one row each, each posted from a thread of its own; what waits together is
 stored as one group, with one pair of syncs. The time of a run with an empty script, which creates the same folder, is taken off, so that

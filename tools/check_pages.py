@@ -24,7 +24,6 @@ be left out. A file named by its end alone, as `src/lib.rt`, has to be in a crat
 Exit status: 0 where there is no fault, 1 where there is one, 2 where the pages can't be checked.
 """
 
-import argparse
 import bisect
 import functools
 import os
@@ -34,8 +33,8 @@ import sys
 from dataclasses import dataclass, field
 
 from changes import GitError, files_of, output_of
+from command_line import add_top, parser_of
 
-TOP = os.path.dirname(os.path.dirname(os.path.abspath(__file__)))
 PAGE = re.compile(r"README\.md|CONTRIBUTING\.md|(docs|examples|bench|tools/fuzz)/[^/]+\.md")
 MOST_COLUMNS = 100
 MOST_LINES = {"README.md": 150, "CONTRIBUTING.md": 200, "docs/PROOFS.md": 300}
@@ -613,9 +612,9 @@ def figures(pages):
 
 
 def main():
-    parser = argparse.ArgumentParser(description=__doc__, formatter_class=argparse.RawDescriptionHelpFormatter)
+    parser = parser_of(__doc__)
     parser.add_argument("--figures", action="store_true", help="print figures of each page too")
-    parser.add_argument("--top", default=TOP, metavar="FOLDER", help="the repository (default: this one)")
+    add_top(parser)
     options = parser.parse_args()
     try:
         faults, pages = faults_of(Repository(options.top))

@@ -18,6 +18,10 @@ def add_program(parser, default=PROGRAM):
     parser.add_argument("--program", default=default, help=f"the built program (default: {os.path.relpath(default, TOP)})")
 
 
+def add_top(parser):
+    parser.add_argument("--top", default=TOP, metavar="FOLDER", help="the repository (default: this one)")
+
+
 def add_jobs(parser, what):
     """How many of something are done at a time: one for each processor, where the command line doesn't say."""
     parser.add_argument("--jobs", type=int, default=len(os.sched_getaffinity(0)), metavar="J", help=f"{what} at a time (default: one for each processor)")

@@ -25,6 +25,8 @@ import subprocess
 import sys
 import tempfile
 
+from command_line import parser_of
+
 COLUMNS = "BilledCost EffectiveCost BillingCurrency ChargeCategory ChargePeriodStart ChargePeriodEnd".split()
 OTHER_COLUMNS = ["Tags", "x", "", "billedcost", " BilledCost", "BilledCost ", "\ufeffBilledCost", 'a"b', "a,b", "c\nd"]
 AMOUNTS = """
@@ -424,7 +426,7 @@ def whole_number(text):
 
 
 def read_command_line():
-    parser = argparse.ArgumentParser(description=__doc__, formatter_class=argparse.RawDescriptionHelpFormatter)
+    parser = parser_of(__doc__)
     parser.add_argument("--program", required=True, help="the built focusd")
     parser.add_argument("--oracle", required=True, type=command_line, help="the other program, or its command line")
     parser.add_argument("--seed", type=whole_number, default=1, help="of the cases (default: 1)")

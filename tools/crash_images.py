@@ -1,7 +1,8 @@
 #!/usr/bin/env python3
 """Opens what a crash may leave of a warehouse's two files, at each moment of a run.
 
-    tools/crash_images.py [--program PROGRAM] [--images N | --scripts N] [--entries N] [--seed N] [--jobs J]
+    tools/crash_images.py                            opens 10,000 images or more
+    tools/crash_images.py --scripts 3 --entries 6    opens all images of three short scripts
 
 Scripts of entries and checkpoints are run by `focusd run --dir`, and strace records the writes and syncs. After each of these calls,
 folders are made that hold what a crash may leave then: what was synced stands, and each range written since is old, new, torn at some
@@ -26,7 +27,6 @@ there are as many on each machine.
 Exit status: 0 where all images were right, 1 where one wasn't, 2 where nothing could be run.
 """
 
-import argparse
 import os
 import random
 import shutil
@@ -36,9 +36,10 @@ import threading
 from concurrent.futures import ThreadPoolExecutor
 from dataclasses import replace
 
+from command_line import TOP, add_jobs, add_program, parser_of, status_of
 from store_runs import (
-    PROGRAM, QUESTIONS, SIDES, TOP, CannotRun, Case, Disk, Image, Progress, commands, contents_of, lay, order_faults, record, role, room_of, run,
-    shown,
+    QUESTIONS, SIDES, CannotRun, Case, Disk, Image, Progress, add_room, commands, contents_of, lay, order_faults, program_at, record, role, room_of,
+    run, shown,
 )  # fmt: skip
 
 # How many entries a script has that is begun in an empty folder.
@@ -277,43 +278,41 @@ def self_test(options, room):
     return missed
 
 
+def search_all(options):
+    """Opens the images of one script after the other, or runs the self-test: the exit status."""
+    options.program = program_at(options.program)
+    with tempfile.TemporaryDirectory(prefix="crash-images-", dir=room_of(options.room)) as room:
+        if options.self_test:
+            missed = self_test(options, room)
+            print(f"wrong: {', '.join(missed)}" if missed else "each edit was seen")
+            return 1 if missed else 0
+        search, seed = Search(options, room), options.seed
+        while not search.is_over and (search.images < options.images if options.scripts is None else seed < options.seed + options.scripts):
+            search.explore(seed)
+            print(f"script {seed}: so far {search.images} images of {search.moments} moments in {search.runs} runs, {search.wrong} wrong", flush=True)
+            seed += 1
+        print(
+            f"{search.images} images of {search.runs} runs (seeds {options.seed} to {seed - 1}), {search.kills} of which were killed; "
+            f"{search.rests} images gone on with, {search.wrong} wrong"
+        )
+        return 1 if search.wrong else 0
+
+
 def main():
-    parser = argparse.ArgumentParser(description=__doc__, formatter_class=argparse.RawDescriptionHelpFormatter)
-    parser.add_argument("--program", default=PROGRAM, help="the program (default: out/focusd)")
+    parser = parser_of(__doc__)
+    add_program(parser)
     parser.add_argument("--images", type=int, default=None, metavar="N", help="how many images at the least (default: 10000; with --self-test at most so many of each edit: 1000)")
     parser.add_argument("--scripts", type=int, default=None, metavar="N", help="all images of so many scripts, however many these are")
     parser.add_argument("--entries", type=int, default=ENTRIES, metavar="N", help=f"how many entries a script has (default: {ENTRIES})")
     parser.add_argument("--most-wrong", type=int, default=None, metavar="N", help="end where so many images are wrong (default: try all)")
     parser.add_argument("--seed", type=int, default=1, metavar="N", help="the first script (default: 1)")
-    parser.add_argument("--jobs", type=int, default=len(os.sched_getaffinity(0)), metavar="J", help="images at a time")
-    parser.add_argument("--room", metavar="DIR", help="where folders are made (default: in memory, /dev/shm, where there is one)")
+    add_jobs(parser, "images")
+    add_room(parser)
     parser.add_argument("--keep", default=os.path.join(TOP, "out", "crash-images"), metavar="DIR", help="where wrong images are kept (default: out/crash-images)")
     parser.add_argument("--self-test", action="store_true", help="edit the recorded runs, and see that an image shows each edit")
     options = parser.parse_args()
     options.images = options.images or (1_000 if options.self_test else 10_000)
-    options.program = os.path.realpath(options.program)
-    if not os.access(options.program, os.X_OK):
-        print(f"tools/crash_images.py: there is no program at {options.program}", file=sys.stderr)
-        return 2
-    try:
-        with tempfile.TemporaryDirectory(prefix="crash-images-", dir=room_of(options.room)) as room:
-            if options.self_test:
-                missed = self_test(options, room)
-                print(f"wrong: {', '.join(missed)}" if missed else "each edit was seen")
-                return 1 if missed else 0
-            search, seed = Search(options, room), options.seed
-            while not search.is_over and (search.images < options.images if options.scripts is None else seed < options.seed + options.scripts):
-                search.explore(seed)
-                print(f"script {seed}: so far {search.images} images of {search.moments} moments in {search.runs} runs, {search.wrong} wrong", flush=True)
-                seed += 1
-            print(
-                f"{search.images} images of {search.runs} runs (seeds {options.seed} to {seed - 1}), {search.kills} of which were killed; "
-                f"{search.rests} images gone on with, {search.wrong} wrong"
-            )
-            return 1 if search.wrong else 0
-    except CannotRun as why:
-        print(f"tools/crash_images.py: {why}", file=sys.stderr)
-        return 2
+    return status_of("tools/crash_images.py", lambda: search_all(options), CannotRun)
 
 
 if __name__ == "__main__":

@@ -1,8 +1,9 @@
 #!/usr/bin/env python3
 """Tries must-fail edits, many of them in one check.
 
-    tools/edits.py CRATE ..                tries all edits of these crates; CRATE/NAME is one edit
-    tools/edits.py --one-by-one CRATE ..   tries each edit in a copy of its own, as `rt must-fail` does, to compare
+    tools/edits.py fw_money fw_charge          tries all edits of these crates
+    tools/edits.py fw_money/cuts_digits        tries one edit
+    tools/edits.py --one-by-one fw_money       tries each edit in a copy of its own, as `rt must-fail` does, to compare
 
 An edit of a function's body changes no contract. So beside each function that an edit turns stands, in one copy of the crate, a second one: with another name,
 the edited body, the same contract and the same proof files. One check then has to prove every function as it stands, and to refuse each
@@ -17,10 +18,8 @@ crates/NAME/out/rlib, as `rt ci` and `rt check` leave them.
 Exit status: 0 where every edit was refused, 1 where one wasn't, 2 where nothing could be tried.
 """
 
-import argparse
 import os
 import re
-import shutil
 import subprocess
 import sys
 import tempfile
@@ -30,9 +29,9 @@ import zlib
 from concurrent.futures import ThreadPoolExecutor
 from dataclasses import dataclass
 
+from command_line import add_top, parser_of
 from functions import functions_of
 
-TOP = os.path.dirname(os.path.dirname(os.path.abspath(__file__)))
 # The parts of a crate that a check reads.
 PARTS = ("src", "specs", "proofs")
 # The most edits of one copy: more would take more memory than a check has.
@@ -491,10 +490,10 @@ def edits_of(top, name):
 
 
 def main():
-    parser = argparse.ArgumentParser(description=__doc__, formatter_class=argparse.RawDescriptionHelpFormatter)
+    parser = parser_of(__doc__)
     parser.add_argument("crates", nargs="+", metavar="CRATE", help="a crate, or CRATE/NAME for one edit")
     parser.add_argument("--one-by-one", action="store_true", help="give each edit a copy of its own")
-    parser.add_argument("--top", default=TOP, metavar="FOLDER", help="the repository (default: this one)")
+    add_top(parser)
     parser.add_argument("--at-once", type=int, default=1, metavar="N", help="crates tried at once (default: 1)")
     options = parser.parse_args()
     wanted = {}

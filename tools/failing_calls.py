@@ -1,7 +1,8 @@
 #!/usr/bin/env python3
 """Makes each call of a run on its warehouse's files fail, one a run, and looks at the answers and at what stands afterwards.
 
-    tools/failing_calls.py [--program PROGRAM] [--seed N] [--entries N] [--images N] [--jobs J]
+    tools/failing_calls.py
+    tools/failing_calls.py --entries 4 --images 3    shorter scripts, and fewer images of each run
 
 A script of entries and checkpoints is run twice by `focusd run --dir`: with --create, and over a folder that has a warehouse. In each,
 every opening, lock, read, write and sync of the folder and its files, each read of the script and each write of the answers is made to
@@ -18,7 +19,6 @@ It needs strace (Debian 12: apt-get install strace) and a built program. The run
 Exit status: 0 where all runs were right, 1 where one wasn't, 2 where nothing could be run.
 """
 
-import argparse
 import io
 import os
 import random
@@ -28,9 +28,10 @@ import tempfile
 import threading
 from concurrent.futures import ThreadPoolExecutor
 
+from command_line import add_jobs, add_program, parser_of, status_of
 from store_runs import (
-    CHECKPOINT, PROGRAM, QUESTIONS, CannotRun, Case, Disk, Image, Progress, commands, contents_of, expected, lay, record, role, room_of, run,
-    shown,
+    CHECKPOINT, QUESTIONS, CannotRun, Case, Disk, Image, Progress, add_room, commands, contents_of, expected, lay, program_at, record, role, room_of,
+    run, shown,
 )  # fmt: skip
 
 # How many entries the run that creates a warehouse stores; the run over a folder that has one begins after as many and stores as many more.
@@ -194,40 +195,37 @@ def settled(program, folder, case, entries):
     return contents_of(folder)
 
 
+def try_all(options):
+    """Tries all calls of both plans: the exit status."""
+    program, wrong = program_at(options.program), 0
+    with tempfile.TemporaryDirectory(prefix="failing-calls-", dir=room_of(options.room)) as room:
+        small = Case(commands(options.seed, options.entries))
+        longer = Case(commands(options.seed + 1, 2 * options.entries))
+        os.makedirs(os.path.join(room, "start"))
+        start = settled(program, os.path.join(room, "start"), longer, options.entries)
+        plans = [Plan("creating", small, (None, None), 0, ["--create"]), Plan("opening", longer, start, options.entries, [])]
+        for plan in plans:
+            trial = Trial(plan, program, room, options.images, options.most_wrong)
+            known = [i for i, call in enumerate(trial.calls) if call.name != "mmap"]
+            items = [(i, how, again) for i in known for how, again in errors_of(trial.calls[i])]
+            with ThreadPoolExecutor(options.jobs) as pool:
+                list(pool.map(trial.check, items))
+            print(f"{plan.name}: {len(known)} calls, failed in {trial.runs} runs, {trial.images} folders opened again, {len(trial.wrong)} wrong", flush=True)
+            wrong += len(trial.wrong)
+    return 1 if wrong else 0
+
+
 def main():
-    parser = argparse.ArgumentParser(description=__doc__, formatter_class=argparse.RawDescriptionHelpFormatter)
-    parser.add_argument("--program", default=PROGRAM, help="the program (default: out/focusd)")
+    parser = parser_of(__doc__)
+    add_program(parser)
     parser.add_argument("--seed", type=int, default=1, metavar="N", help="the script (default: 1)")
     parser.add_argument("--entries", type=int, default=ENTRIES, metavar="N", help=f"how many entries each of the two runs stores (default: {ENTRIES})")
     parser.add_argument("--most-wrong", type=int, default=None, metavar="N", help="end a plan where so much is wrong (default: try all)")
     parser.add_argument("--images", type=int, default=6, metavar="N", help="how many images a run leaves that are opened beside the folder itself (default: 6)")
-    parser.add_argument("--jobs", type=int, default=len(os.sched_getaffinity(0)), metavar="J", help="runs at a time")
-    parser.add_argument("--room", metavar="DIR", help="where folders are made (default: in memory, /dev/shm, where there is one)")
+    add_jobs(parser, "runs")
+    add_room(parser)
     options = parser.parse_args()
-    program = os.path.realpath(options.program)
-    if not os.access(program, os.X_OK):
-        print(f"tools/failing_calls.py: there is no program at {program}", file=sys.stderr)
-        return 2
-    wrong = 0
-    try:
-        with tempfile.TemporaryDirectory(prefix="failing-calls-", dir=room_of(options.room)) as room:
-            small = Case(commands(options.seed, options.entries))
-            longer = Case(commands(options.seed + 1, 2 * options.entries))
-            os.makedirs(os.path.join(room, "start"))
-            start = settled(program, os.path.join(room, "start"), longer, options.entries)
-            plans = [Plan("creating", small, (None, None), 0, ["--create"]), Plan("opening", longer, start, options.entries, [])]
-            for plan in plans:
-                trial = Trial(plan, program, room, options.images, options.most_wrong)
-                known = [i for i, call in enumerate(trial.calls) if call.name != "mmap"]
-                items = [(i, how, again) for i in known for how, again in errors_of(trial.calls[i])]
-                with ThreadPoolExecutor(options.jobs) as pool:
-                    list(pool.map(trial.check, items))
-                print(f"{plan.name}: {len(known)} calls, failed in {trial.runs} runs, {trial.images} folders opened again, {len(trial.wrong)} wrong", flush=True)
-                wrong += len(trial.wrong)
-    except CannotRun as why:
-        print(f"tools/failing_calls.py: {why}", file=sys.stderr)
-        return 2
-    return 1 if wrong else 0
+    return status_of("tools/failing_calls.py", lambda: try_all(options), CannotRun)
 
 
 if __name__ == "__main__":

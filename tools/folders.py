@@ -1,9 +1,10 @@
 #!/usr/bin/env python3
 """Runs `focusd run --dir` over folders that are missing, closed to it, in use, full, or damaged.
 
-    tools/folders.py [--program PROGRAM] [--bytes N] [--jobs J] [--only PART ..]
+    tools/folders.py
+    tools/folders.py --only odd in-use
 
-PART is one of:
+runs all parts, or those that are named:
 
     odd       a folder that isn't there, a file in its place, a folder or a pipe in place of a file, one file as both, a file past 2^40
               bytes, a folder that may not be written, one that is empty, one that has a warehouse already where --create is given, and
@@ -22,7 +23,6 @@ A run that asks questions alone changes no file.
 It needs a built program. Exit status: 0 where all was right, 1 where it wasn't, 2 where nothing could be run.
 """
 
-import argparse
 import os
 import pty
 import random
@@ -37,7 +37,8 @@ import time
 from concurrent.futures import ThreadPoolExecutor
 from dataclasses import dataclass
 
-from store_runs import PROGRAM, QUESTIONS, SIDES, CannotRun, Case, Ended, acknowledged, commands, contents_of, lay, room_of, run, shown
+from command_line import add_jobs, add_program, parser_of, status_of
+from store_runs import QUESTIONS, SIDES, CannotRun, Case, Ended, acknowledged, add_room, commands, contents_of, lay, program_at, room_of, run, shown
 
 ASKED = b"".join(QUESTIONS)
 # About how many limits on the length of files are tried.
@@ -496,37 +497,34 @@ def damage(program, room, report, case, options):
             damages.all(f"a byte of {side} changed, {'in use' if side == files.used else 'not in use'}", items, options.jobs)
 
 
-def main():
-    parser = argparse.ArgumentParser(description=__doc__, formatter_class=argparse.RawDescriptionHelpFormatter)
-    parser.add_argument("--program", default=PROGRAM, help="the program (default: out/focusd)")
-    parser.add_argument("--bytes", type=int, default=2_000, metavar="N", help="how many bytes of each file are changed (default: 2000)")
-    parser.add_argument("--jobs", type=int, default=len(os.sched_getaffinity(0)), metavar="J", help="runs at a time")
-    parser.add_argument("--only", nargs="+", choices=PARTS, default=PARTS, metavar="PART", help="the parts that are tried (default: all)")
-    parser.add_argument("--room", metavar="DIR", help="where folders are made (default: in memory, /dev/shm, where there is one)")
-    options = parser.parse_args()
-    program = os.path.realpath(options.program)
-    if not os.access(program, os.X_OK):
-        print(f"tools/folders.py: there is no program at {program}", file=sys.stderr)
-        return 2
-    report = Report()
-    try:
-        with tempfile.TemporaryDirectory(prefix="folders-", dir=room_of(options.room)) as room:
-            if "odd" in options.only:
-                odd(program, os.path.join(room, "odd"), report, Case(commands(1, 4)))
-                print(f"odd folders: {report.tried} tried so far, {report.wrong} wrong", flush=True)
-            if "in-use" in options.only:
-                in_use(program, room, report, Case(commands(2, 4)))
-                print(f"a folder in use: {report.tried} tried so far, {report.wrong} wrong", flush=True)
-            if "full" in options.only:
-                full(program, room, report, Case(commands(3, 12)), options.jobs)
-                print(f"full disks: {report.tried} tried so far, {report.wrong} wrong", flush=True)
-            if {"cut", "bytes"} & set(options.only):
-                damage(program, room, report, Case(commands(5, 14)), options)
-    except CannotRun as why:
-        print(f"tools/folders.py: {why}", file=sys.stderr)
-        return 2
+def try_parts(options):
+    """Tries the parts that the options name: the exit status."""
+    program, report = program_at(options.program), Report()
+    with tempfile.TemporaryDirectory(prefix="folders-", dir=room_of(options.room)) as room:
+        if "odd" in options.only:
+            odd(program, os.path.join(room, "odd"), report, Case(commands(1, 4)))
+            print(f"odd folders: {report.tried} tried so far, {report.wrong} wrong", flush=True)
+        if "in-use" in options.only:
+            in_use(program, room, report, Case(commands(2, 4)))
+            print(f"a folder in use: {report.tried} tried so far, {report.wrong} wrong", flush=True)
+        if "full" in options.only:
+            full(program, room, report, Case(commands(3, 12)), options.jobs)
+            print(f"full disks: {report.tried} tried so far, {report.wrong} wrong", flush=True)
+        if {"cut", "bytes"} & set(options.only):
+            damage(program, room, report, Case(commands(5, 14)), options)
     print(f"{report.tried} tried, {report.wrong} wrong")
     return 1 if report.wrong else 0
+
+
+def main():
+    parser = parser_of(__doc__)
+    add_program(parser)
+    parser.add_argument("--bytes", type=int, default=2_000, metavar="N", help="how many bytes of each file are changed (default: 2000)")
+    add_jobs(parser, "runs")
+    parser.add_argument("--only", nargs="+", choices=PARTS, default=PARTS, metavar="PART", help="the parts that are tried (default: all)")
+    add_room(parser)
+    options = parser.parse_args()
+    return status_of("tools/folders.py", lambda: try_parts(options), CannotRun)
 
 
 if __name__ == "__main__":

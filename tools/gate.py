@@ -22,7 +22,6 @@ It leaves the built programs in out/focusd, out/fw_first_look and out/fw_simulat
 Exit status: 0 where all was proved and passed, and every edit that was tried was refused; 1 otherwise; 2 where nothing could be run.
 """
 
-import argparse
 import os
 import re
 import shutil
@@ -36,11 +35,11 @@ from concurrent.futures import ThreadPoolExecutor
 
 import due
 from changes import GitError, files_of, is_edit, output_of
+from command_line import add_top, parser_of
 from due import DueError, Records
 from edits import REFUSED, Edit, Lanes, run_crate
 from meter import Meter, processor, table
 
-TOP = os.path.dirname(os.path.dirname(os.path.abspath(__file__)))
 # The crates that are programs: what is built of them is kept.
 PROGRAMS = ("focusd", "fw_first_look", "fw_simulate")
 # The budget for edits, in minutes of the processor.
@@ -261,7 +260,7 @@ def recorder(top, kit):
 
 def main():
     signal.signal(signal.SIGTERM, stop_at_once)
-    parser = argparse.ArgumentParser(description=__doc__, formatter_class=argparse.RawDescriptionHelpFormatter)
+    parser = parser_of(__doc__)
     which = parser.add_mutually_exclusive_group()
     which.add_argument("--all", action="store_true", help="try every must-fail edit")
     which.add_argument("--owed", action="store_true", help="try every edit that is due, and write down each crate that is done")
@@ -270,7 +269,7 @@ def main():
     parser.add_argument("--list", action="store_true", help="say which edits are due and what would be tried, and run nothing")
     parser.add_argument("--anew", action="store_true", help="prove all anew, to measure it")
     parser.add_argument("--budget", type=float, default=BUDGET, metavar="MINUTES", help=f"minutes of the processor for edits (default: {BUDGET})")
-    parser.add_argument("--top", default=TOP, metavar="FOLDER", help="the repository (default: this one)")
+    add_top(parser)
     options = parser.parse_args()
     top = os.path.abspath(options.top)
     budget = None if options.all or options.owed else options.budget

@@ -1,18 +1,21 @@
 #!/usr/bin/env python3
 """Kills imports at random, and compares the warehouses that they leave with one that was imported at once.
 
-  tools/kill_imports.py PROGRAM [--runs N] [--rows N] [--seed N]
+    tools/kill_imports.py out/focusd
+    tools/kill_imports.py out/focusd --runs 10 --rows 5000
 
 Each run starts `PROGRAM import` again and again, and kills each (SIGKILL) after a random time, until one ends by itself. Then what a
 script asks of the warehouse has to be answered as by the warehouse that was imported without a kill.
 """
-import argparse
 import os
 import random
 import subprocess
 import sys
 import tempfile
 import time
+
+from command_line import parser_of
+from store_runs import killed_until_done
 
 HEADER = "BilledCost,EffectiveCost,BillingCurrency,ChargeCategory,ChargePeriodStart,ChargePeriodEnd,SkuId,Note,Tags\n"
 QUESTIONS = "state\nreport team 2024-01-01T00:00Z 2024-02-01T00:00Z\nlines 2024-01-01T00:00Z 2024-01-02T00:00Z\n"
@@ -46,29 +49,12 @@ def importing(program, folder, export):
     return [program, "import", "--dir", folder, "--origin", "export", "--quiet", export]
 
 
-def import_with_kills(program, folder, export, longest, dice):
-    """How many imports were killed before one ended by itself."""
-    kills = 0
-    while True:
-        child = subprocess.Popen(importing(program, folder, export), stdout=subprocess.PIPE, stderr=subprocess.PIPE)
-        try:
-            out, err = child.communicate(timeout=dice.uniform(0, longest))
-        except subprocess.TimeoutExpired:
-            child.kill()
-            child.communicate()
-            kills += 1
-            continue
-        if child.returncode != 0:
-            sys.exit(f"status {child.returncode} after {kills} kills: {err.decode()}")
-        return kills
-
-
 def main():
-    options = argparse.ArgumentParser(description=__doc__, formatter_class=argparse.RawDescriptionHelpFormatter)
-    options.add_argument("program")
-    options.add_argument("--runs", type=int, default=100)
-    options.add_argument("--rows", type=int, default=20000)
-    options.add_argument("--seed", type=int, default=1)
+    options = parser_of(__doc__)
+    options.add_argument("program", metavar="PROGRAM", help="the built program")
+    options.add_argument("--runs", type=int, default=100, metavar="N", help="how many imports (default: 100)")
+    options.add_argument("--rows", type=int, default=20000, metavar="N", help="how many rows are imported (default: 20000)")
+    options.add_argument("--seed", type=int, default=1, metavar="N", help="the rows and the times (default: 1)")
     given = options.parse_args()
     dice = random.Random(given.seed)
     program = os.path.abspath(given.program)
@@ -86,10 +72,11 @@ def main():
         for run in range(given.runs):
             folder = f"{top}/run-{run}"
             create(program, folder)
-            kills += import_with_kills(program, folder, export, 1.5 * seconds, dice)
+            kills += killed_until_done(importing(program, folder, export), 1.5 * seconds, dice)
             if answers(program, folder) != wanted:
                 sys.exit(f"run {run}: the warehouse differs")
         print(f"{given.runs} imports of {given.rows} rows, killed {kills} times: the same warehouse each time")
 
 
-main()
+if __name__ == "__main__":
+    main()

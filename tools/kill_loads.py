@@ -1,7 +1,8 @@
 #!/usr/bin/env python3
 """Kills loads at random, opens the warehouse again, and looks whether each file is in it once.
 
-  tools/kill_loads.py PROGRAM [--runs N] [--files N ...] [--rows N] [--seed N]
+    tools/kill_loads.py out/focusd
+    tools/kill_loads.py out/focusd --runs 20 --files 64
 
 All runs go over one folder. Each run starts `PROGRAM load` with a set of new files, and kills it (SIGKILL) after a random time. Its standard
 error is a terminal, so it says there how many files it has stored so far. Some runs make a checkpoint, which is killed too, or not. When the
@@ -12,7 +13,6 @@ report has to have the costs of each file once. A program that has not ended aft
 
 PROGRAM may be several words, as one that runs another.
 """
-import argparse
 import os
 import random
 import re
@@ -21,6 +21,8 @@ import subprocess
 import sys
 import tempfile
 import time
+
+from command_line import parser_of
 
 HEADER = "BilledCost,EffectiveCost,BillingCurrency,ChargeCategory,ChargePeriodStart,ChargePeriodEnd,Tags\n"
 START, END = "2024-01-01T00:00:00Z", "2024-01-01T01:00:00Z"
@@ -121,12 +123,12 @@ def check_again(text, acknowledged, count, before):
 
 
 def main():
-    options = argparse.ArgumentParser(description=__doc__, formatter_class=argparse.RawDescriptionHelpFormatter)
-    options.add_argument("program", nargs="+")
-    options.add_argument("--runs", type=int, default=200)
-    options.add_argument("--files", type=int, nargs="+", default=[8, 64])
-    options.add_argument("--rows", type=int, default=200)
-    options.add_argument("--seed", type=int, default=1)
+    options = parser_of(__doc__)
+    options.add_argument("program", nargs="+", metavar="PROGRAM", help="the built program, or the words of a command that runs it")
+    options.add_argument("--runs", type=int, default=200, metavar="N", help="how many loads (default: 200)")
+    options.add_argument("--files", type=int, nargs="+", default=[8, 64], metavar="N", help="how many files a load has: one of these numbers (default: 8 64)")
+    options.add_argument("--rows", type=int, default=200, metavar="N", help="how many rows a file has at the most (default: 200)")
+    options.add_argument("--seed", type=int, default=1, metavar="N", help="the files and the times (default: 1)")
     given = options.parse_args()
     dice = random.Random(given.seed)
     program = [os.path.abspath(given.program[0]), *given.program[1:]]
@@ -175,4 +177,5 @@ def main():
     )
 
 
-main()
+if __name__ == "__main__":
+    main()

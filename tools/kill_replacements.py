@@ -1,14 +1,14 @@
 #!/usr/bin/env python3
 """Kills replacements at random, and compares the warehouses that they leave with one whose replacement was not stopped.
 
-  tools/kill_replacements.py PROGRAM [--runs N] [--posts N] [--seed N]
+    tools/kill_replacements.py out/focusd
+    tools/kill_replacements.py out/focusd --runs 10
 
 A warehouse has so many small posts of an origin. Half of them come again in the export, the others don't, and there are new ones, so a replacement
 takes several groups. Each run starts `PROGRAM replace` over a copy of the folder again and again, and kills each (SIGKILL) after a random time, until one
 ends by itself. Then the dump, a report and the lines have to be those of the warehouse whose replacement was not stopped, to the byte, and nothing may
 say any more that a replacement is unfinished. Where a run was killed, `focusd status` has to say so if not all entries are there.
 """
-import argparse
 import os
 import random
 import shutil
@@ -16,6 +16,9 @@ import subprocess
 import sys
 import tempfile
 import time
+
+from command_line import parser_of
+from store_runs import killed_until_done
 
 HEADER = "BilledCost,EffectiveCost,BillingCurrency,ChargeCategory,ChargePeriodStart,ChargePeriodEnd,SkuId,Tags\n"
 RANGE = ("--from", "2024-01", "--to", "2024-02")
@@ -54,44 +57,38 @@ def answers(program, folder):
     return found
 
 
+def entries_in(program, folder):
+    """How many entries a warehouse has, and what is said of it."""
+    printed, said = ran(program, "status", "--dir", folder)
+    return int(printed.decode().split("\n")[1].split()[1].replace(",", "")), said
+
+
 def replacing(program, folder, files):
     return [program, "replace", "--dir", folder, "--origin", ORIGIN, "--quiet", *files]
 
 
 def replace_with_kills(program, folder, files, longest, dice, whole):
     """How many replacements were killed before one ended by itself, and how many of them stood between two groups."""
-    kills = between = 0
-    while True:
-        child = subprocess.Popen(replacing(program, folder, files), stdout=subprocess.PIPE, stderr=subprocess.PIPE)
-        try:
-            _, err = child.communicate(timeout=dice.uniform(0, longest))
-        except subprocess.TimeoutExpired:
-            child.kill()
-            child.communicate()
-            kills += 1
-            printed, said = ran(program, "status", "--dir", folder)
-            count = int(printed.decode().split("\n")[1].split()[1].replace(",", ""))
-            if whole[0] < count < whole[1]:
-                between += 1
-                if b"are being replaced" not in said:
-                    sys.exit(f"{count} entries, and no word of an unfinished replacement")
-            continue
-        if child.returncode != 0:
-            sys.exit(f"status {child.returncode} after {kills} kills: {err.decode()}")
-        return kills, between
+    between = 0
 
+    def look():
+        nonlocal between
+        count, said = entries_in(program, folder)
+        if whole[0] < count < whole[1]:
+            between += 1
+            if b"are being replaced" not in said:
+                sys.exit(f"{count} entries, and no word of an unfinished replacement")
 
-def entries_in(program, folder):
-    printed, _ = ran(program, "status", "--dir", folder)
-    return int(printed.decode().split("\n")[1].split()[1].replace(",", ""))
+    kills = killed_until_done(replacing(program, folder, files), longest, dice, look)
+    return kills, between
 
 
 def main():
-    options = argparse.ArgumentParser(description=__doc__, formatter_class=argparse.RawDescriptionHelpFormatter)
-    options.add_argument("program")
-    options.add_argument("--runs", type=int, default=200)
-    options.add_argument("--posts", type=int, default=300)
-    options.add_argument("--seed", type=int, default=1)
+    options = parser_of(__doc__)
+    options.add_argument("program", metavar="PROGRAM", help="the built program")
+    options.add_argument("--runs", type=int, default=200, metavar="N", help="how many replacements (default: 200)")
+    options.add_argument("--posts", type=int, default=300, metavar="N", help="how many posts the warehouse has (default: 300)")
+    options.add_argument("--seed", type=int, default=1, metavar="N", help="the rows and the times (default: 1)")
     given = options.parse_args()
     dice = random.Random(given.seed)
     program = os.path.abspath(given.program)
@@ -106,7 +103,7 @@ def main():
         subprocess.run(replacing(program, whole, new), check=True, stdout=subprocess.DEVNULL)
         seconds = time.monotonic() - started
         wanted = answers(program, whole)
-        bounds = entries_in(program, base), entries_in(program, whole)
+        bounds = entries_in(program, base)[0], entries_in(program, whole)[0]
         if bounds[1] - bounds[0] <= 128:
             sys.exit(f"a replacement of {bounds[1] - bounds[0]} entries takes too few groups: give more --posts")
         kills = between = 0
@@ -123,4 +120,5 @@ def main():
         )
 
 
-main()
+if __name__ == "__main__":
+    main()

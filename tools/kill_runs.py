@@ -1,7 +1,8 @@
 #!/usr/bin/env python3
 """Kills runs over one warehouse at random times, and looks at what stands after each.
 
-    tools/kill_runs.py [--program PROGRAM] [--runs N] [--seed N] [--room DIR]
+    tools/kill_runs.py
+    tools/kill_runs.py --runs 100 --room /a/folder/on/the/disk
 
 One long script of entries and checkpoints is sent to one folder, a piece at a time. Each piece begins a few commands before the first
 that was not acknowledged, so that entries are sent again, and its run of `focusd run --dir` is killed (SIGKILL) after a random time.
@@ -14,15 +15,14 @@ which should be on a disk whose syncs take time.
 Exit status: 0 where all was right, 1 where it wasn't, 2 where nothing could be run.
 """
 
-import argparse
 import io
-import os
 import random
 import subprocess
 import sys
 import tempfile
 
-from store_runs import CHECKPOINT, PROGRAM, QUESTIONS, acknowledged, answers_of, commands, expected, run, shown
+from command_line import add_program, parser_of, status_of
+from store_runs import CHECKPOINT, QUESTIONS, CannotRun, acknowledged, answers_of, commands, expected, program_at, run, shown
 
 # How many reports and lines are compared: after each so many runs.
 COMPARED = 25
@@ -131,17 +131,9 @@ class Killing:
         return len(entries)
 
 
-def main():
-    parser = argparse.ArgumentParser(description=__doc__, formatter_class=argparse.RawDescriptionHelpFormatter)
-    parser.add_argument("--program", default=PROGRAM, help="the program (default: out/focusd)")
-    parser.add_argument("--runs", type=int, default=500, metavar="N", help="how many runs (default: 500)")
-    parser.add_argument("--seed", type=int, default=1, metavar="N", help="the script and the times (default: 1)")
-    parser.add_argument("--room", metavar="DIR", help="where the folder is made (default: where temporary files are)")
-    options = parser.parse_args()
-    program = os.path.realpath(options.program)
-    if not os.access(program, os.X_OK):
-        print(f"tools/kill_runs.py: there is no program at {program}", file=sys.stderr)
-        return 2
+def kill_all(options):
+    """Kills one run after the other, and looks at what stands: the exit status."""
+    program = program_at(options.program)
     with tempfile.TemporaryDirectory(prefix="kill-runs-", dir=options.room) as folder:
         sent = Sent(options.seed, 6 * options.runs)
         killing = Killing(program, folder, sent, random.Random(options.seed))
@@ -156,6 +148,16 @@ def main():
             return 1
     print(f"{options.runs} runs, {killing.killed} of them killed before their end: {entries} entries are there, each once")
     return 0
+
+
+def main():
+    parser = parser_of(__doc__)
+    add_program(parser)
+    parser.add_argument("--runs", type=int, default=500, metavar="N", help="how many runs (default: 500)")
+    parser.add_argument("--seed", type=int, default=1, metavar="N", help="the script and the times (default: 1)")
+    parser.add_argument("--room", metavar="DIR", help="where the folder is made (default: where temporary files are)")
+    options = parser.parse_args()
+    return status_of("tools/kill_runs.py", lambda: kill_all(options), CannotRun)
 
 
 if __name__ == "__main__":

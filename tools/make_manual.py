@@ -1,21 +1,21 @@
 #!/usr/bin/env python3
 """Makes the manual page and the shell completions of focusd from what its own help says.
 
-    tools/make_manual.py PROGRAM           writes the files below share/
-    tools/make_manual.py PROGRAM --check   says which of them are not what the program's help says, and writes none
+    tools/make_manual.py out/focusd            writes the files below share/
+    tools/make_manual.py out/focusd --check    says which of them are not what the program's help says, and writes none
 
 The program is asked for `--help` and for `COMMAND --help`: so a page or a completion can't name an option that the program doesn't
 take. Exit status: 0; 1 where --check found a difference; 2 where the help can't be read.
 """
 
-import argparse
 import os
 import re
 import subprocess
 import sys
 from dataclasses import dataclass, field
 
-TOP = os.path.dirname(os.path.dirname(os.path.abspath(__file__)))
+from command_line import TOP, parser_of
+
 # What is made, below the top of the repository.
 MANUAL = "share/man/man1/focusd.1"
 BASH = "share/bash-completion/completions/focusd"
@@ -352,7 +352,7 @@ def made_of(program):
 
 
 def main():
-    parser = argparse.ArgumentParser(description=__doc__, formatter_class=argparse.RawDescriptionHelpFormatter)
+    parser = parser_of(__doc__)
     parser.add_argument("program", help="the built program")
     parser.add_argument("--check", action="store_true", help="write nothing, and say what differs")
     options = parser.parse_args()

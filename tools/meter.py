@@ -2,11 +2,12 @@
 """Runs a command, and says how long the prover worked on each crate below it: wall and processor time of its proof, of its tests' proof
 and of each must-fail edit.
 
-    tools/meter.py COMMAND [ARGUMENT ..]
+    tools/meter.py rt all check
 
 The figures are read off the running processes four times a second, so a step's are up to a quarter of a second short.
 """
 
+import argparse
 import os
 import resource
 import subprocess
@@ -14,6 +15,8 @@ import sys
 import threading
 import time
 from dataclasses import dataclass, field
+
+from command_line import parser_of
 
 # How long the meter sleeps between two looks, in seconds.
 EVERY = 0.25
@@ -155,8 +158,12 @@ def table(steps):
 
 
 def main():
+    parser = parser_of(__doc__)
+    parser.add_argument("command", metavar="COMMAND", help="what is run")
+    parser.add_argument("arguments", nargs=argparse.REMAINDER, metavar="ARGUMENT", help="its words")
+    options = parser.parse_args()
     meter, began = Meter(), time.monotonic()
-    status = subprocess.run(sys.argv[1:], check=False).returncode
+    status = subprocess.run([options.command, *options.arguments], check=False).returncode
     steps = meter.stop()
     used = processor()
     print(table(steps))

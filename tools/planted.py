@@ -13,7 +13,6 @@ says something of what it returns or leaves. Crates of tests, `fw_test_*`, aren'
 Exit status: 0 where the page is written, or is up to date; 1 where it is out of date; 2 where it can't be said.
 """
 
-import argparse
 import os
 import re
 import sys
@@ -22,9 +21,9 @@ import tomllib
 from dataclasses import dataclass, field
 
 from changes import GitError, files_of
+from command_line import add_top, parser_of
 from functions import CLAUSES, NAME, OPENS, closing, tokens_of
 
-TOP = os.path.dirname(os.path.dirname(os.path.abspath(__file__)))
 PAGE, DATA = "docs/PLANTED.md", "tools/planted.toml"
 MOST_COLUMNS = 100
 
@@ -244,9 +243,9 @@ def page_of(crates, runs, through, unjudged):
 
 
 def main():
-    parser = argparse.ArgumentParser(description=__doc__, formatter_class=argparse.RawDescriptionHelpFormatter)
+    parser = parser_of(__doc__)
     parser.add_argument("--check", action="store_true", help="say whether the page is what would be written")
-    parser.add_argument("--top", default=TOP, metavar="FOLDER", help="the repository (default: this one)")
+    add_top(parser)
     options = parser.parse_args()
     path = os.path.join(options.top, PAGE)
     try:

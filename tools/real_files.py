@@ -1,7 +1,8 @@
 #!/usr/bin/env python3
 """Runs a short fixed selection of what the tools over real files try: the step of `tools/test` that looks at what real files hold.
 
-    tools/real_files.py [--program PROGRAM] [--jobs J]
+    tools/real_files.py
+    tools/real_files.py --program out/focusd --jobs 2
 
 In this order: crash images of a few short scripts (tools/crash_images.py), each call on the files made to fail (tools/failing_calls.py), and
 runs over one folder that are killed (tools/kill_runs.py). What is tried follows from fixed seeds, not from how fast the machine is. Each tool
@@ -21,7 +22,6 @@ It needs strace (Debian 12: apt-get install strace) and a built program.
 Exit status: 0 where all was right, 1 where it wasn't, 2 where nothing could be run.
 """
 
-import argparse
 import os
 import shutil
 import subprocess
@@ -29,7 +29,8 @@ import sys
 import tempfile
 import time
 
-from store_runs import PROGRAM, TOP, CannotRun
+from command_line import TOP, add_jobs, add_program, parser_of, status_of
+from store_runs import CannotRun, program_at
 
 # What the step runs. A tool that finds so much wrong tries no more.
 STEP = [
@@ -124,34 +125,32 @@ def self_test(program, jobs, room):
     return missed
 
 
+def run_step(options):
+    """Looks for strace, and runs the step or the self-test: the exit status."""
+    prepare()
+    if options.prepare:
+        return 0
+    program, began = program_at(options.program), time.monotonic()
+    if options.self_test:
+        with tempfile.TemporaryDirectory(prefix="real-files-") as room:
+            missed = self_test(program, options.jobs, room)
+        print(f"judged wrongly: {'; '.join(missed)}" if missed else "each wrong volume was found wrong, and the right one right")
+        status = 1 if missed else 0
+    else:
+        name, status, _ = step(program, options.jobs)
+        print(f"{name} {'found something wrong' if status == 1 else f'ended with status {status}'}" if name else "real files: all as it has to be")
+    print(f"{time.monotonic() - began:.0f} seconds by the clock, {options.jobs} jobs")
+    return status
+
+
 def main():
-    parser = argparse.ArgumentParser(description=__doc__, formatter_class=argparse.RawDescriptionHelpFormatter)
-    parser.add_argument("--program", default=PROGRAM, help="the program (default: out/focusd)")
-    parser.add_argument("--jobs", type=int, default=len(os.sched_getaffinity(0)), metavar="J", help="runs at a time")
+    parser = parser_of(__doc__)
+    add_program(parser)
+    add_jobs(parser, "runs")
     parser.add_argument("--prepare", action="store_true", help="only look for strace, and install it where it is missing")
     parser.add_argument("--self-test", action="store_true", help="run the step over wrong volumes, and see that it finds each wrong")
     options = parser.parse_args()
-    program = os.path.realpath(options.program)
-    try:
-        prepare()
-        if options.prepare:
-            return 0
-        if not os.access(program, os.X_OK):
-            raise CannotRun(f"there is no program at {program}")
-        began = time.monotonic()
-        if options.self_test:
-            with tempfile.TemporaryDirectory(prefix="real-files-") as room:
-                missed = self_test(program, options.jobs, room)
-            print(f"judged wrongly: {'; '.join(missed)}" if missed else "each wrong volume was found wrong, and the right one right")
-            status = 1 if missed else 0
-        else:
-            name, status, _ = step(program, options.jobs)
-            print(f"{name} {'found something wrong' if status == 1 else f'ended with status {status}'}" if name else "real files: all as it has to be")
-        print(f"{time.monotonic() - began:.0f} seconds by the clock, {options.jobs} jobs")
-        return status
-    except CannotRun as why:
-        print(f"tools/real_files.py: {why}", file=sys.stderr)
-        return 2
+    return status_of("tools/real_files.py", lambda: run_step(options), CannotRun)
 
 
 if __name__ == "__main__":

@@ -1,7 +1,8 @@
 #!/usr/bin/env python3
 """Runs the built tests, and the built programs on scripts, with one allocation refused, each allocation in turn.
 
-    tools/refuse_allocations.py [--most N] [--jobs J] [NAME ...]
+    tools/refuse_allocations.py                             all of them
+    tools/refuse_allocations.py --most 100 fw_test_values   the tests of one crate, and fewer of their allocations
 
 The tests are those that the gate built into out/tests (NAME: a crate, `program` or `fw_simulate`). A test whose allocation
 is refused has to end in one of two ways: it passes (it looked at the answer, and at what stands after it), or it ends
@@ -21,7 +22,6 @@ Where a run allocates more than --most times, the first --most are refused, and 
 Exit status: 0 where every run was as it has to be, 1 where one wasn't, 2 where nothing could be run.
 """
 
-import argparse
 import os
 import re
 import shutil
@@ -31,12 +31,11 @@ import sys
 import tempfile
 from concurrent.futures import ThreadPoolExecutor
 
+from command_line import PROGRAM, TOP, add_jobs, parser_of
 from store_runs import answers_of
 from sweep import SAMPLES
 
-TOP = os.path.dirname(os.path.dirname(os.path.abspath(__file__)))
 TESTS = os.path.join(TOP, "out", "tests")
-PROGRAM = os.path.join(TOP, "out", "focusd")
 CASES = os.path.join(TOP, "examples", "cases")
 SIMULATOR = os.path.join(TOP, "out", "fw_simulate")
 SCRIPTS = os.path.join(TOP, "crates", "fw_simulate", "stdin")
@@ -199,9 +198,9 @@ def tests_of(program):
 
 
 def main():
-    parser = argparse.ArgumentParser(description=__doc__, formatter_class=argparse.RawDescriptionHelpFormatter)
+    parser = parser_of(__doc__)
     parser.add_argument("--most", type=int, default=MOST, metavar="N", help=f"how many allocations of a test to refuse (default: {MOST})")
-    parser.add_argument("--jobs", type=int, default=len(os.sched_getaffinity(0)), help="tests at a time")
+    add_jobs(parser, "tests")
     parser.add_argument("names", nargs="*", metavar="NAME", help="a crate whose tests to run, `program` or `fw_simulate` (default: all but the tests on threads)")
     options = parser.parse_args()
     compiler = shutil.which("cc") or shutil.which("gcc") or shutil.which("clang")

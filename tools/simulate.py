@@ -1,10 +1,10 @@
 #!/usr/bin/env python3
 """Runs the system by chance, and checks every answer.
 
-    tools/simulate.py PROGRAM [--seeds N] [--from SEED]   runs the seeds from SEED on, and stops at the first difference
-    tools/simulate.py PROGRAM --seed SEED                 runs one seed, and prints its script, its answers and what is wrong with them
-    tools/simulate.py --script SEED                       prints the script of a seed
-    tools/simulate.py --self-test [CRATE/EDIT ..]         tries wrong bodies: some seed has to show each
+    tools/simulate.py out/fw_simulate --seeds 5000   runs so many seeds, and stops at the first difference
+    tools/simulate.py out/fw_simulate --seed 7       runs one seed, and prints its script, its answers and what is wrong with them
+    tools/simulate.py --script 7                     prints the script of a seed
+    tools/simulate.py --self-test                    tries wrong bodies: some seed has to show each
 
 PROGRAM is a built `fw_simulate`. A seed makes a script of events: importers post entries, repeated, with gaps and against the rules; groups are taken
 and committed; checkpoints; analysts view and learn; the system stops and is opened again. Some scripts begin on a warehouse that an earlier version
@@ -18,7 +18,6 @@ some three minutes, most of it to compile.
 
 Exit status: 0 no answer differs, 1 one does (self-test: a wrong body isn't found), 2 the program could not be run.
 """
-import argparse
 import math
 import os
 import random
@@ -29,7 +28,7 @@ import sys
 import tempfile
 import time
 
-TOP = os.path.dirname(os.path.dirname(os.path.abspath(__file__)))
+from command_line import TOP, parser_of
 
 MOST_ITEMS = 64
 MOST_PURCHASES = 64
@@ -624,7 +623,7 @@ def self_test(edits, count):
 
 
 def main():
-    parser = argparse.ArgumentParser(description=__doc__, formatter_class=argparse.RawDescriptionHelpFormatter)
+    parser = parser_of(__doc__)
     parser.add_argument("program", nargs="*", help="a built fw_simulate, or a command that runs it; with --self-test the edits to try")
     parser.add_argument("--seeds", type=int, metavar="N", help="how many seeds (1,000; with --self-test 300)")
     parser.add_argument("--from", type=int, default=1, dest="first", metavar="SEED", help="the first seed (1)")

@@ -20,6 +20,8 @@ import os
 import re
 import sys
 
+from command_line import parser_of
+
 MOST_ROWS = 4_096
 MOST_LINES = 1_000_000
 MOST_SCRIPT_BYTES = 1 << 30
@@ -160,7 +162,7 @@ def whole_number(least, most):
 
 
 def read_command_line(arguments):
-    parser = argparse.ArgumentParser(description=__doc__, formatter_class=argparse.RawDescriptionHelpFormatter)
+    parser = parser_of(__doc__)
     parser.add_argument("export", metavar="EXPORT", help="the CSV file, or - for standard input")
     parser.add_argument("--origin", type=origin, default="export", help="who posts, one word (default: export)")
     parser.add_argument(

@@ -13,11 +13,11 @@ import subprocess
 import sys
 from dataclasses import dataclass, field
 
-TOP = os.path.dirname(os.path.dirname(os.path.abspath(__file__)))
+from command_line import TOP
+
 sys.path.insert(0, os.path.join(TOP, "examples"))
 import expected  # noqa: E402
 
-PROGRAM = os.path.join(TOP, "out", "focusd")
 SIDES = ("left", "right")
 # How long one run may take, in seconds.
 LIMIT = 120
@@ -210,6 +210,32 @@ def shown(text, most=1_000):
 
 
 # Runs.
+
+
+def program_at(path):
+    """The real path of a built program."""
+    program = os.path.realpath(path)
+    if not os.access(program, os.X_OK):
+        raise CannotRun(f"there is no program at {program}")
+    return program
+
+
+def killed_until_done(words, longest, dice, at_kill=lambda: None):
+    """Starts a program again and again, and kills each run (SIGKILL) after a random time, until one ends by itself: how many were killed."""
+    kills = 0
+    while True:
+        child = subprocess.Popen(words, stdout=subprocess.PIPE, stderr=subprocess.PIPE)
+        try:
+            _, error = child.communicate(timeout=dice.uniform(0, longest))
+        except subprocess.TimeoutExpired:
+            child.kill()
+            child.communicate()
+            kills += 1
+            at_kill()
+            continue
+        if child.returncode != 0:
+            sys.exit(f"status {child.returncode} after {kills} kills: {error.decode()}")
+        return kills
 
 
 @dataclass
@@ -575,6 +601,10 @@ def order_faults(calls):
             faults.append(f"call {place}, {call}: a gate is opened while a write isn't synced")
         disk.apply(call)
     return faults
+
+
+def add_room(parser):
+    parser.add_argument("--room", metavar="DIR", help="where folders are made (default: in memory, /dev/shm, where there is one)")
 
 
 def room_of(chosen):

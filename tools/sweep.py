@@ -1,8 +1,8 @@
 #!/usr/bin/env python3
 """Runs stores and the running system on devices of which each call fails in turn, and checks every answer.
 
-    tools/sweep.py PROGRAM           runs all sweeps, and prints how many runs each had
-    tools/sweep.py PROGRAM NAME ..   runs the sweeps of these names
+    tools/sweep.py out/fw_simulate                 runs all sweeps, and prints how many runs each had
+    tools/sweep.py out/fw_simulate groups stops    runs the sweeps of these names
 
 PROGRAM is a built `fw_simulate`. A run is a script whose device passes so many calls, and then fails one, or each, or several; a stop then leaves of
 what wasn't synced the old bytes, the new ones, or others. A sweep has one run for each number of calls, up to the first at which none fails. What
@@ -10,9 +10,9 @@ has to be answered is what docs/DEFINITIONS.md and docs/PROOFS.md say of a store
 
 Exit status: 0 no answer is wrong, 1 one is, 2 the program could not be run.
 """
-import argparse
 import sys
 
+from command_line import parser_of
 from simulate import CREATING, FORMS, after, answers_of, side
 
 # What a stop leaves of what wasn't synced.
@@ -397,7 +397,7 @@ SWEEPS = (
 
 
 def main():
-    parser = argparse.ArgumentParser(description=__doc__, formatter_class=argparse.RawDescriptionHelpFormatter)
+    parser = parser_of(__doc__)
     parser.add_argument("program", help="a built fw_simulate")
     parser.add_argument("names", nargs="*", choices=[[], *[sweep.__name__ for sweep in SWEEPS]], metavar="NAME", help="sweeps")
     options = parser.parse_args()

@@ -1,5 +1,8 @@
 #!/usr/bin/env python3
-"""Tests of the completions below share/, at the prompts of real shells: python3 -B tools/test_completions.py
+"""Tests of the completions below share/, at the prompts of real shells.
+
+    python3 -B tools/test_completions.py
+    python3 -B tools/test_completions.py --all-shells
 
 What TAB puts on the command line has to reach a stand-in of focusd as one argument, which is the name, and may run nothing. bash has to be there; zsh
 and fish are tried too with --all-shells, where they are installed.
@@ -20,9 +23,9 @@ import termios
 import time
 import unittest
 
-TOP = os.path.dirname(os.path.dirname(os.path.abspath(__file__)))
-sys.path.insert(0, os.path.join(TOP, "tools"))
+sys.path.insert(0, os.path.dirname(os.path.abspath(__file__)))
 import make_manual  # noqa: E402
+from command_line import TOP, parser_of  # noqa: E402
 
 # Names that a shell would cut, expand or run, if they were not quoted. Each is alone in its folder.
 HARD = (
@@ -69,7 +72,7 @@ STAND_IN = """#!/bin/sh
 printf '%s\\0' "$@" >"$FOCUSD_ARGUMENTS"
 """
 # Whether zsh and fish are tested too.
-ALL_SHELLS = "--all-shells" in sys.argv
+ALL_SHELLS = False
 # How long a shell may take, in seconds: to show a prompt, and to echo what is typed.
 LONGEST_WAIT, LONGEST_ECHO = 60, 8
 
@@ -423,4 +426,8 @@ class Fish(AtThePrompt, unittest.TestCase):
 
 
 if __name__ == "__main__":
-    unittest.main(argv=[word for word in sys.argv if word != "--all-shells"])
+    parser = parser_of(__doc__)
+    parser.add_argument("--all-shells", action="store_true", help="try zsh and fish too, where they are installed")
+    options, others = parser.parse_known_args()
+    ALL_SHELLS = options.all_shells
+    unittest.main(argv=[sys.argv[0], *others])

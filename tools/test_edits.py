@@ -10,6 +10,7 @@ import unittest
 
 sys.path.insert(0, os.path.dirname(os.path.abspath(__file__)))
 import edits  # noqa: E402
+from command_line import TOP  # noqa: E402
 from functions import functions_of  # noqa: E402
 
 TOOL = os.path.join(os.path.dirname(os.path.abspath(__file__)), "edits.py")
@@ -100,7 +101,7 @@ class Functions(unittest.TestCase):
 
     def test_the_functions_of_this_repository_end_in_their_bodies(self):
         count = 0
-        for at, _, names in os.walk(os.path.join(edits.TOP, "crates")):
+        for at, _, names in os.walk(os.path.join(TOP, "crates")):
             for name in names:
                 if name.endswith(".rt") and "/src" in at:
                     with open(os.path.join(at, name), encoding="utf-8") as file:

@@ -12,6 +12,7 @@ import due  # noqa: E402
 import gate  # noqa: E402
 import meter  # noqa: E402
 import refuse_allocations  # noqa: E402
+from command_line import TOP  # noqa: E402
 
 TOOL = os.path.join(os.path.dirname(os.path.abspath(__file__)), "gate.py")
 SOURCE = """//! One function.
@@ -72,9 +73,9 @@ class Files(unittest.TestCase):
             self.assertEqual(due.Records.read(top), records)
 
     def test_the_files_of_this_repository_name_crates_that_have_edits(self):
-        crates = {changes.crate_of(path) for path in changes.files_of(gate.TOP) if changes.is_edit(path)}
-        self.assertEqual([crate for crate in due.read_costs(gate.TOP) if crate not in crates], [])
-        self.assertEqual([crate for crate in due.Records.read(gate.TOP).tried if crate not in crates], [])
+        crates = {changes.crate_of(path) for path in changes.files_of(TOP) if changes.is_edit(path)}
+        self.assertEqual([crate for crate in due.read_costs(TOP) if crate not in crates], [])
+        self.assertEqual([crate for crate in due.Records.read(TOP).tried if crate not in crates], [])
 
 
 class Kinds(unittest.TestCase):

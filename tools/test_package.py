@@ -1,21 +1,23 @@
 #!/usr/bin/env python3
 """Installs the packages of a built focusd in a clean Debian, runs it there, and removes it again. Run by hand, by root.
 
-    tools/test_package.py [--program out/focusd] [--suite bookworm] [--root DIR]
+    tools/test_package.py
+    tools/test_package.py --program out/focusd --suite bookworm
 
-For example `tools/test_package.py` makes a Debian without anything else in a folder of its own (debootstrap: Debian 12: `apt-get install debootstrap`),
+It makes a Debian without anything else in a folder of its own (debootstrap: Debian 12: `apt-get install debootstrap`),
 packs out/focusd as tools/package does, installs the Debian package, makes a first report, asks for the manual page's text and the completions, removes the
 package, and compares the files with those before. Then the same with the archive. --root takes a Debian that is there, and leaves it.
 
 Exit status: 0 where all is right, 1 where it isn't, 2 where it can't be tried.
 """
-import argparse
 import os
 import pathlib
 import shutil
 import subprocess
 import sys
 import tempfile
+
+from command_line import parser_of
 
 TOP = pathlib.Path(__file__).resolve().parent.parent
 SCRIPT = b"""post aws 1 2
@@ -85,7 +87,7 @@ def try_archive(root, archive):
 
 
 def main():
-    parser = argparse.ArgumentParser(description=__doc__, formatter_class=argparse.RawDescriptionHelpFormatter)
+    parser = parser_of(__doc__)
     parser.add_argument("--program", default=TOP / "out" / "focusd", help="the built program (out/focusd)")
     parser.add_argument("--suite", default="bookworm", help="the release of Debian (bookworm)")
     parser.add_argument("--root", type=pathlib.Path, help="a clean Debian that is there")

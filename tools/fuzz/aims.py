@@ -1,7 +1,8 @@
 #!/usr/bin/env python3
 """Measures the program on inputs that aim at its memory and its time.
 
-    tools/fuzz/aims.py [--program PROGRAM] [--sizes 1,10,100] [--only NAME ..] [--limit SECONDS]
+    tools/fuzz/aims.py > aims.md
+    tools/fuzz/aims.py --sizes 1,10 --only csv
 
 Each input is made anew in each size, in megabytes of 10^6 bytes, and given to each command that reads such inputs. The table, in Markdown, has
 the memory that the run held at its most and its processor seconds. PAST stands where the memory is above 20 bytes for each byte of input and
@@ -13,7 +14,6 @@ longer than the limit (120 seconds) is stopped: its time is that limit.
 says what each input is. Exit status: 0 where nothing is PAST, 1 where something is, 2 where nothing could be run.
 """
 
-import argparse
 import math
 import os
 import shutil
@@ -21,11 +21,10 @@ import sys
 import tempfile
 
 HERE = os.path.dirname(os.path.abspath(__file__))
-TOP = os.path.dirname(os.path.dirname(HERE))
-sys.path.insert(0, HERE)
+sys.path[:0] = [HERE, os.path.dirname(HERE)]
 import running  # noqa: E402
+from command_line import add_program, parser_of  # noqa: E402
 
-PROGRAM = os.path.join(TOP, "out", "focusd")
 COLUMNS = b"BilledCost,EffectiveCost,BillingCurrency,ChargeCategory,ChargePeriodStart,ChargePeriodEnd"
 ROW = b"1,1,USD,Usage,2024-01-01T00:00Z,2024-01-01T01:00Z"
 COMMITMENT = b'id = "cd-1"\ncategory = "Usage"\nstart = "2024-01-01T00:00Z"\nhours = 3\ncapacity = "2"\nunit = "Hours"\n'
@@ -285,8 +284,8 @@ class Runs:
 
 
 def read_command_line():
-    parser = argparse.ArgumentParser(description=__doc__, formatter_class=argparse.RawDescriptionHelpFormatter)
-    parser.add_argument("--program", default=PROGRAM)
+    parser = parser_of(__doc__)
+    add_program(parser)
     parser.add_argument("--sizes", default="1,10,100", help="in megabytes, each greater than the one before (default: 1,10,100)")
     parser.add_argument("--only", nargs="+", default=[], metavar="NAME", help="csv, toml, scripts or folders, or a part of the name of an input")
     parser.add_argument("--limit", type=float, default=120.0, help="how many seconds a run may take (default: 120)")
@@ -307,7 +306,7 @@ def main():
         print(f"aims.py: {options.program} is no program", file=sys.stderr)
         return 2
     print("| input | bytes | command | answer | MB | at most | seconds | grew by | |\n|---|---:|---|---|---:|---:|---:|---:|---|")
-    with tempfile.TemporaryDirectory(dir="/dev/shm" if os.access("/dev/shm", os.W_OK) else None) as folder:
+    with tempfile.TemporaryDirectory(dir=running.room()) as folder:
         runs = Runs(options, folder)
         for kind, name in chosen:
             for size in (round(float(size) * 1_000_000) for size in options.sizes.split(",")):

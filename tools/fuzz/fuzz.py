@@ -1,10 +1,10 @@
 #!/usr/bin/env python3
 """Runs focusd on inputs that are changed by chance, and an oracle beside it; what they answer has to be the same to the byte.
 
-    tools/fuzz/fuzz.py --corpus                    runs the corpus and the cases that were found before, each alone and all together
-    tools/fuzz/fuzz.py --seconds 600 --jobs 2      changes inputs by chance for ten minutes
-    tools/fuzz/fuzz.py --runs 20000 --reader csv   so many inputs of one reader (scripts, csv, toml, json, folders or command-lines; it may be repeated)
-    tools/fuzz/fuzz.py --case found/NAME           runs a kept case, and prints what is wrong
+    tools/fuzz/fuzz.py --corpus                       runs the corpus and the cases that were found before, each alone and all together
+    tools/fuzz/fuzz.py --seconds 600 --jobs 2         changes inputs by chance for ten minutes
+    tools/fuzz/fuzz.py --runs 20000 --reader csv      so many inputs of one reader (scripts, csv, toml, json, folders or command-lines; it may be repeated)
+    tools/fuzz/fuzz.py --case tools/fuzz/found/NAME   runs a kept case, and prints what is wrong
 
 A crash, a run that doesn't end, one that holds more than 20 bytes for each byte of input and 64 MB, and an answer that isn't the oracle's are
 made smaller and kept in a folder of their own below tools/fuzz/found, with the seed. README.md says what each reader runs.
@@ -30,13 +30,13 @@ import tempfile
 import time
 
 HERE = os.path.dirname(os.path.abspath(__file__))
-TOP = os.path.dirname(os.path.dirname(HERE))
-sys.path.insert(0, HERE)
+sys.path[:0] = [HERE, os.path.dirname(HERE)]
 import oracle  # noqa: E402
 import shrink  # noqa: E402
+from command_line import TOP, add_program, parser_of  # noqa: E402
 from readers import READERS, Session  # noqa: E402
+from running import room  # noqa: E402
 
-PROGRAM = os.path.join(TOP, "out", "focusd")
 FOUND = os.path.join(HERE, "found")
 # How many cases of one kind are kept.
 MOST_ALIKE = 2
@@ -202,11 +202,6 @@ def learn(reader, inputs, session):
         reader.faults(inputs[at : at + reader.together], session, random.Random(0))
 
 
-def room():
-    """A folder in memory, where the system has one: what a warehouse writes is synced."""
-    return "/dev/shm" if os.access("/dev/shm", os.W_OK) else None
-
-
 def fuzz(options):
     """Runs the jobs: the tally."""
     tally, began = Tally(), time.monotonic()
@@ -282,8 +277,8 @@ def whole_number(text):
 
 
 def read_command_line(words=None):
-    parser = argparse.ArgumentParser(description=__doc__, formatter_class=argparse.RawDescriptionHelpFormatter)
-    parser.add_argument("--program", default=PROGRAM, help="the built program (default: out/focusd)")
+    parser = parser_of(__doc__)
+    add_program(parser)
     parser.add_argument("--reader", action="append", choices=list(READERS), help="only this reader; may be given several times (default: all)")
     what = parser.add_mutually_exclusive_group()
     what.add_argument("--corpus", action="store_true", help="only the corpus and the kept cases")

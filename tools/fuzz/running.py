@@ -41,6 +41,11 @@ class Ended:
         return f"it wrote {found.decode()!r}" if found else ""
 
 
+def room():
+    """A folder in memory, where the system has one: what a warehouse writes is synced."""
+    return "/dev/shm" if os.access("/dev/shm", os.W_OK) else None
+
+
 def memory_file(data=b""):
     """A file in memory with these bytes, read from its start."""
     file = os.memfd_create("fuzz")
