@@ -34,6 +34,7 @@ from dataclasses import dataclass, field
 
 from changes import GitError, files_of, output_of
 from command_line import add_top, parser_of
+from crates_txt import deps_of, lines_in
 
 PAGE = re.compile(r"README\.md|CONTRIBUTING\.md|(docs|examples|bench|tools/fuzz)/[^/]+\.md")
 MOST_COLUMNS = 100
@@ -305,8 +306,7 @@ class Repository:
         """What each crate of crates.txt stands on."""
         if "crates.txt" not in self.paths:
             raise PagesError(f"{self.top} has no crates.txt")
-        lines = [line.split("#")[0].partition(":") for line in self._text("crates.txt").splitlines()]
-        return {head.split()[0]: rest.split() for head, _, rest in lines if head.strip()}
+        return deps_of(lines_in(self._text("crates.txt")))
 
     def _read(self, path):
         # Pages, data and answers give no names.

@@ -30,6 +30,7 @@ from concurrent.futures import ThreadPoolExecutor
 from dataclasses import dataclass
 
 from command_line import add_top, parser_of
+from crates_txt import below, deps_of, lines_of
 from functions import functions_of
 
 # The parts of a crate that a check reads.
@@ -366,29 +367,6 @@ def try_crate(crate, edits, check, one_by_one=False, sample=0, say=lambda line: 
     return outcomes
 
 
-def deps_of(top):
-    """What each crate of crates.txt stands on."""
-    found = {}
-    with open(f"{top}/crates.txt", encoding="utf-8") as file:
-        for line in file:
-            line = line.split("#")[0].strip()
-            if line:
-                head, _, rest = line.partition(":")
-                found[head.split()[0]] = rest.split()
-    return found
-
-
-def below(name, deps):
-    """The crates of the repository that a crate stands on, in however many steps."""
-    found, waiting = set(), list(deps[name])
-    while waiting:
-        at = waiting.pop()
-        if at in deps and at not in found:
-            found.add(at)
-            waiting += deps[at]
-    return found
-
-
 def kit():
     """The folder of the toolchain."""
     return os.path.dirname(subprocess.run(["rt", "doc"], stdout=subprocess.PIPE, check=True, text=True).stdout.strip())
@@ -465,7 +443,7 @@ def free_memory():
 
 def run_crate(top, name, edits, lanes, one_by_one=False, sample=0, say=print):
     """Tries some edits of a crate, and says what became of each: the outcomes, and what it took."""
-    deps = deps_of(top)
+    deps = deps_of(lines_of(top))
     crate = Crate(f"{top}/crates/{name}")
     with tempfile.TemporaryDirectory(prefix=f"edits-{name}-") as room:
         checker = Checker(crate, words_of(top, name, deps), room, lanes)

@@ -36,6 +36,7 @@ from concurrent.futures import ThreadPoolExecutor
 import due
 from changes import GitError, files_of, is_edit, output_of
 from command_line import add_top, parser_of
+from crates_txt import below, deps_of, lines_of
 from due import DueError, Records
 from edits import REFUSED, Edit, Lanes, run_crate
 from meter import Meter, processor, table
@@ -52,28 +53,6 @@ BUILT = re.compile(r"rt: (\w+) (proved|is kept: .*)$")
 
 class GateError(Exception):
     """Why nothing could be run."""
-
-
-def crate_lines(text):
-    """The crates of a crates.txt with the line of each."""
-    lines = (line.split("#")[0].strip() for line in text.splitlines())
-    return {line.split(":")[0].split()[0]: line for line in lines if line}
-
-
-def crates_of(top):
-    with open(os.path.join(top, "crates.txt"), encoding="utf-8") as file:
-        return crate_lines(file.read())
-
-
-def below(crate, lines):
-    """The crate and the crates of the repository that it stands on."""
-    found, waiting = set(), [crate]
-    while waiting:
-        name = waiting.pop()
-        if name in lines and name not in found:
-            found.add(name)
-            waiting += lines[name].split(":", 1)[1].split()
-    return found
 
 
 def counts(by_crate):
@@ -280,8 +259,8 @@ def main():
         if options.landed:
             landed(top, options.landed, kit)
             return 0
-        lines = crates_of(top)
-        crates = below("focusd", lines) if options.program else set(lines)
+        lines = lines_of(top)
+        crates = {"focusd", *below("focusd", deps_of(lines))} if options.program else set(lines)
         done, runs = (lambda crate: None), {}
         if not options.program:
             plan = due.plan(top, kit, None if budget is None else budget * 60, only_due=options.owed, tries_all=options.all)

@@ -14,8 +14,7 @@ import sys
 import tempfile
 import time
 
-from command_line import parser_of
-from store_runs import killed_until_done
+from store_runs import killed_until_done, killing
 
 HEADER = "BilledCost,EffectiveCost,BillingCurrency,ChargeCategory,ChargePeriodStart,ChargePeriodEnd,SkuId,Note,Tags\n"
 QUESTIONS = "state\nreport team 2024-01-01T00:00Z 2024-02-01T00:00Z\nlines 2024-01-01T00:00Z 2024-01-02T00:00Z\n"
@@ -50,12 +49,7 @@ def importing(program, folder, export):
 
 
 def main():
-    options = parser_of(__doc__)
-    options.add_argument("program", metavar="PROGRAM", help="the built program")
-    options.add_argument("--runs", type=int, default=100, metavar="N", help="how many imports (default: 100)")
-    options.add_argument("--rows", type=int, default=20000, metavar="N", help="how many rows are imported (default: 20000)")
-    options.add_argument("--seed", type=int, default=1, metavar="N", help="the rows and the times (default: 1)")
-    given = options.parse_args()
+    given = killing(__doc__, 100, "--rows", 20000, "how many rows are imported")
     dice = random.Random(given.seed)
     program = os.path.abspath(given.program)
     with tempfile.TemporaryDirectory() as top:

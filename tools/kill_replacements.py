@@ -17,8 +17,7 @@ import sys
 import tempfile
 import time
 
-from command_line import parser_of
-from store_runs import killed_until_done
+from store_runs import killed_until_done, killing
 
 HEADER = "BilledCost,EffectiveCost,BillingCurrency,ChargeCategory,ChargePeriodStart,ChargePeriodEnd,SkuId,Tags\n"
 RANGE = ("--from", "2024-01", "--to", "2024-02")
@@ -84,12 +83,7 @@ def replace_with_kills(program, folder, files, longest, dice, whole):
 
 
 def main():
-    options = parser_of(__doc__)
-    options.add_argument("program", metavar="PROGRAM", help="the built program")
-    options.add_argument("--runs", type=int, default=200, metavar="N", help="how many replacements (default: 200)")
-    options.add_argument("--posts", type=int, default=300, metavar="N", help="how many posts the warehouse has (default: 300)")
-    options.add_argument("--seed", type=int, default=1, metavar="N", help="the rows and the times (default: 1)")
-    given = options.parse_args()
+    given = killing(__doc__, 200, "--posts", 300, "how many posts the warehouse has")
     dice = random.Random(given.seed)
     program = os.path.abspath(given.program)
     with tempfile.TemporaryDirectory() as top:

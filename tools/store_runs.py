@@ -13,7 +13,7 @@ import subprocess
 import sys
 from dataclasses import dataclass, field
 
-from command_line import TOP
+from command_line import TOP, parser_of
 
 sys.path.insert(0, os.path.join(TOP, "examples"))
 import expected  # noqa: E402
@@ -218,6 +218,16 @@ def program_at(path):
     if not os.access(program, os.X_OK):
         raise CannotRun(f"there is no program at {program}")
     return program
+
+
+def killing(description, runs, option, count, what):
+    """The options of a tool that kills runs of PROGRAM: how many runs, how much there is to do in one, and the seed."""
+    parser = parser_of(description)
+    parser.add_argument("program", metavar="PROGRAM", help="the built program")
+    parser.add_argument("--runs", type=int, default=runs, metavar="N", help=f"how many runs (default: {runs})")
+    parser.add_argument(option, type=int, default=count, metavar="N", help=f"{what} (default: {count})")
+    parser.add_argument("--seed", type=int, default=1, metavar="N", help="the exports and the times (default: 1)")
+    return parser.parse_args()
 
 
 def killed_until_done(words, longest, dice, at_kill=lambda: None):

@@ -13,6 +13,7 @@ import gate  # noqa: E402
 import meter  # noqa: E402
 import refuse_allocations  # noqa: E402
 from command_line import TOP  # noqa: E402
+from crates_txt import below, deps_of, lines_in  # noqa: E402
 
 TOOL = os.path.join(os.path.dirname(os.path.abspath(__file__)), "gate.py")
 SOURCE = """//! One function.
@@ -34,8 +35,8 @@ ACCEPTED = "file: src/lib.rt\nold:     u16::from(byte) + 1\nnew:     1 + u16::fr
 
 class Lines(unittest.TestCase):
     def test_a_program_stands_on_what_its_libraries_stand_on(self):
-        lines = gate.crate_lines("# a note\nlow: thiserror\nmid: low\n\nother:\nprogram: mid clap  # the top\n")
-        self.assertEqual(gate.below("program", lines), {"program", "mid", "low"})
+        lines = lines_in("# a note\nlow: thiserror\nmid: low\n\nother:\nprogram: mid clap  # the top\n")
+        self.assertEqual(below("program", deps_of(lines)), {"mid", "low"})
 
     def test_what_only_says_proved_is_not_shown(self):
         self.assertFalse(gate.is_shown("fn fw_money::read::parse: proved", False))
@@ -151,7 +152,7 @@ class Changes(unittest.TestCase):
             repository.fill()
             kit = due.Records.read(top).kit
             plan = lambda **how: due.plan(top, kit, **how)
-            self.assertEqual(number(plan(budget=None).due), 0)
+            self.assertEqual(gate.number(plan(budget=None).due), 0)
             repository.write("crates/changed/src/lib.rt", SOURCE + "// a comment\n")
             commit = repository.commit("code of one crate")
             two = {"crates/changed/must-fail/adds_two.edit"}
@@ -159,15 +160,15 @@ class Changes(unittest.TestCase):
             records = due.Records.read(top)
             records.tried["changed"] = commit
             records.write(top)
-            self.assertEqual(number(plan().due), 0)
+            self.assertEqual(gate.number(plan().due), 0)
             three = "crates/same/must-fail/adds_three.edit"
             repository.write(three, REFUSED.replace("+ 2", "+ 3"))
             self.assertEqual((plan().due["same"], plan().new["same"], plan().runs), ({three}, {three}, {"same": {three}}))
             for another in ("another kit", "rattle-kit-1 logic another"):
-                self.assertEqual(number(due.plan(top, another).due), 4, another)
+                self.assertEqual(gate.number(due.plan(top, another).due), 4, another)
             later = f"a later release logic {due.logic_of(kit)}"
-            self.assertEqual(number(due.plan(top, later).due), 1, "it proves in the same logic")
-            self.assertEqual(number(plan(tries_all=True).runs), 4)
+            self.assertEqual(gate.number(due.plan(top, later).due), 1, "it proves in the same logic")
+            self.assertEqual(gate.number(plan(tries_all=True).runs), 4)
             records.tried["same"] = "0" * 40
             records.write(top)
             self.assertEqual(len(plan().due["same"]), 3, "a commit that isn't here")
@@ -211,11 +212,7 @@ class Changes(unittest.TestCase):
             gate.landed(top, landing, before.kit)
             after = due.Records.read(top)
             self.assertEqual((after.landing, after.tried), (landing, {"changed": landing, "same": landing}))
-            self.assertEqual(number(due.plan(top, before.kit).due), 0)
-
-
-def number(by_crate):
-    return sum(map(len, by_crate.values()))
+            self.assertEqual(gate.number(due.plan(top, before.kit).due), 0)
 
 
 class Refusals(unittest.TestCase):
