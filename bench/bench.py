@@ -20,8 +20,8 @@ import statistics
 import subprocess
 import sys
 
-from session import FOCUSD, PEERS, ROOT, RUST, Stopped, Turns, build_rust, load, load_since, measure, parser_of_turns, print_head, say
-from session import status_after, verdict, whole_number
+from session import FOCUSD, PEERS, ROOT, RUST, Stopped, Turns, build_rust, in_turns, load, load_since, measure, parser_of_turns, print_head
+from session import say, status_after, verdict, whole_number
 
 MAKE_EXPORT = os.path.join(ROOT, "examples", "make_export.py")
 EXPECTED = os.path.join(ROOT, "examples", "expected.py")
@@ -222,10 +222,8 @@ def run(options):
     if not programs:
         raise Stopped("there is no program to measure: " + "; ".join(notes))
     before = load()
-    for turn in range(options.turns):
-        say(f"turn {turn + 1} of {options.turns}")
-        for program in programs:
-            program.take_turn(options)
+    for program in in_turns(programs, options):
+        program.take_turn(options)
     title = f"{options.rows:,} rows of {'6' if options.narrow else '15'} columns, {data.script_bytes / 1e6:.0f} MB"
     print(f"### {title}\n")
     print_head(options)

@@ -32,7 +32,8 @@ import random
 import statistics
 import sys
 
-from session import FOCUSD, RUST, Stopped, build_rust, built, load, load_since, measure, parser_of_turns, print_head, say, status_after, verdict, whole_number
+from session import FOCUSD, RUST, Stopped, build_rust, built, in_turns, load, load_since, measure, parser_of_turns, print_head, say, status_after
+from session import verdict, whole_number
 
 MOST_ROWS = 4_096
 # Pairs of reports in the two runs: without commitments a report takes a few milliseconds, of which it takes many to measure.
@@ -203,10 +204,8 @@ def compare(programs, count, options):
         paths.append(os.path.join(options.scratch, name))
         write_script(paths[-1], options, count, pairs)
     measured = [Program(*it) for it in programs]
-    for turn in range(options.turns):
-        say(f"{count} commitments, turn {turn + 1} of {options.turns}")
-        for program in measured:
-            program.take_turn(paths, 2 * (many - FEW), options)
+    for program in in_turns(measured, options, f"{count} commitments, "):
+        program.take_turn(paths, 2 * (many - FEW), options)
     print(f"\n{options.rows:,} rows over {options.hours} hours, {count} commitments:\n")
     (print_workers if options.workers else print_programs)(measured, options)
     return len(set.union(*(it.answers for it in measured))) == 1

@@ -137,6 +137,13 @@ class Turns:
         return min(turn.seconds for turn in self.turns)
 
 
+def in_turns(programs, options, what=""):
+    """Each of these programs in each turn. What is measured and the number of the turn go to standard error."""
+    for turn in range(options.turns):
+        say(f"{what}turn {turn + 1} of {options.turns}")
+        yield from programs
+
+
 class Turn:
     """What one run of a program took and gave; the status is None where it was stopped."""
 

@@ -32,8 +32,8 @@ import sys
 import time
 
 from bench import Data
-from session import FOCUSD, RUST, Stopped, Turns, build_rust, load, load_since, measure, parser_of_turns, print_head, say, status_after, verdict
-from session import whole_number
+from session import FOCUSD, RUST, Stopped, Turns, build_rust, in_turns, load, load_since, measure, parser_of_turns, print_head, say, status_after
+from session import verdict, whole_number
 
 PARTS = ["ingest", "small", "checkpoint", "growth"]
 SMALL_POSTS = 5_000
@@ -184,10 +184,8 @@ class Bench:
     def stored(self, job, title):
         """The table of a job."""
         peers = self.peers_of(job)
-        for turn in range(self.options.turns):
-            say(f"{job.name}, turn {turn + 1} of {self.options.turns}")
-            for peer in peers:
-                peer.take_turn(self.options, job.script if peer.name.startswith((FOCUSD, RUST)) else os.devnull)
+        for peer in in_turns(peers, self.options, f"{job.name}, "):
+            peer.take_turn(self.options, job.script if peer.name.startswith((FOCUSD, RUST)) else os.devnull)
         self.failed |= any(peer.fault for peer in peers)
         rust = next((peer.seconds for peer in peers if peer.name.startswith(RUST) and peer.turns), None)
         print(f"### {title}\n")

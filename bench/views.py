@@ -18,7 +18,7 @@ import re
 import statistics
 import sys
 
-from session import ROOT, Stopped, Turns, load, load_since, measure, parser_of_turns, print_head, say, status_after, verdict
+from session import ROOT, Stopped, Turns, in_turns, load, load_since, measure, parser_of_turns, print_head, say, status_after, verdict
 
 # How many times as long as at rest a view may take. For a report there is no such goal: with eight importers and a flusher there are more
 # threads than most machines have cores.
@@ -110,10 +110,8 @@ def run(options):
         raise Stopped(f"{options.program} isn't there: build it by tools/gate.py")
     tests = tests_of(program)
     before = load()
-    for turn in range(options.turns):
-        say(f"turn {turn + 1} of {options.turns}")
-        for test in tests:
-            test.take_turn(options)
+    for test in in_turns(tests, options):
+        test.take_turn(options)
     print_head(options)
     print(f"{load_since(before)}\n")
     print("\n".join(table(tests)) + "\n")

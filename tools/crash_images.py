@@ -29,7 +29,6 @@ Exit status: 0 where all images were right, 1 where one wasn't, 2 where nothing 
 
 import os
 import random
-import shutil
 import sys
 import tempfile
 import threading
@@ -38,8 +37,8 @@ from dataclasses import replace
 
 from command_line import TOP, add_jobs, add_program, parser_of, status_of
 from store_runs import (
-    QUESTIONS, SIDES, CannotRun, Case, Disk, Image, Progress, add_room, commands, contents_of, lay, order_faults, program_at, record, role, room_of,
-    run, shown,
+    QUESTIONS, SIDES, CannotRun, Case, Disk, Image, Progress, add_room, commands, contents_of, lay, order_faults, own_folder, program_at, record, role,
+    room_of, run, shown,
 )  # fmt: skip
 
 # How many entries a script has that is begun in an empty folder.
@@ -89,10 +88,7 @@ class Search:
 
     def folder(self, name):
         """An empty folder of this thread."""
-        folder = os.path.join(self.room, f"{threading.get_ident()}", name)
-        shutil.rmtree(folder, ignore_errors=True)
-        os.makedirs(folder)
-        return folder
+        return own_folder(self.room, name)
 
     def check(self, image, goes_on):
         """Opens an image, and goes on with it: how many entries it holds."""

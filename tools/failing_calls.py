@@ -22,7 +22,6 @@ Exit status: 0 where all runs were right, 1 where one wasn't, 2 where nothing co
 import io
 import os
 import random
-import shutil
 import sys
 import tempfile
 import threading
@@ -30,8 +29,8 @@ from concurrent.futures import ThreadPoolExecutor
 
 from command_line import add_jobs, add_program, parser_of, status_of
 from store_runs import (
-    CHECKPOINT, QUESTIONS, CannotRun, Case, Disk, Image, Progress, add_room, commands, contents_of, expected, lay, program_at, record, role, room_of,
-    run, shown,
+    CHECKPOINT, QUESTIONS, CannotRun, Case, Disk, Image, Progress, add_room, commands, contents_of, expected, lay, own_folder, program_at, record, role,
+    room_of, run, shown,
 )  # fmt: skip
 
 # How many entries the run that creates a warehouse stores; the run over a folder that has one begins after as many and stores as many more.
@@ -115,10 +114,7 @@ class Trial:
         return self.most_wrong is not None and len(self.wrong) >= self.most_wrong
 
     def folder(self):
-        folder = os.path.join(self.room, str(threading.get_ident()), "run")
-        shutil.rmtree(folder, ignore_errors=True)
-        os.makedirs(folder)
-        return folder
+        return own_folder(self.room, "run")
 
     def expected(self, call, place):
         """The status, the answers and the error line where a call fails."""

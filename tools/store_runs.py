@@ -11,6 +11,7 @@ import re
 import shutil
 import subprocess
 import sys
+import threading
 from dataclasses import dataclass, field
 
 from command_line import TOP, parser_of
@@ -611,6 +612,14 @@ def order_faults(calls):
             faults.append(f"call {place}, {call}: a gate is opened while a write isn't synced")
         disk.apply(call)
     return faults
+
+
+def own_folder(room, name):
+    """An empty folder of this thread."""
+    folder = os.path.join(room, str(threading.get_ident()), name)
+    shutil.rmtree(folder, ignore_errors=True)
+    os.makedirs(folder)
+    return folder
 
 
 def add_room(parser):
