@@ -1,6 +1,6 @@
 """What `focusd run` has to answer to any script, byte for byte, without the program.
 
-The readers are those of texts.py and toml_text.py. What rows and commitments come to is computed by examples/expected.py.
+The readers are those of texts.py and toml_text.py. examples/expected.py judges what was read, and computes what rows and commitments come to.
 `Script` splits a script into commands, `Oracle` answers them. An answer is its text and a label, which names what was met: `refused V5`,
 `accepted`, `bad command`; reports count the cases of reports.
 
