@@ -30,7 +30,8 @@ fn print_matched(
     commitment: &Commitment,
 ) -> Result<(), Fault> {
     let alloc = rt.alloc();
-    let segments = state.counting_segments(alloc)?;
+    let counting = state.counting_segments(alloc)?;
+    let segments = counting.references(alloc)?;
     let matches = matches_of(alloc, commitment, segments.as_slice())?;
     let lines = match_lines(alloc, commitment, &matches)?;
     for line in lines.iter() {
@@ -60,7 +61,8 @@ fn warn_units(
     commitment: &Commitment,
 ) -> Result<(), Fault> {
     let alloc = rt.alloc();
-    let segments = state.counting_segments(alloc)?;
+    let counting = state.counting_segments(alloc)?;
+    let segments = counting.references(alloc)?;
     let matches = matches_of(alloc, commitment, segments.as_slice())?;
     if matches.applies == 0 && is_in_other_units(&matches) {
         let line = unit_line(alloc, commitment, &matches)?;

@@ -14,8 +14,8 @@ use crate::covered::Coverage;
 use crate::tally::{Tally, no_tallies, with_hour};
 use fw_columns::Columns;
 use fw_cover::Roster;
-use fw_query::QueryFault;
-use fw_snapshot::{Snapshot, State};
+use fw_query::{QueryFault, Shown};
+use fw_snapshot::Snapshot;
 use fw_sums::{HourPlace, MOST_HOURS, rows_at, rows_by_hour, touched_hours};
 use fw_terms::Commitment;
 use std::alloc::{AllocError, Global};
@@ -42,52 +42,62 @@ pub fn coverage(
     if from >= to || to - from > MOST_HOURS {
         return Err(QueryFault::Range);
     }
-    match coverage_on(alloc, snapshot.state(), from, (to - from) as usize) {
+    let state = snapshot.state();
+    let shown = Shown::of(alloc, state)?;
+    let commitments = state.commitment_list();
+    match coverage_on(alloc, &shown, commitments, from, (to - from) as usize) {
         Ok(found) => Ok(found),
         Err(AllocError) => Err(QueryFault::NoMemory),
     }
 }
 
-// The coverage of a state in so many hours from this one on.
-fn coverage_on(
+// The coverage of a state in so many hours from this one on. What is found borrows these commitments, which are the state's.
+fn coverage_on<'a>(
     alloc: Global,
-    state: &State,
-    from: u64,
-    hours: usize,
-) -> Result<Vec<Coverage<'_>>, AllocError>
-    requires { from + hours < 2 ^ 64 }
-    ensures { IfOk result (λ found. IsCoverage (commitments_of state.now.entries) (rows_of state.now.entries) from (from + hours) found.items) }
-{
-    // each entry was accepted, so no row has the id of a commitment
-    let _entries = state.entries();
-    let segments = state.counting_segments(alloc)?;
-    coverage_of(
-        alloc,
-        segments.as_slice(),
-        state.commitment_list(),
-        from,
-        hours,
-    )
-}
-
-// The coverage of commitments by the rows of segments in so many hours from this one on.
-fn coverage_of<'a>(
-    alloc: Global,
-    segments: &[&'a Columns],
+    shown: &Shown,
     commitments: &'a [Commitment],
     from: u64,
     hours: usize,
 ) -> Result<Vec<Coverage<'a>>, AllocError>
     requires fits { from + hours < 2 ^ 64 }
-    requires apart { AreApart commitments.now (all_rows (lent segments.now)) }
-    ensures { IfOk result (λ found. IsCoverage commitments.now (all_rows (lent segments.now)) from (from + hours) found.items) }
+    requires same { commitments.now ≡ commitments_of shown.now.entries }
+    ensures { IfOk result (λ found. IsCoverage (commitments_of shown.now.entries) (rows_of shown.now.entries) from (from + hours) found.items) }
 {
-    let touched = touched_hours(alloc, commitments, from, hours)?;
+    // each entry was accepted, so no row has the id of a commitment
+    let _entries = shown.state().entries();
+    let segments = shown.segments(alloc)?;
+    coverage_of(
+        alloc,
+        segments.as_slice(),
+        shown.state().commitment_list(),
+        commitments,
+        from,
+        hours,
+    )
+}
+
+// The coverage of commitments by the rows of segments in so many hours from this one on. What is found borrows the second list of the same
+// commitments.
+fn coverage_of<'a, 'r>(
+    alloc: Global,
+    segments: &[&'r Columns],
+    listed: &'r [Commitment],
+    commitments: &'a [Commitment],
+    from: u64,
+    hours: usize,
+) -> Result<Vec<Coverage<'a>>, AllocError>
+    requires fits { from + hours < 2 ^ 64 }
+    requires same { commitments.now ≡ listed.now }
+    requires apart { AreApart listed.now (all_rows (lent segments.now)) }
+    ensures { IfOk result (λ found. IsCoverage listed.now (all_rows (lent segments.now)) from (from + hours) found.items) }
+{
+    let touched = touched_hours(alloc, listed, from, hours)?;
     let by_hour = rows_by_hour(alloc, segments, from, touched.as_slice())?;
-    let roster = Roster::new(alloc, commitments, from, from + hours as u64)?;
+    let roster = Roster::new(alloc, listed, from, from + hours as u64)?;
     let tallies = tallies_of(
         alloc,
         segments,
+        commitments,
         &roster,
         by_hour.as_slice(),
         touched.as_slice(),
@@ -97,15 +107,17 @@ fn coverage_of<'a>(
 }
 
 // The tallies of a roster's commitments after hours in turn, from this one on. The rows of those that are touched are at these places.
-fn tallies_of<'a>(
+fn tallies_of<'a, 'r>(
     alloc: Global,
-    segments: &[&'a Columns],
-    roster: &Roster<'a>,
+    segments: &[&'r Columns],
+    commitments: &'a [Commitment],
+    roster: &Roster<'r>,
     by_hour: &[Vec<HourPlace>],
     touched: &[bool],
     from: u64,
 ) -> Result<Vec<Tally<'a>>, AllocError>
     requires fits { from + length by_hour.now < 2 ^ 64 }
+    requires same { commitments.now ≡ roster.now.commitments }
     requires roster { HasHours roster.now from (length by_hour.now) }
     requires many { length touched.now ≡ length by_hour.now }
     requires touched { AreTouched roster.now.commitments from (length by_hour.now) touched.now }
@@ -113,7 +125,7 @@ fn tallies_of<'a>(
     requires apart { AreApart roster.now.commitments (all_rows (lent segments.now)) }
     ensures { IfOk result (λ tallies. AreTallies roster.now.commitments (all_rows (lent segments.now)) from (length by_hour.now) tallies.items) }
 {
-    let mut tallies = no_tallies(alloc, roster.commitments())?;
+    let mut tallies = no_tallies(alloc, commitments)?;
     let mut hour = from;
     for places in by_hour {
         let is_touched = touched[(hour - from) as usize];
@@ -132,11 +144,11 @@ fn tallies_of<'a>(
 }
 
 // The tallies after one more of a roster's hours, whose rows are at these places. In an hour that isn't touched they stay.
-fn with_places<'a>(
+fn with_places<'a, 'r>(
     alloc: Global,
     tallies: Vec<Tally<'a>>,
-    segments: &[&'a Columns],
-    roster: &Roster<'a>,
+    segments: &[&'r Columns],
+    roster: &Roster<'r>,
     places: &[HourPlace],
     is_touched: bool,
     hour: u64,

@@ -133,11 +133,11 @@ fn with_lines<'a>(
 }
 
 // The tallies after one more of a roster's hours, whose rows are these.
-pub(crate) fn with_hour<'a>(
+pub(crate) fn with_hour<'a, 'r>(
     alloc: Global,
     tallies: &[Tally<'a>],
-    roster: &Roster<'a>,
-    rows: &[LentRow<'a>],
+    roster: &Roster<'r>,
+    rows: &[LentRow<'r>],
     hour: u32,
 ) -> Result<Vec<Tally<'a>>, AllocError>
     requires hour { HasHour roster.now hour }

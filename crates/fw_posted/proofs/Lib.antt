@@ -1,3 +1,4 @@
+pub mod GoneFacts
 pub mod MarkFacts
 pub mod MergeFacts
 pub mod PartFacts

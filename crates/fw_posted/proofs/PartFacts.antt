@@ -1,6 +1,6 @@
 -- Segments and the parts that stand beside them.
 use Rattle.std.proofs.Common.{◌≡◌, ◌∙◌, ◌+◌, ◌<◌, ◌≤◌, ◌++◌, ◌∷◌, [], List, true, ℕ, zero, suc, Some, length, take, drop, set, get_or, replicate, ap, sym, subst, refl, arith}
-use Rattle.std.specs.Prelude.{None, slice_get, unwrap_or}
+use Rattle.std.specs.Prelude.{None, slice_get}
 use Rattle.std.proofs.lemmas.Grind.{flat_map-append}
 use Rattle.std.proofs.lemmas.List.{append-nil, length-append, length-replicate, take_all, take-append-drop}
 use Rattle.std.proofs.lemmas.Option.{same_Some, slice_get-get_or, slice_get_within}
@@ -8,7 +8,7 @@ use Rattle.fw_charge.specs.Charge.{Charge}
 use Rattle.fw_posted.specs.Marks.{selected, without}
 use Rattle.fw_posted.specs.Parts.{all_marks, AreParts, IsPartOf, PartValue}
 use Rattle.fw_posted.specs.Rows.{rows_before_segment, segment_rows}
-use Rattle.fw_posted.proofs.MarkFacts.{selected-append, selected_all, take_next, without_before, without_behind}
+use Rattle.fw_posted.proofs.MarkFacts.{selected-append, selected_all, take_next, without_before, without_behind, without_nothing}
 
 -- ---- rows before a segment
 
@@ -137,13 +137,18 @@ marks_set n (p ∷ parts) (r ∷ segments) (suc place) from count part after are
     ∙ sym (without_behind p.marks (all_marks parts) (rows_before_segment segments place + from) count)
     ∙ ap (λ k. without k count (p.marks ++ all_marks parts)) moved
 
+-- the marks where a part is replaced by one of the same marks
+pub marks_kept : (parts : List PartValue) (segments : List (List Charge)) (place : ℕ) (part after : PartValue) → AreParts 0 parts segments → slice_get parts place ≡ Some part → after.marks ≡ part.marks → all_marks (set parts place after) ≡ all_marks parts
+marks_kept parts segments place part after are here same =
+    marks_set 0 parts segments place 0 0 part after are here (omega arith) (same ∙ sym (without_nothing 0 part.marks))
+    ∙ without_nothing (rows_before_segment segments place + 0) (all_marks parts)
+
 -- what is selected of the first segments, and of one more
-pub selected_next : (n : ℕ) (parts : List PartValue) (segments : List (List Charge)) (place : ℕ) (part : PartValue) (rows : List Charge) → AreParts n parts segments → slice_get parts place ≡ Some part → slice_get segments place ≡ Some rows → selected (all_marks (take (place + 1) parts)) (segment_rows (take (place + 1) segments)) ≡ selected (all_marks (take place parts)) (segment_rows (take place segments)) ++ unwrap_or part.left rows
+pub selected_next : (n : ℕ) (parts : List PartValue) (segments : List (List Charge)) (place : ℕ) (part : PartValue) (rows : List Charge) → AreParts n parts segments → slice_get parts place ≡ Some part → slice_get segments place ≡ Some rows → selected (all_marks (take (place + 1) parts)) (segment_rows (take (place + 1) segments)) ≡ selected (all_marks (take place parts)) (segment_rows (take place segments)) ++ selected part.marks rows
 selected_next n parts segments place part rows are here there =
     ap (λ l. selected l (segment_rows (take (place + 1) segments))) (ap all_marks (take_next parts place part here) ∙ push_marks (take place parts) part)
     ∙ ap (λ l. selected (all_marks (take place parts) ++ part.marks) l) (rows_next segments place rows there)
     ∙ selected-append (all_marks (take place parts)) part.marks (segment_rows (take place segments)) rows (marks_count n (take place parts) (take place segments) (first_parts n parts segments place are))
-    ∙ ap (λ l. selected (all_marks (take place parts)) (segment_rows (take place segments)) ++ l) (sym (part_at n parts segments place part rows are here there).of.counting)
 
 pub count_within : (segments : List (List Charge)) (place : ℕ) → rows_before_segment segments place ≤ length (segment_rows segments)
 count_within segments place =
@@ -181,7 +186,7 @@ rows_some n [] (r ∷ segments) place rows are there = absurd are
 rows_some n (p ∷ parts) (r ∷ segments) zero rows are there = subst (λ (l : List Charge). 0 < length l) (same_Some r rows there) are.1.some
 rows_some n (p ∷ parts) (r ∷ segments) (suc place) rows are there = rows_some (n + length r) parts segments place rows are.2 there
 
-get_before : {X : Type 0} (items more : List X) (place : ℕ) → place < length items → slice_get (items ++ more) place ≡ slice_get items place
+pub get_before : {X : Type 0} (items more : List X) (place : ℕ) → place < length items → slice_get (items ++ more) place ≡ slice_get items place
 get_before [] more place inside = absurd (omega arith)
 get_before (x ∷ items) more zero inside = refl
 get_before (x ∷ items) more (suc place) inside = get_before items more place (omega arith)
@@ -189,7 +194,7 @@ get_before (x ∷ items) more (suc place) inside = get_before items more place (
 get_suc : {X : Type 0} (x : X) (items : List X) (k n : ℕ) → k ≡ suc n → slice_get (x ∷ items) k ≡ slice_get items n
 get_suc x items k n e = ap (slice_get (x ∷ items)) e
 
-get_behind : {X : Type 0} (items more : List X) (place : ℕ) → slice_get (items ++ more) (length items + place) ≡ slice_get more place
+pub get_behind : {X : Type 0} (items more : List X) (place : ℕ) → slice_get (items ++ more) (length items + place) ≡ slice_get more place
 get_behind [] more place = ap (slice_get more) (let e : 0 + place ≡ place = omega arith in e)
 get_behind (x ∷ items) more place =
     get_suc x (items ++ more) (suc (length items) + place) (length items + place) (omega arith) ∙ get_behind items more place
@@ -213,14 +218,14 @@ mark_at n (p ∷ parts) (r ∷ segments) (suc place) row part are here inside =
 
 -- ---- one segment more, all of whose rows count
 
-pub whole_part : (part : PartValue) (before n : ℕ) (rows : List Charge) → part ≡ record { start = before; marks = replicate n true; left = None } → n ≡ length rows → 0 < n → IsPartOf part rows
+pub whole_part : (part : PartValue) (before n : ℕ) (rows : List Charge) → part ≡ record { start = before; marks = replicate n true; left = Some None } → n ≡ length rows → 0 < n → IsPartOf part rows
 whole_part part before n rows is count some = rw (is, count) (record {
   some = subst (λ k. 0 < k) count some;
   marks = length-replicate (length rows) true;
   counting = sym (selected_all rows);
 })
 
-pub whole_selected : (part : PartValue) (before n : ℕ) (rows : List Charge) → part ≡ record { start = before; marks = replicate n true; left = None } → n ≡ length rows → selected part.marks rows ≡ rows
+pub whole_selected : (part : PartValue) (before n : ℕ) (rows : List Charge) → part ≡ record { start = before; marks = replicate n true; left = Some None } → n ≡ length rows → selected part.marks rows ≡ rows
 whole_selected part before n rows is count =
     ap (λ (p : PartValue). selected p.marks rows) is ∙ ap (λ k. selected (replicate k true) rows) count ∙ selected_all rows
 
@@ -232,3 +237,26 @@ count_more parts segments part rows are all =
     ∙ ap length (selected-append (all_marks parts) part.marks (segment_rows segments) rows (marks_count 0 parts segments are))
     ∙ length-append (selected (all_marks parts) (segment_rows segments)) (selected part.marks rows)
     ∙ ap (λ l. length (selected (all_marks parts) (segment_rows segments)) + length l) all
+
+-- a row behind the rows before one segment, and before those of a later one
+pub apart : (segments : List (List Charge)) (first behind row : ℕ) → rows_before_segment segments first ≤ row → row < rows_before_segment segments behind → first ≤ behind → first < behind
+apart segments first behind row from until order =
+    let same : first ≡ behind → rows_before_segment segments first ≡ rows_before_segment segments behind = λ e. ap (rows_before_segment segments) e in
+    grind (arith, same, from, until, order)
+
+-- where a segment's rows begin and end, by its part
+pub record IsPlaced (segments : List (List Charge)) (part : PartValue) (place : ℕ) : Type 0 where
+  pub begins : part.start ≡ rows_before_segment segments place
+  pub ends : rows_before_segment segments (place + 1) ≡ rows_before_segment segments place + length part.marks
+
+pub placed : (parts : List PartValue) (segments : List (List Charge)) (place : ℕ) (part : PartValue) → AreParts 0 parts segments → slice_get parts place ≡ Some part → IsPlaced segments part place
+placed parts segments place part are here =
+    let inside = slice_get_within parts place part here in
+    let count = parts_count 0 parts segments are in
+    let rows = get_or segments place [] in
+    let there = segment_there segments place (omega (arith, inside, count)) in
+    let at = part_at 0 parts segments place part rows are here there in
+    record {
+      begins = start_at parts segments place part are here;
+      ends = omega (arith, count_next segments place rows there, at.of.marks);
+    }

@@ -1,9 +1,9 @@
 -- Segment after segment loses its part of a range.
 use Rattle.std.proofs.Common.{◌≡◌, ◌∙◌, ◌+◌, ◌-◌, ◌<◌, ◌≤◌, [], List, ℕ, Some, min, length, set, get_or, ap, sym, arith}
-use Rattle.std.specs.Prelude.{slice_get, unwrap_or}
+use Rattle.std.specs.Prelude.{slice_get}
 use Rattle.fw_charge.specs.Charge.{Charge}
-use Rattle.fw_posted.specs.Marks.{selected, without}
-use Rattle.fw_posted.specs.Parts.{all_marks, AreParts, IsPartOf, PartValue}
+use Rattle.fw_posted.specs.Marks.{without}
+use Rattle.fw_posted.specs.Parts.{all_marks, AreParts, HasLeft, IsPartOf, PartValue}
 use Rattle.fw_posted.specs.Rows.{rows_before_segment, segment_rows}
 use Rattle.fw_posted.proofs.MarkFacts.{length-without, without_more, without_nothing}
 use Rattle.fw_posted.proofs.PartFacts.{count_next, marks_count, marks_set, part_at, parts_set, rows_some, segment_there, segment_within, start_at}
@@ -58,7 +58,7 @@ pub record IsNext (row behind : ℕ) (rows : List Charge) (part next : PartValue
   pub many : here ≡ min (length rows - from) (behind - row)
   pub start : next.start ≡ part.start
   pub marks : next.marks ≡ without from here part.marks
-  pub left : unwrap_or next.left rows ≡ selected next.marks rows
+  pub left : HasLeft next rows
 
 pub next_without : (segments : List (List Charge)) (parts after : List PartValue) (start row behind place : ℕ) (rows : List Charge) (part next : PartValue) (from here : ℕ) → AreParts 0 parts segments → AreWithout segments parts after start row behind place → row < behind → behind ≤ length (segment_rows segments) → slice_get segments place ≡ Some rows → slice_get after place ≡ Some part → IsNext row behind rows part next from here → AreWithout segments parts (set after place next) start (row + here) behind (place + 1)
 next_without segments parts after start row behind place rows part next from here whole are more few there found is =

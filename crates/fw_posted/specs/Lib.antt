@@ -1,8 +1,10 @@
 pub mod Rows
 pub mod Marks
+pub mod Gone
 pub mod Kept
 pub mod Parts
 pub mod PartView
 pub mod Posted
 pub mod PostedView
 pub mod Merging
+pub mod CountingView

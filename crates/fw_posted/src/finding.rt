@@ -7,7 +7,8 @@ use crate::part::Part;
 use fw_columns::Columns;
 use fw_persistent::Sequence;
 
-/// The place of the segment that has a row. The segments that may have it are halved until one is left.
+/// The place of the segment that has a row. First the one is asked that has it if all segments are of one length. Then those that may have it are
+/// halved until it is found.
 pub(crate) fn segment_of(segments: &Sequence<Columns>, parts: &Sequence<Part>, row: usize) -> usize
     requires parts { AreParts 0 parts.now segments.now }
     requires inside { row < length (segment_rows segments.now) }
@@ -17,13 +18,29 @@ pub(crate) fn segment_of(segments: &Sequence<Columns>, parts: &Sequence<Part>, r
 {
     let mut first = 0;
     let mut behind = segments.len();
-    while behind - first > 1 {
-        let middle = first + (behind - first) / 2;
-        if parts.get(middle).start() <= row {
-            first = middle;
+    let mut place = even_place(parts, row);
+    loop {
+        let part = parts.get(place);
+        let start = part.start();
+        if row < start {
+            behind = place;
+        } else if row - start < part.len() {
+            return place;
         } else {
-            behind = middle;
+            first = place + 1;
         }
+        place = first + (behind - first) / 2;
     }
-    first
+}
+
+/// The place of the segment that has a row if all segments are of one length.
+fn even_place(parts: &Sequence<Part>, row: usize) -> usize
+    requires { 0 < length parts.now }
+    ensures { result < length parts.now }
+{
+    let count = parts.len();
+    let last = parts.get(count - 1);
+    let rows = last.start().saturating_add(last.len());
+    let place = row.saturating_mul(count) / rows.max(1);
+    place.min(count - 1)
 }

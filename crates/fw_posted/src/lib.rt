@@ -4,19 +4,25 @@
 //! rows of it that still count, in columns of their own, so that a report goes over columns all of whose rows count. Where nothing was withdrawn,
 //! these are the segments themselves.
 //!
-//! The value is never changed. A post costs what it brings, and a withdrawal the rows of the segments that it meets, which it finds by their places:
-//! neither reads another segment, and both share with the old value what stays.
+//! The value is never changed. A post costs what it brings. A withdrawal notes its range beside each segment that it meets, which it finds by their
+//! places: it costs the same in a long segment as in a short one. The columns of the rows that are left are made when they are first asked for, or
+//! by [`PostedRows::settled`], which keeps them. All of these share with the old value what stays.
 #![tactic(auto)]
 
+mod counting;
 mod finding;
+mod gone;
 mod laws;
+mod left;
 mod making;
 mod marks;
 mod merging;
 mod part;
 mod posted;
 mod reading;
+mod settling;
 mod withdrawing;
 
+pub use counting::CountingSegments;
 pub use laws::{merging_keeps_rows, selection_is_by_part};
 pub use posted::PostedRows;

@@ -1,34 +1,33 @@
 //! Which rows of a segment count.
-ghost use Rattle.std.specs.Prelude.{◌≡◌, ◌<◌, ◌≤◌, ◌+◌, ◌++◌, [], Bool, List, true, length, replicate, slice_get, unwrap_or, IfOk, None, OnOk, Some};
-ghost use Rattle.std.specs.Option.{option_copied};
-ghost use Rattle.fw_posted.specs.Kept.{kept_marks, kept_rows};
+ghost use Rattle.std.specs.Prelude.{◌≡◌, ◌<◌, ◌≤◌, ◌+◌, [], false, true, length, replicate, slice_get, unwrap_or, IfOk, None, OnOk, Some};
+ghost use Rattle.std.specs.Option.{option_map_or};
+ghost use Rattle.fw_posted.specs.Kept.{kept_left};
 ghost use Rattle.fw_posted.specs.Marks.{selected, without};
+ghost use Rattle.fw_posted.specs.Parts.{IsPartOf, HasLeft};
 
-use crate::marks::{count_true, push_true, withdraw};
+use crate::gone::{Gone, MOST_GONE, is_gone, withdraw_all};
+use crate::left::{Kept, Left, Made, share_left};
+use crate::marks::{count_true, withdraw};
 use fw_columns::{Columns, ColumnsBuilder};
-use fw_persistent::Share;
+use fw_persistent::{Sequence, Share};
 use std::alloc::{AllocError, Global};
 use std::marker::Model;
 use std::sync::Arc;
 
 /// What stands beside a segment.
+///
+/// A withdrawal adds its range to a short list, so it costs the same in a long segment as in a short one. The columns of the rows that are left are
+/// made when they are asked for.
 #[derive(Drop)]
 pub(crate) struct Part {
     // how many rows stand before the segment
     start: usize,
     // how many rows the segment has
     len: usize,
-    // what is left of the segment, where not all of its rows count
+    // what was written down of the segment's rows, where not all of them counted then
     left: Option<Arc<Left>>,
-}
-
-/// What is left of a segment.
-#[derive(Drop)]
-struct Left {
-    // for each row of the segment whether it counts
-    counts: Vec<bool>,
-    // the rows that count, if there are any
-    rows: Option<Columns>,
+    // what was withdrawn since
+    gone: Sequence<Gone>,
 }
 
 impl Model for Part {
@@ -36,18 +35,22 @@ impl Model for Part {
 
     ghost Value = { PartValue };
 
-    ghost use Rattle.fw_posted.specs.PartView.{part_value};
+    ghost use Rattle.fw_posted.specs.PartView.{part_value, KeepsPart};
 
     ghost view = { part_value };
+
+    ghost invariant = { KeepsPart };
 }
 
 impl Share for Part {
     fn share(&self) -> Result<Part, AllocError> {
         let left = share_left(&self.left)?;
+        let gone = self.gone.copy()?;
         Ok(Part {
             start: self.start,
             len: self.len,
             left,
+            gone,
         })
     }
 }
@@ -55,12 +58,13 @@ impl Share for Part {
 impl Part {
     /// The part of a segment of so many rows, all of which count.
     pub(crate) fn whole(start: usize, len: usize) -> Part
-        ensures { result ≡ record { start = start; marks = replicate len true; left = None } }
+        ensures { result ≡ record { start = start; marks = replicate len true; left = Some None } }
     {
         Part {
             start,
             len,
             left: None,
+            gone: Sequence::new(),
         }
     }
 
@@ -74,7 +78,7 @@ impl Part {
         requires { length counts.now ≡ length rows.now }
         ensures start { IfOk result (λ part. part.start ≡ start) }
         ensures marks { IfOk result (λ part. part.marks ≡ counts.now) }
-        ensures left { IfOk result (λ part. unwrap_or part.left rows.now ≡ selected counts.now rows.now) }
+        ensures left { IfOk result (λ part. HasLeft part rows.now) }
     {
         if count_true(counts) == counts.len() {
             return Ok(Part::whole(start, rows.len()));
@@ -91,69 +95,119 @@ impl Part {
         self.start
     }
 
+    /// How many rows the segment has.
+    pub(crate) fn len(&self) -> usize
+        ensures { result ≡ length self.now.marks }
+    {
+        self.len
+    }
+
     /// Whether the row at a place of the segment counts.
     pub(crate) fn counts(&self, place: usize) -> bool
         requires { place < length self.now.marks }
         ensures { slice_get self.now.marks place ≡ Some result }
     {
-        match &self.left {
+        let counted = match &self.left {
             None => true,
             Some(left) => left.counts[place],
+        };
+        counted && !is_gone(&self.gone, place)
+    }
+
+    /// Whether the columns of the rows that count are kept.
+    #[tactic(auto, unfolding(crate::specs::Kept::kept_left))]
+    pub(crate) fn is_settled(&self) -> bool
+        ensures { result ≡ option_map_or (λ left. true) self.now.left false }
+    {
+        match self.kept() {
+            Kept::All | Kept::Made(_) => true,
+            Kept::Unmade => false,
         }
     }
 
-    /// The rows of the segment that count, if there are any.
-    pub(crate) fn counting<'a>(&'a self, rows: &'a Columns) -> Option<&'a Columns>
-        ensures { unwrap_or (option_copied result) [] ≡ unwrap_or self.now.left rows.now }
+    /// The columns of the rows of the segment that count, if there are any. Where they aren't kept they are made.
+    pub(crate) fn counting(
+        &self,
+        alloc: Global,
+        rows: &Columns,
+    ) -> Result<Option<Columns>, AllocError>
+        requires { IsPartOf self.now rows.now }
+        ensures { IfOk result (λ counting. unwrap_or counting [] ≡ selected self.now.marks rows.now) }
     {
-        match &self.left {
-            None => Some(rows),
-            Some(left) => left.rows.as_ref(),
+        match self.kept() {
+            Kept::All => Ok(Some(rows.copy()?)),
+            Kept::Made(made) => made.share(),
+            Kept::Unmade => selected_rows(alloc, rows, &self.marks(alloc)?),
         }
     }
 
-    /// Puts the marks of the segment behind others.
-    pub(crate) fn push_marks(&self, marks: &mut Vec<bool>) -> Result<(), AllocError>
-        ensures { OnOk result (marks.new.items ≡ marks.old.items ++ self.now.marks) }
+    /// For each row of the segment whether it counts.
+    pub(crate) fn marks(&self, alloc: Global) -> Result<Vec<bool>, AllocError>
+        ensures { IfOk result (λ marks. marks.items ≡ self.now.marks) }
     {
-        match &self.left {
-            None => push_true(marks, self.len),
-            Some(left) => marks.extend_from_slice(&left.counts),
-        }
+        let mut marks = match &self.left {
+            None => Vec::from_elem(alloc, true, self.len)?,
+            Some(left) => left.marks(alloc)?,
+        };
+        withdraw_all(&mut marks, &self.gone);
+        Ok(marks)
     }
 
     /// The part of the same segment, of which so many rows, from a place on, count no more.
     pub(crate) fn without(
         &self,
         alloc: Global,
-        rows: &Columns,
         from: usize,
         count: usize,
     ) -> Result<Part, AllocError>
-        requires marks { length self.now.marks ≡ length rows.now }
-        requires inside { from + count ≤ length rows.now }
+        requires { from + count ≤ length self.now.marks }
         ensures start { IfOk result (λ part. part.start ≡ self.now.start) }
         ensures marks { IfOk result (λ part. part.marks ≡ without from count self.now.marks) }
-        ensures left { IfOk result (λ part. unwrap_or part.left rows.now ≡ selected part.marks rows.now) }
+        ensures left { IfOk result (λ part. part.left ≡ None) }
     {
-        let marks = self.marks_without(alloc, from, count)?;
+        if self.gone.len() < MOST_GONE {
+            let left = share_left(&self.left)?;
+            let gone = self.gone.push(alloc, Gone { from, count })?;
+            return Ok(Part {
+                start: self.start,
+                len: self.len,
+                left,
+                gone,
+            });
+        }
+        let mut counts = self.marks(alloc)?;
+        withdraw(&mut counts, from, count);
+        let left = Left { counts, made: None };
+        Ok(Part {
+            start: self.start,
+            len: self.len,
+            left: Some(Arc::new(alloc, left)?),
+            gone: Sequence::new(),
+        })
+    }
+
+    /// The same part, with the columns of the rows that count.
+    pub(crate) fn settled(&self, alloc: Global, rows: &Columns) -> Result<Part, AllocError>
+        requires { IsPartOf self.now rows.now }
+        ensures start { IfOk result (λ part. part.start ≡ self.now.start) }
+        ensures marks { IfOk result (λ part. part.marks ≡ self.now.marks) }
+        ensures left { IfOk result (λ part. HasLeft part rows.now) }
+    {
+        let marks = self.marks(alloc)?;
         of_marks(alloc, self.start, rows, marks)
     }
 
-    /// The marks of the segment, of which so many, from a place on, are false.
-    fn marks_without(
-        &self,
-        alloc: Global,
-        from: usize,
-        count: usize,
-    ) -> Result<Vec<bool>, AllocError>
-        requires { from + count ≤ length self.now.marks }
-        ensures { IfOk result (λ marks. marks.items ≡ without from count self.now.marks) }
+    // What is kept of the columns of the rows that count.
+    fn kept(&self) -> Kept<'_>
+        ensures { kept_left result ≡ self.now.left }
     {
-        let mut marks = Vec::with_capacity(alloc, self.len)?;
-        self.push_marks(&mut marks)?;
-        withdraw(&mut marks, from, count);
-        Ok(marks)
+        if self.gone.len() > 0 {
+            return Kept::Unmade;
+        }
+        match &self.left {
+            None => Kept::All,
+            Some(left) => left.kept(),
+        }
     }
 }
 
@@ -167,32 +221,21 @@ fn of_marks(
     requires { length marks.items ≡ length rows.now }
     ensures start { IfOk result (λ part. part.start ≡ start) }
     ensures marks { IfOk result (λ part. part.marks ≡ marks.items) }
-    ensures left { IfOk result (λ part. unwrap_or part.left rows.now ≡ selected marks.items rows.now) }
+    ensures left { IfOk result (λ part. HasLeft part rows.now) }
 {
-    let left = selected_rows(alloc, rows, &marks)?;
-    let left = Arc::new(
-        alloc,
-        Left {
-            counts: marks,
-            rows: left,
-        },
-    )?;
+    let made = Made {
+        rows: selected_rows(alloc, rows, &marks)?,
+    };
+    let left = Left {
+        counts: marks,
+        made: Some(made),
+    };
     Ok(Part {
         start,
         len: rows.len(),
-        left: Some(left),
+        left: Some(Arc::new(alloc, left)?),
+        gone: Sequence::new(),
     })
-}
-
-/// The same, shared.
-fn share_left(left: &Option<Arc<Left>>) -> Result<Option<Arc<Left>>, AllocError>
-    ensures marks { IfOk result (λ same. (all : List Bool) → kept_marks all same ≡ kept_marks all left.now) }
-    ensures rows { IfOk result (λ same. kept_rows same ≡ kept_rows left.now) }
-{
-    match left {
-        Some(left) => Ok(Some(Arc::try_clone(left)?)),
-        None => Ok(None),
-    }
 }
 
 /// The rows whose mark is true, if there are any.

@@ -1,16 +1,18 @@
 //! The rows that a warehouse was ever sent.
-ghost use Rattle.std.specs.Prelude.{◌≡◌, ◌<◌, ◌≤◌, ◌+◌, ◌++◌, ◌∷◌, [], List, true, length, map, take, drop, replicate, slice_get, IfOk, Some};
+ghost use Rattle.std.specs.Prelude.{◌≡◌, ◌<◌, ◌≤◌, ◌+◌, ◌++◌, ◌∷◌, [], List, true, length, take, drop, replicate, slice_get, IfOk, Some};
 ghost use Rattle.fw_charge.specs.Charge.{Charge};
 ghost use Rattle.fw_posted.specs.Marks.{selected, without};
 ghost use Rattle.fw_posted.specs.Merging.{merged};
 ghost use Rattle.fw_posted.specs.Rows.{rows_before_segment, segment_rows};
 
+use crate::counting::CountingSegments;
 use crate::finding::segment_of;
 use crate::making::{marked_parts, whole_parts};
 use crate::marks::count_true;
 use crate::merging::merged_segments;
 use crate::part::Part;
 use crate::reading::{counting_rows, marks_of};
+use crate::settling::settled_parts;
 use crate::withdrawing::parts_without;
 use fw_columns::Columns;
 use fw_persistent::Sequence;
@@ -30,6 +32,8 @@ pub struct PostedRows {
     rows: usize,
     // how many of them count
     counting: usize,
+    // whether there is nothing to make for the rows that count. Only time depends on it
+    is_settled: bool,
 }
 
 impl Model for PostedRows {
@@ -54,6 +58,7 @@ impl PostedRows {
             parts: Sequence::new(),
             rows: 0,
             counting: 0,
+            is_settled: true,
         }
     }
 
@@ -67,6 +72,7 @@ impl PostedRows {
             parts,
             rows,
             counting: rows,
+            is_settled: true,
         })
     }
 
@@ -85,6 +91,7 @@ impl PostedRows {
             parts,
             rows: counts.len(),
             counting: count_true(counts),
+            is_settled: true,
         })
     }
 
@@ -103,10 +110,12 @@ impl PostedRows {
             parts,
             rows: all,
             counting: self.counting + len,
+            is_settled: self.is_settled,
         })
     }
 
-    /// The same rows, of which so many, from a place among all rows on, count no more. Each of them counted. The segments stay as they are.
+    /// The same rows, of which so many, from a place among all rows on, count no more. Each of them counted. The segments stay as they are. It
+    /// costs the number of segments that it meets, and not their rows.
     pub fn without(
         &self,
         alloc: Global,
@@ -126,6 +135,7 @@ impl PostedRows {
             parts,
             rows,
             counting: self.counting - count,
+            is_settled: false,
         })
     }
 
@@ -153,6 +163,26 @@ impl PostedRows {
             parts,
             rows: self.rows,
             counting: self.counting,
+            is_settled: self.is_settled,
+        })
+    }
+
+    /// The same rows. The columns of what is left of segments that have a withdrawn row are made where they aren't kept, and are kept from then on.
+    /// It costs the rows of the segments in which rows were withdrawn since the last time; where there are none it takes no memory.
+    pub fn settled(&self, alloc: Global) -> Result<PostedRows, AllocError>
+        ensures { IfOk result (λ settled. settled ≡ self.now) }
+    {
+        if self.is_settled {
+            return self.copy();
+        }
+        let parts = settled_parts(alloc, &self.segments, &self.parts)?;
+        let segments = self.segments.copy()?;
+        Ok(PostedRows {
+            segments,
+            parts,
+            rows: self.rows,
+            counting: self.counting,
+            is_settled: true,
         })
     }
 
@@ -210,14 +240,16 @@ impl PostedRows {
         (segment, row - self.parts.get(segment).start())
     }
 
-    /// The rows that count, in order: the columns of each segment that has some. Where all rows of a segment count, they are the segment's own.
-    pub fn counting(&self, alloc: Global) -> Result<Vec<&Columns>, AllocError>
-        ensures rows { IfOk result (λ counting. segment_rows (map (λ columns. columns.now) counting.items) ≡ selected self.now.counts (segment_rows self.now.segments)) }
-        ensures few { IfOk result (λ counting. length counting.items ≤ length self.now.segments) }
+    /// The rows that count, in order: the columns of each segment that has some. Where all rows of a segment count, they are the segment's own. What
+    /// was withdrawn since the rows were settled costs the rows of its segments, each time.
+    pub fn counting(&self, alloc: Global) -> Result<CountingSegments, AllocError>
+        ensures rows { IfOk result (λ counting. segment_rows counting ≡ selected self.now.counts (segment_rows self.now.segments)) }
+        ensures few { IfOk result (λ counting. length counting ≤ length self.now.segments) }
     {
         if self.counting == self.rows {
-            return self.segments.references(alloc);
+            return Ok(CountingSegments::of_all(alloc, self.segments.copy()?));
         }
-        counting_rows(alloc, &self.segments, &self.parts)
+        let counting = counting_rows(alloc, &self.segments, &self.parts)?;
+        Ok(CountingSegments::of_some(counting))
     }
 }

@@ -1,5 +1,5 @@
 //! What the parts of segments say.
-ghost use Rattle.std.specs.Prelude.{◌≡◌, ◌≤◌, length, map, IfOk};
+ghost use Rattle.std.specs.Prelude.{◌≡◌, ◌≤◌, length, IfOk};
 ghost use Rattle.fw_posted.specs.Marks.{selected};
 ghost use Rattle.fw_posted.specs.Parts.{all_marks, AreParts};
 ghost use Rattle.fw_posted.specs.Rows.{segment_rows};
@@ -15,24 +15,26 @@ pub(crate) fn marks_of(alloc: Global, parts: &Sequence<Part>) -> Result<Vec<bool
 {
     let mut marks = Vec::new(alloc);
     for place in 0..parts.len() {
-        parts.get(place).push_marks(&mut marks)?;
+        let own = parts.get(place).marks(alloc)?;
+        marks.extend_from_slice(&own)?;
     }
     Ok(marks)
 }
 
 /// The rows that count, in order: of each segment that has some.
-pub(crate) fn counting_rows<'a>(
+pub(crate) fn counting_rows(
     alloc: Global,
-    segments: &'a Sequence<Columns>,
-    parts: &'a Sequence<Part>,
-) -> Result<Vec<&'a Columns>, AllocError>
+    segments: &Sequence<Columns>,
+    parts: &Sequence<Part>,
+) -> Result<Vec<Columns>, AllocError>
     requires { AreParts 0 parts.now segments.now }
-    ensures rows { IfOk result (λ counting. segment_rows (map (λ columns. columns.now) counting.items) ≡ selected (all_marks parts.now) (segment_rows segments.now)) }
+    ensures rows { IfOk result (λ counting. segment_rows counting.items ≡ selected (all_marks parts.now) (segment_rows segments.now)) }
     ensures few { IfOk result (λ counting. length counting.items ≤ length segments.now) }
 {
     let mut counting = Vec::new(alloc);
     for place in 0..segments.len() {
-        if let Some(rows) = parts.get(place).counting(segments.get(place)) {
+        let part = parts.get(place);
+        if let Some(rows) = part.counting(alloc, segments.get(place))? {
             counting.push(rows)?;
         }
     }

@@ -34,7 +34,7 @@ pub(crate) fn parts_without(
         let part = after.get(segment);
         let from = row - part.start();
         let here = (rows.len() - from).min(behind - row);
-        let part = part.without(alloc, rows, from, here)?;
+        let part = part.without(alloc, from, here)?;
         after = after.set(alloc, segment, part)?;
         row += here;
         segment += 1;

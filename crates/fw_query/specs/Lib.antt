@@ -11,3 +11,4 @@ pub mod OneAnswer
 pub mod Carried
 pub mod Accounted
 pub mod Elsewhere
+pub mod ShownView

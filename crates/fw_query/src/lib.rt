@@ -14,6 +14,7 @@ mod laws;
 mod line_text;
 mod listing;
 mod reporting;
+mod shown;
 mod text;
 mod too_large;
 
@@ -27,4 +28,5 @@ pub use laws::{
 pub use line_text::{id_of, status_of};
 pub use listing::lines_csv;
 pub use reporting::{report, report_alone, report_keeping};
+pub use shown::Shown;
 pub use text::report_csv;

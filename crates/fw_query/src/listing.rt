@@ -14,11 +14,12 @@ ghost use Rattle.fw_snapshot.specs.History.{commitments_of, rows_of};
 
 use crate::fault::QueryFault;
 use crate::line_text::{write_lines, write_names};
+use crate::shown::Shown;
 use csv::{Writer, WriterBuilder};
 use fw_amortise::lines_by_roster;
 use fw_columns::{Columns, LentRow};
 use fw_cover::{Roster, references};
-use fw_snapshot::{Snapshot, State};
+use fw_snapshot::Snapshot;
 use fw_sums::{HourPlace, MOST_HOURS, every_hour, is_touched, rows_at, rows_by_hour};
 use fw_terms::Commitment;
 use std::alloc::{AllocError, Global};
@@ -40,7 +41,8 @@ pub fn lines_csv(
     if from >= to || to - from > MOST_HOURS {
         return Err(QueryFault::Range);
     }
-    match lines_csv_on(alloc, snapshot.state(), from, (to - from) as usize) {
+    let shown = Shown::of(alloc, snapshot.state())?;
+    match lines_csv_on(alloc, &shown, from, (to - from) as usize) {
         Ok(text) => Ok(text),
         Err(AllocError) => Err(QueryFault::NoMemory),
     }
@@ -49,18 +51,18 @@ pub fn lines_csv(
 // The text of the lines of a state in so many hours from this one on.
 fn lines_csv_on(
     alloc: Global,
-    state: &State,
+    shown: &Shown,
     from: u64,
     hours: usize,
 ) -> Result<Vec<u8>, AllocError>
     requires { from + hours < 2 ^ 64 }
-    ensures { IfOk result (λ text. IsListing (commitments_of state.now.entries) (rows_of state.now.entries) from hours text.items) }
+    ensures { IfOk result (λ text. IsListing (commitments_of shown.now.entries) (rows_of shown.now.entries) from hours text.items) }
 {
-    let segments = state.counting_segments(alloc)?;
+    let segments = shown.segments(alloc)?;
     lines_csv_of(
         alloc,
         segments.as_slice(),
-        state.commitment_list(),
+        shown.state().commitment_list(),
         from,
         hours,
     )

@@ -11,6 +11,7 @@ ghost use Rattle.fw_snapshot.specs.History.{commitments_of, policy_of, rows_of};
 use crate::charges::under_policy;
 use crate::entries::{Entry, Report};
 use crate::fault::QueryFault;
+use crate::shown::Shown;
 use crate::too_large::first_past;
 use fw_snapshot::{Snapshot, State};
 use fw_sums::{Covers, Query, Total, totals_alone, totals_keeping};
@@ -62,7 +63,8 @@ pub fn report_keeping(
     if !query.is_range() {
         return Err(QueryFault::Range);
     }
-    report_on(rt, alloc, snapshot.state(), covers, query, workers)
+    let shown = Shown::of(alloc, snapshot.state())?;
+    report_on(rt, alloc, &shown, covers, query, workers)
 }
 
 /// The same report by one worker, in the thread that asks.
@@ -78,26 +80,28 @@ pub fn report_alone(
     if !query.is_range() {
         return Err(QueryFault::Range);
     }
-    report_alone_on(alloc, snapshot.state(), query)
+    let shown = Shown::of(alloc, snapshot.state())?;
+    report_alone_on(alloc, &shown, query)
 }
 
 // The report over a state, in a range of hours.
 fn report_on(
     rt: &(impl Threads + Sync),
     alloc: Global,
-    state: &State,
+    shown: &Shown,
     covers: &mut Covers,
     query: &Query<'_>,
     workers: u32,
 ) -> Result<Report, QueryFault>
     requires range { IsRange query.now.from_hour query.now.to_hour }
     requires some_workers { 1 ≤ workers }
-    requires kept { AreKept (commitments_of state.now.entries) (rows_of state.now.entries) covers.old }
-    ensures kept { AreKept (commitments_of state.now.entries) (rows_of state.now.entries) covers.new }
-    ensures report { IfOk result (IsReport (commitments_of state.now.entries) (rows_of state.now.entries) (policy_of state.now.entries) query.now.key.now query.now.from_hour query.now.to_hour) }
-    ensures fault { IfErr result (IsRefused (commitments_of state.now.entries) (rows_of state.now.entries) query.now.key.now query.now.from_hour query.now.to_hour) }
+    requires kept { AreKept (commitments_of shown.now.entries) (rows_of shown.now.entries) covers.old }
+    ensures kept { AreKept (commitments_of shown.now.entries) (rows_of shown.now.entries) covers.new }
+    ensures report { IfOk result (IsReport (commitments_of shown.now.entries) (rows_of shown.now.entries) (policy_of shown.now.entries) query.now.key.now query.now.from_hour query.now.to_hour) }
+    ensures fault { IfErr result (IsRefused (commitments_of shown.now.entries) (rows_of shown.now.entries) query.now.key.now query.now.from_hour query.now.to_hour) }
 {
-    let segments = state.counting_segments(alloc)?;
+    let state = shown.state();
+    let segments = shown.segments(alloc)?;
     let totals = totals_keeping(
         rt,
         alloc,
@@ -111,12 +115,13 @@ fn report_on(
 }
 
 // The same by one worker.
-fn report_alone_on(alloc: Global, state: &State, query: &Query<'_>) -> Result<Report, QueryFault>
+fn report_alone_on(alloc: Global, shown: &Shown, query: &Query<'_>) -> Result<Report, QueryFault>
     requires range { IsRange query.now.from_hour query.now.to_hour }
-    ensures report { IfOk result (IsReport (commitments_of state.now.entries) (rows_of state.now.entries) (policy_of state.now.entries) query.now.key.now query.now.from_hour query.now.to_hour) }
-    ensures fault { IfErr result (IsRefused (commitments_of state.now.entries) (rows_of state.now.entries) query.now.key.now query.now.from_hour query.now.to_hour) }
+    ensures report { IfOk result (IsReport (commitments_of shown.now.entries) (rows_of shown.now.entries) (policy_of shown.now.entries) query.now.key.now query.now.from_hour query.now.to_hour) }
+    ensures fault { IfErr result (IsRefused (commitments_of shown.now.entries) (rows_of shown.now.entries) query.now.key.now query.now.from_hour query.now.to_hour) }
 {
-    let segments = state.counting_segments(alloc)?;
+    let state = shown.state();
+    let segments = shown.segments(alloc)?;
     let totals = totals_alone(alloc, segments.as_slice(), state.commitment_list(), query)?;
     report_of(alloc, state, query, totals)
 }

@@ -14,7 +14,7 @@ use std::marker::Model;
 use std::slice;
 
 /// Entries that were judged after those of a warehouse, the accepted ones as a group that is ready to be written, and the
-/// state with them.
+/// state with them, which is [settled](State::settled), since it is shown to many.
 #[derive(Drop)]
 pub struct Prepared {
     /// How many entries the warehouse had before.
@@ -62,9 +62,7 @@ impl Prepared {
         let before = state.entries();
         let accepted = next.entries() - before;
         let payload = group_of_accepted(alloc, accepted, entries, &verdicts)?;
-        let Ok(next) = Snapshot::new(next) else {
-            return Err(AllocError);
-        };
+        let next = Snapshot::settled(&next)?;
         Ok(Some(Prepared {
             entries: before,
             next,

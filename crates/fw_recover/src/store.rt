@@ -14,7 +14,7 @@ use fw_disk::Volume;
 use fw_entry_bytes::Form;
 use fw_journal::Log;
 use fw_snapshot::Snapshot;
-use std::alloc::Global;
+use std::alloc::{AllocError, Global};
 use std::marker::Model;
 
 /// A warehouse that stands on a volume, and its state in memory.
@@ -64,7 +64,7 @@ impl<V: Volume> Store<V> {
     {
         let mut volume = volume;
         match read_sides(alloc, &mut volume) {
-            Ok((form, generation, log, state)) => match Snapshot::new(state) {
+            Ok((form, generation, log, state)) => match Snapshot::settled(&state) {
                 Ok(snapshot) => Ok(Store {
                     volume,
                     form,
@@ -73,7 +73,7 @@ impl<V: Volume> Store<V> {
                     snapshot,
                     failed: false,
                 }),
-                Err(_) => Err((volume, StoreFault::NoMemory)),
+                Err(AllocError) => Err((volume, StoreFault::NoMemory)),
             },
             Err(fault) => Err((volume, fault)),
         }
@@ -84,6 +84,16 @@ impl<V: Volume> Store<V> {
         ensures { result.now ≡ self.now.history }
     {
         &self.snapshot
+    }
+
+    /// Makes the columns of the rows that count, where withdrawals left some to make, so that the reports that follow don't. The warehouse stays the
+    /// same, and where memory runs out so does the store. Entries that [`Store::prepare`] takes, and [`Store::open`], leave nothing to make.
+    pub fn settle(&mut self)
+        ensures { self.new ≡ self.old }
+    {
+        if let Ok(snapshot) = Snapshot::settled(self.snapshot.state()) {
+            self.snapshot = snapshot;
+        }
     }
 
     /// The form of the side in use: of its body and of its log. [`Store::create`] and [`Store::checkpoint`] make a side of the

@@ -61,9 +61,13 @@ pub(crate) fn answer<V: Volume>(
         }
         Command::Checkpoint => checkpoint(alloc, store),
         Command::Report { key, from, to } => {
+            store.settle();
             answer_report(rt, alloc, store.state(), covers, key, from, to, workers)
         }
-        Command::Lines { from, to } => answer_lines(alloc, store.state(), from, to),
+        Command::Lines { from, to } => {
+            store.settle();
+            answer_lines(alloc, store.state(), from, to)
+        }
         Command::State => answer_state(store.state()),
         Command::BadCommand => Reply::BadCommand,
         Command::BadEnd => Reply::BadEnd,

@@ -101,7 +101,8 @@ pub(crate) fn list_text(alloc: Global, word: &str, state: &State) -> Result<Stri
         text.push_str(head.as_str())?;
     }
     text.push_str(" |")?;
-    let segments = state.counting_segments(alloc)?;
+    let counting = state.counting_segments(alloc)?;
+    let segments = counting.references(alloc)?;
     for rows in segments.as_slice() {
         for billed in rows.billed() {
             let cost = format!(in alloc; " {billed}")?;

@@ -21,6 +21,7 @@ mod state;
 mod verdict;
 
 pub use fw_entry::{Command, Entry, EntryFault};
+pub use fw_posted::CountingSegments;
 pub use head::{Content, Head};
 pub use judging::judge;
 pub use laws::{

@@ -34,6 +34,16 @@ impl Snapshot {
         }
     }
 
+    /// A snapshot of the same state, [settled](State::settled): what is to be shown to whoever asks for reports.
+    pub fn settled(state: &State) -> Result<Snapshot, AllocError>
+        ensures { IfOk result (λ snapshot. snapshot ≡ state.now) }
+    {
+        match Snapshot::new(state.settled()?) {
+            Ok(snapshot) => Ok(snapshot),
+            Err(_) => Err(AllocError),
+        }
+    }
+
     /// The state. It takes no memory.
     pub fn state(&self) -> &State
         ensures { result.now ≡ self.now }

@@ -20,7 +20,7 @@ use fw_charge::Currency;
 use fw_columns::Columns;
 use fw_entry::Entry;
 use fw_persistent::{Counters, Map, Sequence};
-use fw_posted::PostedRows;
+use fw_posted::{CountingSegments, PostedRows};
 use fw_terms::{Commitment, Policy};
 use std::alloc::{AllocError, Global};
 use std::marker::Model;
@@ -33,7 +33,7 @@ pub use building::StateBuilder;
 /// The state of a warehouse: its currency, and the entries that it accepted, in order.
 ///
 /// A state is never changed. [`State::apply`] makes another, which shares the entries and rows of the first, so it costs what the entry brings,
-/// however much was accepted before. Where a post is withdrawn it costs what the segments have that its rows stand in.
+/// however much was accepted before. A withdrawal costs the number of segments that its rows stand in, however long these are.
 #[derive(Drop)]
 pub struct State {
     alloc: Global,
@@ -162,6 +162,17 @@ impl State {
         Ok(merged)
     }
 
+    /// The same state, in which the columns of the rows that count are made. Reports on a state after withdrawals make them where they aren't, each
+    /// time; on this one they don't. It costs the rows of the segments in which rows were withdrawn since the last time. Where there are none it takes
+    /// no memory.
+    pub fn settled(&self) -> Result<State, AllocError>
+        ensures { IfOk result (λ settled. settled ≡ self.now) }
+    {
+        let mut settled = self.copy()?;
+        settled.posted = settled.posted.settled(settled.alloc)?;
+        Ok(settled)
+    }
+
     /// What the state takes its memory from.
     pub(crate) fn allocator(&self) -> Global {
         self.alloc
@@ -233,10 +244,11 @@ impl State {
     }
 
     /// The rows that count, in order, in segments of 1 to 65,536 rows each, and so in at most 4,194,304 segments: those of the posts that
-    /// aren't withdrawn. It takes memory for the references alone. The error comes where there is none.
-    pub fn counting_segments(&self, alloc: Global) -> Result<Vec<&Columns>, AllocError>
-        ensures rows { IfOk result (λ segments. segment_rows (map (λ s. s.now) segments.items) ≡ rows_of self.now.entries) }
-        ensures few { IfOk result (λ segments. length segments.items ≤ most_rows) }
+    /// aren't withdrawn. They share their columns with the state. What was withdrawn since the state was [settled](State::settled) costs
+    /// the rows of its segments. The error comes where memory ran out.
+    pub fn counting_segments(&self, alloc: Global) -> Result<CountingSegments, AllocError>
+        ensures rows { IfOk result (λ segments. segment_rows segments ≡ rows_of self.now.entries) }
+        ensures few { IfOk result (λ segments. length segments ≤ most_rows) }
     {
         // Proves that each segment has a row.
         let _stored = self.posted.segments();

@@ -153,20 +153,22 @@ fn is_left(alloc: Global, state: &State, wanted: Withdrawn) -> Result<bool, Allo
     let found = (
         state.rows_posted(),
         state.rows(),
-        state.counting_segments(alloc)?.len(),
+        state.counting_segments(alloc)?.references(alloc)?.len(),
         state.is_withdrawn("a", 1),
         state.is_withdrawn("a", 2),
     );
     Ok(found == wanted)
 }
 
-/// Whether these are so of a state, of a copy of it, and of one whose rows are in few segments.
+/// Whether these are so of a state, of a copy of it, of one whose columns are made, and of one whose rows are in few segments.
 fn is_left_in_all(alloc: Global, state: &State) -> Result<bool, AllocError> {
     let copy = state.copy()?;
+    let settled = state.settled()?;
     let merged = state.merged()?;
     Ok(
         is_left(alloc, state, FIRST_OF_TWO)?
             && is_left(alloc, &copy, FIRST_OF_TWO)?
+            && is_left(alloc, &settled, FIRST_OF_TWO)?
             && is_left(alloc, &merged, FIRST_OF_TWO)?,
     )
 }

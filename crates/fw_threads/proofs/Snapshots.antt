@@ -15,7 +15,8 @@ use Rattle.fw_persistent.specs.contracts.sequence.Sequence as Sequence
 use Rattle.fw_charge.proofs.currency.Currency.TheSendSync as currency
 use Rattle.fw_columns.proofs.columns.Columns.TheSendSync as columns
 use Rattle.fw_columns.specs.contracts.columns.Columns as Columns
-use Rattle.fw_posted.proofs.part.Part.TheSendSync as part
+use Rattle.fw_posted.proofs.left.Left.TheSendSync as left
+use Rattle.fw_posted.specs.contracts.gone.Gone as Gone
 use Rattle.fw_posted.specs.contracts.part.Part as Part
 use Rattle.fw_posted.specs.contracts.posted.PostedRows as PostedRows
 use Rattle.fw_terms.proofs.commitment.Commitment.TheSendSync as commitment
@@ -76,11 +77,23 @@ segments_send = sequence_send Columns.the_row columns.the_send columns.the_sync
 segments_sync : IsSync (Sequence.the_row Columns.the_row)
 segments_sync = sequence_sync Columns.the_row columns.the_send columns.the_sync
 
+gone_send : IsSend (Sequence.the_row Gone.the_row)
+gone_send = sequence_send Gone.the_row (search sendable depth 20) (search sendable depth 20)
+
+gone_sync : IsSync (Sequence.the_row Gone.the_row)
+gone_sync = sequence_sync Gone.the_row (search sendable depth 20) (search sendable depth 20)
+
+part_send : IsSend Part.the_row
+part_send = search (gone_send, left.the_send, left.the_sync, Arc-send, crosses, sendable) depth 20
+
+part_sync : IsSync Part.the_row
+part_sync = search (gone_sync, left.the_send, left.the_sync, Arc-sync, crosses, sendable) depth 20
+
 parts_send : IsSend (Sequence.the_row Part.the_row)
-parts_send = sequence_send Part.the_row part.the_send part.the_sync
+parts_send = sequence_send Part.the_row part_send part_sync
 
 parts_sync : IsSync (Sequence.the_row Part.the_row)
-parts_sync = sequence_sync Part.the_row part.the_send part.the_sync
+parts_sync = sequence_sync Part.the_row part_send part_sync
 
 posted_send : IsSend PostedRows.the_row
 posted_send = search (segments_send, parts_send, sendable) depth 20

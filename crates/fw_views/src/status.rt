@@ -43,7 +43,8 @@ fn push_contents(alloc: Global, lines: &mut Vec<Line>, state: &State) -> Result<
     push_count(alloc, lines, "Entries", state.entries() as u64)?;
     push_origins(alloc, lines, state.heads())?;
     push_rows(alloc, lines, state)?;
-    let segments = state.counting_segments(alloc)?;
+    let counting = state.counting_segments(alloc)?;
+    let segments = counting.references(alloc)?;
     push_hours(alloc, lines, segments.as_slice())?;
     push_part(
         alloc,

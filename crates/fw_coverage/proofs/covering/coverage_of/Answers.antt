@@ -14,6 +14,9 @@ tallies_of-requires-clause-fits c =
     let many : length c.in_ok-by_hour.by_hour.items ≡ c.args.hours = by_hour_long _ _ _ _ _ c.in_ok-by_hour.ensures ∙ ap length c.as_slice.ensures.value ∙ touched_long _ _ _ _ c.in_ok-touched.ensures in
     rw (c.as_slice-2.ensures.value, many) c.requires.fits
 
+pub tallies_of-requires-clause-same : goal.tallies_of-requires-clause-same
+tallies_of-requires-clause-same c = rw c.in_ok-roster.ensures c.requires.same
+
 pub tallies_of-requires-clause-roster : goal.tallies_of-requires-clause-roster
 tallies_of-requires-clause-roster c =
     let many : length c.in_ok-by_hour.by_hour.items ≡ c.args.hours = by_hour_long _ _ _ _ _ c.in_ok-by_hour.ensures ∙ ap length c.as_slice.ensures.value ∙ touched_long _ _ _ _ c.in_ok-touched.ensures in
@@ -44,6 +47,6 @@ returns c =
     let tallies = rw (c.in_ok-roster.ensures, c.as_slice-2.ensures.value, many) at c.in_ok-tallies.ensures in
     IfOk-weaker c.coverage_from.result
     (λ found. found.items ≡ map coverage_from (filter (λ t. t.sums.shown) c.as_slice-4.result.now))
-    (λ found. IsCoverage c.args.commitments.now rows c.args.from (c.args.from + c.args.hours) found.items)
-    (λ found is. coverage_is c.args.commitments.now rows c.args.from c.args.hours c.in_ok-tallies.tallies.items found.items tallies (is ∙ ap (λ ts. map coverage_from (filter (λ t. t.sums.shown) ts)) c.as_slice-4.ensures.value))
+    (λ found. IsCoverage c.args.listed.now rows c.args.from (c.args.from + c.args.hours) found.items)
+    (λ found is. coverage_is c.args.listed.now rows c.args.from c.args.hours c.in_ok-tallies.tallies.items found.items tallies (is ∙ ap (λ ts. map coverage_from (filter (λ t. t.sums.shown) ts)) c.as_slice-4.ensures.value))
     c.coverage_from.ensures

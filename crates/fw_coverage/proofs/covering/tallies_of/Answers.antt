@@ -9,7 +9,7 @@ use Rattle.fw_coverage.proofs.covering.tallies_of.Goals as goal
 
 pub loop-places-init : goal.loop-places-init
 loop-places-init c = record {
-  tallies = no_tallies_yet c.args.roster.now.commitments (all_rows (lent c.args.segments.now)) c.args.from c.in_ok-tallies.tallies.items (rw c.commitments.ensures at c.in_ok-tallies.ensures);
+  tallies = no_tallies_yet c.args.roster.now.commitments (all_rows (lent c.args.segments.now)) c.args.from c.in_ok-tallies.tallies.items (rw c.requires.same at c.in_ok-tallies.ensures);
   at = omega arith;
 }
 

@@ -1,6 +1,5 @@
 use Rattle.std.proofs.Common.{◌≡◌, ◌∙◌, ◌+◌, ◌<◌, ◌++◌, ℕ, ap, arith, drop, length, subst, sym, take, refl}
 use Rattle.std.proofs.lemmas.List.{drop-drop, length-drop, length-take-le}
-use Rattle.fw_posted.specs.Marks.{selected}
 use Rattle.fw_posted.specs.Parts.{all_marks, AreParts, IsPartOf}
 use Rattle.fw_posted.specs.Rows.{rows_before_segment}
 use Rattle.fw_posted.proofs.MarkFacts.{take_behind}
@@ -43,7 +42,7 @@ loop-place-preserved c =
     let of : IsPartOf part rows = record {
       some = subst (λ n. 0 < n) len c.len.ensures.some;
       marks = long;
-      counting = c.in_ok-part.ensures.left ∙ ap (λ l. selected l rows) (sym marks);
+      counting = c.in_ok-part.ensures.left;
     } in
     record {
       parts = subst (λ l. AreParts 0 l (take (place + 1) segments)) (sym c.in_ok-parts.ensures) (parts_next parts segments place part rows c.loop-place.invariant.parts c.get-rows.ensures start of);

@@ -1,11 +1,11 @@
-use Rattle.std.proofs.Common.{◌≡◌, ◌∙◌, ◌+◌, ◌≤◌, ◌++◌, ◌∷◌, [], Bor, Global, List, Vec, ap, arith, length, map, sym, take, refl}
-use Rattle.std.specs.Prelude.{unwrap_or}
-use Rattle.std.proofs.lemmas.List.{append-nil, length_push, map_push, take_all}
+use Rattle.std.proofs.Common.{◌≡◌, ◌∙◌, ◌+◌, ◌≤◌, ◌++◌, ◌∷◌, [], Global, List, Vec, ap, arith, length, sym, take, refl}
+use Rattle.std.specs.Prelude.{Option, unwrap_or}
+use Rattle.std.proofs.lemmas.List.{append-nil, length_push, take_all}
 use Rattle.fw_charge.specs.Charge.{Charge}
 use Rattle.fw_posted.specs.Marks.{selected}
 use Rattle.fw_posted.specs.Parts.{all_marks}
 use Rattle.fw_posted.specs.Rows.{segment_rows}
-use Rattle.fw_posted.proofs.PartFacts.{parts_count, push_rows, selected_next}
+use Rattle.fw_posted.proofs.PartFacts.{part_at, parts_count, push_rows, selected_next}
 use Rattle.fw_posted.proofs.reading.counting_rows.Goals as goal
 use Rattle.fw_posted.proofs.reading.counting_rows.Goals.{in-Some+in_ok-push, in_default}
 
@@ -13,39 +13,41 @@ pub loop-place-init : goal.loop-place-init
 unfolding selected
 loop-place-init c = rw c.new-counting.ensures.items (record { rows = refl; few = omega arith })
 
-pub get-requires : goal.get-requires
-get-requires c =
+pub get-part-requires : goal.get-part-requires
+get-part-requires c =
     let count = parts_count 0 c.args.parts.now c.args.segments.now c.requires in
     omega (arith, count, c.loop-place-test.true, c.len-place-end.ensures)
+
+pub counting-requires : goal.counting-requires
+counting-requires c = (part_at 0 c.args.parts.now c.args.segments.now c.loop-place.place c.get-part.result.now c.get.result.now c.requires c.get-part.ensures c.get.ensures).of
 
 pub loop-place-preserved : goal.loop-place-preserved
 loop-place-preserved c =
     let parts = c.args.parts.now in
     let segments = c.args.segments.now in
     let place = c.loop-place.place in
-    let part = c.get.result.now in
-    let rows = c.get-in-loop-place.result.now in
+    let part = c.get-part.result.now in
+    let rows = c.get.result.now in
     let items = c.loop-place.counting.items in
     let so_far : List Charge = selected (all_marks (take place parts)) (segment_rows (take place segments)) in
-    let next : selected (all_marks (take (place + 1) parts)) (segment_rows (take (place + 1) segments)) ≡ so_far ++ unwrap_or part.left rows =
-    selected_next 0 parts segments place part rows c.requires c.get.ensures c.get-in-loop-place.ensures in
-    elim c.match-counting.branch [
-      | in-Some+in_ok-push w ↦ let same : c.match-counting.counting.items ≡ items ++ w.in-Some.rows ∷ [] = ap (λ (v : Vec (Bor (List Charge)) Global). v.items) w.counting-is ∙ w.in_ok-push.ensures.items in
+    let next : selected (all_marks (take (place + 1) parts)) (segment_rows (take (place + 1) segments)) ≡ so_far ++ selected part.marks rows =
+    selected_next 0 parts segments place part rows c.requires c.get-part.ensures c.get.ensures in
+    elim c.match-branch-2.branch [
+      | in-Some+in_ok-push w ↦ let same : c.match-branch-2.counting.items ≡ items ++ w.in-Some.rows ∷ [] = ap (λ (v : Vec (List Charge) Global). v.items) w.counting-is ∙ w.in_ok-push.ensures.items in
           record {
-            rows = ap (λ l. segment_rows (map (λ (r : Bor (List Charge)). r.now) l)) same
-                ∙ ap segment_rows (map_push (λ (r : Bor (List Charge)). r.now) items w.in-Some.rows)
-                ∙ push_rows (map (λ (r : Bor (List Charge)). r.now) items) w.in-Some.rows.now
-                ∙ ap (λ l. l ++ w.in-Some.rows.now) c.loop-place.invariant.rows
-                ∙ ap (λ l. so_far ++ l) w.in-Some.ensures
+            rows = ap segment_rows same
+                ∙ push_rows items w.in-Some.rows
+                ∙ ap (λ l. l ++ w.in-Some.rows) c.loop-place.invariant.rows
+                ∙ ap (λ l. so_far ++ l) (ap (λ (o : Option (List Charge)). unwrap_or o []) (sym w.in-Some.is) ∙ c.in_ok-rows.ensures)
                 ∙ sym next;
             few = omega (arith, ap length same, length_push items w.in-Some.rows, c.loop-place.invariant.few);
           }
-      | in_default w ↦ let same : c.match-counting.counting.items ≡ items = ap (λ (v : Vec (Bor (List Charge)) Global). v.items) w.counting-is in
+      | in_default w ↦ let same : c.match-branch-2.counting.items ≡ items = ap (λ (v : Vec (List Charge) Global). v.items) w.counting-is in
           record {
-            rows = ap (λ l. segment_rows (map (λ (r : Bor (List Charge)). r.now) l)) same
+            rows = ap segment_rows same
                 ∙ c.loop-place.invariant.rows
                 ∙ sym (append-nil so_far)
-                ∙ ap (λ l. so_far ++ l) w.in_default.ensures
+                ∙ ap (λ l. so_far ++ l) (ap (λ (o : Option (List Charge)). unwrap_or o []) (sym w.in_default.is) ∙ c.in_ok-rows.ensures)
                 ∙ sym next;
             few = omega (arith, ap length same, c.loop-place.invariant.few);
           }

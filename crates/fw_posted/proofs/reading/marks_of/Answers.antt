@@ -9,5 +9,5 @@ loop-place-preserved c =
     let parts = c.args.parts.now in
     let place = c.loop-place.place in
     let part = c.get.result.now in
-    c.in_ok-push_marks.ensures ∙ ap (λ l. l ++ part.marks) c.loop-place.invariant
+    c.in_ok-extend_from_slice.ensures.items ∙ ap (λ l. c.loop-place.marks.items ++ l) (c.deref.ensures.value ∙ c.in_ok-own.ensures) ∙ ap (λ l. l ++ part.marks) c.loop-place.invariant
     ∙ sym (ap all_marks (take_next parts place part c.get.ensures) ∙ push_marks (take place parts) part)

@@ -36,13 +36,10 @@ overflow_sub-len c =
     let t = turn ((goal.at.overflow_sub-len c).After-start) in
     omega (arith, t.from, t.inside, c.start.ensures, c.len.ensures.count)
 
-pub without-requires-clause-marks : goal.without-requires-clause-marks
-without-requires-clause-marks c = let t = turn ((goal.at.without-requires-clause-marks c).After-start) in t.of.marks
-
-pub without-requires-clause-inside : goal.without-requires-clause-inside
-without-requires-clause-inside c =
-    let t = turn ((goal.at.without-requires-clause-inside c).After-start) in
-    omega (arith, t.from, t.inside, c.start.ensures, c.len.ensures.count, c.min-here.ensures)
+pub without-requires : goal.without-requires
+without-requires c =
+    let t = turn ((goal.at.without-requires c).After-start) in
+    omega (arith, t.from, t.inside, t.of.marks, c.start.ensures, c.len.ensures.count, c.min-here.ensures)
 
 pub set-requires : goal.set-requires
 set-requires c = part_within ((goal.at.set-requires c).After-get-rows)
@@ -77,6 +74,6 @@ loop-row-preserved c =
       many = c.min-here.ensures ∙ ap (λ n. min (n - from) (behind - row)) c.len.ensures.count;
       start = c.in_ok-part.ensures.start;
       marks = c.in_ok-part.ensures.marks;
-      left = c.in_ok-part.ensures.left;
+      left = rw c.in_ok-part.ensures.left tt;
     } in
     rw c.in_ok-after-2.ensures (next_without segments c.args.parts.now c.loop-row.after c.args.start row behind c.loop-row.segment rows part c.in_ok-part.part from c.min-here.result c.requires.parts c.loop-row.invariant c.loop-row-test.true c.requires.inside c.get-rows.ensures c.get-part.ensures is)

@@ -5,4 +5,4 @@ pub returns-in-Ok-clause-text : goal.returns-in-Ok-clause-text
 returns-in-Ok-clause-text c =
     let listing = c.in-Ok.ensures in
     let end : c.args.from + (c.args.to - c.args.from) ≡ c.args.to = omega arith in
-    (listing.lines, rw (end, c.state.ensures) at listing.are_lines, listing.text_is)
+    (listing.lines, rw (end, c.in_ok-shown.ensures, c.state.ensures) at listing.are_lines, listing.text_is)

@@ -5,6 +5,6 @@ use Rattle.fw_query.proofs.listing.lines_csv_on.Goals as goal
 
 pub returns : goal.returns
 returns c =
-    let rows : all_rows (lent c.as_slice.result.now) ≡ rows_of c.args.state.now.entries =
-    ap all_rows (ap lent c.as_slice.ensures.value) ∙ c.in_ok-segments.ensures.rows in
-    rw (rows, c.commitment_list.ensures) at c.lines_csv_of.ensures
+    let rows : all_rows (lent c.as_slice.result.now) ≡ rows_of c.args.shown.now.entries =
+    ap all_rows (ap lent c.as_slice.ensures.value) ∙ c.in_ok-segments.ensures in
+    rw (rows, c.commitment_list.ensures, c.state.ensures) at c.lines_csv_of.ensures

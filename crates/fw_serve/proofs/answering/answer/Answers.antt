@@ -21,17 +21,17 @@ returns-in-Checkpoint-clause-answer g c = rw c.in-Checkpoint.is c.checkpoint.ens
 
 pub returns-in-Report-clause-answer : goal.returns-in-Report-clause-answer
 unfolding Answer
-returns-in-Report-clause-answer g c = rw c.in-Report.is (rw c.state.ensures at c.answer_report.ensures.answer, refl)
+returns-in-Report-clause-answer g c = rw (c.in-Report.is, c.settle.ensures) (rw (c.state.ensures, c.settle.ensures) at c.answer_report.ensures.answer, refl)
 
 pub returns-in-Report-clause-moves : goal.returns-in-Report-clause-moves
-returns-in-Report-clause-moves g c = inl refl
+returns-in-Report-clause-moves g c = inl c.settle.ensures
 
 pub returns-in-Lines-clause-answer : goal.returns-in-Lines-clause-answer
 unfolding Answer
-returns-in-Lines-clause-answer g c = rw c.in-Lines.is (rw c.state-in-Lines.ensures at c.answer_lines.ensures, refl)
+returns-in-Lines-clause-answer g c = rw (c.in-Lines.is, c.settle-in-Lines.ensures) (rw (c.state-in-Lines.ensures, c.settle-in-Lines.ensures) at c.answer_lines.ensures, refl)
 
 pub returns-in-Lines-clause-moves : goal.returns-in-Lines-clause-moves
-returns-in-Lines-clause-moves g c = inl refl
+returns-in-Lines-clause-moves g c = inl c.settle-in-Lines.ensures
 
 pub returns-in-State-clause-answer : goal.returns-in-State-clause-answer
 unfolding Answer
@@ -63,7 +63,7 @@ returns-in-Checkpoint-clause-kept g c =
     rw same c.requires.kept
 
 pub answer_report-requires-clause-kept : goal.answer_report-requires-clause-kept
-answer_report-requires-clause-kept g c κs lives = rw c.state.ensures c.requires.kept
+answer_report-requires-clause-kept g c κs lives = rw (c.state.ensures, c.settle.ensures) c.requires.kept
 
 pub returns-in-Report-clause-kept : goal.returns-in-Report-clause-kept
 returns-in-Report-clause-kept g c = rw c.state.ensures at c.answer_report.ensures.kept

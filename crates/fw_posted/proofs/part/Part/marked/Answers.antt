@@ -1,8 +1,7 @@
 use Rattle.std.proofs.Common.{◌≡◌, ◌∙◌, ap, length, replicate, sym, true}
-use Rattle.std.specs.Prelude.{unwrap_or}
-use Rattle.fw_posted.specs.Marks.{selected}
 use Rattle.fw_posted.specs.Parts.{PartValue}
-use Rattle.fw_posted.proofs.MarkFacts.{all_true, selected_all}
+use Rattle.fw_posted.proofs.MarkFacts.{all_true}
+use Rattle.fw_posted.proofs.PartFacts.{whole_part}
 use Rattle.fw_posted.proofs.part.Part.marked.Goals as goal
 use Rattle.fw_posted.proofs.part.Part.marked.Goals.{After-whole}
 
@@ -16,6 +15,4 @@ returns-then-count_true-counts-clause-marks c =
 
 pub returns-then-count_true-counts-clause-left : goal.returns-then-count_true-counts-clause-left
 returns-then-count_true-counts-clause-left c =
-    let rows = c.args.rows.now in
-    ap (λ (p : PartValue). unwrap_or p.left rows) c.whole.ensures
-    ∙ sym (ap (λ l. selected l rows) (all ((goal.at.returns-then-count_true-counts-clause-left c).After-whole)) ∙ selected_all rows)
+    (whole_part c.whole.result c.args.start c.len.result c.args.rows.now c.whole.ensures c.len.ensures.count c.len.ensures.some).counting

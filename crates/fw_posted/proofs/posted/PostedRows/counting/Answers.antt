@@ -1,5 +1,4 @@
 use Rattle.std.proofs.Common.{◌≡◌, ◌∙◌, ap, length, replicate, sym, true}
-use Rattle.std.proofs.lemmas.Result.{IfOk-weaker}
 use Rattle.fw_posted.specs.Marks.{selected}
 use Rattle.fw_posted.specs.Parts.{all_marks}
 use Rattle.fw_posted.specs.Posted.{PostedValue}
@@ -13,6 +12,6 @@ returns-then-self-clause-rows c =
     let rows = segment_rows c.self.inside.segments in
     let all : all_marks c.self.inside.parts ≡ replicate (length rows) true =
     all_selected (all_marks c.self.inside.parts) rows (marks_count 0 c.self.inside.parts c.self.inside.segments c.self.invariant.parts) (sym c.self.invariant.counting ∙ c.if-self.true ∙ c.self.invariant.rows) in
-    IfOk-weaker c.references.result _ _ (λ references are. ap segment_rows are
+    ap segment_rows (c.of_all.ensures ∙ c.in_ok-copy.ensures)
     ∙ sym (ap (λ l. selected l rows) all ∙ selected_all rows)
-    ∙ ap (λ (p : PostedValue). selected p.counts (segment_rows p.segments)) c.self.view_is) c.references.ensures
+    ∙ ap (λ (p : PostedValue). selected p.counts (segment_rows p.segments)) c.self.view_is

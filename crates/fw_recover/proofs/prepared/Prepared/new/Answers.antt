@@ -38,12 +38,12 @@ invariant_of-result c =
     let h = c.args.state.now in
     let es = c.args.entries.now in
     let n = c.entries-before.result in
-    let same = c.in-Ok.ensures.shared in
+    let same = c.in_ok-next.ensures in
     let is = same ∙ c.in_ok-verdicts.ensures.next in
-    let behind = behind_is h c.in-Ok.next es n c.entries-before.ensures.count is in
+    let behind = behind_is h c.in_ok-next.next es n c.entries-before.ensures.count is in
     let are = chosen_are h es c.deref.result.now (c.deref.ensures.value ∙ c.in_ok-verdicts.ensures.verdicts) in
     record {
-      within = omega (arith, length-next h c.in-Ok.next es n c.entries-before.ensures.count is);
+      within = omega (arith, length-next h c.in_ok-next.next es n c.entries-before.ensures.count is);
       payload = c.in_ok-payload.ensures ∙ ap (λ (l : List EntryValue). payload_of l) (are ∙ sym behind);
       legal = subst (λ (k : History). IsLegal k.entries) (sym same) c.entries.ensures.valid;
       frameable = subst (λ (l : List EntryValue). 0 < length l → IsFrameable l) (sym behind) (frameable h.entries es c.requires.group c.requires.size);
