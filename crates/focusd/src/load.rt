@@ -6,7 +6,7 @@ use fw_disk::{FileVolume, NullVolume, Volume};
 use fw_load::{Job, LoadFault, Progress, load};
 use fw_recover::{Store, StoreFault};
 use fw_rows::Currency;
-use fw_serve::{ServeFault, read_within};
+use fw_serve::{ServeFault, read_within, reopen};
 use fw_table::shown_text;
 use std::fs;
 use std::io::{self, IsTerminal};
@@ -121,7 +121,7 @@ fn load_folder<R: Threads + Wait + Sync>(
     let opened = if creates {
         Store::create(alloc, volume, currency)
     } else {
-        Store::open(alloc, volume)
+        reopen(alloc, volume)
     };
     load_into(rt, threads, opened, job)
 }

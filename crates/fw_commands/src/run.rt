@@ -10,7 +10,7 @@ use fw_console::{Fault, advised, read_currency, wrong_use};
 use fw_disk::{FileVolume, NullVolume, Volume};
 use fw_recover::{Store, StoreFault};
 use fw_rows::Currency;
-use fw_serve::serve;
+use fw_serve::{reopen, serve};
 use std::io::{BufWriter, IsTerminal, LineWriter, Write};
 use std::process::ExitCode;
 use std::thread::Threads;
@@ -85,7 +85,7 @@ fn serve_folder(
     let opened = if creates {
         Store::create(alloc, volume, currency)
     } else {
-        Store::open(alloc, volume)
+        reopen(alloc, volume)
     };
     serve_streams(rt, threads, &mut output, opened, workers)
 }

@@ -2,6 +2,7 @@
 use crate::fault::Fault;
 use fw_disk::FileVolume;
 use fw_recover::{Store, StoreFault};
+use fw_serve::reopen;
 use std::{fs, io};
 
 /// Opens the warehouse of a folder. A folder that holds neither of its files has none, and none is made there.
@@ -9,7 +10,7 @@ pub fn open_warehouse(rt: &HostRuntime, folder: &str) -> Result<Store<FileVolume
     if has_no_files(rt, folder)? {
         return Err(Fault::Store(StoreFault::NoHouse));
     }
-    match Store::open(rt.alloc(), FileVolume::open(rt, folder)?) {
+    match reopen(rt.alloc(), FileVolume::open(rt, folder)?) {
         Ok(store) => Ok(store),
         Err((_, fault)) => Err(Fault::Store(fault)),
     }

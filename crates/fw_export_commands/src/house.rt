@@ -5,6 +5,7 @@ use fw_disk::FileVolume;
 use fw_import::{Sent, posts_of};
 use fw_recover::{Store, StoreFault};
 use fw_rows::Currency;
+use fw_serve::reopen;
 use fw_snapshot::State;
 use std::alloc::Global;
 
@@ -31,7 +32,7 @@ impl House {
         if !creates {
             return Ok(House::of(open_warehouse(rt, folder)?, currency));
         }
-        match Store::open(rt.alloc(), FileVolume::open(rt, folder)?) {
+        match reopen(rt.alloc(), FileVolume::open(rt, folder)?) {
             Ok(store) => Ok(House::of(store, currency)),
             Err((volume, fault)) => House::to_be_made(volume, fault, currency),
         }

@@ -1,10 +1,11 @@
 -- Runs of commands, and the entry on which the device failed.
-use Rattle.std.proofs.Common.{◌≡◌, ◌⊎◌, ◌∙◌, ◌∷◌, ◌++◌, [], ℕ, zero, suc, List, Bool, Option, Some, drop, length, slice_get, take, true, false, IsTrue, refl, sym, ap, subst, inl, inr, append-nil, append_assoc}
+use Rattle.std.proofs.Common.{◌≡◌, ◌⊎◌, ◌∙◌, ◌∷◌, ◌++◌, [], ℕ, zero, suc, List, Bool, Err, Ok, OnOk, Option, Result, Some, drop, length, slice_get, take, true, false, IsTrue, refl, sym, ap, subst, inl, inr, append-nil, append_assoc}
 use Rattle.std.specs.Io.KnownBytes.{Appends, Keeps}
 use Rattle.std.specs.List.{concat}
 use Rattle.std.proofs.KnownBytes.{Appends-kept, Appends-nil, Appends-trans}
 use Rattle.std.proofs.Math.Seq.{take-suc}
 use Rattle.std.proofs.lemmas.List.Folds.{concat-append}
+use Rattle.std.proofs.lemmas.Result.{on_ok_weaker}
 use Rattle.std.proofs.lemmas.Option.{get_or_from_slice_get, slice_get_within}
 use Rattle.fw_disk.specs.Volume.{Image, View}
 use Rattle.fw_entry.specs.Entry.{EntryValue}
@@ -22,16 +23,17 @@ use Rattle.fw_snapshot.specs.Judging.{judged}
 use Rattle.fw_snapshot.specs.Verdicts.{with_more}
 use Rattle.fw_snapshot.specs.declared.verdict.Verdict.TheVariants as verdict
 use Rattle.fw_serve.specs.Answers.{Answer, lost}
-use Rattle.fw_serve.specs.Flight.{FailsOnSent, IsInFlight, IsRun, LeavesWithin, Runs, RunsAt, RunsInTurn, RunsSoFar}
+use Rattle.fw_serve.specs.Flight.{FailsOnSent, IsInFlight, IsOneRun, IsRun, LeavesWithin, Runs, RunsAt, RunsInTurn, RunsSoFar, RunsTo}
 use Rattle.fw_serve.specs.Replies.{store_fault_line}
 use Rattle.fw_serve.specs.Runs.{AnswersEach, Sends}
 use Rattle.fw_serve.specs.Served.{IsScriptOf}
 use Rattle.fw_serve.specs.Standings.{AreInFlight, LeavesInFlight, Standing, standing_of, Moves}
 use Rattle.fw_serve.specs.Writing.{WritesPart}
+use Rattle.fw_serve.specs.declared.fault.ServeFault.{ServeFault}
 use Rattle.fw_serve.proofs.FailedFacts.{gone_by_answer}
-use Rattle.fw_serve.proofs.MoveFacts.{Moves-then, by_flag, failed_stays, flight_as, moved_at, moved_failed, not_both}
+use Rattle.fw_serve.proofs.MoveFacts.{Moves-then, by_flag, failed_stays, flight_as, moved_at, moved_failed, not_both, stands_still}
 use Rattle.fw_serve.proofs.RunFacts.{step}
-use Rattle.fw_serve.proofs.ServedFacts.{StartsWithCommands-more}
+use Rattle.fw_serve.proofs.ServedFacts.{CommandsOf-whole, StartsWithCommands-more}
 use Rattle.fw_serve.proofs.WrittenFacts.{same_currency}
 
 -- ---- places in lists
@@ -155,14 +157,14 @@ turn_more tells view (d ∷ commands) a b c answers command text run answered wi
   ap (λ (l : List (List ℕ)). l ++ text ∷ []) run.6,
 )
 
-turn_told : {V : Type 0} (tells : Bool) (view : V → View) (commands : List PlainCommand) (a b : StoreState V) (answers : List (List ℕ)) → RunsInTurn tells view a commands answers b
+pub turn_told : {V : Type 0} (tells : Bool) (view : V → View) (commands : List PlainCommand) (a b : StoreState V) (answers : List (List ℕ)) → RunsInTurn tells view a commands answers b
     → AnswersEach (standing_of view a) commands answers (standing_of view b)
 unfolding RunsInTurn AnswersEach
 turn_told tells view [] a b answers run = (run.0, ap (standing_of view) run.1)
 turn_told tells view (d ∷ commands) a b answers run = (run.0, standing_of view run.1, run.2, run.3, turn_told tells view commands run.1 b run.2 run.5, run.6)
 
 -- once the device has failed nothing changes
-turn_stays : {V : Type 0} (tells : Bool) (view : V → View) (commands : List PlainCommand) (old new : StoreState V) (answers : List (List ℕ)) → RunsInTurn tells view old commands answers new
+pub turn_stays : {V : Type 0} (tells : Bool) (view : V → View) (commands : List PlainCommand) (old new : StoreState V) (answers : List (List ℕ)) → RunsInTurn tells view old commands answers new
     → old.failed ≡ true → new ≡ old
 unfolding RunsInTurn
 turn_stays tells view [] old new answers run failed = run.1
@@ -199,7 +201,7 @@ flies_later before next after d commands first answers more e is answered flies 
 }
 
 -- once the device has failed, each image stands for what the commands left, or for this with the entry that the failed one sent
-turn_failed : {V : Type 0} (tells : Bool) (view : V → View) (commands : List PlainCommand) (old new : StoreState V) (answers : List (List ℕ)) → RunsInTurn tells view old commands answers new
+pub turn_failed : {V : Type 0} (tells : Bool) (view : V → View) (commands : List PlainCommand) (old new : StoreState V) (answers : List (List ℕ)) → RunsInTurn tells view old commands answers new
     → IsTrue tells → old.failed ≡ false → new.failed ≡ true
     → LeavesInFlight (IsInFlight (standing_of view old) (standing_of view new) commands answers) new.history (view new.volume)
 unfolding RunsInTurn
@@ -360,6 +362,37 @@ Runs-whole tells view script left a b x y z done kept = record {
   in_turn = done.in_turn;
 }
 
+always : {T E P : Type 0} (r : Result T E) → P → OnOk r P
+always (Ok x) p = p
+always (Err e) p = tt
+
+-- all commands were run, and the writer was flushed
+pub RunsTo-whole : {V : Type 0} (tells : Bool) (view : V → View) (result : Result (Unit {0}) ServeFault) (script left : List ℕ) (a b : StoreState V) (x y z : Option (List ℕ))
+    → RunsSoFar tells view script left a b x y → left ≡ [] → Keeps y z → RunsTo tells view result script a b x z
+RunsTo-whole tells view result script left a b x y z done none kept = record {
+  runs = record {
+    left = left;
+    commands = done.commands;
+    answers = done.answers;
+    reads = done.reads;
+    answered = done.answered;
+    writes = record {
+      written = concat done.answers;
+      unwritten = [];
+      whole = sym (append-nil (concat done.answers));
+      writes = Appends-kept x y z (concat done.answers) done.writes kept;
+    };
+    moves = done.moves;
+    in_turn = done.in_turn;
+  };
+  whole = always result (CommandsOf-whole script done.commands left done.reads none, Appends-kept x y z (concat done.answers) done.writes kept);
+}
+
+-- something failed
+pub RunsTo-cut : {V : Type 0} (tells : Bool) (view : V → View) (why : ServeFault) (script : List ℕ) (old new : StoreState V) (held holds : Option (List ℕ))
+    → Runs tells view script old new held holds → RunsTo tells view (Err why) script old new held holds
+RunsTo-cut tells view why script old new held holds runs = record { runs = runs; whole = tt }
+
 -- of the script that a reader had
 pub IsRun-of : {V : Type 0} (tells : Bool) (view : V → View) (bytes : Option (List ℕ)) (script : List ℕ) (old new : StoreState V) (held holds : Option (List ℕ))
     → IsScriptOf bytes script → (runs : Runs tells view script old new held holds) → IsRun bytes (standing_of view old) (standing_of view new) held holds runs.commands runs.answers
@@ -374,3 +407,32 @@ pub IsRun-none : (bytes : Option (List ℕ)) (before : Standing) (held : Option 
 unfolding AnswersEach
 IsRun-none bytes before held =
     record { reads = inl refl; answered = (refl, refl); writes = record { written = []; unwritten = []; whole = refl; writes = Appends-nil held } }
+
+-- ---- serving, as one run
+pub IsOneRun-of : {V : Type 0} (tells : Bool) (view : V → View) (result : Result (Unit {0}) ServeFault) (bytes : Option (List ℕ)) (script : List ℕ) (old new : StoreState V) (held holds : Option (List ℕ))
+    → IsScriptOf bytes script → IsKept tells view old → ((c : Image) → (view old.volume).left_since (view old.volume).moment c → (view old.volume).may_leave c)
+    → RunsTo tells view result script old new held holds → IsOneRun tells view result bytes old new held holds
+IsOneRun-of tells view result bytes script old new held holds given kept only to =
+    let F = IsInFlight (standing_of view old) (standing_of view new) to.runs.commands to.runs.answers in
+    record {
+      commands = to.runs.commands;
+      answers = to.runs.answers;
+      run = IsRun-of tells view bytes script old new held holds given to.runs;
+      whole = on_ok_weaker result (λ done. record { script = script; given = given; reads = done.0; writes = done.1 }) to.whole;
+      in_turn = to.runs.in_turn;
+      any_moment = λ told works. moved_at tells view F old new kept only to.runs.moves told works;
+      once_failed = λ told works fails. moved_failed tells view F old new to.runs.moves told works fails;
+    }
+
+pub IsOneRun-none : {V : Type 0} (tells : Bool) (view : V → View) (why : ServeFault) (bytes : Option (List ℕ)) (s : StoreState V) (held : Option (List ℕ))
+    → IsKept tells view s → ((c : Image) → (view s.volume).left_since (view s.volume).moment c → (view s.volume).may_leave c)
+    → IsOneRun tells view (Err why) bytes s s held held
+IsOneRun-none tells view why bytes s held kept only = record {
+  commands = [];
+  answers = [];
+  run = IsRun-none bytes (standing_of view s) held;
+  whole = tt;
+  in_turn = turn_none tells view s;
+  any_moment = λ told works. stands_still tells view (IsInFlight (standing_of view s) (standing_of view s) [] []) s kept only told works;
+  once_failed = λ told works fails. absurd (not_both _ fails works);
+}

@@ -1,5 +1,5 @@
 -- The form of the side in use: a checkpoint makes it the second one, which has each entry.
-use Rattle.std.proofs.Common.{◌≡◌, ◌⊎◌, ◌∙◌, ◌<◌, ◌∷◌, [], ℕ, zero, suc, List, Some, true, false, slice_get, Ok, Err, refl, sym, ap, subst, inl, inr, ⊎_elim, arith}
+use Rattle.std.proofs.Common.{◌≡◌, ◌⊎◌, ◌∙◌, ◌<◌, ◌∷◌, [], ℕ, zero, suc, List, Some, true, slice_get, Ok, Err, ap, subst, inl, inr, ⊎_elim, arith}
 use Rattle.std.specs.Prelude.{Result}
 use Rattle.fw_entry.specs.Entry.{CommandValue, EntryValue}
 use Rattle.fw_entry.specs.declared.fault.EntryFault.{EntryFault}

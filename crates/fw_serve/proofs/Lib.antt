@@ -18,3 +18,4 @@ pub mod LeftFacts
 pub mod StopFacts
 pub mod SessionFacts
 pub mod ScriptSessionFacts
+pub mod RecoveryFacts

@@ -46,7 +46,7 @@ one_accepted : (held : List EntryValue) (e : EntryValue) → judged held e ≡ v
 unfolding accepted_of
 one_accepted held e is = append-nil (kept_by (judged held e) e) ∙ ap (λ (v : Verdict). kept_by v e) is
 
-with_last : (before middle : History) (entries : List EntryValue) (e : EntryValue) → middle ≡ with_more before (accepted_of before.entries entries) → judged middle.entries e ≡ verdict.Accept
+pub with_last : (before middle : History) (entries : List EntryValue) (e : EntryValue) → middle ≡ with_more before (accepted_of before.entries entries) → judged middle.entries e ≡ verdict.Accept
     → with_more middle (e ∷ []) ≡ with_more before (accepted_of before.entries (entries ++ e ∷ []))
 with_last before middle entries e holds is =
     let own : judged (before.entries ++ accepted_of before.entries entries) e ≡ verdict.Accept = subst (λ (h : History). judged h.entries e ≡ verdict.Accept) holds is in

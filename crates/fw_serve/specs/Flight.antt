@@ -1,5 +1,5 @@
 -- The entry that was in flight when the device failed: the one that a script was sending.
-use Rattle.std.specs.Prelude.{◌≡◌, ◌⊎◌, ℕ, suc, Bool, true, false, IsTrue, List, [], ◌∷◌, Option, Ok, Some, drop, slice_get, take}
+use Rattle.std.specs.Prelude.{◌≡◌, ◌⊎◌, ℕ, suc, Bool, true, false, IsTrue, List, [], ◌∷◌, OnOk, Option, Ok, Result, Some, drop, slice_get, take}
 use Rattle.std.specs.Io.KnownBytes.{Appends}
 use Rattle.std.specs.List.{concat}
 use Rattle.fw_disk.specs.Volume.{LeavesOnly, View}
@@ -8,7 +8,7 @@ use Rattle.fw_entry_bytes.specs.Forms.{has_entry}
 use Rattle.fw_recover.specs.Stands.{EachStandsFor}
 use Rattle.fw_recover.specs.Store.{StoreState}
 use Rattle.fw_recover.specs.declared.fault.StoreFault.TheVariants as store_fault
-use Rattle.fw_script.specs.Commands.{StartsWithCommands}
+use Rattle.fw_script.specs.Commands.{CommandsOf, StartsWithCommands}
 use Rattle.fw_script.specs.Plain.{PlainCommand}
 use Rattle.fw_snapshot.specs.Judging.{judged}
 use Rattle.fw_snapshot.specs.declared.verdict.Verdict.TheVariants as verdict
@@ -18,6 +18,7 @@ use Rattle.fw_serve.specs.Runs.{AnswersEach, Sends}
 use Rattle.fw_serve.specs.Served.{IsScriptOf}
 use Rattle.fw_serve.specs.Standings.{Standing, standing_of, IsBetween, LeavesInFlight, Moves}
 use Rattle.fw_serve.specs.Writing.{WritesPart}
+use Rattle.fw_serve.specs.declared.fault.ServeFault.{ServeFault}
 
 -- the entry is accepted after those of the warehouse, the form of the side in use has it, and the answer says that the device failed
 pub record FailsOn (before : Standing) (answer : List ℕ) (e : EntryValue) : Type 0 where
@@ -98,6 +99,11 @@ pub record Runs {V : Type 0} (tells : Bool) (view : V → View) (script : List �
   pub moves : Moves tells view (IsInFlight (standing_of view old) (standing_of view new) commands answers) old new
   pub in_turn : RunsInTurn tells view old commands answers new
 
+-- the same; where nothing failed these are all commands of the script, and the writer got each answer
+pub record RunsTo {V : Type 0} (tells : Bool) (view : V → View) (result : Result (Unit {0}) ServeFault) (script : List ℕ) (old new : StoreState V) (held holds : Option (List ℕ)) : Type 0 where
+  pub runs : Runs tells view script old new held holds
+  pub whole : OnOk result (CommandsOf script runs.commands × Appends held holds (concat runs.answers))
+
 -- no command was run, or these are the first ones of the script that a reader had; these are the answers, one for each, and the writer got them up to
 -- some place
 pub record IsRun (bytes : Option (List ℕ)) (before after : Standing) (held holds : Option (List ℕ)) (commands : List PlainCommand) (answers : List (List ℕ)) : Type 0 where
@@ -120,3 +126,28 @@ pub record RunsByCommand {V : Type 0} (tells : Bool) (view : V → View) (bytes 
   pub answers : List (List ℕ)
   pub run : IsRun bytes (standing_of view old) (standing_of view new) held holds commands answers
   pub in_turn : RunsInTurn tells view old commands answers new
+
+-- these are all commands of the script that a reader had, and the writer got each answer
+pub record IsWholeRun (bytes held holds : Option (List ℕ)) (commands : List PlainCommand) (answers : List (List ℕ)) : Type 0 where
+  pub script : List ℕ
+  pub given : IsScriptOf bytes script
+  pub reads : CommandsOf script commands
+  pub writes : Appends held holds (concat answers)
+
+-- Serving a script: one run, of which all is said of the same commands and the same answers.
+pub record IsOneRun {V : Type 0} (tells : Bool) (view : V → View) (result : Result (Unit {0}) ServeFault) (bytes : Option (List ℕ)) (old new : StoreState V) (held holds : Option (List ℕ)) : Type 0 where
+  -- the commands that were run, and the answers to them, one for each
+  pub commands : List PlainCommand
+  pub answers : List (List ℕ)
+  -- they are the first ones of the script, or none; the writer got the answers up to some place
+  pub run : IsRun bytes (standing_of view old) (standing_of view new) held holds commands answers
+  -- where nothing failed they are all of the script, and the writer got each answer
+  pub whole : OnOk result (IsWholeRun bytes held holds commands answers)
+  -- each was run on what those before it left
+  pub in_turn : RunsInTurn tells view old commands answers new
+  -- at any moment a crash leaves what was there, with a front of what they added; or, only where the
+  -- device failed, with all of it and the entry in flight
+  pub any_moment : IsTrue tells → old.failed ≡ false
+      → LeavesOnly (view old.volume) (view new.volume) (IsBetween (IsInFlight (standing_of view old) (standing_of view new) commands answers) old.history (standing_of view new))
+  pub once_failed : IsTrue tells → old.failed ≡ false → new.failed ≡ true
+      → LeavesInFlight (IsInFlight (standing_of view old) (standing_of view new) commands answers) new.history (view new.volume)

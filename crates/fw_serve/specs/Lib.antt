@@ -10,3 +10,4 @@ pub mod Runs
 pub mod Flight
 pub mod Whole
 pub mod Sessions
+pub mod Recovery

@@ -16,12 +16,13 @@ ghost use Rattle.fw_query.specs.Texts.{lines_text, report_text};
 ghost use Rattle.fw_query.specs.declared.fault.QueryFault.{QueryFault};
 ghost use Rattle.fw_recover.specs.Committing.{HasAnswered, StandsForFirst, with_first};
 ghost use Rattle.fw_recover.specs.Corrupt.{CorruptAt};
-ghost use Rattle.fw_recover.specs.Stands.{StandsFor, StandsForEither, StandsForNone};
+ghost use Rattle.fw_recover.specs.Stands.{EachStandsFor, StandsFor, StandsForEither, StandsForNone};
 ghost use Rattle.fw_recover.specs.declared.fault.StoreFault.{StoreFault};
 ghost use Rattle.fw_recover.specs.declared.fault.StoreFault.TheVariants as store_fault;
 ghost use Rattle.fw_script.specs.Plain.{PlainCommand, checkpoint, lines, report, state};
 ghost use Rattle.fw_serve.specs.Answers.{Answer, Answers, last_generation};
 ghost use Rattle.fw_serve.specs.Flight.{FailsOnSent, IsInFlight, RunsAt, RunsInTurn};
+ghost use Rattle.fw_serve.specs.Recovery.{IsStopped, session_behind, session_within};
 ghost use Rattle.fw_serve.specs.Replies.{accepted_line, already_line, checkpointed_line, conflict_line, counted, gap_line, no_memory_line, query_fault_line, state_line, store_fault_line};
 ghost use Rattle.fw_serve.specs.Runs.{AnswersEach, AreAlike, AreOne, AreSame, AreTold, AreUnhindered, IsHindered, IsOfASide, LacksKind, LacksRoom, NoneCutShort, NoneHindered, Sends, StandsAt};
 ghost use Rattle.fw_serve.specs.Sessions.{HasKept, IsSessionOf, Opens, PassesThrough, SessionValue};
@@ -282,4 +283,23 @@ pub fn a_warehouse_outlives_its_stops()
         → (middle : History) × (n : ℕ) × (more : List EntryValue) × PassesThrough before (take place sessions) middle × ((n ≡ s.answered) ⊎ (n ≡ s.answered + s.in_flight))
         × (after ≡ with_more middle (accepted_of middle.entries (take n s.entries) ++ more)) }
     ensures whole { (before after : History) (sessions : List SessionValue) → IsWhole before.entries → PassesThrough before sessions after → IsWhole after.entries × ReportsAddUp after.entries }
+{}
+
+/// A crash in a script that [`serve`](crate::serve) runs ends a session of those that [`reopen`](crate::reopen) speaks of: at a moment of the command at some
+/// place (`within`), or behind commands that were run in turn (`behind`). The store that it began with had been created or opened: its device hadn't
+/// failed, and each image that a crash could leave stood for its warehouse.
+pub fn a_served_script_may_stop_anywhere<V: Volume>(begun: &Store<V>, ended: &Store<V>)
+    ensures within { (commands : List PlainCommand) (answers : List (List ℕ)) (place : ℕ)
+        (command : PlainCommand) (answer : List ℕ) (image : Image)
+        → begun.now.failed ≡ false → EachStandsFor begun.now.history (V.view begun.now.volume)
+        → (at : RunsAt V.tells V.view begun.now commands answers place command answer ended.now)
+        → (V.view at.next.volume).left_since (V.view at.middle.volume).moment image
+        → IsStopped V.tells V.view begun.now.history
+        (session_within begun.now commands answers place command at.middle image) }
+    ensures behind { (commands : List PlainCommand) (answers : List (List ℕ)) (image : Image)
+        → begun.now.failed ≡ false → EachStandsFor begun.now.history (V.view begun.now.volume)
+        → RunsInTurn V.tells V.view begun.now commands answers ended.now
+        → (V.view ended.now.volume).may_leave image
+        → IsStopped V.tells V.view begun.now.history
+        (session_behind begun.now commands answers ended.now image) }
 {}

@@ -3,7 +3,7 @@ ghost use Rattle.std.specs.Prelude.{◌≡◌, ◌≢◌, ◌<◌, ◌≤◌, Li
 ghost use Rattle.fw_disk.specs.Volume.{Image, Rose};
 ghost use Rattle.fw_entry.specs.Entry.{EntryValue};
 ghost use Rattle.fw_recover.specs.Stands.{EachStandsFor, StandsForEither};
-ghost use Rattle.fw_serve.specs.Flight.{CrashLeaves, Runs, RunsByCommand};
+ghost use Rattle.fw_serve.specs.Flight.{CrashLeaves, IsOneRun, RunsByCommand, RunsTo};
 ghost use Rattle.fw_serve.specs.Served.{IsServed, IsServedInPart, Serves, ServesInPart, most_bytes, most_workers};
 ghost use Rattle.fw_serve.specs.Standings.{standing_of};
 
@@ -33,6 +33,8 @@ use std::thread::Threads;
 /// call, whatever it returns, each image has all that was answered `accepted`. Command by command: as long as the device hasn't failed, a crash at any
 /// moment of one leaves what the commands before it left, perhaps with the entry that it sends, and after it what it left. Once the device has failed, a crash
 /// leaves what the commands left, perhaps with the entry that the failed one sent. A store that had failed before stays as it was, and so does its volume.
+/// Of one list of commands and their answers `one_run` says what was read, what was written, what each did, and what a crash leaves: where nothing failed
+/// these are all commands of the script.
 ///
 /// Posts are read and reports are made by 1 to 64 workers: each reads some of the next posts, ahead of their commands, and counts a piece of a report's rows.
 /// Their number changes no answer.
@@ -52,6 +54,8 @@ pub fn serve<R: Read, W: Write, V: Volume>(
     ensures too_long { result ≡ Err ServeFault.TooLong → IfSome (R.remaining reader.old) (λ bytes. most_bytes < length bytes) }
     ensures any_moment { IsTrue V.tells → store.old.failed ≡ false → CrashLeaves V.view (R.remaining reader.old) store.old store.new (W.contents writer.old) (W.contents writer.new) }
     ensures each_command { RunsByCommand V.tells V.view (R.remaining reader.old) store.old store.new (W.contents writer.old) (W.contents writer.new) }
+    ensures one_run { IsOneRun V.tells V.view result (R.remaining reader.old)
+        store.old store.new (W.contents writer.old) (W.contents writer.new) }
     ensures each { IsTrue V.tells → store.new.failed ≡ false → EachStandsFor store.new.history (V.view store.new.volume) }
     ensures each_once_failed { IsTrue V.tells → store.new.failed ≡ true
         → (more : List EntryValue) × ((c : Image) → (V.view store.new.volume).may_leave c → StandsForEither store.new.history more c) }
@@ -82,7 +86,7 @@ fn answer_all<W: Write, V: Volume>(
     requires few_workers { workers ≤ most_workers }
     ensures done { OnOk result (Serves text.now (standing_of V.view store.old) (standing_of V.view store.new) (W.contents writer.old) (W.contents writer.new)) }
     ensures write { IfErr result (λ why. (why ≡ ServeFault.Write) × ServesInPart text.now (standing_of V.view store.old) (standing_of V.view store.new) (W.contents writer.old) (W.contents writer.new)) }
-    ensures runs { Runs V.tells V.view text.now store.old store.new (W.contents writer.old) (W.contents writer.new) }
+    ensures runs { RunsTo V.tells V.view result text.now store.old store.new (W.contents writer.old) (W.contents writer.new) }
 {
     let mut script = text.commands();
     let mut covers = Covers::new(alloc);

@@ -1,6 +1,6 @@
 use Rattle.std.proofs.Common.{refl, inl, inr}
 use Rattle.std.proofs.lemmas.Result.{err_from_is_err_and}
-use Rattle.fw_serve.proofs.FlightFacts.{Runs-part, Runs-whole, RunsSoFar-more, RunsSoFar-none, within_one}
+use Rattle.fw_serve.proofs.FlightFacts.{Runs-part, Runs-whole, RunsSoFar-more, RunsSoFar-none, RunsTo-cut, RunsTo-whole, within_one}
 use Rattle.fw_serve.proofs.ServedFacts.{ServesSoFar-none, ServesSoFar-more, Serves-whole}
 use Rattle.fw_script.specs.Plain.{plain_command}
 use Rattle.fw_serve.specs.ReplyText.{reply_text}
@@ -38,8 +38,11 @@ returns-in_err-write_reply-clause-write g c =
 
 pub returns-in_err-write_reply-clause-runs : goal.returns-in_err-write_reply-clause-runs
 returns-in_err-write_reply-clause-runs g c =
-    Runs-part _ _ _ _ _ _ _ _ _ _ _ _ _ c.loop-command.invariant.runs c.in-Some.ensures.command c.answer-reply.ensures.answer c.answer-reply.ensures.moves
-    (within_one _ _ _ _ _ _ c.keeps.ensures c.keeps-in-Some.ensures (g.met.V.Volume.only_now c.loop-command.store.volume) c.answer-reply.ensures.moves) c.in_err-write_reply.ensures.part.1
+    let p = err_from_is_err_and c.from_residual.result c.from_residual.ensures.1 in
+    rw (p.1)
+    (RunsTo-cut _ _ _ _ _ _ _ _
+    (Runs-part _ _ _ _ _ _ _ _ _ _ _ _ _ c.loop-command.invariant.runs c.in-Some.ensures.command c.answer-reply.ensures.answer c.answer-reply.ensures.moves
+    (within_one _ _ _ _ _ _ c.keeps.ensures c.keeps-in-Some.ensures (g.met.V.Volume.only_now c.loop-command.store.volume) c.answer-reply.ensures.moves) c.in_err-write_reply.ensures.part.1))
 
 pub loop-command-preserved-in_ok-write_reply : goal.loop-command-preserved-in_ok-write_reply
 loop-command-preserved-in_ok-write_reply g c = record {
@@ -73,7 +76,7 @@ returns-clause-write g c = (
 )
 
 pub returns-in-Ok-clause-runs : goal.returns-in-Ok-clause-runs
-returns-in-Ok-clause-runs g c = Runs-whole _ _ _ _ _ _ _ _ _ c.loop-command.invariant.runs c.in-Ok.ensures.bytes
+returns-in-Ok-clause-runs g c = RunsTo-whole _ _ _ _ _ _ _ _ _ _ c.loop-command.invariant.runs c.in_default.ensures.command.0 c.in-Ok.ensures.bytes
 
 pub returns-clause-runs : goal.returns-clause-runs
-returns-clause-runs g c = Runs-whole _ _ _ _ _ _ _ _ _ c.loop-command.invariant.runs c.in-Err.ensures.bytes
+returns-clause-runs g c = RunsTo-cut _ _ _ _ _ _ _ _ (Runs-whole _ _ _ _ _ _ _ _ _ c.loop-command.invariant.runs c.in-Err.ensures.bytes)

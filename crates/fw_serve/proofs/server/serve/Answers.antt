@@ -1,6 +1,7 @@
 use Rattle.std.proofs.Common.{[]}
+use Rattle.std.proofs.lemmas.Result.{err_from_is_err_and}
 use Rattle.fw_recover.proofs.Committing.{each_stands}
-use Rattle.fw_serve.proofs.FlightFacts.{IsRun-none, IsRun-of, turn_none}
+use Rattle.fw_serve.proofs.FlightFacts.{IsOneRun-none, IsOneRun-of, IsRun-none, IsRun-of, turn_none}
 use Rattle.fw_serve.proofs.MoveFacts.{failed_stays, moved_at, moved_cause, moved_failed, not_both, stands_still}
 use Rattle.fw_serve.proofs.server.serve.Goals as goal
 
@@ -15,7 +16,7 @@ returns-in_err-text-clause-any_moment g c = λ told works. record {
 
 pub returns-clause-any_moment : goal.returns-clause-any_moment
 returns-clause-any_moment g c = λ told works.
-    let runs = c.answer_all-served.ensures.runs in
+    let runs = c.answer_all-served.ensures.runs.runs in
     record {
       commands = runs.commands;
       answers = runs.answers;
@@ -30,13 +31,22 @@ returns-in_err-text-clause-each_command g c =
 
 pub returns-clause-each_command : goal.returns-clause-each_command
 returns-clause-each_command g c =
-    let runs = c.answer_all-served.ensures.runs in
+    let runs = c.answer_all-served.ensures.runs.runs in
     record {
       commands = runs.commands;
       answers = runs.answers;
       run = IsRun-of _ _ _ _ _ _ _ _ (c.in_ok-text.ensures.whole, c.in_ok-text.ensures.short) runs;
       in_turn = runs.in_turn;
     }
+
+pub returns-in_err-text-clause-one_run : goal.returns-in_err-text-clause-one_run
+returns-in_err-text-clause-one_run g c =
+    let p = err_from_is_err_and c.from_residual.result c.from_residual.ensures.1 in
+    rw (p.1) (IsOneRun-none g.V.Volume.tells g.V.Volume.view _ _ c.args.store.now _ c.keeps.ensures (g.met.V.Volume.only_now c.args.store.now.volume))
+
+pub returns-clause-one_run : goal.returns-clause-one_run
+returns-clause-one_run g c = IsOneRun-of g.V.Volume.tells g.V.Volume.view _ _ _ c.args.store.now c.answer_all-served.new.store _ _ (c.in_ok-text.ensures.whole, c.in_ok-text.ensures.short) c.keeps.ensures
+    (g.met.V.Volume.only_now c.args.store.now.volume) c.answer_all-served.ensures.runs
 
 -- what each store keeps says what each image has
 pub returns-in_err-text-clause-each : goal.returns-in_err-text-clause-each
@@ -52,7 +62,7 @@ pub returns-clause-each_once_failed : goal.returns-clause-each_once_failed
 returns-clause-each_once_failed g c = c.keeps-2.ensures.lost
 
 pub returns-clause-once_failed : goal.returns-clause-once_failed
-returns-clause-once_failed g c = failed_stays g.V.Volume.tells g.V.Volume.view _ c.args.store.now c.answer_all-served.new.store c.answer_all-served.ensures.runs.moves
+returns-clause-once_failed g c = failed_stays g.V.Volume.tells g.V.Volume.view _ c.args.store.now c.answer_all-served.new.store c.answer_all-served.ensures.runs.runs.moves
 
 pub returns-clause-cause : goal.returns-clause-cause
-returns-clause-cause g c = moved_cause g.V.Volume.tells g.V.Volume.view _ c.args.store.now c.answer_all-served.new.store c.answer_all-served.ensures.runs.moves
+returns-clause-cause g c = moved_cause g.V.Volume.tells g.V.Volume.view _ c.args.store.now c.answer_all-served.new.store c.answer_all-served.ensures.runs.runs.moves

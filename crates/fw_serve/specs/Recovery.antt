@@ -1,0 +1,181 @@
+-- Scripts that are served on one warehouse, stop after stop, and what is promised of the warehouse
+-- that is opened at the end.
+use Rattle.std.specs.Prelude.{◌≡◌, ◌⊎◌, ◌<◌, ◌^◌, ℕ, Bool, false, List, [], ◌∷◌, ◌++◌, Option, None, Some, length, slice_get, take}
+use Rattle.fw_amortise.specs.LineValue.{LineValue}
+use Rattle.fw_disk.specs.declared.volume.Side.{Side}
+use Rattle.fw_disk.specs.Volume.{Image, View}
+use Rattle.fw_entry.specs.Entry.{EntryValue}
+use Rattle.fw_query.specs.OfHistory.{AreLinesOf, IsReportOn}
+use Rattle.fw_query.specs.Refusals.{AreRefused, IsRefused}
+use Rattle.fw_query.specs.Reports as reports
+use Rattle.fw_query.specs.Texts.{lines_text, report_text}
+use Rattle.fw_query.specs.declared.fault.QueryFault.{QueryFault}
+use Rattle.fw_recover.specs.Stands.{EachStandsFor, StandsFor}
+use Rattle.fw_recover.specs.Store.{StoreState}
+use Rattle.fw_recover.specs.declared.fault.StoreFault.TheVariants as store_fault
+use Rattle.fw_script.specs.Plain.{PlainCommand, lines, report}
+use Rattle.fw_snapshot.specs.History.{History, commitments_of, rows_of}
+use Rattle.fw_snapshot.specs.Verdicts.{accepted_of, verdicts_on, with_more}
+use Rattle.fw_sums.specs.Limits.{IsRange}
+use Rattle.fw_serve.specs.Answers.{Answer}
+use Rattle.fw_serve.specs.Flight.{LeavesWithin, RunsInTurn}
+use Rattle.fw_serve.specs.Replies.{accepted_line, counted, query_fault_line, store_fault_line}
+use Rattle.fw_serve.specs.Runs.{AreJudged, Sends, StandsAt, verdict_lines}
+use Rattle.fw_serve.specs.Standings.{AreInFlight, Standing, standing_of}
+use Rattle.fw_serve.specs.Whole.{IsWhole, ReportsAddUp}
+
+-- ---- sessions
+-- A session: a store was created or opened, a script was served on it, and a crash came.
+pub record ServedSession (V : Type 0) : Type 0 where
+  -- the store that it began with
+  pub begun : StoreState V
+  -- the commands that were done before the crash, and their answers, one for each
+  pub commands : List PlainCommand
+  pub answers : List (List ℕ)
+  -- the store that they left
+  pub left : StoreState V
+  -- the command within which the crash came, if it came within one
+  pub running : Option PlainCommand
+  -- what the crash left of the two files
+  pub image : Image
+
+-- The crash came at some moment of this command, which would have been answered so, and have left
+-- this store.
+pub record StopsWithin {V : Type 0} (tells : Bool) (view : V → View) (left : StoreState V)
+    (command : PlainCommand) (image : Image) : Type 0 where
+  pub answer : List ℕ
+  pub next : StoreState V
+  pub answered : Answer (standing_of view left) command answer (standing_of view next)
+  pub within : LeavesWithin tells view left command answer next
+  pub moment : (view next.volume).left_since (view left.volume).moment image
+
+-- the crash came between two commands, or within one
+abbrev pub Stops : {V : Type 0} → Bool → (V → View) → StoreState V → Option PlainCommand → Image
+    → Type 0
+Stops tells view left None image = (view left.volume).may_leave image
+Stops tells view left (Some command) image = StopsWithin tells view left command image
+
+-- A session that began with a warehouse: its store had that warehouse, as had whatever a crash
+-- could leave, its device hadn't failed, the commands were run in turn, and then the crash came.
+pub record IsStopped {V : Type 0} (tells : Bool) (view : V → View) (held : History)
+    (s : ServedSession V) : Type 0 where
+  pub holds : s.begun.history ≡ held
+  pub each : EachStandsFor s.begun.history (view s.begun.volume)
+  pub works : s.begun.failed ≡ false
+  pub runs : RunsInTurn tells view s.begun s.commands s.answers s.left
+  pub stops : Stops tells view s.left s.running s.image
+
+-- Sessions, one after the other. The first began with the warehouse `held`, each other one with
+-- what was opened from what the one before it left, and `found` is what is opened at the end.
+unfoldable pub LivesOn : {V : Type 0} → Bool → (V → View) → History → List (ServedSession V)
+    → History → Type 0
+LivesOn tells view held [] found = found ≡ held
+LivesOn tells view held (s ∷ sessions) found =
+    (next : History) × IsStopped tells view held s × StandsFor next s.image
+    × LivesOn tells view next sessions found
+
+-- these two files read as what a crash left at the end of the last session
+pub record WasLeft {V : Type 0} (tells : Bool) (view : V → View) (held : History)
+    (earlier : List (ServedSession V)) (last : ServedSession V) (seen : Image) : Type 0 where
+  -- what the last session began with
+  pub now : History
+  pub lived : LivesOn tells view held earlier now
+  pub stopped : IsStopped tells view now last
+  pub reads : (side : Side) → seen side ≡ last.image side
+
+-- the session that a crash within the command at this place of a script ended, where the commands
+-- before it left this store
+abbrev pub session_within : {V : Type 0} → StoreState V → List PlainCommand → List (List ℕ) → ℕ
+    → PlainCommand → StoreState V → Image → ServedSession V
+session_within begun commands answers place command left image =
+    record {
+      begun = begun;
+      commands = take place commands;
+      answers = take place answers;
+      left = left;
+      running = Some command;
+      image = image;
+    }
+
+-- the session that a crash behind these commands ended
+abbrev pub session_behind : {V : Type 0} → StoreState V → List PlainCommand → List (List ℕ)
+    → StoreState V → Image → ServedSession V
+session_behind begun commands answers left image =
+    record {
+      begun = begun;
+      commands = commands;
+      answers = answers;
+      left = left;
+      running = None;
+      image = image;
+    }
+
+-- ---- what is promised
+-- the entry in flight: the one that the running command sends, or one that a command sent which
+-- was answered `store S3 Device`
+abbrev pub IsFlying : {V : Type 0} → List ℕ → ServedSession V → EntryValue → Type 0
+IsFlying currency s e =
+    ((command : PlainCommand) × (s.running ≡ Some command) × Sends currency command e)
+    ⊎ ((place : ℕ) × (command : PlainCommand) × (slice_get s.commands place ≡ Some command)
+    × (slice_get s.answers place ≡ Some (store_fault_line store_fault.Device))
+    × Sends currency command e)
+
+-- What is opened after a session: what it began with, and behind it, of the entries that its
+-- answers speak of and the one in flight, those that are accepted, in order, and nothing else.
+pub record IsKeptOf {V : Type 0} (held : History) (s : ServedSession V) (next : History)
+    : Type 0 where
+  -- the entries that the answers speak of, each answered by the line of its verdict
+  pub entries : List EntryValue
+  pub answered : AreJudged held.currency s.commands s.answers entries
+      (verdict_lines (length held.entries) (verdicts_on held.entries entries))
+  -- the one in flight, or none
+  pub flying : List EntryValue
+  pub in_flight : AreInFlight (IsFlying held.currency s) flying
+  pub is : next ≡ with_more held (accepted_of held.entries (entries ++ flying))
+
+-- the same, session by session
+unfoldable pub IsPrefixOf : {V : Type 0} → History → List (ServedSession V) → History → Type 0
+IsPrefixOf held [] found = found ≡ held
+IsPrefixOf held (s ∷ sessions) found =
+    (next : History) × IsKeptOf held s next × IsPrefixOf next sessions found
+
+-- what a report on these entries is answered: why there is none, or the text of the stated one
+abbrev pub IsStatedReport : List EntryValue → List ℕ → ℕ → ℕ → List ℕ → Type 0
+IsStatedReport entries key from to answer =
+    ((fault : QueryFault) × IsRefused (commitments_of entries) (rows_of entries) key from to fault
+    × (answer ≡ query_fault_line fault))
+    ⊎ ((found : List reports.EntryValue) × IsRange from to × IsReportOn entries key from to found
+    × (answer ≡ counted (report_text found)))
+
+-- what lines of these entries are answered: why there are none, or the text of the stated ones
+abbrev pub AreStatedLines : List EntryValue → ℕ → ℕ → List ℕ → Type 0
+AreStatedLines entries from to answer =
+    ((fault : QueryFault) × AreRefused from to fault × (answer ≡ query_fault_line fault))
+    ⊎ ((found : List LineValue) × IsRange from to × AreLinesOf entries from to found
+    × (answer ≡ counted (lines_text found)))
+
+-- The promise. `found` is the warehouse after a prefix of the commands that holds each one that
+-- was acknowledged, and what is asked of it is answered by the stated allocation of its rows.
+pub record IsPromised {V : Type 0} (held : History) (sessions : List (ServedSession V))
+    (found : History) : Type 0 where
+  -- it is what the first session began with, and of each session what was accepted, in order, and
+  -- perhaps the entry that was in flight when it ended
+  pub prefix : IsPrefixOf held sessions found
+  -- what was answered `accepted N` in any session is the Nth entry
+  pub acknowledged : (place turn n : ℕ) (s : ServedSession V) (command : PlainCommand)
+      → slice_get sessions place ≡ Some s → slice_get s.commands turn ≡ Some command
+      → slice_get s.answers turn ≡ Some (accepted_line n)
+      → n < 2 ^ 64 → length found.entries < 2 ^ 64
+      → (e : EntryValue) × Sends held.currency command e × StandsAt found.entries n e
+  -- each entry was accepted after those before it, and keeps its limits
+  pub whole : IsWhole found.entries
+  -- whatever report is asked for, and whatever lines, the answer is the stated one
+  pub reported : (before after : Standing) (key : List ℕ) (from to : ℕ) (answer : List ℕ)
+      → before.history ≡ found → Answer before (report key from to) answer after
+      → IsStatedReport found.entries key from to answer
+  pub listed : (before after : Standing) (from to : ℕ) (answer : List ℕ)
+      → before.history ≡ found → Answer before (lines from to) answer after
+      → AreStatedLines found.entries from to answer
+  -- in them a commitment's Purchase lines have an EffectiveCost of 0, its Used and Unused lines
+  -- over its term carry what its purchases cost, to the last nano, and no row counts twice
+  pub adds_up : ReportsAddUp found.entries
