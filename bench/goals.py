@@ -105,8 +105,10 @@ STATE = [
 ]
 WITHDRAWALS = [
     Goal("a report beside 100 withdrawn posts: at most 1.1 times one without them", in_withdrawals("", 1.1)),
-    Goal("a withdrawal among 1,000,000 entries: at most 1.3 times one among 1,000, as posted", in_withdrawals("as posted, ", 1.3)),
-    Goal("the same after a checkpoint", in_withdrawals("after a checkpoint, ", 1.3)),
+    Goal("a withdrawal among 1,000,000 entries: at most 1.3 times one among 1,000, as posted", in_withdrawals("a withdrawal, as posted, ", 1.3)),
+    Goal("the same after a checkpoint", in_withdrawals("a withdrawal, after a checkpoint, ", 1.3)),
+    Goal("a purchase that is added among 1,000,000 entries: at most 1.3 times one among 1,000, as posted", in_withdrawals("an added purchase, as posted, ", 1.3)),
+    Goal("the same after a checkpoint", in_withdrawals("an added purchase, after a checkpoint, ", 1.3)),
 ]
 
 

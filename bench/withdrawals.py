@@ -6,12 +6,13 @@
     reports   a report over 1,000,000 rows with 100 posts of 245 rows more that were withdrawn, beside the same rows without these posts: repeated
               reports, and the first report after an entry; without commitments and under 40 of them; with the rows as they were posted, and in the
               long segments that a checkpoint made of them before the posts were withdrawn
-    entries   one withdrawal in a warehouse of 1,000 and of 1,000,000 posts of one row, as they were posted and after a checkpoint
+    entries   one withdrawal, and one purchase that is added to one of 16 commitments, in a warehouse of 1,000 and of 1,000,000 posts of one row, as
+              they were posted and after a checkpoint
 
 Of reports the time of the processor counts: that of a run with many reports less that of a run with 2, by their number. Both warehouses take turns,
-and their reports must be equal. A withdrawal is timed by the clock, from the answer to the first of 400 to that to the last, each stored and synced
-before the next. Its folder is in memory (/dev/shm) where there is one, so that what a sync costs on a disk hides nothing; --on-disk has it in
---scratch. Each turn begins with a new copy of the folder, and withdraws the same posts. Progress goes to standard error.
+and their reports must be equal. An entry is timed by the clock, from the answer to the 101st of 960 or 1,000 to that to the last, each stored and synced
+before the next. The folder is in memory (/dev/shm) where there is one, where a sync costs nothing; --on-disk has it in --scratch. Each turn begins
+with a new copy of the folder, and sends the same entries. Progress goes to standard error.
 
 Exit status: 0 measured, 1 the program failed or the reports differ, 2 a wrong command line or a machine on which nothing can be measured.
 """
@@ -28,8 +29,11 @@ from store import asked, small_posts, times_of_answers
 
 PARTS = ["reports", "entries"]
 MOST_REPORTS, MOST_ENTRIES = 1.1, 1.3
-# How many posts are withdrawn in a turn, and of how many answers the first ones are left out, while caches are cold.
-WITHDRAWN, LEFT_OUT = 400, 40
+# How many posts are withdrawn in a turn, and of how many answers no time is taken, while caches are cold.
+WITHDRAWN, LEFT_OUT = 1_000, 100
+# How many commitments there are, and how many purchases are added to each: with its own it may have 64.
+COMMITMENTS, PURCHASES = 16, 60
+ENTRIES = ("a withdrawal", "an added purchase")
 FEW_ENTRIES = 1_000
 LAYOUTS = {"as posted": b"", "after a checkpoint": b"checkpoint\n"}
 KINDS = ("repeated", "the first after an entry")
@@ -156,24 +160,43 @@ def targets(entries, count):
     return chosen
 
 
-def seconds_a_withdrawal(program, folder, script):
-    """The time between two answers to withdrawals, by the number of answers between them."""
+def terms():
+    """The commitments that purchases are added to."""
+    for number in range(1, COMMITMENTS + 1):
+        lines = [f'id = "plan-{number}"', 'category = "Usage"', f'start = "{instant(0)}"', "hours = 720", 'capacity = "1"', 'unit = "Hours"', 'skus = ["none"]']
+        yield entry("commit", "terms", number, [*lines, f'purchase = [{{ at = "{instant(0)}", billed = "720" }}]'])
+
+
+def purchases():
+    """Purchases that are added to these commitments in turn."""
+    for number in range(1, COMMITMENTS * PURCHASES + 1):
+        lines = [f'id = "plan-{1 + number % COMMITMENTS}"', f'at = "{instant(number % 720)}"', 'billed = "1.5"']
+        yield entry("add", "terms", COMMITMENTS + number, lines)
+
+
+def withdrawals(entries):
+    """Withdrawals of posts of a warehouse of so many."""
+    for place, target in enumerate(targets(entries, min(WITHDRAWN, entries)), 1):
+        yield f"withdraw small {entries + place} {target}\n".encode()
+
+
+def seconds_an_entry(program, folder, script):
+    """The time between two answers, by the number of answers between them."""
     times = times_of_answers([program, "run", "--dir", folder], script)
     return (times[-1] - times[LEFT_OUT]) / (len(times) - 1 - LEFT_OUT)
 
 
 def of_warehouse(program, room, entries, options):
-    """The seconds of a withdrawal in a warehouse of so many posts, of each turn, by the layout of its rows."""
-    paths = {name: os.path.join(room, name) for name in ("made", "copy", "script", "checkpoint", "withdrawals")}
+    """The seconds of an entry in a warehouse of so many posts, of each turn, by its kind and the layout of the rows."""
+    paths = {name: os.path.join(room, name) for name in ("made", "script", "checkpoint", *ENTRIES)}
+    copies = options.scratch if options.on_disk else room
     os.makedirs(paths["made"])
     say(f"making a warehouse of {entries:,} posts")
-    with open(paths["script"], "wb") as file:
-        file.writelines(small_posts(1, entries))
+    for name, lines in {"script": [*terms(), *small_posts(1, entries)], "a withdrawal": withdrawals(entries), "an added purchase": purchases()}.items():
+        with open(paths[name], "wb") as file:
+            file.writelines(lines)
     asked(program, paths["made"], paths["script"], "--create")
     os.remove(paths["script"])
-    count = min(WITHDRAWN, entries)
-    with open(paths["withdrawals"], "wb") as file:
-        file.writelines(f"withdraw small {entries + place} {target}\n".encode() for place, target in enumerate(targets(entries, count), 1))
     found = {}
     for layout, command in LAYOUTS.items():
         if command:
@@ -181,36 +204,40 @@ def of_warehouse(program, room, entries, options):
                 file.write(command)
             asked(program, paths["made"], paths["checkpoint"])
         for turn in range(options.turns):
-            shutil.copytree(paths["made"], paths["copy"])
-            took = seconds_a_withdrawal(program, paths["copy"], paths["withdrawals"])
-            shutil.rmtree(paths["copy"])
-            found.setdefault(layout, []).append(took)
-            say(f"  {layout}, turn {turn + 1}: {took * 1e6:,.1f} microseconds a withdrawal")
+            for kind in ENTRIES:
+                with tempfile.TemporaryDirectory(prefix="withdrawals-", dir=copies) as copy:
+                    shutil.copytree(paths["made"], copy, dirs_exist_ok=True)
+                    os.sync()
+                    took = seconds_an_entry(program, copy, paths[kind])
+                found.setdefault((kind, layout), []).append(took)
+                say(f"  {layout}, turn {turn + 1}: {took * 1e6:,.1f} microseconds {kind}")
     shutil.rmtree(paths["made"])
     return found
 
 
 def room_for(options):
-    """Where the folders are."""
-    return options.scratch if options.on_disk or not os.access("/dev/shm", os.W_OK) else "/dev/shm"
+    """Where warehouses are made."""
+    return "/dev/shm" if os.access("/dev/shm", os.W_OK) else options.scratch
 
 
 def measure_entries(program, options):
-    """The table of withdrawals."""
+    """The table of entries."""
     costs = {}
     with tempfile.TemporaryDirectory(prefix="withdrawals-", dir=room_for(options)) as room:
         for entries in (FEW_ENTRIES, options.entries):
             costs[entries] = of_warehouse(program, room, entries, options)
-    print(f"### One of {WITHDRAWN} withdrawals in a small and in a large warehouse, in {'a folder on disk' if options.on_disk else room_for(options)}\n")
-    print(f"| rows | posts before | microseconds a withdrawal, {options.turns} turns | the least |\n|---|---|---|---|")
-    for layout in LAYOUTS:
-        for entries, found in costs.items():
-            turns = found[layout]
-            print(f"| {layout} | {entries:,} | {', '.join(f'{it * 1e6:,.1f}' for it in turns)} | {min(turns) * 1e6:,.1f} |")
+    print(f"### An entry in a small and in a large warehouse, in {'a folder on disk' if options.on_disk else room_for(options)}\n")
+    print(f"| entry | rows | posts before | microseconds an entry, {options.turns} turns | the median |\n|---|---|---|---|---|")
+    for kind in ENTRIES:
+        for layout in LAYOUTS:
+            for entries, found in costs.items():
+                turns = found[kind, layout]
+                print(f"| {kind} | {layout} | {entries:,} | {', '.join(f'{it * 1e6:,.1f}' for it in turns)} | {statistics.median(turns) * 1e6:,.1f} |")
     print()
-    for layout in LAYOUTS:
-        ratio = min(costs[options.entries][layout]) / min(costs[FEW_ENTRIES][layout])
-        print(f"- Bar, {layout}, at most {MOST_ENTRIES} times: **{verdict(ratio <= MOST_ENTRIES)}** ({ratio:.2f} times)")
+    for kind in ENTRIES:
+        for layout in LAYOUTS:
+            ratio = statistics.median(costs[options.entries][kind, layout]) / statistics.median(costs[FEW_ENTRIES][kind, layout])
+            print(f"- Bar, {kind}, {layout}, at most {MOST_ENTRIES} times: **{verdict(ratio <= MOST_ENTRIES)}** ({ratio:.2f} times)")
     print()
 
 
@@ -236,7 +263,7 @@ def main():
     parser.add_argument("--each", type=whole_number, default=245, help="how many rows each of them has (default: 245)")
     parser.add_argument("--commitments", type=int, nargs="+", default=[0, 40], help="default: 0 40")
     parser.add_argument("--entries", type=whole_number, default=1_000_000, help="posts of the large warehouse (default: 1,000,000)")
-    parser.add_argument("--on-disk", action="store_true", help="withdraw in a folder in --scratch, where a sync may cost more than all else")
+    parser.add_argument("--on-disk", action="store_true", help="send the entries to a folder in --scratch, where a sync may cost more than all else")
     parser.add_argument("--seed", type=int, default=7, help="default: 7")
     parser.add_argument("--only", nargs="+", choices=PARTS, default=PARTS, metavar="PART", help="the parts that are measured (default: both)")
     return status_after(run, parser.parse_args())

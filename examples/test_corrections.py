@@ -139,6 +139,53 @@ class Corrections(unittest.TestCase):
         return int(re.search(r"^Entries +([\d,]+)$", self.do("status"), re.M)[1].replace(",", ""))
 
 
+class WithdrawnByScript(Corrections):
+    """Many posts of one long segment, which are withdrawn one by one while reports are asked for."""
+
+    REPORT = "report team 2024-09-01T00:00:00Z 2024-10-01T00:00:00Z\n"
+    # Between two reports are few withdrawals, or more than are noted one by one.
+    GONE_AT_REPORTS = (1, 2, 65, 66, 131, 140)
+
+    def post(self, number, records):
+        return f"post small {number} {len(records) + 1}\n{HEADER}{''.join(records)}"
+
+    def reports(self, script, folder=None):
+        """The reports that a script prints. Every entry is accepted."""
+        lines = self.do("run", given=script, folder=folder).splitlines()
+        self.assertEqual([it for it in lines if it.startswith(("already", "gap", "refused", "store"))], [])
+        return [it for it in lines if not it.startswith(("accepted", "checkpointed"))]
+
+    def of_others(self, posts, gone):
+        """The report of a warehouse that was sent the other posts alone."""
+        left = [records for number, records in posts.items() if number not in gone]
+        script = "".join(self.post(number, records) for number, records in enumerate(left, 1))
+        return self.reports(script + self.REPORT, self.new_folder(f"without-{len(gone)}"))
+
+    def test_one_after_the_other(self):
+        dice = random.Random(11)
+        posts = {number: export(dice.randrange(1, 4), number) for number in range(1, 151)}
+        order = dice.sample(sorted(posts), max(self.GONE_AT_REPORTS))
+        script, expected = "".join(self.post(number, records) for number, records in posts.items()) + "checkpoint\n", []
+        for place, number in enumerate(order, 1):
+            script += f"withdraw small {len(posts) + place} {number}\n"
+            if place in self.GONE_AT_REPORTS:
+                script += self.REPORT
+                last = self.of_others(posts, order[:place])
+                expected += last
+        self.assertEqual(self.reports(script), expected)
+        # Opened again, and once more from a checkpoint.
+        self.assertEqual(self.reports(self.REPORT), last)
+        self.assertEqual(self.reports("checkpoint\n" + self.REPORT), last)
+
+    def test_none_twice(self):
+        posts = {number: export(2, number) for number in range(1, 101)}
+        script = "".join(self.post(number, records) for number, records in posts.items()) + "checkpoint\n"
+        script += "".join(f"withdraw small {100 + number} {number}\n" for number in range(1, 81))
+        script += "".join(f"withdraw small 181 {number}\n" for number in range(1, 101))
+        answers = self.do("run", given=script).splitlines()[181:]
+        self.assertEqual(answers, ["refused J7 Withdrawn"] * 80 + ["accepted 181"] + ["already 181"] * 19)
+
+
 class Withdrawals(Corrections):
     def setUp(self):
         super().setUp()
