@@ -160,17 +160,18 @@ fn is_left(alloc: Global, state: &State, wanted: Withdrawn) -> Result<bool, Allo
     Ok(found == wanted)
 }
 
+/// Whether these are so of a state that is made for it.
+fn is_left_of(alloc: Global, state: State) -> Result<bool, AllocError> {
+    is_left(alloc, &state, FIRST_OF_TWO)
+}
+
 /// Whether these are so of a state, of a copy of it, of one whose columns are made, and of one whose rows are in few segments.
 fn is_left_in_all(alloc: Global, state: &State) -> Result<bool, AllocError> {
-    let copy = state.copy()?;
-    let settled = state.settled()?;
-    let merged = state.merged()?;
-    Ok(
-        is_left(alloc, state, FIRST_OF_TWO)?
-            && is_left(alloc, &copy, FIRST_OF_TWO)?
-            && is_left(alloc, &settled, FIRST_OF_TWO)?
-            && is_left(alloc, &merged, FIRST_OF_TWO)?,
-    )
+    let mut all = is_left(alloc, state, FIRST_OF_TWO)?;
+    all = is_left_of(alloc, state.copy()?)? && all;
+    all = is_left_of(alloc, state.settled()?)? && all;
+    all = is_left_of(alloc, state.merged()?)? && all;
+    Ok(all)
 }
 
 /// Whether the rows of a post that is withdrawn count no more, and those of the state before still do.
