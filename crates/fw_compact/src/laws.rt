@@ -12,7 +12,8 @@ pub fn what_counts_stays_the_same()
     ensures rows { (entries : List EntryValue) → rows_of (compacted entries) ≡ rows_of entries }
     ensures commitments { (entries : List EntryValue)
         → commitments_of (compacted entries) ≡ commitments_of entries }
-    ensures policy { (entries : List EntryValue) → policy_of (compacted entries) ≡ policy_of entries }
+    ensures policy { (entries : List EntryValue)
+        → policy_of (compacted entries) ≡ policy_of entries }
 {}
 
 /// But for their numbers, the entries are those that count, in order (`entries`). Each has one more than there are entries of its origin

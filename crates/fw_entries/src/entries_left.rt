@@ -108,8 +108,10 @@ fn row_count(content: &Content) -> usize
 // The entry of a head, whose rows are the next ones.
 fn entry_of(alloc: Global, head: &Head, rows: &mut RowsLeft<'_>) -> Result<Entry, AllocError>
     requires { IsEntry (entry_of head.now (take (row_count head.now.content) (rows_left rows.old))) }
-    ensures entry { IfOk result (λ entry. entry ≡ entry_of head.now (take (row_count head.now.content) (rows_left rows.old))) }
-    ensures rest { OnOk result (rows_left rows.new ≡ drop (row_count head.now.content) (rows_left rows.old)) }
+    ensures entry { IfOk result (λ entry. entry
+        ≡ entry_of head.now (take (row_count head.now.content) (rows_left rows.old))) }
+    ensures rest { OnOk result (rows_left rows.new
+        ≡ drop (row_count head.now.content) (rows_left rows.old)) }
 {
     let command = command_of(alloc, head.content(), rows)?;
     let origin = String::from_str(alloc, head.origin())?;
@@ -122,9 +124,12 @@ fn command_of(
     content: &Content,
     rows: &mut RowsLeft<'_>,
 ) -> Result<Command, AllocError>
-    requires { let brought = content_view content.now in IsCommand (command_of brought (take (row_count brought) (rows_left rows.old))) }
-    ensures command { let brought = content_view content.now in IfOk result (λ command. command_view command ≡ command_of brought (take (row_count brought) (rows_left rows.old))) }
-    ensures rest { OnOk result (rows_left rows.new ≡ drop (row_count (content_view content.now)) (rows_left rows.old)) }
+    requires { let brought = content_view content.now in IsCommand
+        (command_of brought (take (row_count brought) (rows_left rows.old))) }
+    ensures command { let brought = content_view content.now in IfOk result (λ command.
+        command_view command ≡ command_of brought (take (row_count brought) (rows_left rows.old))) }
+    ensures rest { OnOk result (rows_left rows.new
+        ≡ drop (row_count (content_view content.now)) (rows_left rows.old)) }
 {
     match content {
         Content::Post { rows: count } => {

@@ -36,7 +36,8 @@ impl<'a> RowsLeft<'a> {
         count: usize,
     ) -> Result<ColumnsBuilder, AllocError>
         requires { length (take count (rows_left self.old)) ≤ most_column_rows }
-        ensures { IfOk result (λ front. (front ≡ take count (rows_left self.old)) × (rows_left self.new ≡ drop count (rows_left self.old))) }
+        ensures { IfOk result (λ front. (front ≡ take count (rows_left self.old))
+            × (rows_left self.new ≡ drop count (rows_left self.old))) }
     {
         let mut front = ColumnsBuilder::new(alloc);
         while front.len() < count {

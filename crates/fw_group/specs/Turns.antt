@@ -91,7 +91,7 @@ module _ {V : Type 0} (view : V → View) where
   IsRefused s items fault.Failed = s.failed ≡ true
   IsRefused s items fault.OldSide = (s.failed ≡ false) × (AreOfForm s items → ⊥)
   IsRefused s items fault.TooLarge = (s.failed ≡ false) × AreOfForm s items × HasNoRoom (view s.volume).limit s (accepted_of s.history.entries (entries_of items))
-  IsRefused s items fault.NoMemory = ⊤
+  IsRefused s items fault.NoMemory = s.failed ≡ false
   IsRefused s items fault = ⊥
 
 module _ {V : Type 0} (tells : Bool) (view : V → View) where

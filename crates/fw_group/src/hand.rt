@@ -97,7 +97,8 @@ impl Hand {
         requires empty { self.old ≡ [] }
         requires have { count ≤ deque_len items.old }
 
-        ensures filled { OnOk result ((self.new ≡ take count items.old.items) × (items.new.items ≡ drop count items.old.items)) }
+        ensures filled { OnOk result ((self.new ≡ take count items.old.items)
+            × (items.new.items ≡ drop count items.old.items)) }
         ensures refused { OnErr result ((self.new ≡ self.old) × (items.new.items ≡ items.old.items)) }
     {
         self.importers.reserve(count)?;
@@ -157,8 +158,10 @@ fn move_front(
     requires room { vec_len importers.old + count ≤ vec_capacity importers.old }
     requires entry_room { vec_len entries.old + count ≤ vec_capacity entries.old }
 
-    ensures importers { importers.new.items ≡ importers.old.items ++ importers_of (take count items.old.items) }
-    ensures entries { entries.new.items ≡ entries.old.items ++ entries_of (take count items.old.items) }
+    ensures importers { importers.new.items ≡ importers.old.items
+        ++ importers_of (take count items.old.items) }
+    ensures entries { entries.new.items ≡ entries.old.items
+        ++ entries_of (take count items.old.items) }
     ensures rest { items.new.items ≡ drop count items.old.items }
 {
     for _ in 0..count {
@@ -177,7 +180,8 @@ pub fn answer_all<F: Front>(
     room: Vec<Answer<F>>,
     outcome: &Result<Vec<Verdict>, StoreFault>,
 ) -> Vec<Answer<F>>
-    requires fronts { (length fronts.items ≡ length hand.now) × All (λ f. f ≡ front.now) fronts.items }
+    requires fronts { (length fronts.items ≡ length hand.now)
+        × All (λ f. f ≡ front.now) fronts.items }
     requires room { (room.items ≡ []) × (length hand.now ≤ vec_capacity room) }
     requires outcome { IsOutcome F.list hand.now front.now outcome.now }
     ensures { AnswersAre F.list hand.now outcome.now front.now result.items }

@@ -75,7 +75,11 @@ impl Inbox {
     /// # Errors
     /// `Closed` exactly where the inbox is closed; then `NoMemory`. Both change nothing, and drop the entry.
     pub fn push(&mut self, importer: usize, entry: Entry) -> Result<(), PushFault>
-        ensures pushed { OnOk result (self.new ≡ record self.old { waiting = self.old.waiting ++ record { importer = importer; entry = entry } ∷ [] }) }
+        ensures pushed { OnOk result (self.new
+            ≡ record self.old {
+              waiting = self.old.waiting
+                  ++ record { importer = importer; entry = entry } ∷ [];
+            }) }
         ensures refused { OnErr result (self.new ≡ self.old) }
         ensures closed { IsErrOf result Closed ↔ (self.old.closed ≡ true) }
     {
@@ -101,8 +105,11 @@ impl Inbox {
     /// # Errors
     /// Where the allocator refused a growth. Nothing changes.
     pub fn take(&mut self, hand: &mut Hand) -> Result<usize, AllocError>
-        ensures moved { IfOk result (λ n. hand.old ≡ [] → IsLongest self.old.waiting n × (hand.new ≡ take n self.old.waiting) × (self.new ≡ record self.old { waiting = drop n self.old.waiting })) }
-        ensures in_hand { (hand.old ≡ [] → ⊥) → (result ≡ Ok 0) × (hand.new ≡ hand.old) × (self.new ≡ self.old) }
+        ensures moved { IfOk result (λ n. hand.old ≡ []
+            → IsLongest self.old.waiting n × (hand.new ≡ take n self.old.waiting)
+            × (self.new ≡ record self.old { waiting = drop n self.old.waiting })) }
+        ensures in_hand { (hand.old ≡ [] → ⊥)
+            → (result ≡ Ok 0) × (hand.new ≡ hand.old) × (self.new ≡ self.old) }
         ensures refused { OnErr result ((hand.new ≡ hand.old) × (self.new ≡ self.old)) }
     {
         if !hand.is_empty() {

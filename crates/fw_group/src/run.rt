@@ -171,7 +171,8 @@ fn store_group<V: Volume>(
     requires judged { IsJudged V.view store.old hand.now group }
     requires room { (room.items ≡ []) × (length hand.now ≤ vec_capacity room) }
 
-    ensures ok { IfOk result (λ answers. Stores V.tells V.view store.old hand.now answers.items store.new) }
+    ensures ok { IfOk result (λ answers. Stores V.tells V.view store.old hand.now answers.items
+        store.new) }
     ensures refused { OnErr result (store.new ≡ store.old) }
 {
     let Judged {
@@ -263,7 +264,8 @@ fn while_open<V: Volume>(
 ) -> Result<EventAnswer, AllocError>
     requires desk { IsDesk desk.old }
 
-    ensures ok { IfOk result (λ a. WhileOpen V.tells V.view store.old desk.old answers.now event a store.new desk.new) }
+    ensures ok { IfOk result (λ a. WhileOpen V.tells V.view store.old desk.old answers.now event a
+        store.new desk.new) }
     ensures refused { OnErr result ((store.new ≡ store.old) × (desk.new ≡ desk.old)) }
 {
     match event {
@@ -290,7 +292,8 @@ fn act<V: Stoppable>(
 ) -> (House<V>, Result<EventAnswer, AllocError>)
     requires desk { IsDesk desk.old }
 
-    ensures ok { IfOk result.1 (λ a. Acts V.tells V.view house desk.old answers.now event a result.0 desk.new) }
+    ensures ok { IfOk result.1 (λ a. Acts V.tells V.view house desk.old answers.now event a result.0
+        desk.new) }
     ensures refused { OnErr result.1 (Stays V.tells V.view house result.0 × (desk.new ≡ desk.old)) }
 {
     match (house, event) {
@@ -322,8 +325,11 @@ fn step<V: Stoppable>(
 ) -> (House<V>, Result<(), AllocError>)
     requires desk { IsDesk desk.old }
 
-    ensures ok { OnOk result.1 ((a : EventAnswer) × Acts V.tells V.view house desk.old answers.old.items event a result.0 desk.new × (answers.new.items ≡ answers.old.items ++ a ∷ [])) }
-    ensures refused { OnErr result.1 (Stays V.tells V.view house result.0 × (desk.new ≡ desk.old) × (answers.new.items ≡ answers.old.items)) }
+    ensures ok { OnOk result.1 ((a : EventAnswer)
+        × Acts V.tells V.view house desk.old answers.old.items event a result.0 desk.new
+        × (answers.new.items ≡ answers.old.items ++ a ∷ [])) }
+    ensures refused { OnErr result.1 (Stays V.tells V.view house result.0 × (desk.new ≡ desk.old)
+        × (answers.new.items ≡ answers.old.items)) }
 {
     if let Err(refused) = answers.reserve(1) {
         return (house, Err(refused));
@@ -351,10 +357,13 @@ pub fn run_events<V: Stoppable>(
 ) -> (House<V>, Vec<EventAnswer>, Option<AllocError>)
     ensures run { IsTrue V.tells → (published : History) (group : List EntryValue) (failed : Bool)
         → Stands V.view house (start house published group failed importers analysts)
-        → HasRun V.view house (start house published group failed importers analysts) (take (length result.1.items) events.items) result.1.items result.0 }
+        → HasRun V.view house (start house published group failed importers analysts)
+        (take (length result.1.items) events.items) result.1.items result.0 }
     ensures shown { IsTrue V.tells → (published : History) (group : List EntryValue) (failed : Bool)
         → Stands V.view house (start house published group failed importers analysts)
-        → (i j place : ℕ) (receipt : Receipt History) (list : History) → i < j → receipt_at (slice_get result.1.items i) place ≡ Some receipt → shown_in (slice_get result.1.items j) ≡ Some list
+        → (i j place : ℕ) (receipt : Receipt History) (list : History) → i < j
+        → receipt_at (slice_get result.1.items i) place ≡ Some receipt
+        → shown_in (slice_get result.1.items j) ≡ Some list
         → IsShown (take (length result.1.items) events.items) result.1.items i receipt list }
     ensures whole { result.2 ≡ None → length result.1.items ≡ length events.items }
 {

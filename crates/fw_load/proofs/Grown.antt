@@ -75,7 +75,7 @@ module _ {V : Type 0} (tells : Bool) (view : V → View) where
       (((group, c.history), inr crash), c.failed ∙ sym c.went_on, p.published ∙ (ap (λ (h : History). with_more h group) shown ∙ sym c.history))
 
   pub ran_out : (f g : Flushed V) → CommitFails tells view f (commit.Store fault.NoMemory) g → GoesOn tells view f g
-  ran_out f g fails = same_state f g fails.1
+  ran_out f g fails = same_state f g fails.1.2
 
   whole : (f g : Flushed V) (more : List EntryValue) → (IsTrue tells → LeavesOnly (view f.store.volume) (view g.store.volume) (StandsForEither f.store.history more)) → LeavesMore tells view f.store g.store
   whole f g more run = inr (λ told. weakened (view f.store.volume) (view g.store.volume) _ (StandsForMore f.store.history) (run told) (either_more f.store.history more))
@@ -86,11 +86,11 @@ module _ {V : Type 0} (tells : Bool) (view : V → View) where
   pub failed : (f : Flushed V) (why : CommitFault) (g : Flushed V) → CommitFails tells view f why g → Stops tells view f g
   failed f (commit.Store fault.NoHouse) g fails shown = absurd fails.1
   failed f (commit.Store (fault.Corrupt side at)) g fails shown = absurd fails.1
-  failed f (commit.Store fault.Device) g fails shown = (begins_same f.store.history g.store.history fails.1.1.history, whole f g _ fails.1.5)
+  failed f (commit.Store fault.Device) g fails shown = (begins_same f.store.history g.store.history fails.1.2.history, whole f g _ fails.1.6)
   failed f (commit.Store fault.Failed) g fails shown = same f g fails.1.1 shown
   failed f (commit.Store fault.Generations) g fails shown = absurd fails.1
-  failed f (commit.Store fault.OldSide) g fails shown = same f g fails.1.2 shown
-  failed f (commit.Store fault.TooLarge) g fails shown = same f g fails.1.3 shown
+  failed f (commit.Store fault.OldSide) g fails shown = same f g fails.1.3 shown
+  failed f (commit.Store fault.TooLarge) g fails shown = same f g fails.1.4 shown
   failed f (commit.Store fault.Exists) g fails shown = absurd fails.1
-  failed f (commit.Store fault.NoMemory) g fails shown = same f g fails.1 shown
-  failed f commit.Unpublished g fails shown = ((group_on f.published f.hand, fails.1.1.history), whole f g _ fails.1.3)
+  failed f (commit.Store fault.NoMemory) g fails shown = same f g fails.1.2 shown
+  failed f commit.Unpublished g fails shown = ((group_on f.published f.hand, fails.1.2.history), whole f g _ fails.1.4)

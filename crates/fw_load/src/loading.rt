@@ -119,7 +119,8 @@ fn run<J: Naming + Send + Sync, R: Threads + Wait + Sync, V: Volume + Drop, P: P
         thread::scope_env(),
         rt,
         move |scope| -> (Store<V>, Option<LoadFault>, u64)
-            ensures { IsShown held.entry.flusher → Loads V.tells V.view held.entry.flusher.store result.0 result.1 }
+            ensures { IsShown held.entry.flusher
+                → Loads V.tells V.view held.entry.flusher.store result.0 result.1 }
         {
             start_seats(scope, seats);
             let watches = start_watches(rt, alloc, scope, analysts, places);

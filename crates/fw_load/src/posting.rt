@@ -18,7 +18,8 @@ pub(crate) fn entry_of(
     text: &[u8],
 ) -> Result<Entry, Reply>
     ensures file { IfOk result (IsFileOf currency name.now number text.now) }
-    ensures none { IfErr result (λ reply. IsNoFile currency name.now number text.now (reply_text reply)) }
+    ensures none { IfErr result (λ reply. IsNoFile currency name.now number text.now
+        (reply_text reply)) }
 {
     let rows = match read_columns(alloc, text, currency) {
         Ok(rows) => rows,

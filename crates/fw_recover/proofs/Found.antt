@@ -1,5 +1,5 @@
 -- A warehouse is read: its header, its body, and the groups of its log one by one.
-use Rattle.std.proofs.Common.{false, ◌≡◌, ◌⊎◌, inl, inr, ℕ, ◌+◌, ◌-◌, ◌^◌, ◌<◌, List, [], ◌∷◌, ◌++◌, length, take, drop, get_or, map, Option, Some, None, Result, Ok, Err, refl, sym, ◌∙◌, ap, subst, arith, append_assoc, take-append-drop}
+use Rattle.std.proofs.Common.{false, ◌≡◌, ◌⊎◌, inl, inr, ℕ, ◌+◌, ◌-◌, ◌^◌, ◌<◌, List, [], ◌∷◌, ◌++◌, length, take, drop, get_or, map, Result, Ok, Err, refl, sym, ◌∙◌, ap, subst, arith, append_assoc, take-append-drop}
 use Rattle.std.proofs.lemmas.List.{drop_at, drop-drop, map_push, take_more, length-take, length-drop}
 use Rattle.std.proofs.lemmas.List.Elements.{All-nil, All-push}
 use Rattle.fw_bytes.specs.Spelling.{number64}
@@ -13,11 +13,10 @@ use Rattle.fw_journal.specs.Frames.{open_frame, spelled, IsFit, AllFit, IsBroken
 use Rattle.fw_journal.specs.declared.fault.LogFault.{LogFault}
 use Rattle.fw_journal.specs.declared.fault.LogFault.TheVariants as log_faults
 use Rattle.fw_journal.proofs.Spelling.{spelled-none, spelled-push, length-spelled-push, length-sized, AllFit-push}
-use Rattle.fw_entry_bytes.specs.Whole.{whole}
 use Rattle.fw_entry_bytes.specs.Forms.{IsOfForm}
 use Rattle.fw_segment.specs.Decoding.{IsAt}
 use Rattle.fw_segment.specs.declared.fault.DecodeFault.TheVariants as faults
-use Rattle.fw_segment.specs.Groups.{group, group_at, IsGroupOf}
+use Rattle.fw_segment.specs.Groups.{group, IsGroupOf}
 use Rattle.fw_segment.specs.States.{Spells, state_at}
 use Rattle.fw_segment.proofs.Histories.{state_again}
 use Rattle.fw_snapshot.specs.History.{History}
@@ -31,7 +30,7 @@ use Rattle.fw_recover.specs.Stands.{SideTells, IsNewest, StandsForNone}
 use Rattle.fw_recover.specs.Corrupt.{LacksAt, Lacks, AreTwins, IsBadFrame, LogBreaks, BodyBreaks, BreaksBehind, Breaks, CorruptAt}
 use Rattle.fw_recover.specs.Headers.{HasHeader}
 use Rattle.fw_recover.specs.Making.{AllSettled}
-use Rattle.fw_recover.specs.Opening.{log_fault, IsAfter, GoesNotBehind, GoesBehind, IsWithGroup, HasGroups, IsClosedAt, HasBadBody}
+use Rattle.fw_recover.specs.Opening.{log_fault, GoesNotBehind, GoesBehind, HasGroups, IsClosedAt, HasBadBody}
 use Rattle.fw_recover.specs.Store.{IsFresh}
 use Rattle.fw_recover.proofs.Appending.{more_history}
 use Rattle.fw_recover.proofs.Standing.{no_more}
@@ -80,16 +79,6 @@ with_one_more h last next es i e within is so_far applied =
 pub not_read : {Y : Type 0} (total at : ℕ) (read : Result Y ℕ) → IsAt total (faults.Corrupt at) read → (left : ℕ) × (read ≡ Err left) × (at ≡ total - left)
 not_read total at (Ok y) is = absurd is
 not_read total at (Err left) is = (left, refl, is)
-
-pub no_group : (form : Form) (entries : List EntryValue) (payload : List ℕ) (at : ℕ) → IsAt (length payload) (faults.Corrupt at) (whole (group_at form) payload) → GoesNotBehind form entries payload
-no_group form entries payload at is =
-    let bad = not_read (length payload) at (whole (group_at form) payload) is in
-    inl (bad.0, bad.1)
-
-pub after_group : (form : Form) (h : History) (payload : List ℕ) (es : List EntryValue) (next : Option History) → IsGroupOf form es → payload ≡ group es → whole (group_at form) payload ≡ Ok es → IsAfter h es next
-    → IsWithGroup form h payload next
-after_group form h payload es None is_group is read refused = inr (es, read, refused)
-after_group form h payload es (Some next) is_group is read after = record { more = es; is_group = is_group; spelled = is; legal = after.0; is = after.1 }
 
 pub bad_frame : (form : Form) (entries : List EntryValue) (bytes payload rest : List ℕ) → IsFit payload → bytes ≡ open_frame payload ++ rest → GoesNotBehind form entries payload
     → IsBadFrame form entries bytes

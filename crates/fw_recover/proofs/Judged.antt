@@ -130,13 +130,6 @@ module _ (h now : History) (es : List EntryValue) (i : ℕ) (e : EntryValue) (wi
       ap (λ (k : History). with_more k t) so_far
       ∙ ap (λ (l : List EntryValue). let one : History = record { currency = h.currency; entries = l } in one) (append_assoc h.entries first t ∙ ap (λ (l : List EntryValue). h.entries ++ l) (sym accepted_more))
 
-  pub history_accepted : (after : History) → judged now.entries e ≡ verdict.Accept → after ≡ record { currency = now.currency; entries = now.entries ++ e ∷ [] }
-      → after ≡ with_more h (accepted_of h.entries (take (i + 1) es))
-  history_accepted after accepted next = next ∙ ap (λ (l : List EntryValue). with_more now l) (sym (kept_if (judged now.entries e) e accepted)) ∙ history_more
-
-  pub history_refused : judged now.entries e ≢ verdict.Accept → now ≡ with_more h (accepted_of h.entries (take (i + 1) es))
-  history_refused refused = no_more now ∙ ap (λ (l : List EntryValue). with_more now l) (sym (kept_unless (judged now.entries e) e refused)) ∙ history_more
-
 -- a form that lacks one of these entries doesn't have each
 pub not_of_form : (form : Form) (es : List EntryValue) → list_all (has_entry form) es ≡ false → IsOfForm form es → ⊥
 not_of_form form es lacks all =

@@ -1,14 +1,15 @@
 -- Adding entries to a warehouse: what is prepared before anything is written, and what is left by the calls that write it.
 use Rattle.std.specs.Prelude.{◌≡◌, ◌⊎◌, ℕ, ◌+◌, ◌<◌, ◌≤◌, Bool, true, false, IsTrue, List, [], ◌∷◌, length, take}
-use Rattle.fw_disk.specs.Volume.{Image, View}
+use Rattle.fw_disk.specs.Volume.{Image, View, LeavesOnly, Rose}
 use Rattle.fw_entry.specs.Entry.{EntryValue}
 use Rattle.fw_segment.specs.Groups.{group, IsGroup}
 use Rattle.fw_snapshot.specs.History.{History}
-use Rattle.fw_snapshot.specs.Verdicts.{verdicts_on, accepted_of, with_more}
+use Rattle.fw_snapshot.specs.Judging.{judged}
+use Rattle.fw_snapshot.specs.Verdicts.{taken, verdicts_on, accepted_of, with_more}
 use Rattle.fw_snapshot.specs.declared.verdict.Verdict.{Verdict}
 use Rattle.fw_recover.specs.declared.fault.StoreFault.{StoreFault}
 use Rattle.fw_recover.specs.declared.fault.StoreFault.TheVariants.{Device, Failed, TooLarge, OldSide, NoMemory}
-use Rattle.fw_recover.specs.Stands.{StandsFor, EachStandsFor}
+use Rattle.fw_recover.specs.Stands.{StandsFor, StandsForEither, EachStandsFor}
 use Rattle.fw_recover.specs.Store.{StoreState}
 
 -- entries that were judged and are ready to be written: the warehouse after which they were judged, those that were accepted,
@@ -35,6 +36,25 @@ pub record IsFrameable (entries : List EntryValue) : Type 0 where
 -- the frame of these entries and the closed gate behind it would end past the limit; without entries there is no frame
 abbrev pub HasNoRoom : {V : Type 0} → ℕ → StoreState V → List EntryValue → Type 0
 HasNoRoom limit s accepted = (0 < length accepted) × (limit < s.log.end + 6 + length (group accepted))
+
+-- the volume of the store has no room for these entries
+abbrev pub LacksRoom : {V : Type 0} → (V → View) → StoreState V → List EntryValue → Type 0
+LacksRoom view s accepted = HasNoRoom (view s.volume).limit s accepted
+
+-- the verdict of the store's warehouse on an entry, and the entry where it is accepted
+abbrev pub judged_on : {V : Type 0} → StoreState V → EntryValue → Verdict
+judged_on s e = judged s.history.entries e
+
+abbrev pub taken_on : {V : Type 0} → StoreState V → EntryValue → List EntryValue
+taken_on s e = taken s.history.entries e
+
+-- those of the entries that the store's warehouse accepts, each after its own and the accepted ones before it
+abbrev pub accepted_on : {V : Type 0} → StoreState V → List EntryValue → List EntryValue
+accepted_on s es = accepted_of s.history.entries es
+
+-- at each moment from the one store to the other a crash leaves the warehouse as it was, or with all of these entries
+abbrev pub LeavesEither : {V : Type 0} → (V → View) → StoreState V → StoreState V → List EntryValue → Type 0
+LeavesEither view old new more = LeavesOnly (view old.volume) (view new.volume) (StandsForEither old.history more)
 
 -- the store after these entries were added: they are in the warehouse and, where there are any, in the log. Whatever a crash
 -- leaves from now on stands for the warehouse with them. The side in use stays, and so do its form and its generation
@@ -66,6 +86,14 @@ pub record Lost {V : Type 0} (old new : StoreState V) : Type 0 where
 -- the faults of the calls that add entries
 abbrev pub IsCommitFault : StoreFault → Type 0
 IsCommitFault fault = (fault ≡ Device) ⊎ ((fault ≡ Failed) ⊎ ((fault ≡ OldSide) ⊎ ((fault ≡ TooLarge) ⊎ (fault ≡ NoMemory))))
+
+-- how a call that adds entries fails: with one of these faults, and without a change, unless the device failed. A failed device
+-- is counted by the volume, and the store takes no more
+pub record Fails {V : Type 0} (view : V → View) (old new : StoreState V) (fault : StoreFault) : Type 0 where
+  pub which : IsCommitFault fault
+  pub unchanged : (fault ≡ Device) ⊎ (new ≡ old)
+  pub lost : fault ≡ Device → Lost old new
+  pub device : fault ≡ Device → Rose (view old.volume).failures (view new.volume).failures
 
 -- the warehouse with those that it accepts of the first n entries
 abbrev pub with_first : History → ℕ → List EntryValue → History

@@ -1,5 +1,5 @@
 -- What is found while a warehouse is opened.
-use Rattle.std.specs.Prelude.{◌≡◌, ◌≢◌, ◌⊎◌, ⊤, ℕ, ◌+◌, ◌-◌, List, ◌∷◌, ◌++◌, length, take, drop, map, All, Option, Some, None, Ok, Err}
+use Rattle.std.specs.Prelude.{◌≡◌, ◌≢◌, ◌⊎◌, ⊤, ℕ, ◌+◌, ◌-◌, List, ◌∷◌, ◌++◌, length, take, drop, map, All, Ok, Err}
 use Rattle.fw_disk.specs.declared.volume.Side.{Side}
 use Rattle.fw_entry.specs.Entry.{EntryValue}
 use Rattle.fw_entry_bytes.specs.declared.form.Form.{Form}
@@ -36,11 +36,6 @@ log_fault side faults.Failed = Device
 log_fault side faults.TooLarge = Device
 log_fault side faults.NoMemory = NoMemory
 
--- the warehouse with these entries, and none where one of them isn't accepted after those before it
-abbrev pub IsAfter : History → List EntryValue → Option History → Type 0
-IsAfter h es None = IsLegalAfter h.entries es → ⊥
-IsAfter h es (Some next) = IsLegalAfter h.entries es × (next ≡ with_more h es)
-
 -- the payload is no group of the form, or one with an entry that isn't accepted after those before it
 abbrev pub GoesNotBehind : Form → List EntryValue → List ℕ → Type 0
 GoesNotBehind form entries payload =
@@ -54,11 +49,6 @@ pub record GoesBehind (form : Form) (h : History) (payload : List ℕ) (next : H
   pub spelled : payload ≡ group more
   pub legal : IsLegalAfter h.entries more
   pub is : next ≡ with_more h more
-
--- the warehouse with the group of a payload, which is of the form
-abbrev pub IsWithGroup : Form → History → List ℕ → Option History → Type 0
-IsWithGroup form h payload None = GoesNotBehind form h.entries payload
-IsWithGroup form h payload (Some next) = GoesBehind form h payload next
 
 -- from the first gate of a log up to this one stand the frames of the groups, all of the form, that made a state into this warehouse
 pub record HasGroups (form : Form) (state : History) (start gate : ℕ) (file : List ℕ) (now : History) : Type 0 where

@@ -26,15 +26,21 @@ impl<V: Volume> Store<V> {
     /// refused: these change nothing. `Device` where a write, a read or a sync failed: then every later call that writes
     /// is `Failed`.
     pub fn checkpoint(&mut self, alloc: Global) -> Result<(), StoreFault>
-        ensures any_moment { IsTrue V.tells → self.old.failed ≡ false → LeavesOnly (V.view self.old.volume) (V.view self.new.volume) (StandsFor self.old.history) }
-        ensures each { IsTrue V.tells → self.old.failed ≡ false → EachStandsFor self.old.history (V.view self.new.volume) }
+        ensures any_moment { IsTrue V.tells → self.old.failed ≡ false
+            → LeavesOnly (V.view self.old.volume) (V.view self.new.volume)
+            (StandsFor self.old.history) }
+        ensures each { IsTrue V.tells → self.old.failed ≡ false
+            → EachStandsFor self.old.history (V.view self.new.volume) }
         ensures done { OnOk result (IsCheckpointed V.tells V.view self.old self.new) }
         ensures same { self.new.history ≡ self.old.history }
 
         ensures failed { IsErrOf result Failed ↔ (self.old.failed ≡ true) }
-        ensures generations { IsErrOf result Generations ↔ ((self.old.failed ≡ false) × (self.old.generation ≡ 2 ^ 64 - 1)) }
-        ensures too_large { IsErrOf result TooLarge → HasNoRoomFor (V.view self.old.volume).limit self.old.history }
-        ensures device { IsErrOf result Device → (self.new ≡ record self.old { volume = self.new.volume; failed = true })
+        ensures generations { IsErrOf result Generations
+            ↔ ((self.old.failed ≡ false) × (self.old.generation ≡ 2 ^ 64 - 1)) }
+        ensures too_large { IsErrOf result TooLarge
+            → HasNoRoomFor (V.view self.old.volume).limit self.old.history }
+        ensures device { IsErrOf result Device
+            → (self.new ≡ record self.old { volume = self.new.volume; failed = true })
             × Rose (V.view self.old.volume).failures (V.view self.new.volume).failures }
         ensures unchanged { OnErr result (IsErrOf result Device ⊎ (self.new ≡ self.old)) }
         ensures not_no_house { IsErrOf result NoHouse → ⊥ }
@@ -69,8 +75,10 @@ impl<V: Volume> Store<V> {
     fn merged_side(&self, alloc: Global, generation: u64) -> Result<(Vec<u8>, Snapshot), StoreFault>
         ensures made { IfOk result (λ side. SpellsSide generation self.now.history side.0.items) }
         ensures same { IfOk result (λ side. side.1 ≡ self.now.history) }
-        ensures fits { IfOk result (λ side. 1 + length side.0.items ≤ (V.view self.now.volume).limit) }
-        ensures too_large { IsErrOf result TooLarge → HasNoRoomFor (V.view self.now.volume).limit self.now.history }
+        ensures fits { IfOk result (λ side. 1 + length side.0.items
+            ≤ (V.view self.now.volume).limit) }
+        ensures too_large { IsErrOf result TooLarge
+            → HasNoRoomFor (V.view self.now.volume).limit self.now.history }
         ensures which { OnErr result (IsErrOf result TooLarge ⊎ IsErrOf result NoMemory) }
     {
         let Ok(merged) = self.snapshot.state().merged() else {
@@ -95,5 +103,14 @@ impl<V: Volume> Store<V> {
         ensures { result ≡ self.now.log.end - self.now.log.start }
     {
         self.log.end().saturating_sub(self.log.start())
+    }
+
+    /// Whether a checkpoint pays: the log has as many bytes as the body, or more. A checkpoint costs as much as writing the
+    /// body, and saves reading the log each time that the warehouse is opened.
+    pub fn checkpoint_pays(&self) -> bool
+        ensures { IsTrue result
+            ↔ (self.now.log.start - 25 ≤ self.now.log.end - self.now.log.start) }
+    {
+        self.body_len() <= self.log_len()
     }
 }

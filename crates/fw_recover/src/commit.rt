@@ -1,16 +1,15 @@
 //! Adding entries to a warehouse: they are judged, the state with the accepted ones is made, and then these are written.
-ghost use Rattle.std.specs.Prelude.{◌≡◌, ◌⊎◌, ◌↔◌, ◌+◌, ◌<◌, ◌≤◌, true, false, [], ◌∷◌, length, IsSome, IfSome, IfNone, IsOk, IsErr, IfOk, IfErr, OnOk, OnErr, IsErrOf, IsTrue};
+ghost use Rattle.std.specs.Prelude.{◌≡◌, ◌⊎◌, ◌↔◌, ◌+◌, ◌<◌, ◌≤◌, true, false, [], ◌∷◌, length, IsSome, IfSome, IfNone, IsOk, IsErr, IfOk, IfErr, OnOk, IsErrOf, IsTrue};
 ghost use Rattle.fw_disk.specs.Volume.{LeavesOnly, Rose};
 ghost use Rattle.fw_journal.specs.Frames.{IsFit};
 ghost use Rattle.fw_entry_bytes.specs.Forms.{has_entry, IsOfForm};
 ghost use Rattle.fw_segment.specs.Groups.{group, IsGroup};
-ghost use Rattle.fw_snapshot.specs.Judging.{judged};
-ghost use Rattle.fw_snapshot.specs.Verdicts.{taken, verdicts_on, accepted_of};
+ghost use Rattle.fw_snapshot.specs.Verdicts.{verdicts_on};
 ghost use Rattle.fw_snapshot.specs.declared.verdict.Verdict.TheVariants.{Accept};
 ghost use Rattle.fw_recover.specs.declared.fault.StoreFault.TheVariants.{Device, Failed, TooLarge, OldSide};
-ghost use Rattle.fw_recover.specs.Stands.{StandsFor, StandsForEither};
+ghost use Rattle.fw_recover.specs.Stands.{StandsFor};
 ghost use Rattle.fw_recover.specs.Opening.{GoesBehind};
-ghost use Rattle.fw_recover.specs.Committing.{prepared_on, HasNoRoom, Committed, Appended, Lost, IsCommitFault};
+ghost use Rattle.fw_recover.specs.Committing.{prepared_on, judged_on, taken_on, accepted_on, LacksRoom, LeavesEither, Committed, Appended, Fails, Lost, IsCommitFault};
 
 use crate::prepared::{group_of_one, len_of_one};
 use crate::{Prepared, Store, StoreFault};
@@ -32,19 +31,19 @@ impl<V: Volume> Store<V> {
     /// failed: the state is as it was, the files have the entry or not, and every later call that writes is `Failed`.
     pub fn commit(&mut self, alloc: Global, entry: &Entry) -> Result<Verdict, StoreFault>
         ensures any_moment { IsTrue V.tells → self.old.failed ≡ false
-            → LeavesOnly (V.view self.old.volume) (V.view self.new.volume) (StandsForEither self.old.history (taken self.old.history.entries entry.now)) }
-        ensures done { IfOk result (λ verdict. (verdict ≡ judged self.old.history.entries entry.now)
-            × Committed V.tells V.view self.old self.new (taken self.old.history.entries entry.now)) }
-        ensures unchanged { OnErr result (IsErrOf result Device ⊎ (self.new ≡ self.old)) }
-        ensures lost { IsErrOf result Device → Lost self.old self.new }
+            → LeavesEither V.view self.old self.new (taken_on self.old entry.now) }
+        ensures done { IfOk result (λ verdict. (verdict ≡ judged_on self.old entry.now)
+            × Committed V.tells V.view self.old self.new (taken_on self.old entry.now)) }
+        ensures fails { IfErr result (Fails V.view self.old self.new) }
 
         ensures failed { IsErrOf result Failed ↔ (self.old.failed ≡ true) }
-        ensures old_side { IsErrOf result OldSide ↔ ((self.old.failed ≡ false) × (judged self.old.history.entries entry.now ≡ Accept) × (has_entry self.old.form entry.now ≡ false)) }
-        ensures too_large { IsErrOf result TooLarge → HasNoRoom (V.view self.old.volume).limit self.old (taken self.old.history.entries entry.now) }
-        ensures fits { IsOk result → HasNoRoom (V.view self.old.volume).limit self.old (taken self.old.history.entries entry.now) → ⊥ }
-        ensures accepted { IsErrOf result Device → judged self.old.history.entries entry.now ≡ Accept }
-        ensures device { IsErrOf result Device → Rose (V.view self.old.volume).failures (V.view self.new.volume).failures }
-        ensures which { IfErr result IsCommitFault }
+        ensures old_side { IsErrOf result OldSide
+            ↔ ((self.old.failed ≡ false) × (judged_on self.old entry.now ≡ Accept)
+            × (has_entry self.old.form entry.now ≡ false)) }
+        ensures too_large { IsErrOf result TooLarge
+            → LacksRoom V.view self.old (taken_on self.old entry.now) }
+        ensures fits { IsOk result → LacksRoom V.view self.old (taken_on self.old entry.now) → ⊥ }
+        ensures accepted { IsErrOf result Device → judged_on self.old entry.now ≡ Accept }
         ensures later { (V.view self.old.volume).failures ≤ (V.view self.new.volume).failures }
         ensures limit { (V.view self.new.volume).limit ≡ (V.view self.old.volume).limit }
     {
@@ -80,21 +79,23 @@ impl<V: Volume> Store<V> {
         requires size { length (group entries.now) ≤ 8388608 }
 
         ensures any_moment { IsTrue V.tells → self.old.failed ≡ false
-            → LeavesOnly (V.view self.old.volume) (V.view self.new.volume) (StandsForEither self.old.history (accepted_of self.old.history.entries entries.now)) }
-        ensures done { IfOk result (λ verdicts. (verdicts.items ≡ verdicts_on self.old.history.entries entries.now)
-            × Committed V.tells V.view self.old self.new (accepted_of self.old.history.entries entries.now)) }
-        ensures unchanged { OnErr result (IsErrOf result Device ⊎ (self.new ≡ self.old)) }
-        ensures lost { IsErrOf result Device → Lost self.old self.new }
+            → LeavesEither V.view self.old self.new (accepted_on self.old entries.now) }
+        ensures done { IfOk result (λ verdicts.
+            (verdicts.items ≡ verdicts_on self.old.history.entries entries.now)
+            × Committed V.tells V.view self.old self.new (accepted_on self.old entries.now)) }
+        ensures fails { IfErr result (Fails V.view self.old self.new) }
 
         ensures failed { IsErrOf result Failed ↔ (self.old.failed ≡ true) }
-        ensures old_side { IsErrOf result OldSide → IsOfForm self.old.form (accepted_of self.old.history.entries entries.now) → ⊥ }
-        ensures of_form { IsOk result → IsOfForm self.old.form (accepted_of self.old.history.entries entries.now) }
-        ensures before_too_large { IsErrOf result TooLarge → IsOfForm self.old.form (accepted_of self.old.history.entries entries.now) }
-        ensures too_large { IsErrOf result TooLarge → HasNoRoom (V.view self.old.volume).limit self.old (accepted_of self.old.history.entries entries.now) }
-        ensures fits { IsOk result → HasNoRoom (V.view self.old.volume).limit self.old (accepted_of self.old.history.entries entries.now) → ⊥ }
-        ensures accepted { IsErrOf result Device → 0 < length (accepted_of self.old.history.entries entries.now) }
-        ensures device { IsErrOf result Device → Rose (V.view self.old.volume).failures (V.view self.new.volume).failures }
-        ensures which { IfErr result IsCommitFault }
+        ensures old_side { IsErrOf result OldSide
+            → IsOfForm self.old.form (accepted_on self.old entries.now) → ⊥ }
+        ensures of_form { IsOk result → IsOfForm self.old.form (accepted_on self.old entries.now) }
+        ensures before_too_large { IsErrOf result TooLarge
+            → IsOfForm self.old.form (accepted_on self.old entries.now) }
+        ensures too_large { IsErrOf result TooLarge
+            → LacksRoom V.view self.old (accepted_on self.old entries.now) }
+        ensures fits { IsOk result → LacksRoom V.view self.old (accepted_on self.old entries.now)
+            → ⊥ }
+        ensures accepted { IsErrOf result Device → 0 < length (accepted_on self.old entries.now) }
         ensures later { (V.view self.old.volume).failures ≤ (V.view self.new.volume).failures }
         ensures limit { (V.view self.new.volume).limit ≡ (V.view self.old.volume).limit }
     {
@@ -115,12 +116,15 @@ impl<V: Volume> Store<V> {
         requires size { length (group entries.now) ≤ 8388608 }
 
         ensures prepared { IfOk result (λ p. p ≡ prepared_on self.now.history entries.now) }
-        ensures room { IfOk result (λ p. HasNoRoom (V.view self.now.volume).limit self.now p.accepted → ⊥) }
+        ensures room { IfOk result (λ p. LacksRoom V.view self.now p.accepted → ⊥) }
         ensures failed { IsErrOf result Failed ↔ (self.now.failed ≡ true) }
         ensures of_form { IfOk result (λ p. IsOfForm self.now.form p.accepted) }
-        ensures old_side { IsErrOf result OldSide → IsOfForm self.now.form (accepted_of self.now.history.entries entries.now) → ⊥ }
-        ensures before_too_large { IsErrOf result TooLarge → IsOfForm self.now.form (accepted_of self.now.history.entries entries.now) }
-        ensures too_large { IsErrOf result TooLarge → HasNoRoom (V.view self.now.volume).limit self.now (accepted_of self.now.history.entries entries.now) }
+        ensures old_side { IsErrOf result OldSide
+            → IsOfForm self.now.form (accepted_on self.now entries.now) → ⊥ }
+        ensures before_too_large { IsErrOf result TooLarge
+            → IsOfForm self.now.form (accepted_on self.now entries.now) }
+        ensures too_large { IsErrOf result TooLarge
+            → LacksRoom V.view self.now (accepted_on self.now entries.now) }
         ensures not_device { IsErrOf result Device → ⊥ }
         ensures which { IfErr result IsCommitFault }
     {
@@ -151,19 +155,18 @@ impl<V: Volume> Store<V> {
         requires before { prepared.before ≡ self.old.history }
         requires goes_on { self.old.failed ≡ false }
         requires of_form { IsOfForm self.old.form prepared.accepted }
-        requires room { HasNoRoom (V.view self.old.volume).limit self.old prepared.accepted → ⊥ }
+        requires room { LacksRoom V.view self.old prepared.accepted → ⊥ }
 
-        ensures any_moment { IsTrue V.tells → LeavesOnly (V.view self.old.volume) (V.view self.new.volume) (StandsForEither self.old.history prepared.accepted) }
-        ensures done { IfOk result (λ verdicts. (verdicts.items ≡ prepared.verdicts) × Committed V.tells V.view self.old self.new prepared.accepted) }
-        ensures unchanged { OnErr result (IsErrOf result Device ⊎ (self.new ≡ self.old)) }
-        ensures lost { IsErrOf result Device → Lost self.old self.new }
+        ensures any_moment { IsTrue V.tells → LeavesEither V.view self.old self.new
+            prepared.accepted }
+        ensures done { IfOk result (λ verdicts. (verdicts.items ≡ prepared.verdicts)
+            × Committed V.tells V.view self.old self.new prepared.accepted) }
+        ensures fails { IfErr result (Fails V.view self.old self.new) }
 
         ensures accepted { IsErr result → 0 < length prepared.accepted }
-        ensures device { IsErrOf result Device → Rose (V.view self.old.volume).failures (V.view self.new.volume).failures }
         ensures not_failed { IsErrOf result Failed → ⊥ }
         ensures not_too_large { IsErrOf result TooLarge → ⊥ }
         ensures not_old_side { IsErrOf result OldSide → ⊥ }
-        ensures which { IfErr result IsCommitFault }
         ensures later { (V.view self.old.volume).failures ≤ (V.view self.new.volume).failures }
         ensures limit { (V.view self.new.volume).limit ≡ (V.view self.old.volume).limit }
     {
@@ -185,19 +188,16 @@ impl<V: Volume> Store<V> {
     fn add(&mut self, alloc: Global, entry: &Entry) -> Result<(), StoreFault>
         requires goes_on { self.old.failed ≡ false }
         requires of_form { has_entry self.old.form entry.now ≡ true }
-        requires accepted { judged self.old.history.entries entry.now ≡ Accept }
+        requires accepted { judged_on self.old entry.now ≡ Accept }
 
-        ensures any_moment { IsTrue V.tells → LeavesOnly (V.view self.old.volume) (V.view self.new.volume) (StandsForEither self.old.history (entry.now ∷ [])) }
+        ensures any_moment { IsTrue V.tells → LeavesEither V.view self.old self.new (entry.now ∷ []) }
         ensures done { OnOk result (Committed V.tells V.view self.old self.new (entry.now ∷ [])) }
-        ensures unchanged { OnErr result (IsErrOf result Device ⊎ (self.new ≡ self.old)) }
-        ensures lost { IsErrOf result Device → Lost self.old self.new }
+        ensures fails { IfErr result (Fails V.view self.old self.new) }
 
         ensures not_failed { IsErrOf result Failed → ⊥ }
         ensures not_old_side { IsErrOf result OldSide → ⊥ }
-        ensures too_large { IsErrOf result TooLarge → HasNoRoom (V.view self.old.volume).limit self.old (entry.now ∷ []) }
-        ensures fits { IsOk result → HasNoRoom (V.view self.old.volume).limit self.old (entry.now ∷ []) → ⊥ }
-        ensures device { IsErrOf result Device → Rose (V.view self.old.volume).failures (V.view self.new.volume).failures }
-        ensures which { IfErr result IsCommitFault }
+        ensures too_large { IsErrOf result TooLarge → LacksRoom V.view self.old (entry.now ∷ []) }
+        ensures fits { IsOk result → LacksRoom V.view self.old (entry.now ∷ []) → ⊥ }
         ensures later { (V.view self.old.volume).failures ≤ (V.view self.new.volume).failures }
         ensures limit { (V.view self.new.volume).limit ≡ (V.view self.old.volume).limit }
     {
@@ -227,9 +227,16 @@ impl<V: Volume> Store<V> {
 
         ensures untold { IsSome result → V.tells ≡ false }
         ensures declined { IfNone result (self.new ≡ self.old) }
-        ensures done { IfSome result (λ added. OnOk added (self.new ≡ record self.old { volume = self.new.volume; log = record self.old.log { end = self.old.log.end + 5 + len } })) }
+        ensures done { IfSome result (λ added. OnOk added (self.new
+            ≡ record self.old {
+              volume = self.new.volume;
+              log = record self.old.log
+                  { end = self.old.log.end + 5 + len };
+            })) }
         ensures fits { IsSome result → self.old.log.end + 6 + len ≤ (V.view self.old.volume).limit }
-        ensures lost { IfSome result (λ added. IfErr added (λ why. (why ≡ Device) × Lost self.old self.new × Rose (V.view self.old.volume).failures (V.view self.new.volume).failures)) }
+        ensures lost { IfSome result (λ added.
+            IfErr added (λ why. (why ≡ Device) × Lost self.old self.new
+            × Rose (V.view self.old.volume).failures (V.view self.new.volume).failures)) }
         ensures later { (V.view self.old.volume).failures ≤ (V.view self.new.volume).failures }
         ensures limit { (V.view self.new.volume).limit ≡ (V.view self.old.volume).limit }
     {
@@ -244,16 +251,16 @@ impl<V: Volume> Store<V> {
         requires fit { IsFit payload.now }
         requires goes { GoesBehind self.old.form self.old.history payload.now next }
 
-        ensures any_moment { IsTrue V.tells → LeavesOnly (V.view self.old.volume) (V.view self.new.volume) (λ c. StandsFor self.old.history c ⊎ StandsFor next c) }
+        ensures any_moment { IsTrue V.tells → LeavesOnly (V.view self.old.volume)
+            (V.view self.new.volume)
+            (λ c. StandsFor self.old.history c ⊎ StandsFor next c) }
         ensures done { OnOk result (Appended V.tells V.view self.old self.new payload.now next) }
-        ensures unchanged { OnErr result (IsErrOf result Device ⊎ (self.new ≡ self.old)) }
-        ensures lost { IsErrOf result Device → Lost self.old self.new }
+        ensures fails { IfErr result (Fails V.view self.old self.new) }
 
         ensures not_failed { IsErrOf result Failed → ⊥ }
         ensures not_old_side { IsErrOf result OldSide → ⊥ }
-        ensures too_large { IsErrOf result TooLarge ↔ ((V.view self.old.volume).limit < self.old.log.end + 6 + length payload.now) }
-        ensures device { IsErrOf result Device → Rose (V.view self.old.volume).failures (V.view self.new.volume).failures }
-        ensures which { IfErr result IsCommitFault }
+        ensures too_large { IsErrOf result TooLarge
+            ↔ ((V.view self.old.volume).limit < self.old.log.end + 6 + length payload.now) }
         ensures later { (V.view self.old.volume).failures ≤ (V.view self.new.volume).failures }
         ensures limit { (V.view self.new.volume).limit ≡ (V.view self.old.volume).limit }
     {

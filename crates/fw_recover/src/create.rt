@@ -31,27 +31,36 @@ impl<V: Volume> Store<V> {
     /// limit is below 45 bytes, or `NoMemory` where a growth was refused: up to here no byte changes, and a crash leaves
     /// nothing that it could not leave before. `Device` also where a write failed. The volume is handed back with each.
     pub fn create(alloc: Global, volume: V, currency: Currency) -> Result<Store<V>, (V, StoreFault)>
-        ensures made { IfOk result (λ s. (s.history ≡ empty currency) × (s.form ≡ Two) × (s.generation ≡ 1) × (s.failed ≡ false)
+        ensures made { IfOk result (λ s. (s.history ≡ empty currency) × (s.form ≡ Two)
+            × (s.generation ≡ 1) × (s.failed ≡ false)
             × (s.log ≡ record { side = Left; start = 44; end = 44; failed = false })) }
-        ensures each { IfOk result (λ s. IsTrue V.tells → EachStandsFor (empty currency) (V.view s.volume)) }
-        ensures bytes { IfOk result (λ s. IsTrue V.tells → HasBodyAlone 1 (empty currency) ((V.view s.volume).seen Left)) }
+        ensures each { IfOk result (λ s. IsTrue V.tells
+            → EachStandsFor (empty currency) (V.view s.volume)) }
+        ensures bytes { IfOk result (λ s. IsTrue V.tells
+            → HasBodyAlone 1 (empty currency) ((V.view s.volume).seen Left)) }
 
         // Where a side is open, as it reads, no warehouse is made and no byte changes.
         ensures taken { IsTrue V.tells → (side : Side) → IsOpen ((V.view volume).seen side)
-            → IsErr result × IfErr result (λ e. ((e.1 ≡ Exists) ⊎ (e.1 ≡ Device)) × Calm (V.view volume) (V.view e.0)) }
-        ensures exists { IfErr result (λ e. e.1 ≡ Exists → IsTrue V.tells → (side : Side) × IsOpen ((V.view volume).seen side)) }
+            → IsErr result × IfErr result (λ e.
+            ((e.1 ≡ Exists) ⊎ (e.1 ≡ Device)) × Calm (V.view volume) (V.view e.0)) }
+        ensures exists { IfErr result (λ e. e.1 ≡ Exists → IsTrue V.tells
+            → (side : Side) × IsOpen ((V.view volume).seen side)) }
 
         // Where none is open and nothing was pending, each image stands for no warehouse, or for the empty one.
-        ensures any_moment { IfOk result (λ s. IsTrue V.tells → AllSettled (V.view volume) → StandsForNone (V.view volume).seen
+        ensures any_moment { IfOk result (λ s.
+            IsTrue V.tells → AllSettled (V.view volume) → StandsForNone (V.view volume).seen
             → LeavesOnly (V.view volume) (V.view s.volume) (StandsForNoneOr (empty currency))) }
-        ensures any_moment_fault { IfErr result (λ e. IsTrue V.tells → AllSettled (V.view volume) → StandsForNone (V.view volume).seen
+        ensures any_moment_fault { IfErr result (λ e.
+            IsTrue V.tells → AllSettled (V.view volume) → StandsForNone (V.view volume).seen
             → LeavesOnly (V.view volume) (V.view e.0) (StandsForNoneOr (empty currency))) }
 
         ensures fits { IfOk result (λ s. 45 ≤ (V.view volume).limit) }
         ensures too_large { IfErr result (λ e. e.1 ≡ TooLarge → (V.view volume).limit < 45) }
-        ensures calm { IfErr result (λ e. (e.1 ≡ TooLarge) ⊎ ((e.1 ≡ NoMemory) ⊎ (e.1 ≡ Exists)) → IsTrue V.tells → Calm (V.view volume) (V.view e.0)) }
+        ensures calm { IfErr result (λ e. (e.1 ≡ TooLarge) ⊎ ((e.1 ≡ NoMemory) ⊎ (e.1 ≡ Exists))
+            → IsTrue V.tells → Calm (V.view volume) (V.view e.0)) }
         ensures which { IfErr result (λ e. IsCreateFault e.1) }
-        ensures device { IfErr result (λ e. e.1 ≡ Device → Rose (V.view volume).failures (V.view e.0).failures) }
+        ensures device { IfErr result (λ e. e.1 ≡ Device
+            → Rose (V.view volume).failures (V.view e.0).failures) }
         ensures later { IfOk result (λ s. (V.view volume).failures ≤ (V.view s.volume).failures) }
         ensures later_fault { IfErr result (λ e. (V.view volume).failures ≤ (V.view e.0).failures) }
         ensures limit { IfOk result (λ s. (V.view s.volume).limit ≡ (V.view volume).limit) }
@@ -78,19 +87,27 @@ fn make_first<V: Volume>(
     volume: &mut V,
     currency: Currency,
 ) -> Result<(Log, Snapshot), StoreFault>
-    ensures made { IfOk result (λ r. (r.1 ≡ empty currency) × (r.0 ≡ record { side = Left; start = 44; end = 44; failed = false })) }
+    ensures made { IfOk result (λ r. (r.1 ≡ empty currency)
+        × (r.0 ≡ record { side = Left; start = 44; end = 44; failed = false })) }
     ensures in_use { IfOk result (λ r. IsInUse V.tells Two 1 r.0 r.1 (V.view volume.new)) }
-    ensures bytes { IfOk result (λ r. IsTrue V.tells → HasBodyAlone 1 (empty currency) ((V.view volume.new).seen Left)) }
-    ensures any_moment { IsTrue V.tells → AllSettled (V.view volume.old) → StandsForNone (V.view volume.old).seen
+    ensures bytes { IfOk result (λ r. IsTrue V.tells
+        → HasBodyAlone 1 (empty currency) ((V.view volume.new).seen Left)) }
+    ensures any_moment { IsTrue V.tells → AllSettled (V.view volume.old)
+        → StandsForNone (V.view volume.old).seen
         → LeavesOnly (V.view volume.old) (V.view volume.new) (StandsForNoneOr (empty currency)) }
     ensures none { IfOk result (λ r. IsTrue V.tells → StandsForNone (V.view volume.old).seen) }
-    ensures exists { IsErrOf result Exists → IsTrue V.tells → (side : Side) × IsOpen ((V.view volume.old).seen side) }
-    ensures calm { (IsErrOf result Exists ⊎ (IsErrOf result TooLarge ⊎ IsErrOf result NoMemory)) → IsTrue V.tells → Calm (V.view volume.old) (V.view volume.new) }
-    ensures taken { IsTrue V.tells → (side : Side) → IsOpen ((V.view volume.old).seen side) → (IsErrOf result Exists ⊎ IsErrOf result Device) × Calm (V.view volume.old) (V.view volume.new) }
+    ensures exists { IsErrOf result Exists → IsTrue V.tells
+        → (side : Side) × IsOpen ((V.view volume.old).seen side) }
+    ensures calm { (IsErrOf result Exists ⊎ (IsErrOf result TooLarge ⊎ IsErrOf result NoMemory))
+        → IsTrue V.tells → Calm (V.view volume.old) (V.view volume.new) }
+    ensures taken { IsTrue V.tells → (side : Side) → IsOpen ((V.view volume.old).seen side)
+        → (IsErrOf result Exists ⊎ IsErrOf result Device)
+        × Calm (V.view volume.old) (V.view volume.new) }
     ensures fits { IsOk result → 45 ≤ (V.view volume.old).limit }
     ensures too_large { IsErrOf result TooLarge → (V.view volume.old).limit < 45 }
     ensures which { IfErr result IsCreateFault }
-    ensures device { IsErrOf result Device → Rose (V.view volume.old).failures (V.view volume.new).failures }
+    ensures device { IsErrOf result Device → Rose (V.view volume.old).failures
+        (V.view volume.new).failures }
     ensures later { (V.view volume.old).failures ≤ (V.view volume.new).failures }
     ensures limit { (V.view volume.new).limit ≡ (V.view volume.old).limit }
 {
@@ -108,13 +125,15 @@ fn make_first<V: Volume>(
 fn find_free<V: Volume>(volume: &mut V) -> Result<(), StoreFault>
     ensures free { OnOk result (IsTrue V.tells → StandsForNone (V.view volume.old).seen) }
     ensures settled { OnOk result (IsTrue V.tells → AllSettled (V.view volume.new)) }
-    ensures exists { IsErrOf result Exists → IsTrue V.tells → (side : Side) × IsOpen ((V.view volume.old).seen side) }
+    ensures exists { IsErrOf result Exists → IsTrue V.tells
+        → (side : Side) × IsOpen ((V.view volume.old).seen side) }
     ensures which { OnErr result (IsErrOf result Device ⊎ IsErrOf result Exists) }
 
     ensures calm { IsTrue V.tells → Calm (V.view volume.old) (V.view volume.new) }
     ensures sizes { SameSizes (V.view volume.old) (V.view volume.new) }
     ensures later { (V.view volume.old).failures ≤ (V.view volume.new).failures }
-    ensures device { IsErrOf result Device → Rose (V.view volume.old).failures (V.view volume.new).failures }
+    ensures device { IsErrOf result Device → Rose (V.view volume.old).failures
+        (V.view volume.new).failures }
 {
     let Ok(()) = settle(volume) else {
         return Err(StoreFault::Device);
@@ -128,8 +147,10 @@ fn find_free<V: Volume>(volume: &mut V) -> Result<(), StoreFault>
 
 /// Whether a side is open. It reads at most the two gates.
 fn has_open_side<V: Volume>(volume: &mut V) -> Result<bool, VolumeFault>
-    ensures some { IfOk result (λ found. IsTrue V.tells → IsTrue found → (side : Side) × IsOpen ((V.view volume.old).seen side)) }
-    ensures none { IfOk result (λ found. IsTrue V.tells → IsFalse found → StandsForNone (V.view volume.old).seen) }
+    ensures some { IfOk result (λ found. IsTrue V.tells → IsTrue found
+        → (side : Side) × IsOpen ((V.view volume.old).seen side)) }
+    ensures none { IfOk result (λ found. IsTrue V.tells → IsFalse found
+        → StandsForNone (V.view volume.old).seen) }
 
     ensures calm { IsTrue V.tells → Calm (V.view volume.old) (V.view volume.new) }
     ensures sizes { SameSizes (V.view volume.old) (V.view volume.new) }
@@ -144,7 +165,8 @@ fn has_open_side<V: Volume>(volume: &mut V) -> Result<bool, VolumeFault>
 
 /// Whether this side is open. It reads at most its gate.
 fn is_open<V: Volume>(volume: &mut V, side: Side) -> Result<bool, VolumeFault>
-    ensures exact { IfOk result (λ found. IsTrue V.tells → (IsTrue found ↔ IsOpen ((V.view volume.old).seen side))) }
+    ensures exact { IfOk result (λ found. IsTrue V.tells
+        → (IsTrue found ↔ IsOpen ((V.view volume.old).seen side))) }
 
     ensures calm { IsTrue V.tells → Calm (V.view volume.old) (V.view volume.new) }
     ensures sizes { SameSizes (V.view volume.old) (V.view volume.new) }

@@ -36,16 +36,22 @@ pub struct Header {
 /// generation; `NoHouse` where no side is open. Whatever is answered, no byte changes, and a crash leaves nothing that it
 /// could not leave before.
 pub fn side_in_use<V: Volume>(volume: &mut V) -> Result<(Side, Header), StoreFault>
-    ensures found { IfOk result (λ r. IsTrue V.tells → IsNewest (V.view volume.old).seen r.0 × HasHeader r.1.form r.1.generation r.1.body_len ((V.view volume.old).seen r.0)) }
-    ensures within { IfOk result (λ r. (0 < r.1.generation) × (25 + r.1.body_len < (V.view volume.old).size r.0)) }
-    ensures none { IsErrOf result NoHouse → IsTrue V.tells → StandsForNone (V.view volume.old).seen }
-    ensures corrupt { (side : Side) (at : ℕ) → IsErrOf result (Corrupt side at) → IsTrue V.tells → CorruptAt (V.view volume.old).seen side at }
+    ensures found { IfOk result (λ r. IsTrue V.tells
+        → IsNewest (V.view volume.old).seen r.0
+        × HasHeader r.1.form r.1.generation r.1.body_len ((V.view volume.old).seen r.0)) }
+    ensures within { IfOk result (λ r. (0 < r.1.generation)
+        × (25 + r.1.body_len < (V.view volume.old).size r.0)) }
+    ensures none { IsErrOf result NoHouse → IsTrue V.tells
+        → StandsForNone (V.view volume.old).seen }
+    ensures corrupt { (side : Side) (at : ℕ) → IsErrOf result (Corrupt side at) → IsTrue V.tells
+        → CorruptAt (V.view volume.old).seen side at }
     ensures which { IfErr result IsOpenFault }
 
     ensures calm { IsTrue V.tells → Calm (V.view volume.old) (V.view volume.new) }
     ensures sizes { SameSizes (V.view volume.old) (V.view volume.new) }
     ensures later { (V.view volume.old).failures ≤ (V.view volume.new).failures }
-    ensures device { IsErrOf result Device → Rose (V.view volume.old).failures (V.view volume.new).failures }
+    ensures device { IsErrOf result Device → Rose (V.view volume.old).failures
+        (V.view volume.new).failures }
 {
     let left = header_of(volume, Side::Left)?;
     let right = header_of(volume, Side::Right)?;
@@ -71,17 +77,21 @@ pub fn side_in_use<V: Volume>(volume: &mut V) -> Result<(Side, Header), StoreFau
 
 /// The header of a side; none where the side isn't open.
 fn header_of<V: Volume>(volume: &mut V, side: Side) -> Result<Option<Header>, StoreFault>
-    ensures found { IfOk result (λ header. IsTrue V.tells → IsHeader header ((V.view volume.old).seen side)) }
-    ensures within { IfOk result (λ header. ForSome header (λ h. (0 < h.generation) × (25 + h.body_len < (V.view volume.old).size side))) }
+    ensures found { IfOk result (λ header. IsTrue V.tells
+        → IsHeader header ((V.view volume.old).seen side)) }
+    ensures within { IfOk result (λ header. ForSome header (λ h.
+        (0 < h.generation) × (25 + h.body_len < (V.view volume.old).size side))) }
     ensures corrupt { (at_side : Side) (at : ℕ) → IsErrOf result (Corrupt at_side at)
-        → (at_side ≡ side) × (IsTrue V.tells → IsOpen ((V.view volume.old).seen side) × LacksAt ((V.view volume.old).seen side) at) }
+        → (at_side ≡ side) × (IsTrue V.tells → IsOpen ((V.view volume.old).seen side)
+        × LacksAt ((V.view volume.old).seen side) at) }
     ensures not_no_house { IsErrOf result NoHouse → ⊥ }
     ensures which { IfErr result IsOpenFault }
 
     ensures calm { IsTrue V.tells → Calm (V.view volume.old) (V.view volume.new) }
     ensures sizes { SameSizes (V.view volume.old) (V.view volume.new) }
     ensures later { (V.view volume.old).failures ≤ (V.view volume.new).failures }
-    ensures device { IsErrOf result Device → Rose (V.view volume.old).failures (V.view volume.new).failures }
+    ensures device { IsErrOf result Device → Rose (V.view volume.old).failures
+        (V.view volume.new).failures }
 {
     let len = volume.len(side);
     if len < 26 {

@@ -14,6 +14,7 @@ mod commit;
 mod create;
 mod fault;
 mod header;
+mod judging;
 mod laws;
 mod opening;
 mod prepared;

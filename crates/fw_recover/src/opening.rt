@@ -41,14 +41,17 @@ pub(crate) fn read_sides<V: Volume>(
     volume: &mut V,
 ) -> Result<(Form, u64, Log, State), StoreFault>
     ensures found { IfOk result (λ r. IsInUse V.tells r.0 r.1 r.2 r.3 (V.view volume.new)) }
-    ensures none { IsErrOf result NoHouse → IsTrue V.tells → StandsForNone (V.view volume.old).seen }
-    ensures corrupt { (side : Side) (at : ℕ) → IsErrOf result (Corrupt side at) → IsTrue V.tells → CorruptAt (V.view volume.old).seen side at }
+    ensures none { IsErrOf result NoHouse → IsTrue V.tells
+        → StandsForNone (V.view volume.old).seen }
+    ensures corrupt { (side : Side) (at : ℕ) → IsErrOf result (Corrupt side at) → IsTrue V.tells
+        → CorruptAt (V.view volume.old).seen side at }
     ensures which { IfErr result IsOpenFault }
 
     ensures calm { IsTrue V.tells → Calm (V.view volume.old) (V.view volume.new) }
     ensures sizes { SameSizes (V.view volume.old) (V.view volume.new) }
     ensures later { (V.view volume.old).failures ≤ (V.view volume.new).failures }
-    ensures device { IsErrOf result Device → Rose (V.view volume.old).failures (V.view volume.new).failures }
+    ensures device { IsErrOf result Device → Rose (V.view volume.old).failures
+        (V.view volume.new).failures }
 {
     let Ok(()) = settle(volume) else {
         return Err(StoreFault::Device);
@@ -64,19 +67,22 @@ fn read_settled<V: Volume>(
     requires settled { IsTrue V.tells → AllSettled (V.view volume.old) }
 
     ensures found { IfOk result (λ r. IsInUse V.tells r.0 r.1 r.2 r.3 (V.view volume.new)) }
-    ensures none { IsErrOf result NoHouse → IsTrue V.tells → StandsForNone (V.view volume.old).seen }
-    ensures corrupt { (side : Side) (at : ℕ) → IsErrOf result (Corrupt side at) → IsTrue V.tells → CorruptAt (V.view volume.old).seen side at }
+    ensures none { IsErrOf result NoHouse → IsTrue V.tells
+        → StandsForNone (V.view volume.old).seen }
+    ensures corrupt { (side : Side) (at : ℕ) → IsErrOf result (Corrupt side at) → IsTrue V.tells
+        → CorruptAt (V.view volume.old).seen side at }
     ensures which { IfErr result IsOpenFault }
 
     ensures calm { IsTrue V.tells → Calm (V.view volume.old) (V.view volume.new) }
     ensures sizes { SameSizes (V.view volume.old) (V.view volume.new) }
     ensures later { (V.view volume.old).failures ≤ (V.view volume.new).failures }
-    ensures device { IsErrOf result Device → Rose (V.view volume.old).failures (V.view volume.new).failures }
+    ensures device { IsErrOf result Device → Rose (V.view volume.old).failures
+        (V.view volume.new).failures }
 {
     let (side, header) = side_in_use(volume)?;
-    let state = body_state(alloc, volume, side, header.form, header.body_len)?;
+    let mut state = body_state(alloc, volume, side, header.form, header.body_len)?;
     let start = 25 + header.body_len;
-    let (state, end) = walk_log(alloc, volume, side, header.form, start, state)?;
+    let end = walk_log(alloc, volume, side, header.form, start, &mut state)?;
     Ok((
         header.form,
         header.generation,
@@ -97,17 +103,20 @@ fn body_state<V: Volume>(
 ) -> Result<State, StoreFault>
     requires { 25 + body_len < (V.view volume.old).size side }
 
-    ensures found { IfOk result (λ state. IsTrue V.tells → Spells (take body_len (drop 25 ((V.view volume.old).seen side))) state) }
+    ensures found { IfOk result (λ state. IsTrue V.tells
+        → Spells (take body_len (drop 25 ((V.view volume.old).seen side))) state) }
     ensures of_form { IfOk result (λ state. IsOfForm form state.entries) }
     ensures corrupt { (at_side : Side) (at : ℕ) → IsErrOf result (Corrupt at_side at)
-        → (at_side ≡ side) × (IsTrue V.tells → HasBadBody form body_len at ((V.view volume.old).seen side)) }
+        → (at_side ≡ side) × (IsTrue V.tells → HasBadBody form body_len at
+        ((V.view volume.old).seen side)) }
     ensures not_no_house { IsErrOf result NoHouse → ⊥ }
     ensures which { IfErr result IsOpenFault }
 
     ensures calm { IsTrue V.tells → Calm (V.view volume.old) (V.view volume.new) }
     ensures sizes { SameSizes (V.view volume.old) (V.view volume.new) }
     ensures later { (V.view volume.old).failures ≤ (V.view volume.new).failures }
-    ensures device { IsErrOf result Device → Rose (V.view volume.old).failures (V.view volume.new).failures }
+    ensures device { IsErrOf result Device → Rose (V.view volume.old).failures
+        (V.view volume.new).failures }
 {
     let Ok(mut body) = vec![in alloc; 0; body_len as usize] else {
         return Err(StoreFault::NoMemory);

@@ -6,9 +6,10 @@ ghost use Rattle.fw_segment.specs.Groups.{group, IsGroup};
 ghost use Rattle.fw_snapshot.specs.Verdicts.{verdicts_on, accepted_of, chosen, with_more};
 ghost use Rattle.fw_recover.specs.Committing.{payload_of, IsFrameable};
 
+use crate::judging::judge_each;
 use fw_entry_bytes::Form;
 use fw_segment::append_accepted;
-use fw_snapshot::{Entry, Snapshot, State, Verdict, judge};
+use fw_snapshot::{Entry, Snapshot, State, Verdict};
 use std::alloc::{AllocError, Global};
 use std::marker::Model;
 use std::slice;
@@ -51,9 +52,13 @@ impl Prepared {
         requires group { IsGroup entries.now }
         requires size { length (group entries.now) ≤ 8388608 }
 
-        ensures prepared { IfOk result (λ found. IfSome found (λ p. p ≡ prepared_on state.now entries.now)) }
-        ensures of_form { IfOk result (λ found. IfSome found (λ _. list_all (has_entry form) (accepted_of state.now.entries entries.now) ≡ true)) }
-        ensures old { IfOk result (λ found. IfNone found (list_all (has_entry form) (accepted_of state.now.entries entries.now) ≡ false)) }
+        ensures prepared { IfOk result (λ found.
+            IfSome found (λ p. p ≡ prepared_on state.now entries.now)) }
+        ensures of_form { IfOk result (λ found.
+            IfSome found (λ _. list_all (has_entry form) (accepted_of state.now.entries entries.now)
+            ≡ true)) }
+        ensures old { IfOk result (λ found. IfNone found
+            (list_all (has_entry form) (accepted_of state.now.entries entries.now) ≡ false)) }
     {
         let (verdicts, next, has_each) = judge_all(alloc, form, state, entries)?;
         if !has_each {
@@ -94,20 +99,14 @@ fn judge_all(
     entries: &[Entry],
 ) -> Result<(Vec<Verdict>, State, bool), AllocError>
     ensures verdicts { IfOk result (λ r. r.0.items ≡ verdicts_on state.now.entries entries.now) }
-    ensures next { IfOk result (λ r. r.1 ≡ with_more state.now (accepted_of state.now.entries entries.now)) }
-    ensures has_each { IfOk result (λ r. r.2 ≡ list_all (has_entry form) (accepted_of state.now.entries entries.now)) }
+    ensures next { IfOk result (λ r. r.1 ≡ with_more state.now
+        (accepted_of state.now.entries entries.now)) }
+    ensures has_each { IfOk result (λ r. r.2 ≡ list_all (has_entry form)
+        (accepted_of state.now.entries entries.now)) }
 {
     let mut verdicts = Vec::with_capacity(alloc, entries.len())?;
     let mut next = state.copy()?;
-    let mut has_each = true;
-    for entry in entries {
-        let verdict = judge(&next, entry);
-        if let Verdict::Accept = verdict {
-            next = next.apply(entry)?;
-            has_each = has_each && form.has_entry(entry);
-        }
-        verdicts.push_reserved(verdict);
-    }
+    let has_each = judge_each(form, &mut next, entries, &mut verdicts)?;
     Ok((verdicts, next, has_each))
 }
 
@@ -120,7 +119,8 @@ fn group_of_accepted(
 ) -> Result<Vec<u8>, AllocError>
     requires each { length verdicts.now ≡ length entries.now }
     requires count { count ≡ length (chosen entries.now verdicts.now) }
-    requires group { 0 < length (chosen entries.now verdicts.now) → IsGroup (chosen entries.now verdicts.now) }
+    requires group { 0 < length (chosen entries.now verdicts.now)
+        → IsGroup (chosen entries.now verdicts.now) }
 
     ensures { IfOk result (λ bytes. bytes.items ≡ payload_of (chosen entries.now verdicts.now)) }
 {

@@ -28,28 +28,42 @@ impl<V: Volume> Store<V> {
         entries: &[Entry],
     ) -> Result<Vec<Verdict>, (Vec<Verdict>, StoreFault)>
         ensures any_moment { IsTrue V.tells → self.old.failed ≡ false
-            → LeavesOnly (V.view self.old.volume) (V.view self.new.volume) (StandsForFirst self.old.history entries.now) }
-        ensures all { IfOk result (λ verdicts. (verdicts.items ≡ verdicts_on self.old.history.entries entries.now)
-            × (self.new.history ≡ with_first self.old.history (length entries.now) entries.now) × (self.old.failed ≡ false) × (self.new.failed ≡ false)) }
+            → LeavesOnly (V.view self.old.volume) (V.view self.new.volume)
+            (StandsForFirst self.old.history entries.now) }
+        ensures all { IfOk result (λ verdicts.
+            (verdicts.items ≡ verdicts_on self.old.history.entries entries.now)
+            × (self.new.history ≡ with_first self.old.history (length entries.now) entries.now)
+            × (self.old.failed ≡ false) × (self.new.failed ≡ false)) }
         ensures so_far { IfErr result (λ e. (length e.0.items ≤ length entries.now)
-            × (e.0.items ≡ verdicts_on self.old.history.entries (take (length e.0.items) entries.now))
+            × (e.0.items ≡ verdicts_on self.old.history.entries
+            (take (length e.0.items) entries.now))
             × (self.new.history ≡ with_first self.old.history (length e.0.items) entries.now)) }
-        ensures not_all { IfErr result (λ e. 0 < length entries.now → length e.0.items < length entries.now) }
-        ensures each { IfOk result (λ verdicts. IsTrue V.tells → EachStandsFor self.new.history (V.view self.new.volume)) }
-        ensures each_so_far { IfErr result (λ e. IsTrue V.tells → self.old.failed ≡ false → (c : Image) → (V.view self.new.volume).may_leave c
+        ensures not_all { IfErr result (λ e. 0 < length entries.now
+            → length e.0.items < length entries.now) }
+        ensures each { IfOk result (λ verdicts.
+            IsTrue V.tells → EachStandsFor self.new.history (V.view self.new.volume)) }
+        ensures each_so_far { IfErr result (λ e.
+            IsTrue V.tells → self.old.failed ≡ false → (c : Image)
+            → (V.view self.new.volume).may_leave c
             → HasAnswered self.old.history entries.now (length e.0.items) c) }
 
         ensures failed { IfErr result (λ e. (e.1 ≡ Failed) ↔ (self.old.failed ≡ true)) }
         ensures unchanged { IfErr result (λ e. e.1 ≡ Failed → self.new ≡ self.old) }
-        ensures goes_on { IfErr result (λ e. (e.1 ≡ OldSide) ⊎ ((e.1 ≡ TooLarge) ⊎ (e.1 ≡ NoMemory)) → (self.new.failed ≡ false)
+        ensures goes_on { IfErr result (λ e. (e.1 ≡ OldSide) ⊎ ((e.1 ≡ TooLarge) ⊎ (e.1 ≡ NoMemory))
+            → (self.new.failed ≡ false)
             × (IsTrue V.tells → EachStandsFor self.new.history (V.view self.new.volume))) }
         ensures old_side { IfErr result (λ e. e.1 ≡ OldSide
-            → IsOfForm self.new.form (accepted_of self.new.history.entries (take 1 (drop (length e.0.items) entries.now))) → ⊥) }
+            → IsOfForm self.new.form (accepted_of self.new.history.entries
+            (take 1 (drop (length e.0.items) entries.now))) → ⊥) }
         ensures too_large { IfErr result (λ e. e.1 ≡ TooLarge
-            → HasNoRoom (V.view self.new.volume).limit self.new (accepted_of self.new.history.entries (take 1 (drop (length e.0.items) entries.now)))) }
+            → HasNoRoom (V.view self.new.volume).limit self.new
+            (accepted_of self.new.history.entries (take 1 (drop (length e.0.items) entries.now)))) }
         ensures lost { IfErr result (λ e. e.1 ≡ Device → self.new.failed ≡ true) }
-        ensures accepted { IfErr result (λ e. e.1 ≡ Device → 0 < length (accepted_of self.new.history.entries (take 1 (drop (length e.0.items) entries.now)))) }
-        ensures device { IfErr result (λ e. e.1 ≡ Device → Rose (V.view self.old.volume).failures (V.view self.new.volume).failures) }
+        ensures accepted { IfErr result (λ e.
+            e.1 ≡ Device → 0 < length (accepted_of self.new.history.entries
+            (take 1 (drop (length e.0.items) entries.now)))) }
+        ensures device { IfErr result (λ e. e.1 ≡ Device
+            → Rose (V.view self.old.volume).failures (V.view self.new.volume).failures) }
         ensures which { IfErr result (λ e. IsCommitFault e.1) }
         ensures later { (V.view self.old.volume).failures ≤ (V.view self.new.volume).failures }
         ensures limit { (V.view self.new.volume).limit ≡ (V.view self.old.volume).limit }
@@ -79,10 +93,12 @@ impl<V: Volume> Store<V> {
         requires { self.old.failed ≡ false }
 
         ensures answered { (length result.0.items ≤ length entries.now)
-            × (result.0.items ≡ verdicts_on self.old.history.entries (take (length result.0.items) entries.now)) }
+            × (result.0.items ≡ verdicts_on self.old.history.entries
+            (take (length result.0.items) entries.now)) }
         ensures all { result.1 ≡ None → length result.0.items ≡ length entries.now }
         ensures which { IfSome result.1 IsCommitFault }
-        ensures each { IsTrue V.tells → (c : Image) → (V.view self.new.volume).may_leave c → HasAnswered self.old.history entries.now (length result.0.items) c }
+        ensures each { IsTrue V.tells → (c : Image) → (V.view self.new.volume).may_leave c
+            → HasAnswered self.old.history entries.now (length result.0.items) c }
     {
         match self.run(alloc, entries) {
             Ok(all) => (all, None),
@@ -106,11 +122,16 @@ pub fn run_and_recover<V: Stoppable>(
 )
     requires { store.failed ≡ false }
 
-    ensures answered { (length result.0.items ≤ length entries.now) × (result.0.items ≡ verdicts_on store.history.entries (take (length result.0.items) entries.now)) }
+    ensures answered { (length result.0.items ≤ length entries.now)
+        × (result.0.items ≡ verdicts_on store.history.entries
+        (take (length result.0.items) entries.now)) }
     ensures all { result.1 ≡ None → length result.0.items ≡ length entries.now }
     ensures which { IfSome result.1 IsCommitFault }
-    ensures recovered { IfOk result.2 (λ s. IsTrue V.tells → (n : ℕ) × (length result.0.items ≤ n) × (n ≤ length result.0.items + 1) × (s.history ≡ with_first store.history n entries.now)) }
-    ensures else_device_or_memory { IfErr result.2 (λ e. IsTrue V.tells → (e.1 ≡ Device) ⊎ (e.1 ≡ NoMemory)) }
+    ensures recovered { IfOk result.2 (λ s. IsTrue V.tells
+        → (n : ℕ) × (length result.0.items ≤ n) × (n ≤ length result.0.items + 1)
+        × (s.history ≡ with_first store.history n entries.now)) }
+    ensures else_device_or_memory { IfErr result.2 (λ e.
+        IsTrue V.tells → (e.1 ≡ Device) ⊎ (e.1 ≡ NoMemory)) }
 {
     let mut store = store;
     let (verdicts, fault) = store.run_until_a_fault(alloc, entries);

@@ -11,10 +11,14 @@ use fw_disk::{Side, Volume, VolumeFault, write_synced};
 /// open it. The other side stays. A fault is one of the device.
 pub fn close_side<V: Volume>(volume: &mut V, side: Side) -> Result<(), VolumeFault>
     requires room { 1 ≤ (V.view volume.old).limit }
-    ensures any_moment { IsTrue V.tells → AllSettled (V.view volume.old) → LeavesOnly (V.view volume.old) (V.view volume.new) (Keeps side (V.view volume.old) Closing) }
-    ensures closed { OnOk result (IsTrue V.tells → AllSettled (V.view volume.old) → Closed side (V.view volume.old) (V.view volume.new)) }
+    ensures any_moment { IsTrue V.tells → AllSettled (V.view volume.old)
+        → LeavesOnly (V.view volume.old) (V.view volume.new)
+        (Keeps side (V.view volume.old) Closing) }
+    ensures closed { OnOk result (IsTrue V.tells → AllSettled (V.view volume.old)
+        → Closed side (V.view volume.old) (V.view volume.new)) }
     ensures size { OnOk result (1 ≤ (V.view volume.new).size side) }
-    ensures other_size { (V.view volume.new).size (other side) ≡ (V.view volume.old).size (other side) }
+    ensures other_size { (V.view volume.new).size (other side)
+        ≡ (V.view volume.old).size (other side) }
     ensures later { (V.view volume.old).failures ≤ (V.view volume.new).failures }
     ensures limit { (V.view volume.new).limit ≡ (V.view volume.old).limit }
     ensures cause { OnErr result (Rose (V.view volume.old).failures (V.view volume.new).failures) }
@@ -36,10 +40,14 @@ pub fn close_side<V: Volume>(volume: &mut V, side: Side) -> Result<(), VolumeFau
 pub fn fill_side<V: Volume>(volume: &mut V, side: Side, bytes: &[u8]) -> Result<(), VolumeFault>
     requires size { 1 ≤ (V.view volume.old).size side }
     requires fits { 1 + length bytes.now ≤ (V.view volume.old).limit }
-    ensures any_moment { IsTrue V.tells → AllSettled (V.view volume.old) → LeavesOnly (V.view volume.old) (V.view volume.new) (Keeps side (V.view volume.old) Filling) }
-    ensures filled { OnOk result (IsTrue V.tells → AllSettled (V.view volume.old) → Filled side bytes.now (V.view volume.old) (V.view volume.new)) }
+    ensures any_moment { IsTrue V.tells → AllSettled (V.view volume.old)
+        → LeavesOnly (V.view volume.old) (V.view volume.new)
+        (Keeps side (V.view volume.old) Filling) }
+    ensures filled { OnOk result (IsTrue V.tells → AllSettled (V.view volume.old)
+        → Filled side bytes.now (V.view volume.old) (V.view volume.new)) }
     ensures sizes { OnOk result (1 + length bytes.now ≤ (V.view volume.new).size side) }
-    ensures other_size { (V.view volume.new).size (other side) ≡ (V.view volume.old).size (other side) }
+    ensures other_size { (V.view volume.new).size (other side)
+        ≡ (V.view volume.old).size (other side) }
     ensures later { (V.view volume.old).failures ≤ (V.view volume.new).failures }
     ensures limit { (V.view volume.new).limit ≡ (V.view volume.old).limit }
     ensures cause { OnErr result (Rose (V.view volume.old).failures (V.view volume.new).failures) }
@@ -53,10 +61,14 @@ pub fn fill_side<V: Volume>(volume: &mut V, side: Side, bytes: &[u8]) -> Result<
 /// as it was; after `Ok` it leaves the gate open. The other side stays. A fault is one of the device.
 pub fn open_side<V: Volume>(volume: &mut V, side: Side) -> Result<(), VolumeFault>
     requires size { 1 ≤ (V.view volume.old).size side }
-    ensures any_moment { IsTrue V.tells → AllSettled (V.view volume.old) → LeavesOnly (V.view volume.old) (V.view volume.new) (Keeps side (V.view volume.old) Opening) }
-    ensures opened { OnOk result (IsTrue V.tells → AllSettled (V.view volume.old) → Opened side (V.view volume.old) (V.view volume.new)) }
+    ensures any_moment { IsTrue V.tells → AllSettled (V.view volume.old)
+        → LeavesOnly (V.view volume.old) (V.view volume.new)
+        (Keeps side (V.view volume.old) Opening) }
+    ensures opened { OnOk result (IsTrue V.tells → AllSettled (V.view volume.old)
+        → Opened side (V.view volume.old) (V.view volume.new)) }
     ensures no_shorter { (V.view volume.old).size side ≤ (V.view volume.new).size side }
-    ensures other_size { (V.view volume.new).size (other side) ≡ (V.view volume.old).size (other side) }
+    ensures other_size { (V.view volume.new).size (other side)
+        ≡ (V.view volume.old).size (other side) }
     ensures later { (V.view volume.old).failures ≤ (V.view volume.new).failures }
     ensures limit { (V.view volume.new).limit ≡ (V.view volume.old).limit }
     ensures cause { OnErr result (Rose (V.view volume.old).failures (V.view volume.new).failures) }
@@ -71,10 +83,14 @@ pub fn open_side<V: Volume>(volume: &mut V, side: Side) -> Result<(), VolumeFaul
 /// side stays. A fault is one of the device.
 pub fn make_side<V: Volume>(volume: &mut V, side: Side, bytes: &[u8]) -> Result<(), VolumeFault>
     requires fits { 1 + length bytes.now ≤ (V.view volume.old).limit }
-    ensures any_moment { IsTrue V.tells → AllSettled (V.view volume.old) → LeavesOnly (V.view volume.old) (V.view volume.new) (Keeps side (V.view volume.old) (Making bytes.now)) }
-    ensures made { OnOk result (IsTrue V.tells → AllSettled (V.view volume.old) → Made side bytes.now (V.view volume.old) (V.view volume.new)) }
+    ensures any_moment { IsTrue V.tells → AllSettled (V.view volume.old)
+        → LeavesOnly (V.view volume.old) (V.view volume.new)
+        (Keeps side (V.view volume.old) (Making bytes.now)) }
+    ensures made { OnOk result (IsTrue V.tells → AllSettled (V.view volume.old)
+        → Made side bytes.now (V.view volume.old) (V.view volume.new)) }
     ensures sizes { OnOk result (1 + length bytes.now ≤ (V.view volume.new).size side) }
-    ensures other_size { (V.view volume.new).size (other side) ≡ (V.view volume.old).size (other side) }
+    ensures other_size { (V.view volume.new).size (other side)
+        ≡ (V.view volume.old).size (other side) }
     ensures later { (V.view volume.old).failures ≤ (V.view volume.new).failures }
     ensures limit { (V.view volume.new).limit ≡ (V.view volume.old).limit }
     ensures cause { OnErr result (Rose (V.view volume.old).failures (V.view volume.new).failures) }

@@ -46,7 +46,8 @@ pub(crate) fn side_bytes(
 
 /// A header without the gate of its side, of the second form, and the body that spells the state.
 fn header_and_body(alloc: Global, generation: u64, state: &State) -> Result<Vec<u8>, AllocError>
-    ensures { IfOk result (λ bytes. (body : List ℕ) × Spells body state.now × (bytes.items ≡ made_of Two generation body)) }
+    ensures { IfOk result (λ bytes. (body : List ℕ) × Spells body state.now
+        × (bytes.items ≡ made_of Two generation body)) }
 {
     let word = word_of(Form::Two);
     let mut bytes = word.to_vec(alloc)?;

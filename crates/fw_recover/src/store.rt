@@ -50,16 +50,22 @@ impl<V: Volume> Store<V> {
     /// `NoMemory` where a growth was refused; the volume is handed back. Whatever is answered, no byte changes, and a
     /// crash leaves nothing that it could not leave before.
     pub fn open(alloc: Global, volume: V) -> Result<Store<V>, (V, StoreFault)>
-        ensures found { IfOk result (λ s. (s.failed ≡ false) × (IsTrue V.tells → StandsFor s.history (V.view volume).seen)) }
+        ensures found { IfOk result (λ s. (s.failed ≡ false)
+            × (IsTrue V.tells → StandsFor s.history (V.view volume).seen)) }
         ensures each { IfOk result (λ s. IsTrue V.tells → EachStandsFor s.history (V.view s.volume)) }
-        ensures none { IfErr result (λ e. e.1 ≡ NoHouse → IsTrue V.tells → StandsForNone (V.view volume).seen) }
-        ensures corrupt { (side : Side) (at : ℕ) → IfErr result (λ e. e.1 ≡ Corrupt side at → IsTrue V.tells → CorruptAt (V.view volume).seen side at) }
+        ensures none { IfErr result (λ e. e.1 ≡ NoHouse → IsTrue V.tells
+            → StandsForNone (V.view volume).seen) }
+        ensures corrupt { (side : Side) (at : ℕ)
+            → IfErr result (λ e. e.1 ≡ Corrupt side at → IsTrue V.tells
+            → CorruptAt (V.view volume).seen side at) }
 
         ensures calm { IfOk result (λ s. IsTrue V.tells → Calm (V.view volume) (V.view s.volume)) }
-        ensures calm_fault { IfErr result (λ e. IsTrue V.tells → Calm (V.view volume) (V.view e.0)) }
+        ensures calm_fault { IfErr result (λ e.
+            IsTrue V.tells → Calm (V.view volume) (V.view e.0)) }
         ensures sizes { IfOk result (λ s. SameSizes (V.view volume) (V.view s.volume)) }
         ensures sizes_fault { IfErr result (λ e. SameSizes (V.view volume) (V.view e.0)) }
-        ensures device { IfErr result (λ e. e.1 ≡ Device → Rose (V.view volume).failures (V.view e.0).failures) }
+        ensures device { IfErr result (λ e. e.1 ≡ Device
+            → Rose (V.view volume).failures (V.view e.0).failures) }
         ensures which { IfErr result (λ e. IsOpenFault e.1) }
     {
         let mut volume = volume;

@@ -1,22 +1,24 @@
 //! The walk over the log of a side, from the state that its body spells on.
-ghost use Rattle.std.specs.Prelude.{◌≡◌, ◌≢◌, ◌+◌, ◌<◌, ◌≤◌, ℕ, IfOk, IfErr, IsErrOf, IsTrue};
+ghost use Rattle.std.specs.Prelude.{◌≡◌, ◌+◌, ◌<◌, ◌≤◌, ℕ, IfOk, IfErr, IsErrOf, IsTrue, MatchBool};
 ghost use Rattle.fw_disk.specs.declared.volume.Side.{Side};
 ghost use Rattle.fw_disk.specs.Volume.{Rose, SameSizes, Calm};
-ghost use Rattle.fw_snapshot.specs.Judging.{IsLegal};
+ghost use Rattle.fw_snapshot.specs.Judging.{IsLegal, IsLegalAfter};
+ghost use Rattle.fw_snapshot.specs.Verdicts.{with_more};
 ghost use Rattle.fw_recover.specs.declared.fault.StoreFault.TheVariants.{NoHouse, Corrupt, Device};
 ghost use Rattle.fw_recover.specs.Corrupt.{LogBreaks};
-ghost use Rattle.fw_recover.specs.Opening.{log_fault, IsOpenFault, IsAfter, IsWithGroup, HasGroups, IsClosedAt};
+ghost use Rattle.fw_recover.specs.Opening.{log_fault, IsOpenFault, GoesBehind, GoesNotBehind, HasGroups, IsClosedAt};
 
 use crate::StoreFault;
+use crate::judging::judge_and_add;
 use fw_disk::{Side, Volume};
 use fw_entry_bytes::Form;
 use fw_journal::{LogFault, frame_at};
 use fw_segment::{DecodeFault, decode_group};
-use fw_snapshot::{Entry, State, Verdict, judge};
+use fw_snapshot::{Entry, State, Verdict};
 use std::alloc::{AllocError, Global};
 
-/// The state with the groups of a log of the form, and the log's first closed gate. It reads the log frame by frame: each group is
-/// decoded, and its entries are judged, before the next frame is looked at. It holds one payload in memory.
+/// Puts the groups of a log of the form behind the state, and answers the log's first closed gate. It reads the log frame by frame:
+/// each group is decoded, and its entries are judged, before the next frame is looked at. It holds one payload in memory.
 ///
 /// `Corrupt` at the first gate where neither a closed gate nor the frame of a group stands whose entries are accepted
 /// after all before them; `Device` where a read failed; `NoMemory` where a growth was refused.
@@ -26,35 +28,35 @@ pub(crate) fn walk_log<V: Volume>(
     side: Side,
     form: Form,
     start: u64,
-    state: State,
-) -> Result<(State, u64), StoreFault>
-    requires legal { IsLegal state.entries }
+    state: &mut State,
+) -> Result<u64, StoreFault>
+    requires legal { IsLegal state.old.entries }
 
-    ensures groups { IfOk result (λ r. IsTrue V.tells → HasGroups form state start r.1 ((V.view volume.old).seen side) r.0) }
-    ensures closed { IfOk result (λ r. IsTrue V.tells → IsClosedAt r.1 ((V.view volume.old).seen side)) }
-    ensures within { IfOk result (λ r. r.1 < (V.view volume.old).size side) }
+    ensures groups { IfOk result (λ gate. IsTrue V.tells
+        → HasGroups form state.old start gate ((V.view volume.old).seen side) state.new) }
+    ensures closed { IfOk result (λ gate. IsTrue V.tells
+        → IsClosedAt gate ((V.view volume.old).seen side)) }
+    ensures within { IfOk result (λ gate. gate < (V.view volume.old).size side) }
     ensures corrupt { (at_side : Side) (at : ℕ) → IsErrOf result (Corrupt at_side at)
-        → (at_side ≡ side) × (IsTrue V.tells → LogBreaks form state start at ((V.view volume.old).seen side)) }
+        → (at_side ≡ side) × (IsTrue V.tells → LogBreaks form state.old start at
+        ((V.view volume.old).seen side)) }
     ensures not_no_house { IsErrOf result NoHouse → ⊥ }
     ensures which { IfErr result IsOpenFault }
 
     ensures calm { IsTrue V.tells → Calm (V.view volume.old) (V.view volume.new) }
     ensures sizes { SameSizes (V.view volume.old) (V.view volume.new) }
     ensures later { (V.view volume.old).failures ≤ (V.view volume.new).failures }
-    ensures device { IsErrOf result Device → Rose (V.view volume.old).failures (V.view volume.new).failures }
+    ensures device { IsErrOf result Device → Rose (V.view volume.old).failures
+        (V.view volume.new).failures }
 {
-    let mut state = state;
     let mut gate = start;
     loop {
         match frame_at(alloc, volume, side, gate) {
-            Ok(None) => return Ok((state, gate)),
-            Ok(Some((payload, next))) => match with_group(alloc, form, state, &payload) {
-                Ok(Some(after)) => {
-                    state = after;
-                    gate = next;
-                }
-                Ok(None) => return Err(StoreFault::Corrupt { side, at: gate }),
-                Err(_) => return Err(StoreFault::NoMemory),
+            Ok(None) => return Ok(gate),
+            Ok(Some((payload, next))) => match add_group(alloc, form, state, &payload) {
+                Ok(true) => gate = next,
+                Ok(false) => return Err(StoreFault::Corrupt { side, at: gate }),
+                Err(AllocError) => return Err(StoreFault::NoMemory),
             },
             Err(fault) => return Err(of_log(side, fault)),
         }
@@ -73,33 +75,34 @@ fn of_log(side: Side, fault: LogFault) -> StoreFault
     }
 }
 
-/// The state with the group of a payload; none where the payload is no group of the form, or an entry isn't accepted after
-/// those before it.
-fn with_group(
+/// Puts the group of a payload behind the state; false where the payload is no group of the form, or an entry isn't accepted
+/// after those before it, which stay behind the state then.
+fn add_group(
     alloc: Global,
     form: Form,
-    state: State,
+    state: &mut State,
     payload: &[u8],
-) -> Result<Option<State>, AllocError>
-    ensures { IfOk result (λ next. IsWithGroup form state payload.now next) }
+) -> Result<bool, AllocError>
+    ensures { IfOk result (λ all. MatchBool all (GoesBehind form state.old payload.now state.new)
+        (GoesNotBehind form state.old.entries payload.now)) }
 {
     match decode_group(alloc, form, payload) {
-        Ok(entries) => with_entries(state, &entries),
-        Err(DecodeFault::Corrupt { .. }) => Ok(None),
+        Ok(entries) => add_all(state, &entries),
+        Err(DecodeFault::Corrupt { .. }) => Ok(false),
         Err(DecodeFault::NoMemory) => Err(AllocError),
     }
 }
 
-/// The state with these entries; none where one of them isn't accepted after those before it.
-fn with_entries(state: State, entries: &[Entry]) -> Result<Option<State>, AllocError>
-    ensures { IfOk result (λ next. IsAfter state entries.now next) }
+/// Puts entries behind the state, up to the first one that isn't accepted after those before it; false where there is one.
+fn add_all(state: &mut State, entries: &[Entry]) -> Result<bool, AllocError>
+    ensures { IfOk result (λ all. MatchBool all
+        (IsLegalAfter state.old.entries entries.now × (state.new ≡ with_more state.old entries.now))
+        (IsLegalAfter state.old.entries entries.now → ⊥)) }
 {
-    let mut state = state;
     for entry in entries {
-        match judge(&state, entry) {
-            Verdict::Accept => state = state.apply(entry)?,
-            _ => return Ok(None),
-        }
+        let Verdict::Accept = judge_and_add(state, entry)? else {
+            return Ok(false);
+        };
     }
-    Ok(Some(state))
+    Ok(true)
 }

@@ -6,6 +6,7 @@
 #[cfg(test)]
 mod answered;
 mod ends;
+mod gate;
 #[cfg(test)]
 mod gated;
 #[cfg(test)]

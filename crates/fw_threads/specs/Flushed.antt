@@ -85,19 +85,20 @@ module _ {V : Type 0} (tells : Bool) (view : V → View) where
     pub count : accepted ≡ length (group_on p.published items)
     pub goes_on : q.unpublished ≡ false
 
-  -- Nothing is published, and why: the store failed in the call, or before it; the form of the side in use doesn't have an accepted one of the items; it
+  -- Nothing is published, and why: the store failed in the call; or it had failed before, or a group was stored and couldn't be published, which is looked at first; the form of the side in use doesn't have an accepted one of the items; it
   -- has them all, and there is no room for the group; memory ran out; or the group is stored and could not be published.
   abbrev pub Fails : PublisherState V → List Item → CommitFault → PublisherState V → Type 0
   Fails p items (commit.Store fault.Device) q =
-      (q ≡ record p { store = q.store }) × Lost p.store q.store × Rose (view p.store.volume).failures (view q.store.volume).failures
+      (p.unpublished ≡ false) × (q ≡ record p { store = q.store }) × Lost p.store q.store × Rose (view p.store.volume).failures (view q.store.volume).failures
       × (0 < length (group_on p.published items)) × AreOfForm p.store items × IsWhole p.store items q.store
   Fails p items (commit.Store fault.Failed) q = ((p.store.failed ≡ true) ⊎ (p.unpublished ≡ true)) × (q ≡ p)
-  Fails p items (commit.Store fault.OldSide) q = (p.store.failed ≡ false) × (AreOfForm p.store items → ⊥) × (q ≡ p)
+  Fails p items (commit.Store fault.OldSide) q = (p.store.failed ≡ false) × (p.unpublished ≡ false) × (AreOfForm p.store items → ⊥) × (q ≡ p)
   Fails p items (commit.Store fault.TooLarge) q =
-      (p.store.failed ≡ false) × AreOfForm p.store items × HasNoRoom (view p.store.volume).limit p.store (group_on p.store.history items) × (q ≡ p)
-  Fails p items (commit.Store fault.NoMemory) q = q ≡ p
+      (p.store.failed ≡ false) × (p.unpublished ≡ false) × AreOfForm p.store items
+      × HasNoRoom (view p.store.volume).limit p.store (group_on p.store.history items) × (q ≡ p)
+  Fails p items (commit.Store fault.NoMemory) q = (p.store.failed ≡ false) × (p.unpublished ≡ false) × (q ≡ p)
   Fails p items commit.Unpublished q =
-      (q ≡ record p { store = q.store; unpublished = true }) × Committed tells view p.store q.store (group_on p.published items)
+      (p.unpublished ≡ false) × (q ≡ record p { store = q.store; unpublished = true }) × Committed tells view p.store q.store (group_on p.published items)
       × AreOfForm p.store items × IsWhole p.store items q.store
   Fails p items fault q = ⊥
 

@@ -1,9 +1,10 @@
 //! The flusher.
-ghost use Rattle.std.specs.Prelude.{◌≡◌, true, ◌⊎◌, [], false, length, IfOk, IfErr, OnErr, OnOk, IsErrOf, IsTrue};
+ghost use Rattle.std.specs.Prelude.{◌≡◌, true, ◌⊎◌, ◌↔◌, ◌-◌, ◌^◌, ℕ, [], false, length, IfOk, IfErr, OnErr, OnOk, IsErrOf, IsTrue};
+ghost use Rattle.fw_disk.specs.declared.volume.Side.{Side};
 ghost use Rattle.fw_disk.specs.Volume.{LeavesOnly, Rose};
-ghost use Rattle.fw_recover.specs.Checkpoints.{IsCheckpointed};
+ghost use Rattle.fw_recover.specs.Checkpoints.{HasNoRoomFor, IsCheckpointed};
 ghost use Rattle.fw_recover.specs.Stands.{StandsFor};
-ghost use Rattle.fw_recover.specs.declared.fault.StoreFault.TheVariants.{Device, Failed};
+ghost use Rattle.fw_recover.specs.declared.fault.StoreFault.TheVariants.{NoHouse, Corrupt, Device, Failed, Generations, TooLarge, Exists, OldSide};
 ghost use Rattle.fw_group.specs.Answers.{IsGroupFault};
 ghost use Rattle.fw_group.specs.Items.{entries_of};
 ghost use Rattle.fw_threads.specs.Flushed.{IsTaken, Commits, CommitFails, StaysInHand, state_of};
@@ -137,16 +138,31 @@ impl<J: Naming, V: Volume> Flusher<J, V> {
     /// Writes the whole warehouse anew, as [`Store::checkpoint`] does. It publishes nothing.
     ///
     /// # Errors
-    /// Those of the store; and `Failed` where a group was stored and couldn't be published. `Device` closes the inbox.
+    /// `Failed` where the device had failed before, or a group was stored and couldn't be published. Then those of the store:
+    /// `Generations` where there is no greater generation, `TooLarge` where the volume's limit is below the side's length,
+    /// `NoMemory`, `Device`. `Device` closes the inbox.
     pub fn checkpoint<R: Wait>(&mut self, rt: &R) -> Result<(), StoreFault>
         ensures same { self.new ≡ record self.old { store = self.new.store } }
         ensures done { OnOk result (IsCheckpointed V.tells V.view self.old.store self.new.store) }
         ensures history { self.new.store.history ≡ self.old.store.history }
         ensures unchanged { OnErr result (IsErrOf result Device ⊎ (self.new ≡ self.old)) }
-        ensures any_moment { IsTrue V.tells → self.old.store.failed ≡ false → self.old.unpublished ≡ false
-            → LeavesOnly (V.view self.old.store.volume) (V.view self.new.store.volume) (StandsFor self.old.store.history) }
-        ensures failed { IsErrOf result Failed → (self.old.store.failed ≡ true) ⊎ (self.old.unpublished ≡ true) }
-        ensures device { IsErrOf result Device → Rose (V.view self.old.store.volume).failures (V.view self.new.store.volume).failures }
+        ensures any_moment { IsTrue V.tells → self.old.store.failed ≡ false
+            → self.old.unpublished ≡ false
+            → LeavesOnly (V.view self.old.store.volume) (V.view self.new.store.volume)
+            (StandsFor self.old.store.history) }
+        ensures failed { IsErrOf result Failed
+            ↔ ((self.old.store.failed ≡ true) ⊎ (self.old.unpublished ≡ true)) }
+        ensures generations { IsErrOf result Generations
+            ↔ ((self.old.unpublished ≡ false) × (self.old.store.failed ≡ false)
+            × (self.old.store.generation ≡ 2 ^ 64 - 1)) }
+        ensures too_large { IsErrOf result TooLarge
+            → HasNoRoomFor (V.view self.old.store.volume).limit self.old.store.history }
+        ensures not_no_house { IsErrOf result NoHouse → ⊥ }
+        ensures not_corrupt { (side : Side) (at : ℕ) → IsErrOf result (Corrupt side at) → ⊥ }
+        ensures not_exists { IsErrOf result Exists → ⊥ }
+        ensures not_old_side { IsErrOf result OldSide → ⊥ }
+        ensures device { IsErrOf result Device
+            → Rose (V.view self.old.store.volume).failures (V.view self.new.store.volume).failures }
     {
         let done = self.publisher.checkpoint();
         if let Err(StoreFault::Device) = done {

@@ -140,7 +140,9 @@ impl<J: Naming> Importer<J> {
     // Whether a verdict was judged on less than what was seen. If not, its front is seen.
     fn is_behind(&mut self, seen: &Seen<Published<J>>) -> bool
         requires { seen.now.at ≤ length seen.now.front.entries }
-        ensures { MatchBool result (self.new ≡ self.old) (Begins self.old seen.now.front × (length self.old.entries ≤ seen.now.at) × (self.new ≡ seen.now.front)) }
+        ensures { MatchBool result (self.new ≡ self.old)
+            (Begins self.old seen.now.front × (length self.old.entries ≤ seen.now.at)
+            × (self.new ≡ seen.now.front)) }
     {
         if seen.at < self.mark.entries() {
             return true;

@@ -82,7 +82,8 @@ impl Mark {
     /// Of two fronts of one list the one that has no more entries begins the other. It does nothing.
     pub fn meet(&self, other: &Mark)
         requires { other.now.of ≡ self.now.of }
-        ensures { length self.now.front.entries ≤ length other.now.front.entries → Begins self.now.front other.now.front }
+        ensures { length self.now.front.entries ≤ length other.now.front.entries
+            → Begins self.now.front other.now.front }
     {
         let _entries = other.entries;
         self.fronts.meet(&other.fronts);

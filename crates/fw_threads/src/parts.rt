@@ -60,12 +60,16 @@ pub fn split<J: Naming, V: Volume, R: Wait>(
     analysts: usize,
 ) -> Result<Parts<J, V>, (Store<V>, SplitFault)>
     requires { (opened.fronts ≡ J.fronts) × (opened.posts ≡ J.posts) }
-    ensures flusher { IfOk result (λ p. p.flusher ≡ record { published = store.history; store = store; unpublished = false; hand = [] }) }
-    ensures importers { IfOk result (λ p. (length p.importers.items ≡ importers) × All (λ i. i ≡ store.history) p.importers.items) }
-    ensures analysts { IfOk result (λ p. (length p.analysts.items ≡ analysts) × All (λ a. a ≡ store.history) p.analysts.items) }
+    ensures flusher { IfOk result (λ p. p.flusher
+        ≡ record { published = store.history; store = store; unpublished = false; hand = [] }) }
+    ensures importers { IfOk result (λ p. (length p.importers.items ≡ importers)
+        × All (λ i. i ≡ store.history) p.importers.items) }
+    ensures analysts { IfOk result (λ p. (length p.analysts.items ≡ analysts)
+        × All (λ a. a ≡ store.history) p.analysts.items) }
     ensures back { IfErr result (λ e. e.0 ≡ store) }
     ensures counts { IsOk result → AreCounts importers analysts }
-    ensures not_counts { IfErr result (λ e. e.1 ≡ SplitFault.Counts → AreCounts importers analysts → ⊥) }
+    ensures not_counts { IfErr result (λ e. e.1 ≡ SplitFault.Counts → AreCounts importers analysts
+        → ⊥) }
 {
     if importers == 0 || importers > MOST_ENDS || analysts == 0 || analysts > MOST_ENDS {
         return Err((store, SplitFault::Counts));
@@ -112,9 +116,12 @@ fn make_ends<J: Naming, R: Wait>(
     requires name { (opened.fronts ≡ J.fronts) × (opened.posts ≡ J.posts) }
     requires counts { (0 < analysts) × (analysts ≤ 64) }
     ensures front { IfOk result (λ e. (e.front ≡ first.now) × (e.growing ≡ J.fronts)) }
-    ensures writer { IfOk result (λ e. (e.writer.desk.shown.value.front ≡ first.now) × (drop e.writer.behind e.writer.log.items ≡ [])) }
-    ensures importers { IfOk result (λ e. (length e.importers.items ≡ importers) × All (λ i. i ≡ first.now) e.importers.items) }
-    ensures analysts { IfOk result (λ e. (length e.analysts.items ≡ analysts) × All (λ a. a ≡ first.now) e.analysts.items) }
+    ensures writer { IfOk result (λ e. (e.writer.desk.shown.value.front ≡ first.now)
+        × (drop e.writer.behind e.writer.log.items ≡ [])) }
+    ensures importers { IfOk result (λ e. (length e.importers.items ≡ importers)
+        × All (λ i. i ≡ first.now) e.importers.items) }
+    ensures analysts { IfOk result (λ e. (length e.analysts.items ≡ analysts)
+        × All (λ a. a ≡ first.now) e.analysts.items) }
     ensures fault { IfErr result (λ e. e ≡ SplitFault.Counts → ⊥) }
 {
     let Opened {
@@ -169,7 +176,8 @@ fn fronts<J: Naming>(
 ) -> Result<(Published<J>, Published<J>, Published<J>, Published<J>), AllocError>
     requires front { mark.now.front ≡ first.now }
     requires of { mark.now.of ≡ J.fronts }
-    ensures { IfOk result (λ t. (t.0 ≡ first.now) × (t.1 ≡ first.now) × (t.2 ≡ first.now) × (t.3 ≡ first.now)) }
+    ensures { IfOk result (λ t. (t.0 ≡ first.now) × (t.1 ≡ first.now) × (t.2 ≡ first.now)
+        × (t.3 ≡ first.now)) }
 {
     let front = Published::new(first.copy()?, mark.again());
     let (shown, spare, warm) = (front.copy()?, front.copy()?, front.copy()?);

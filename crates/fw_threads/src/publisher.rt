@@ -1,11 +1,12 @@
 //! Storing a group and publishing it.
-ghost use Rattle.std.specs.Prelude.{◌≡◌, true, ◌⊎◌, ◌≤◌, [], drop, false, length, All, IfOk, IfErr, IfSome, OnOk, OnErr, IsErrOf, MatchBool, IsTrue, vec_len, vec_capacity};
+ghost use Rattle.std.specs.Prelude.{◌≡◌, true, ◌⊎◌, ◌↔◌, ◌-◌, ◌^◌, ◌≤◌, ℕ, [], drop, false, length, All, IfOk, IfErr, IfSome, OnOk, OnErr, IsErrOf, MatchBool, IsTrue, vec_len, vec_capacity};
+ghost use Rattle.fw_disk.specs.declared.volume.Side.{Side};
 ghost use Rattle.fw_disk.specs.Volume.{LeavesOnly, Rose};
 ghost use Rattle.fw_snapshot.specs.Verdicts.{accepted_of, with_more};
 ghost use Rattle.fw_recover.specs.Stands.{StandsFor, StandsForEither};
 ghost use Rattle.fw_recover.specs.Committing.{Committed};
-ghost use Rattle.fw_recover.specs.Checkpoints.{IsCheckpointed};
-ghost use Rattle.fw_recover.specs.declared.fault.StoreFault.TheVariants.{Device, Failed};
+ghost use Rattle.fw_recover.specs.Checkpoints.{HasNoRoomFor, IsCheckpointed};
+ghost use Rattle.fw_recover.specs.declared.fault.StoreFault.TheVariants.{NoHouse, Corrupt, Device, Failed, Generations, TooLarge, Exists, OldSide};
 ghost use Rattle.fw_group.specs.Answers.{answers_on};
 ghost use Rattle.fw_group.specs.Items.{entries_of};
 ghost use Rattle.fw_group.specs.Laws.{Begins};
@@ -114,9 +115,12 @@ impl<J: Naming, V: Volume> Publisher<J, V> {
     pub fn commit<R: Wait>(&mut self, rt: &R, hand: &Hand) -> Result<Done<J>, CommitFault>
         requires some { hand.now ≡ [] → ⊥ }
         requires fits { Fits hand.now }
-        ensures done { IfOk result (λ d. Publishes V.tells V.view self.old hand.now d.accepted self.new) }
-        ensures answers { IfOk result (λ d. d.answers.items ≡ answers_on self.new.published self.old.published.entries (entries_of hand.now)) }
-        ensures failed { IfErr result (λ fault. Fails V.tells V.view self.old hand.now fault self.new) }
+        ensures done { IfOk result (λ d. Publishes V.tells V.view self.old hand.now d.accepted
+            self.new) }
+        ensures answers { IfOk result (λ d. d.answers.items
+            ≡ answers_on self.new.published self.old.published.entries (entries_of hand.now)) }
+        ensures failed { IfErr result (λ fault.
+            Fails V.tells V.view self.old hand.now fault self.new) }
     {
         if self.unpublished {
             return Err(CommitFault::Store(StoreFault::Failed));
@@ -159,10 +163,23 @@ impl<J: Naming, V: Volume> Publisher<J, V> {
         ensures done { OnOk result (IsCheckpointed V.tells V.view self.old.store self.new.store) }
         ensures history { self.new.store.history ≡ self.old.store.history }
         ensures unchanged { OnErr result (IsErrOf result Device ⊎ (self.new ≡ self.old)) }
-        ensures any_moment { IsTrue V.tells → self.old.store.failed ≡ false → self.old.unpublished ≡ false
-            → LeavesOnly (V.view self.old.store.volume) (V.view self.new.store.volume) (StandsFor self.old.store.history) }
-        ensures failed { IsErrOf result Failed → (self.old.store.failed ≡ true) ⊎ (self.old.unpublished ≡ true) }
-        ensures device { IsErrOf result Device → Rose (V.view self.old.store.volume).failures (V.view self.new.store.volume).failures }
+        ensures any_moment { IsTrue V.tells → self.old.store.failed ≡ false
+            → self.old.unpublished ≡ false
+            → LeavesOnly (V.view self.old.store.volume) (V.view self.new.store.volume)
+            (StandsFor self.old.store.history) }
+        ensures failed { IsErrOf result Failed
+            ↔ ((self.old.store.failed ≡ true) ⊎ (self.old.unpublished ≡ true)) }
+        ensures generations { IsErrOf result Generations
+            ↔ ((self.old.unpublished ≡ false) × (self.old.store.failed ≡ false)
+            × (self.old.store.generation ≡ 2 ^ 64 - 1)) }
+        ensures too_large { IsErrOf result TooLarge
+            → HasNoRoomFor (V.view self.old.store.volume).limit self.old.store.history }
+        ensures not_no_house { IsErrOf result NoHouse → ⊥ }
+        ensures not_corrupt { (side : Side) (at : ℕ) → IsErrOf result (Corrupt side at) → ⊥ }
+        ensures not_exists { IsErrOf result Exists → ⊥ }
+        ensures not_old_side { IsErrOf result OldSide → ⊥ }
+        ensures device { IsErrOf result Device
+            → Rose (V.view self.old.store.volume).failures (V.view self.new.store.volume).failures }
     {
         if self.unpublished {
             return Err(StoreFault::Failed);
@@ -232,13 +249,23 @@ fn store_group<J: Naming, V: Volume, R: Wait>(
     requires pending { drop writer.old.behind writer.old.log.items ≡ [] }
     requires ready { IsReady V.view store.old hand.now ready }
 
-    ensures committed { IfOk result (λ s. Committed V.tells V.view store.old store.new (accepted_of store.old.history.entries (entries_of hand.now))) }
-    ensures front { IfOk result (λ s. s.front ≡ with_more store.old.history (accepted_of store.old.history.entries (entries_of hand.now))) }
-    ensures answers { IfOk result (λ s. s.answers.items ≡ answers_on s.front store.old.history.entries (entries_of hand.now)) }
-    ensures shown { IfOk result (λ s. (writer.new.desk.shown.value.front ≡ s.front) × (drop writer.new.behind writer.new.log.items ≡ [])) }
-    ensures moment { IsTrue V.tells → LeavesOnly (V.view store.old.volume) (V.view store.new.volume) (StandsForEither store.old.history (accepted_of store.old.history.entries (entries_of hand.now))) }
-    ensures failed { IfErr result (λ fault. FailsBetween V.tells V.view store.old hand.now fault store.new) }
-    ensures not_shown { IfErr result (λ fault. (writer.new.desk.shown.value.front ≡ writer.old.desk.shown.value.front) × ((fault ≡ CommitFault.Unpublished → ⊥) → drop writer.new.behind writer.new.log.items ≡ [])) }
+    ensures committed { IfOk result (λ s. Committed V.tells V.view store.old store.new
+        (accepted_of store.old.history.entries (entries_of hand.now))) }
+    ensures front { IfOk result (λ s. s.front
+        ≡ with_more store.old.history (accepted_of store.old.history.entries (entries_of hand.now))) }
+    ensures answers { IfOk result (λ s. s.answers.items
+        ≡ answers_on s.front store.old.history.entries (entries_of hand.now)) }
+    ensures shown { IfOk result (λ s. (writer.new.desk.shown.value.front ≡ s.front)
+        × (drop writer.new.behind writer.new.log.items ≡ [])) }
+    ensures moment { IsTrue V.tells → LeavesOnly (V.view store.old.volume) (V.view store.new.volume)
+        (StandsForEither store.old.history (accepted_of store.old.history.entries
+        (entries_of hand.now))) }
+    ensures failed { IfErr result (λ fault. FailsBetween V.tells V.view store.old hand.now fault
+        store.new) }
+    ensures not_shown { IfErr result (λ fault.
+        (writer.new.desk.shown.value.front ≡ writer.old.desk.shown.value.front)
+        × ((fault ≡ CommitFault.Unpublished → ⊥)
+        → drop writer.new.behind writer.new.log.items ≡ [])) }
 {
     let Ready {
         group,

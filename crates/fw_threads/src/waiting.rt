@@ -94,7 +94,11 @@ impl<J: Naming> Waiting<J> {
     /// # Errors
     /// `Closed` where the inbox is closed, or `NoMemory`. Both change nothing, and drop the entry.
     pub fn post(&mut self, importer: usize, entry: Entry) -> Result<Ticket<J>, PushFault>
-        ensures posted { IfOk result (λ t. (t.entry ≡ entry) × (self.new ≡ record self.old { waiting = self.old.waiting ++ record { importer = importer; entry = entry } ∷ [] })) }
+        ensures posted { IfOk result (λ t. (t.entry ≡ entry)
+            × (self.new ≡ record self.old {
+              waiting = self.old.waiting
+                  ++ record { importer = importer; entry = entry } ∷ [];
+            })) }
         ensures refused { OnErr result (self.new ≡ self.old) }
         ensures open { IsOk result → self.old.closed ≡ false }
         ensures closed { IsErrOf result Closed → self.old.closed ≡ true }
@@ -119,8 +123,11 @@ impl<J: Naming> Waiting<J> {
     /// # Errors
     /// Where the allocator refused a growth. Nothing changes.
     pub fn take(&mut self, hand: &mut InHand<J>) -> Result<usize, AllocError>
-        ensures moved { IfOk result (λ n. hand.old ≡ [] → IsLongest self.old.waiting n × (hand.new ≡ take n self.old.waiting) × (self.new ≡ record self.old { waiting = drop n self.old.waiting })) }
-        ensures in_hand { (hand.old ≡ [] → ⊥) → (result ≡ Ok 0) × (hand.new ≡ hand.old) × (self.new ≡ self.old) }
+        ensures moved { IfOk result (λ n. hand.old ≡ []
+            → IsLongest self.old.waiting n × (hand.new ≡ take n self.old.waiting)
+            × (self.new ≡ record self.old { waiting = drop n self.old.waiting })) }
+        ensures in_hand { (hand.old ≡ [] → ⊥)
+            → (result ≡ Ok 0) × (hand.new ≡ hand.old) × (self.new ≡ self.old) }
         ensures refused { OnErr result ((hand.new ≡ hand.old) × (self.new ≡ self.old)) }
     {
         if !hand.items.is_empty() {

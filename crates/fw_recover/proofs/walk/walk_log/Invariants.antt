@@ -4,8 +4,8 @@ use Rattle.fw_recover.specs.Opening.{HasGroups}
 use Rattle.fw_recover.proofs.walk.walk_log.Given as goal
 
 -- the groups up to this gate are behind the state, and nothing has changed
-abbrev pub invariant-loop-state : goal.invariant-loop-state
-invariant-loop-state g l =
+abbrev pub invariant-loop-payload : goal.invariant-loop-payload
+invariant-loop-payload g l =
     let old = g.V.Volume.view l.initial.volume in
     let now = g.V.Volume.view l.volume in
     record {
@@ -15,5 +15,5 @@ invariant-loop-state g l =
       later : old.failures ≤ now.failures;
     }
 
-abbrev pub decreases-loop-state : goal.decreases-loop-state
-decreases-loop-state g l = (g.V.Volume.view l.volume).size l.side - l.gate
+abbrev pub decreases-loop-payload : goal.decreases-loop-payload
+decreases-loop-payload g l = (g.V.Volume.view l.volume).size l.side - l.gate

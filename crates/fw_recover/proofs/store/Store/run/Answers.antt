@@ -60,11 +60,11 @@ never_failed g c is =
     cc
 
 stays : (g : given.Over) (c : In-Err g) → (c.in-Err.fault ≡ fault.OldSide) ⊎ ((c.in-Err.fault ≡ fault.TooLarge) ⊎ (c.in-Err.fault ≡ fault.NoMemory)) → c.commit.new.self ≡ c.loop-entry.self
-stays g c which = elim c.in-Err.ensures.unchanged [
+stays g c which = elim c.in-Err.ensures.fails.unchanged [
   | inl device ↦ elim which [
-    | inl old ↦ (let both = sym device ∙ ap (λ (f : StoreFault). Err f) old in absurd (cc))
-    | inr (inl large) ↦ (let both = sym device ∙ ap (λ (f : StoreFault). Err f) large in absurd (cc))
-    | inr (inr memory) ↦ (let both = sym device ∙ ap (λ (f : StoreFault). Err f) memory in absurd (cc))
+    | inl old ↦ (let both = sym device ∙ old in absurd (cc))
+    | inr (inl large) ↦ (let both = sym device ∙ large in absurd (cc))
+    | inr (inr memory) ↦ (let both = sym device ∙ memory in absurd (cc))
   ]
   | inr same ↦ same
 ]
@@ -152,7 +152,7 @@ returns-in-Err-clause-accepted g c is =
     let device = c.in-Err.is ∙ ap (λ (f : StoreFault). Err f) is in
     let there = next_accepted h s.history es c.loop-entry.entry-index c.entry-item.result c.loop-entry-test.true c.entry-item.is c.loop-entry.invariant.history (c.commit.ensures.accepted device) in
     let P : History → ℕ → Type 0 = λ k n. 0 < length (accepted_of k.entries (take 1 (drop n es))) in
-    subst (λ (k : History). P k (length c.loop-entry.verdicts.items)) (sym (c.commit.ensures.lost device).history)
+    subst (λ (k : History). P k (length c.loop-entry.verdicts.items)) (sym (c.in-Err.ensures.fails.lost is).history)
     (subst (λ (n : ℕ). P s.history n) (sym (long g (goal.at.returns-in-Err-clause-accepted g c).After-commit)) there)
 
 pub loop-entry-preserved : goal.loop-entry-preserved

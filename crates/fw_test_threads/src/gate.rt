@@ -1,9 +1,9 @@
-//! The volume, and what its gate has to be.
+//! A volume whose syncs wait at a gate, so that a test holds a commit in its sync for as long as it likes.
 ghost use Rattle.std.specs.Prelude.{◌≡◌, ◌+◌, ◌<◌, ◌≤◌, ◌↔◌, length, IsTrue, OnOk, IsErrOf};
 ghost use Rattle.fw_disk.specs.declared.volume.Side.{Side};
 ghost use Rattle.fw_disk.specs.declared.volume.VolumeFault.TheVariants.{TooLarge};
 ghost use Rattle.fw_disk.specs.Volume.{Returns, Writes, Holds, Settled, Quiet, StaysPending, SettlesOnly, Allows, TornSide, SameSizes, Grows, HasCause};
-ghost use Rattle.fw_gate.specs.Gate.{one_more, inner_of, gate_of, view_behind};
+ghost use Rattle.fw_test_threads.specs.Gate.{one_more, inner_of, gate_of, view_behind};
 
 use fw_disk::{Side, Stoppable, Volume, VolumeFault};
 
@@ -63,9 +63,12 @@ impl<V: Volume, G: Gate> Volume for GateVolume<V, G> {
 
     fn read(&mut self, side: Side, at: u64, into: &mut [u8]) -> Result<(), VolumeFault>
         requires { at + length into.old ≤ (view_behind V.view self.old).size side }
-        ensures bytes { OnOk result (IsTrue V.tells → Returns at ((view_behind V.view self.old).seen side) into.new) }
-        ensures told { IsTrue V.tells → Quiet (view_behind V.view self.old) (view_behind V.view self.new) }
-        ensures pending { IsTrue V.tells → StaysPending (view_behind V.view self.old) (view_behind V.view self.new) }
+        ensures bytes { OnOk result (IsTrue V.tells
+            → Returns at ((view_behind V.view self.old).seen side) into.new) }
+        ensures told { IsTrue V.tells → Quiet (view_behind V.view self.old)
+            (view_behind V.view self.new) }
+        ensures pending { IsTrue V.tells → StaysPending (view_behind V.view self.old)
+            (view_behind V.view self.new) }
         ensures sizes { SameSizes (view_behind V.view self.old) (view_behind V.view self.new) }
         ensures cause { HasCause (view_behind V.view self.old) (view_behind V.view self.new) result }
         ensures fits { IsErrOf result TooLarge → ⊥ }
@@ -78,13 +81,21 @@ impl<V: Volume, G: Gate> Volume for GateVolume<V, G> {
 
     fn write_at(&mut self, side: Side, at: u64, bytes: &[u8]) -> Result<(), VolumeFault>
         requires { at ≤ (view_behind V.view self.old).size side }
-        ensures written { OnOk result (IsTrue V.tells → Holds at bytes.now ((view_behind V.view self.old).seen side) ((view_behind V.view self.new).seen side)) }
-        ensures told { IsTrue V.tells → Writes side at (length bytes.now) (view_behind V.view self.old) (view_behind V.view self.new) }
-        ensures pending { IsTrue V.tells → StaysPending (view_behind V.view self.old) (view_behind V.view self.new) }
-        ensures every_tear { OnOk result (IsTrue V.tells → Allows (TornSide side at (length bytes.now)) (view_behind V.view self.old).may_leave (view_behind V.view self.new).may_leave) }
-        ensures sizes { Grows side at (length bytes.now) (view_behind V.view self.old) (view_behind V.view self.new) result }
+        ensures written { OnOk result (IsTrue V.tells
+            → Holds at bytes.now ((view_behind V.view self.old).seen side)
+            ((view_behind V.view self.new).seen side)) }
+        ensures told { IsTrue V.tells → Writes side at (length bytes.now)
+            (view_behind V.view self.old) (view_behind V.view self.new) }
+        ensures pending { IsTrue V.tells → StaysPending (view_behind V.view self.old)
+            (view_behind V.view self.new) }
+        ensures every_tear { OnOk result (IsTrue V.tells
+            → Allows (TornSide side at (length bytes.now)) (view_behind V.view self.old).may_leave
+            (view_behind V.view self.new).may_leave) }
+        ensures sizes { Grows side at (length bytes.now) (view_behind V.view self.old)
+            (view_behind V.view self.new) result }
         ensures cause { HasCause (view_behind V.view self.old) (view_behind V.view self.new) result }
-        ensures too_large { IsErrOf result TooLarge ↔ ((view_behind V.view self.old).limit < at + length bytes.now) }
+        ensures too_large { IsErrOf result TooLarge
+            ↔ ((view_behind V.view self.old).limit < at + length bytes.now) }
         ensures unchanged { IsErrOf result TooLarge → self.new ≡ self.old }
 
         // Only a sync passes the gate.
@@ -95,8 +106,10 @@ impl<V: Volume, G: Gate> Volume for GateVolume<V, G> {
 
     fn sync(&mut self, side: Side) -> Result<(), VolumeFault>
         ensures durable { OnOk result (IsTrue V.tells → Settled side (view_behind V.view self.new)) }
-        ensures told { IsTrue V.tells → Quiet (view_behind V.view self.old) (view_behind V.view self.new) }
-        ensures pending { IsTrue V.tells → SettlesOnly side (view_behind V.view self.old) (view_behind V.view self.new) }
+        ensures told { IsTrue V.tells → Quiet (view_behind V.view self.old)
+            (view_behind V.view self.new) }
+        ensures pending { IsTrue V.tells → SettlesOnly side (view_behind V.view self.old)
+            (view_behind V.view self.new) }
         ensures sizes { SameSizes (view_behind V.view self.old) (view_behind V.view self.new) }
         ensures cause { HasCause (view_behind V.view self.old) (view_behind V.view self.new) result }
         ensures fits { IsErrOf result TooLarge → ⊥ }
@@ -114,7 +127,8 @@ impl<V: Stoppable, G: Gate> Stoppable for GateVolume<V, G> {
 
     /// The volume below is stopped. The gate stays as it is.
     fn stop(self) -> Self
-        ensures image { IsTrue V.tells → (view_behind V.view self).may_leave (view_behind V.view result).seen }
+        ensures image { IsTrue V.tells → (view_behind V.view self).may_leave
+            (view_behind V.view result).seen }
         ensures left { IsTrue V.tells → V.leaves (inner_of self) (view_behind V.view result).seen }
         ensures settled { IsTrue V.tells → (s : Side) → Settled s (view_behind V.view result) }
         ensures limit { (view_behind V.view result).limit ≡ (view_behind V.view self).limit }

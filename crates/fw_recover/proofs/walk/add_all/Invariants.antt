@@ -1,7 +1,7 @@
 use Rattle.std.proofs.Common.{◌≡◌, take}
 use Rattle.fw_snapshot.specs.Judging.{IsLegalAfter}
 use Rattle.fw_snapshot.specs.Verdicts.{with_more}
-use Rattle.fw_recover.proofs.walk.with_entries.Given as goal
+use Rattle.fw_recover.proofs.walk.add_all.Given as goal
 
 -- the entries so far were accepted, and are behind the state
 abbrev pub invariant-loop-entry : goal.invariant-loop-entry
