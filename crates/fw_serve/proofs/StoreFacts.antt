@@ -7,7 +7,7 @@ use Rattle.fw_disk.specs.Volume.{View, LeavesOnly, Rose}
 use Rattle.fw_entry.specs.Entry.{EntryValue}
 use Rattle.fw_entry_bytes.specs.Forms.{has_entry}
 use Rattle.fw_recover.specs.Checkpoints.{HasNoRoomFor, IsCheckpointed}
-use Rattle.fw_recover.specs.Committing.{Committed, Lost, IsCommitFault, HasNoRoom}
+use Rattle.fw_recover.specs.Committing.{Committed, Fails, Lost, IsCommitFault, HasNoRoom}
 use Rattle.fw_recover.specs.Stands.{StandsFor, StandsForEither}
 use Rattle.fw_recover.specs.Store.{StoreState}
 use Rattle.fw_recover.specs.declared.fault.StoreFault.{StoreFault}
@@ -76,17 +76,20 @@ commit_not fault a b c d x (inr (inr (inr (inr is)))) = x is
 
 -- what is known of a call that commits and fails
 pub record CommitFails {V : Type 0} (view : V → View) (old new : StoreState V) (e : EntryValue) (result : Result Verdict StoreFault) : Type 0 where
-  pub which : IfErr result IsCommitFault
+  pub fails : IfErr result (Fails view old new)
   pub failed : IsErrOf result store_fault.Failed ↔ (old.failed ≡ true)
-  pub unchanged : OnErr result (IsErrOf result store_fault.Device ⊎ (new ≡ old))
-  pub gone : IsErrOf result store_fault.Device → Lost old new
   pub old_side : IsErrOf result store_fault.OldSide ↔ ((old.failed ≡ false) × (judged old.history.entries e ≡ verdict.Accept) × (has_entry old.form e ≡ false))
   pub accepted : IsErrOf result store_fault.Device → judged old.history.entries e ≡ verdict.Accept
   pub no_room : IsErrOf result store_fault.TooLarge → HasNoRoom (view old.volume).limit old (kept_by (judged old.history.entries e) e)
-  pub rose : IsErrOf result store_fault.Device → Rose (view old.volume).failures (view new.volume).failures
   pub limit : (view new.volume).limit ≡ (view old.volume).limit
 
 -- a fault that isn't of the device changes nothing
+same_by : {V : Type 0} (view : V → View) (old new : StoreState V) (fault : StoreFault) → (fault ≡ store_fault.Device → ⊥) → Fails view old new fault → new ≡ old
+same_by view old new fault other fails = elim fails.unchanged [
+  | inl device ↦ absurd (other device)
+  | inr same ↦ same
+]
+
 same_store : {T V : Type 0} (old new : StoreState V) (result : Result T StoreFault) → (IsErrOf result store_fault.Device → ⊥) → IsErrOf result store_fault.Device ⊎ (new ≡ old) → new ≡ old
 same_store old new result other (inl device) = absurd (other device)
 same_store old new result other (inr same) = same
@@ -114,12 +117,14 @@ pub Moves-failed : {V : Type 0} (tells : Bool) (view : V → View) (F : EntryVal
     → (IsTrue tells → old.failed ≡ false → LeavesOnly (view old.volume) (view new.volume) (StandsForEither old.history (kept_by (judged old.history.entries e) e)))
     → (view old.volume).failures ≤ (view new.volume).failures → Moves tells view F old new
 Moves-failed tells view F old new e fault why flies counts run later =
+    let fails : Fails view old new fault = why.fails in
     ⊎_elim
     (λ device.
     let works = works_by (Err fault) _ (λ is. absurd (cc)) why.failed in
-    let has = has_by (Err fault) old.failed (has_entry old.form e) _ (λ is. absurd (cc)) works why.old_side (why.accepted device) in
-    Moves-lost tells view F old new (judged old.history.entries e) e works (why.gone device) (why.accepted device) (flies (cc) (why.accepted device) has) counts run (why.rose device) later)
-    (λ same. inl same) why.unchanged
+    let accepted = why.accepted (ap Err device) in
+    let has = has_by (Err fault) old.failed (has_entry old.form e) _ (λ is. absurd (cc)) works why.old_side accepted in
+    Moves-lost tells view F old new (judged old.history.entries e) e works (fails.lost device) accepted (flies device accepted has) counts run (fails.device device) later)
+    (λ same. inl same) fails.unchanged
 
 pub Submits-failed : {V : Type 0} (view : V → View) (old new : StoreState V) (e : EntryValue) (fault : StoreFault) (text : List ℕ) → CommitFails view old new e (Err fault)
     → text ≡ store_fault_line fault
@@ -127,24 +132,24 @@ pub Submits-failed : {V : Type 0} (view : V → View) (old new : StoreState V) (
 unfolding Submits store_fault_line
 Submits-failed view old new e store_fault.Device text why says =
     let works = works_by _ _ (λ is. absurd (cc)) why.failed in
-    inl (inr (works, lost_by view old new e _ text (why.accepted refl) (has_by _ _ _ _ (λ is. absurd (cc)) works why.old_side (why.accepted refl)) (why.gone refl) why.limit says))
+    inl (inr (works, lost_by view old new e _ text (why.accepted refl) (has_by _ _ _ _ (λ is. absurd (cc)) works why.old_side (why.accepted refl)) (why.fails.lost refl) why.limit says))
 Submits-failed view old new e store_fault.Failed text why says =
-    inl (inl (why.failed.0 refl, (says, ap (standing_of view) (same_store old new _ (λ is. absurd (cc)) why.unchanged))))
+    inl (inl (why.failed.0 refl, (says, ap (standing_of view) (same_by view old new _ (λ is. absurd (cc)) why.fails))))
 Submits-failed view old new e store_fault.OldSide text why says =
     let lacks = why.old_side.0 refl in
-    inl (inr (lacks.0, lacks_by view old new e _ text lacks.1 lacks.2 says (same_store old new _ (λ is. absurd (cc)) why.unchanged)))
+    inl (inr (lacks.0, lacks_by view old new e _ text lacks.1 lacks.2 says (same_by view old new _ (λ is. absurd (cc)) why.fails)))
 Submits-failed view old new e store_fault.TooLarge text why says =
     let works = works_by _ _ (λ is. absurd (cc)) why.failed in
     inl (inr (
       works,
-      no_room_by view old new e _ text (has_by _ _ _ _ (λ is. absurd (cc)) works why.old_side) (why.no_room refl) says (same_store old new _ (λ is. absurd (cc)) why.unchanged),
+      no_room_by view old new e _ text (has_by _ _ _ _ (λ is. absurd (cc)) works why.old_side) (why.no_room refl) says (same_by view old new _ (λ is. absurd (cc)) why.fails),
     ))
 Submits-failed view old new e store_fault.NoMemory text why says =
-    inr (says, ap (standing_of view) (same_store old new _ (λ is. absurd (cc)) why.unchanged))
-Submits-failed view old new e store_fault.NoHouse text why says = absurd (commit_not _ (λ is. absurd (cc)) (λ is. absurd (cc)) (λ is. absurd (cc)) (λ is. absurd (cc)) (λ is. absurd (cc)) why.which)
-Submits-failed view old new e (store_fault.Corrupt side at) text why says = absurd (commit_not _ (λ is. absurd (cc)) (λ is. absurd (cc)) (λ is. absurd (cc)) (λ is. absurd (cc)) (λ is. absurd (cc)) why.which)
-Submits-failed view old new e store_fault.Generations text why says = absurd (commit_not _ (λ is. absurd (cc)) (λ is. absurd (cc)) (λ is. absurd (cc)) (λ is. absurd (cc)) (λ is. absurd (cc)) why.which)
-Submits-failed view old new e store_fault.Exists text why says = absurd (commit_not _ (λ is. absurd (cc)) (λ is. absurd (cc)) (λ is. absurd (cc)) (λ is. absurd (cc)) (λ is. absurd (cc)) why.which)
+    inr (says, ap (standing_of view) (same_by view old new _ (λ is. absurd (cc)) why.fails))
+Submits-failed view old new e store_fault.NoHouse text why says = absurd (commit_not _ (λ is. absurd (cc)) (λ is. absurd (cc)) (λ is. absurd (cc)) (λ is. absurd (cc)) (λ is. absurd (cc)) why.fails.which)
+Submits-failed view old new e (store_fault.Corrupt side at) text why says = absurd (commit_not _ (λ is. absurd (cc)) (λ is. absurd (cc)) (λ is. absurd (cc)) (λ is. absurd (cc)) (λ is. absurd (cc)) why.fails.which)
+Submits-failed view old new e store_fault.Generations text why says = absurd (commit_not _ (λ is. absurd (cc)) (λ is. absurd (cc)) (λ is. absurd (cc)) (λ is. absurd (cc)) (λ is. absurd (cc)) why.fails.which)
+Submits-failed view old new e store_fault.Exists text why says = absurd (commit_not _ (λ is. absurd (cc)) (λ is. absurd (cc)) (λ is. absurd (cc)) (λ is. absurd (cc)) (λ is. absurd (cc)) why.fails.which)
 
 -- ---- checkpoints
 

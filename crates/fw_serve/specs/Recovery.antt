@@ -1,6 +1,6 @@
 -- Scripts that are served on one warehouse, stop after stop, and what is promised of the warehouse
 -- that is opened at the end.
-use Rattle.std.specs.Prelude.{◌≡◌, ◌⊎◌, ◌<◌, ◌^◌, ℕ, Bool, false, List, [], ◌∷◌, ◌++◌, Option, None, Some, length, slice_get, take}
+use Rattle.std.specs.Prelude.{◌≡◌, ◌⊎◌, ◌<◌, ◌^◌, ℕ, Bool, true, false, IsTrue, List, [], ◌∷◌, ◌++◌, Option, None, Some, length, slice_get, take}
 use Rattle.fw_amortise.specs.LineValue.{LineValue}
 use Rattle.fw_disk.specs.declared.volume.Side.{Side}
 use Rattle.fw_disk.specs.Volume.{Image, View}
@@ -18,10 +18,10 @@ use Rattle.fw_snapshot.specs.History.{History, commitments_of, rows_of}
 use Rattle.fw_snapshot.specs.Verdicts.{accepted_of, verdicts_on, with_more}
 use Rattle.fw_sums.specs.Limits.{IsRange}
 use Rattle.fw_serve.specs.Answers.{Answer}
-use Rattle.fw_serve.specs.Flight.{LeavesWithin, RunsInTurn}
+use Rattle.fw_serve.specs.Flight.{FailsOnSent, RunsInTurn}
 use Rattle.fw_serve.specs.Replies.{accepted_line, counted, query_fault_line, store_fault_line}
 use Rattle.fw_serve.specs.Runs.{AreJudged, Sends, StandsAt, verdict_lines}
-use Rattle.fw_serve.specs.Standings.{AreInFlight, Standing, standing_of}
+use Rattle.fw_serve.specs.Standings.{AreInFlight, IsBetween, Standing, standing_of}
 use Rattle.fw_serve.specs.Whole.{IsWhole, ReportsAddUp}
 
 -- ---- sessions
@@ -40,14 +40,17 @@ pub record ServedSession (V : Type 0) : Type 0 where
   pub image : Image
 
 -- The crash came at some moment of this command, which would have been answered so, and have left
--- this store.
+-- this store. What it left stands for the warehouse before the command or after it, or, where the
+-- device failed, has the entry that was in flight. Where it had failed before, nothing is written.
 pub record StopsWithin {V : Type 0} (tells : Bool) (view : V → View) (left : StoreState V)
     (command : PlainCommand) (image : Image) : Type 0 where
   pub answer : List ℕ
   pub next : StoreState V
   pub answered : Answer (standing_of view left) command answer (standing_of view next)
-  pub within : LeavesWithin tells view left command answer next
-  pub moment : (view next.volume).left_since (view left.volume).moment image
+  pub between : IsTrue tells → left.failed ≡ false
+      → IsBetween (FailsOnSent (standing_of view left) command answer) left.history
+      (standing_of view next) image
+  pub still : left.failed ≡ true → (view left.volume).may_leave image
 
 -- the crash came between two commands, or within one
 abbrev pub Stops : {V : Type 0} → Bool → (V → View) → StoreState V → Option PlainCommand → Image
@@ -83,19 +86,36 @@ pub record WasLeft {V : Type 0} (tells : Bool) (view : V → View) (held : Histo
   pub stopped : IsStopped tells view now last
   pub reads : (side : Side) → seen side ≡ last.image side
 
--- the session that a crash within the command at this place of a script ended, where the commands
--- before it left this store
-abbrev pub session_within : {V : Type 0} → StoreState V → List PlainCommand → List (List ℕ) → ℕ
-    → PlainCommand → StoreState V → Image → ServedSession V
-session_within begun commands answers place command left image =
+-- the session that a crash ended where the commands before this place of a script were done and had
+-- left this store: between two commands, or within the one that was running
+abbrev pub session_at : {V : Type 0} → StoreState V → List PlainCommand → List (List ℕ) → ℕ
+    → StoreState V → Option PlainCommand → Image → ServedSession V
+session_at begun commands answers place left running image =
     record {
       begun = begun;
       commands = take place commands;
       answers = take place answers;
       left = left;
-      running = Some command;
+      running = running;
       image = image;
     }
+
+-- the same, within a command
+abbrev pub session_within : {V : Type 0} → StoreState V → List PlainCommand → List (List ℕ) → ℕ
+    → PlainCommand → StoreState V → Image → ServedSession V
+session_within begun commands answers place command left image =
+    session_at begun commands answers place left (Some command) image
+
+-- a crash that left this image ended a session of these commands: at some place of them, between two
+-- or within the next one
+pub record EndsASession {V : Type 0} (tells : Bool) (view : V → View) (begun : StoreState V)
+    (commands : List PlainCommand) (answers : List (List ℕ)) (image : Image) : Type 0 where
+  pub place : ℕ
+  pub left : StoreState V
+  pub running : Option PlainCommand
+  pub is_next : (running ≡ None) ⊎ (running ≡ slice_get commands place)
+  pub stopped : IsStopped tells view begun.history
+      (session_at begun commands answers place left running image)
 
 -- the session that a crash behind these commands ended
 abbrev pub session_behind : {V : Type 0} → StoreState V → List PlainCommand → List (List ℕ)
@@ -176,6 +196,17 @@ pub record IsPromised {V : Type 0} (held : History) (sessions : List (ServedSess
   pub listed : (before after : Standing) (from to : ℕ) (answer : List ℕ)
       → before.history ≡ found → Answer before (lines from to) answer after
       → AreStatedLines found.entries from to answer
+  -- so were the reports and the lines that a session printed: of the entries that there were then,
+  -- which are the first ones
+  pub printed : (place turn : ℕ) (s : ServedSession V) (key : List ℕ) (from to : ℕ)
+      (answer : List ℕ) → slice_get sessions place ≡ Some s
+      → slice_get s.commands turn ≡ Some (report key from to)
+      → slice_get s.answers turn ≡ Some answer
+      → (n : ℕ) × IsStatedReport (take n found.entries) key from to answer
+  pub printed_lines : (place turn : ℕ) (s : ServedSession V) (from to : ℕ) (answer : List ℕ)
+      → slice_get sessions place ≡ Some s → slice_get s.commands turn ≡ Some (lines from to)
+      → slice_get s.answers turn ≡ Some answer
+      → (n : ℕ) × AreStatedLines (take n found.entries) from to answer
   -- in them a commitment's Purchase lines have an EffectiveCost of 0, its Used and Unused lines
   -- over its term carry what its purchases cost, to the last nano, and no row counts twice
   pub adds_up : ReportsAddUp found.entries

@@ -44,10 +44,14 @@ pub(crate) fn answer<V: Volume>(
 ) -> Reply
     requires some_workers { 1 ≤ workers }
     requires few_workers { workers ≤ most_workers }
-    requires kept { AreKept (commitments_of store.old.history.entries) (rows_of store.old.history.entries) covers.old }
-    ensures kept { AreKept (commitments_of store.new.history.entries) (rows_of store.new.history.entries) covers.new }
-    ensures answer { Answer (standing_of V.view store.old) (plain_command command.entry) (reply_text result) (standing_of V.view store.new) }
-    ensures moves { Moves V.tells V.view (FailsOnSent (standing_of V.view store.old) (plain_command command.entry) (reply_text result)) store.old store.new }
+    requires kept { AreKept (commitments_of store.old.history.entries)
+        (rows_of store.old.history.entries) covers.old }
+    ensures kept { AreKept (commitments_of store.new.history.entries)
+        (rows_of store.new.history.entries) covers.new }
+    ensures answer { Answer (standing_of V.view store.old) (plain_command command.entry)
+        (reply_text result) (standing_of V.view store.new) }
+    ensures moves { Moves V.tells V.view (FailsOnSent (standing_of V.view store.old)
+        (plain_command command.entry) (reply_text result)) store.old store.new }
 {
     match command {
         Command::Entry {
@@ -85,8 +89,11 @@ fn enter<V: Volume>(
     sequence: &[u8],
     content: &[u8],
 ) -> Reply
-    ensures entered { Entered (standing_of V.view store.old) kind origin.now sequence.now content.now (reply_text result) (standing_of V.view store.new) }
-    ensures moves { Moves V.tells V.view (FailsOnSent (standing_of V.view store.old) (plain.entry kind origin.now sequence.now content.now) (reply_text result)) store.old store.new }
+    ensures entered { Entered (standing_of V.view store.old) kind origin.now sequence.now
+        content.now (reply_text result) (standing_of V.view store.new) }
+    ensures moves { Moves V.tells V.view (FailsOnSent (standing_of V.view store.old)
+        (plain.entry kind origin.now sequence.now content.now) (reply_text result)) store.old
+        store.new }
 {
     let number = sequence_number(sequence).unwrap_or(0);
     match read_content(
@@ -111,9 +118,11 @@ fn take<V: Volume>(
     command: EntryCommand,
 ) -> Reply
     requires { HasRowCount (command_view command) }
-    ensures takes { Takes (standing_of V.view store.old) origin.now number (Ok (command_view command)) (reply_text result) (standing_of V.view store.new)
+    ensures takes { Takes (standing_of V.view store.old) origin.now number
+        (Ok (command_view command)) (reply_text result) (standing_of V.view store.new)
         ⊎ RanOut (standing_of V.view store.old) (reply_text result) (standing_of V.view store.new) }
-    ensures moves { Moves V.tells V.view (FailsOnMade (standing_of V.view store.old) origin.now number (command_view command) (reply_text result)) store.old store.new }
+    ensures moves { Moves V.tells V.view (FailsOnMade (standing_of V.view store.old) origin.now
+        number (command_view command) (reply_text result)) store.old store.new }
 {
     match Entry::new(alloc, origin, number, command) {
         Ok(entry) => submit(alloc, store, &entry),
@@ -123,9 +132,11 @@ fn take<V: Volume>(
 
 // Commits an entry, or answers why not. An entry keeps its limits.
 fn submit<V: Volume>(alloc: Global, store: &mut Store<V>, entry: &Entry) -> Reply
-    ensures submits { Submits (standing_of V.view store.old) entry.now (reply_text result) (standing_of V.view store.new)
+    ensures submits { Submits (standing_of V.view store.old) entry.now (reply_text result)
+        (standing_of V.view store.new)
         ⊎ RanOut (standing_of V.view store.old) (reply_text result) (standing_of V.view store.new) }
-    ensures moves { Moves V.tells V.view (FailsOnThis (standing_of V.view store.old) entry.now (reply_text result)) store.old store.new }
+    ensures moves { Moves V.tells V.view (FailsOnThis (standing_of V.view store.old) entry.now
+        (reply_text result)) store.old store.new }
     ensures valid { IsEntry entry.now }
 {
     let _seq = entry.seq();
@@ -137,7 +148,8 @@ fn submit<V: Volume>(alloc: Global, store: &mut Store<V>, entry: &Entry) -> Repl
 
 // Makes a checkpoint, or answers why not. No entry is in flight meanwhile.
 fn checkpoint<V: Volume>(alloc: Global, store: &mut Store<V>) -> Reply
-    ensures checkpoints { Checkpoints (standing_of V.view store.old) (reply_text result) (standing_of V.view store.new) }
+    ensures checkpoints { Checkpoints (standing_of V.view store.old) (reply_text result)
+        (standing_of V.view store.new) }
     ensures moves { Moves V.tells V.view (λ e. ⊥) store.old store.new }
 {
     match store.checkpoint(alloc) {

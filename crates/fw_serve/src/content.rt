@@ -25,7 +25,9 @@ pub(crate) fn read_content(
     content: &[u8],
     currency: Currency,
 ) -> Result<Command, Reply>
-    ensures reads { MatchResult result (λ command. ContentReads kind currency content.now (Ok (command_view command))) (λ reply. ContentReads kind currency content.now (Err (reply_text reply))) }
+    ensures reads { MatchResult result (λ command.
+        ContentReads kind currency content.now (Ok (command_view command))) (λ reply.
+        ContentReads kind currency content.now (Err (reply_text reply))) }
     ensures sized { IfOk result (λ command. HasRowCount (command_view command)) }
 {
     match kind {

@@ -26,9 +26,11 @@ pub(crate) fn read_script<R: Read>(
     posts: &mut Posts,
     currency: Currency,
 ) -> Result<ScriptText, ServeFault>
-    ensures whole { IfOk result (λ script. IfSome (R.remaining reader.old) (λ bytes. script ≡ bytes)) }
+    ensures whole { IfOk result (λ script. IfSome (R.remaining reader.old) (λ bytes.
+        script ≡ bytes)) }
     ensures short { IfOk result (λ script. length script ≤ most_bytes) }
-    ensures too_long { result ≡ Err ServeFault.TooLong → IfSome (R.remaining reader.old) (λ bytes. most_bytes < length bytes) }
+    ensures too_long { result ≡ Err ServeFault.TooLong
+        → IfSome (R.remaining reader.old) (λ bytes. most_bytes < length bytes) }
     ensures reads { result ≢ Err ServeFault.Write }
 {
     let read = read_to_end(rt, alloc, reader, posts, currency);
@@ -46,9 +48,11 @@ fn read_to_end<R: Read>(
     posts: &mut Posts,
     currency: Currency,
 ) -> Result<ScriptText, ServeFault>
-    ensures whole { IfOk result (λ script. IfSome (R.remaining reader.old) (λ bytes. script ≡ bytes)) }
+    ensures whole { IfOk result (λ script. IfSome (R.remaining reader.old) (λ bytes.
+        script ≡ bytes)) }
     ensures short { IfOk result (λ script. length script ≤ most_bytes) }
-    ensures too_long { result ≡ Err ServeFault.TooLong → IfSome (R.remaining reader.old) (λ bytes. most_bytes < length bytes) }
+    ensures too_long { result ≡ Err ServeFault.TooLong
+        → IfSome (R.remaining reader.old) (λ bytes. most_bytes < length bytes) }
     ensures reads { result ≢ Err ServeFault.Write }
 {
     let mut script = ScriptText::new(alloc);
@@ -77,9 +81,11 @@ pub fn read_within<R: Read>(
     limit: usize,
 ) -> Result<Vec<u8>, ServeFault>
     requires { limit ≤ most_bytes }
-    ensures whole { IfOk result (λ text. IfSome (R.remaining reader.old) (λ bytes. text.items ≡ bytes)) }
+    ensures whole { IfOk result (λ text. IfSome (R.remaining reader.old) (λ bytes.
+        text.items ≡ bytes)) }
     ensures short { IfOk result (λ text. length text.items ≤ limit) }
-    ensures too_long { result ≡ Err ServeFault.TooLong → IfSome (R.remaining reader.old) (λ bytes. limit < length bytes) }
+    ensures too_long { result ≡ Err ServeFault.TooLong
+        → IfSome (R.remaining reader.old) (λ bytes. limit < length bytes) }
     ensures reads { result ≢ Err ServeFault.Write }
 {
     let mut text = Vec::new(alloc);
@@ -100,7 +106,8 @@ pub fn read_within<R: Read>(
 fn read_some<R: Read>(reader: &mut R, buffer: &mut [u8]) -> Result<usize, ServeFault>
     requires { 0 < length buffer.old }
     ensures fits { IfOk result (λ count. count ≤ length buffer.new) }
-    ensures read { IfOk result (λ count. Consumes (R.remaining reader.old) (R.remaining reader.new) (take count buffer.new) × (count ≡ 0 → IsAtEnd (R.remaining reader.new))) }
+    ensures read { IfOk result (λ count. Consumes (R.remaining reader.old) (R.remaining reader.new)
+        (take count buffer.new) × (count ≡ 0 → IsAtEnd (R.remaining reader.new))) }
     ensures faults { IfErr result (λ why. why ≡ ServeFault.Read) }
 {
     match reader.read(buffer) {

@@ -22,7 +22,7 @@ ghost use Rattle.fw_recover.specs.declared.fault.StoreFault.TheVariants as store
 ghost use Rattle.fw_script.specs.Plain.{PlainCommand, checkpoint, lines, report, state};
 ghost use Rattle.fw_serve.specs.Answers.{Answer, Answers, last_generation};
 ghost use Rattle.fw_serve.specs.Flight.{FailsOnSent, IsInFlight, RunsAt, RunsInTurn};
-ghost use Rattle.fw_serve.specs.Recovery.{IsStopped, session_behind, session_within};
+ghost use Rattle.fw_serve.specs.Recovery.{EndsASession, IsStopped, session_behind, session_within};
 ghost use Rattle.fw_serve.specs.Replies.{accepted_line, already_line, checkpointed_line, conflict_line, counted, gap_line, no_memory_line, query_fault_line, state_line, store_fault_line};
 ghost use Rattle.fw_serve.specs.Runs.{AnswersEach, AreAlike, AreOne, AreSame, AreTold, AreUnhindered, IsHindered, IsOfASide, LacksKind, LacksRoom, NoneCutShort, NoneHindered, Sends, StandsAt};
 ghost use Rattle.fw_serve.specs.Sessions.{HasKept, IsSessionOf, Opens, PassesThrough, SessionValue};
@@ -41,9 +41,12 @@ use fw_recover::Store;
 /// the commands that were answered `accepted`, `already`, `gap` or `refused J..`; each of them was answered by the line of its verdict, and the
 /// warehouse holds what it held and those that were accepted. So every law of `fw_snapshot` on entries that are sent is one of what was written.
 pub fn answers_say_what_is_held()
-    ensures each { (before after : Standing) (commands : List PlainCommand) (text : List ℕ) → Answers before commands text after
-        → (answers : List (List ℕ)) × (text ≡ concat answers) × AnswersEach before commands answers after }
-    ensures told { (before after : Standing) (commands : List PlainCommand) (answers : List (List ℕ)) → AnswersEach before commands answers after
+    ensures each { (before after : Standing) (commands : List PlainCommand) (text : List ℕ)
+        → Answers before commands text after
+        → (answers : List (List ℕ)) × (text ≡ concat answers)
+        × AnswersEach before commands answers after }
+    ensures told { (before after : Standing) (commands : List PlainCommand)
+        (answers : List (List ℕ)) → AnswersEach before commands answers after
         → AreTold before.history commands answers after.history }
 {}
 
@@ -53,16 +56,25 @@ pub fn answers_say_what_is_held()
 /// the entries as they were (`hindered`), and the others are answered as they are by a run of these alone (`left_out`). A command sends
 /// one entry at most (`entry`).
 pub fn one_command_has_one_answer()
-    ensures command { (before other after after_other : Standing) (command : PlainCommand) (answer second : List ℕ) → before.history ≡ other.history
-        → Answer before command answer after → Answer other command second after_other → AreOne answer second after after_other }
-    ensures script { (before other after after_other : Standing) (commands : List PlainCommand) (answers second : List (List ℕ)) → before.history ≡ other.history
-        → AnswersEach before commands answers after → AnswersEach other commands second after_other → NoneHindered answers → NoneHindered second
+    ensures command { (before other after after_other : Standing) (command : PlainCommand)
+        (answer second : List ℕ) → before.history ≡ other.history
+        → Answer before command answer after → Answer other command second after_other
+        → AreOne answer second after after_other }
+    ensures script { (before other after after_other : Standing) (commands : List PlainCommand)
+        (answers second : List (List ℕ)) → before.history ≡ other.history
+        → AnswersEach before commands answers after → AnswersEach other commands second after_other
+        → NoneHindered answers → NoneHindered second
         → (answers ≡ second) × (after.history ≡ after_other.history) }
-    ensures hindered { (before after : Standing) (command : PlainCommand) (answer : List ℕ) → Answer before command answer after → IsHindered answer → after.history ≡ before.history }
-    ensures left_out { (before other after after_other : Standing) (commands rest : List PlainCommand) (answers answered second : List (List ℕ)) → before.history ≡ other.history
-        → AnswersEach before commands answers after → AreUnhindered commands answers rest answered → AnswersEach other rest second after_other → NoneHindered second
+    ensures hindered { (before after : Standing) (command : PlainCommand) (answer : List ℕ)
+        → Answer before command answer after → IsHindered answer → after.history ≡ before.history }
+    ensures left_out { (before other after after_other : Standing)
+        (commands rest : List PlainCommand) (answers answered second : List (List ℕ))
+        → before.history ≡ other.history
+        → AnswersEach before commands answers after → AreUnhindered commands answers rest answered
+        → AnswersEach other rest second after_other → NoneHindered second
         → (answered ≡ second) × (after.history ≡ after_other.history) }
-    ensures entry { (currency : List ℕ) (command : PlainCommand) (first second : EntryValue) → Sends currency command first → Sends currency command second → first ≡ second }
+    ensures entry { (currency : List ℕ) (command : PlainCommand) (first second : EntryValue)
+        → Sends currency command first → Sends currency command second → first ≡ second }
 {}
 
 /// Stores that are alike answer alike: where two stores have the same entries, both have failed or neither has, their sides in use are of the same form and
@@ -74,14 +86,24 @@ pub fn one_command_has_one_answer()
 /// decides, and so does the room that is left afterwards. A state has spellings of several lengths. Two that are made leave stores that are alike but for
 /// this room (`made`).
 pub fn stores_that_are_alike_answer_alike()
-    ensures command { (before other after after_other : Standing) (command : PlainCommand) (answer second : List ℕ) → AreAlike before other → command ≢ checkpoint
-        → Answer before command answer after → Answer other command second after_other → AreSame answer second after after_other }
-    ensures checkpoint { (before other after after_other : Standing) (answer second : List ℕ) → AreAlike before other
-        → Answer before checkpoint answer after → Answer other checkpoint second after_other → AreSame answer second after after_other ⊎ (IsOfASide answer × IsOfASide second) }
-    ensures made { (before other after after_other : Standing) → AreAlike before other → Answer before checkpoint checkpointed_line after → Answer other checkpoint checkpointed_line after_other
-        → (after.history ≡ after_other.history) × (after.failed ≡ after_other.failed) × (after.form ≡ after_other.form) × (after.generation ≡ after_other.generation) }
-    ensures script { (before other after after_other : Standing) (commands : List PlainCommand) (answers second : List (List ℕ)) → AreAlike before other → All (λ command. command ≢ checkpoint) commands
-        → AnswersEach before commands answers after → AnswersEach other commands second after_other → NoneCutShort answers → NoneCutShort second
+    ensures command { (before other after after_other : Standing) (command : PlainCommand)
+        (answer second : List ℕ) → AreAlike before other → command ≢ checkpoint
+        → Answer before command answer after → Answer other command second after_other
+        → AreSame answer second after after_other }
+    ensures checkpoint { (before other after after_other : Standing) (answer second : List ℕ)
+        → AreAlike before other
+        → Answer before checkpoint answer after → Answer other checkpoint second after_other
+        → AreSame answer second after after_other ⊎ (IsOfASide answer × IsOfASide second) }
+    ensures made { (before other after after_other : Standing) → AreAlike before other
+        → Answer before checkpoint checkpointed_line after
+        → Answer other checkpoint checkpointed_line after_other
+        → (after.history ≡ after_other.history) × (after.failed ≡ after_other.failed)
+        × (after.form ≡ after_other.form) × (after.generation ≡ after_other.generation) }
+    ensures script { (before other after after_other : Standing) (commands : List PlainCommand)
+        (answers second : List (List ℕ)) → AreAlike before other
+        → All (λ command. command ≢ checkpoint) commands
+        → AnswersEach before commands answers after → AnswersEach other commands second after_other
+        → NoneCutShort answers → NoneCutShort second
         → (answers ≡ second) × AreAlike after after_other }
 {}
 
@@ -89,13 +111,21 @@ pub fn stores_that_are_alike_answer_alike()
 /// that was set last (`report`), and lines that are printed are the lines of these entries (`lines`). So each law of `fw_query` on reports and lines is one
 /// of what was printed. Else the answer says why there is none. `state` counts what is held.
 pub fn questions_are_answered_from_what_is_held()
-    ensures report { (before after : Standing) (key : List ℕ) (from to : ℕ) (answer : List ℕ) → Answer before (report key from to) answer after
-        → (((fault : QueryFault) × IsRefused (commitments_of before.history.entries) (rows_of before.history.entries) key from to fault × (answer ≡ query_fault_line fault))
-        ⊎ ((found : List reports.EntryValue) × IsRange from to × IsReportOn before.history.entries key from to found × (answer ≡ counted (report_text found)))) × (after ≡ before) }
-    ensures lines { (before after : Standing) (from to : ℕ) (answer : List ℕ) → Answer before (lines from to) answer after
+    ensures report { (before after : Standing) (key : List ℕ) (from to : ℕ) (answer : List ℕ)
+        → Answer before (report key from to) answer after
+        → (((fault : QueryFault) × IsRefused (commitments_of before.history.entries)
+        (rows_of before.history.entries) key from to fault × (answer ≡ query_fault_line fault))
+        ⊎ ((found : List reports.EntryValue) × IsRange from to
+        × IsReportOn before.history.entries key from to found
+        × (answer ≡ counted (report_text found)))) × (after ≡ before) }
+    ensures lines { (before after : Standing) (from to : ℕ) (answer : List ℕ)
+        → Answer before (lines from to) answer after
         → (((fault : QueryFault) × AreRefused from to fault × (answer ≡ query_fault_line fault))
-        ⊎ ((found : List LineValue) × IsRange from to × AreLinesOf before.history.entries from to found × (answer ≡ counted (lines_text found)))) × (after ≡ before) }
-    ensures state { (before after : Standing) (answer : List ℕ) → Answer before state answer after → (answer ≡ state_line before.history) × (after ≡ before) }
+        ⊎ ((found : List LineValue) × IsRange from to
+        × AreLinesOf before.history.entries from to found × (answer ≡ counted (lines_text found))))
+        × (after ≡ before) }
+    ensures state { (before after : Standing) (answer : List ℕ) → Answer before state answer after
+        → (answer ≡ state_line before.history) × (after ≡ before) }
 {}
 
 /// What is written is true. `accepted N` is answered to the command of an entry, and after the script this is the Nth of the warehouse, counted from 1
@@ -103,30 +133,58 @@ pub fn questions_are_answered_from_what_is_held()
 /// is the next of its origin. `refused J..`: it is refused for this reason. After the last three the warehouse holds what it held. Numbers are
 /// below 2^64, as all numbers that the program counts with.
 pub fn what_is_written_is_true()
-    ensures accepted { (before after : Standing) (commands : List PlainCommand) (answers : List (List ℕ)) (place n : ℕ) (command : PlainCommand) → AnswersEach before commands answers after
-        → slice_get commands place ≡ Some command → slice_get answers place ≡ Some (accepted_line n) → n < 2 ^ 64 → length after.history.entries < 2 ^ 64
-        → (e : EntryValue) × Sends before.history.currency command e × StandsAt after.history.entries n e }
-    ensures stays { (before after : Standing) (commands : List PlainCommand) (answers : List (List ℕ)) (n : ℕ) (e : EntryValue) → AnswersEach before commands answers after
+    ensures accepted { (before after : Standing) (commands : List PlainCommand)
+        (answers : List (List ℕ)) (place n : ℕ) (command : PlainCommand)
+        → AnswersEach before commands answers after
+        → slice_get commands place ≡ Some command → slice_get answers place ≡ Some (accepted_line n)
+        → n < 2 ^ 64 → length after.history.entries < 2 ^ 64
+        → (e : EntryValue) × Sends before.history.currency command e
+        × StandsAt after.history.entries n e }
+    ensures stays { (before after : Standing) (commands : List PlainCommand)
+        (answers : List (List ℕ)) (n : ℕ) (e : EntryValue)
+        → AnswersEach before commands answers after
         → StandsAt before.history.entries n e → StandsAt after.history.entries n e }
-    ensures already { (before after : Standing) (command : PlainCommand) (n : ℕ) → IsLegal before.history.entries → Answer before command (already_line n) after → n < 2 ^ 64 → length before.history.entries < 2 ^ 64
-        → (e : EntryValue) × Sends before.history.currency command e × IsRepeat before.history.entries e × (n ≡ entries_from e.origin before.history.entries) × (after.history ≡ before.history) }
-    ensures gap { (before after : Standing) (command : PlainCommand) (n : ℕ) → Answer before command (gap_line n) after → n < 2 ^ 64
-        → (e : EntryValue) × Sends before.history.currency command e × (n ≡ entries_from e.origin before.history.entries + 1) × (n < e.seq) × (after.history ≡ before.history) }
-    ensures refused { (before after : Standing) (command : PlainCommand) (why : Conflict) → Answer before command (conflict_line why) after
-        → (e : EntryValue) × Sends before.history.currency command e × (judged before.history.entries e ≡ verdict.Refused why) × (after.history ≡ before.history) }
+    ensures already { (before after : Standing) (command : PlainCommand) (n : ℕ)
+        → IsLegal before.history.entries → Answer before command (already_line n) after → n < 2 ^ 64
+        → length before.history.entries < 2 ^ 64
+        → (e : EntryValue) × Sends before.history.currency command e
+        × IsRepeat before.history.entries e × (n ≡ entries_from e.origin before.history.entries)
+        × (after.history ≡ before.history) }
+    ensures gap { (before after : Standing) (command : PlainCommand) (n : ℕ)
+        → Answer before command (gap_line n) after → n < 2 ^ 64
+        → (e : EntryValue) × Sends before.history.currency command e
+        × (n ≡ entries_from e.origin before.history.entries + 1) × (n < e.seq)
+        × (after.history ≡ before.history) }
+    ensures refused { (before after : Standing) (command : PlainCommand) (why : Conflict)
+        → Answer before command (conflict_line why) after
+        → (e : EntryValue) × Sends before.history.currency command e
+        × (judged before.history.entries e ≡ verdict.Refused why)
+        × (after.history ≡ before.history) }
 {}
 
 /// A store whose device has failed takes nothing more. What is answered `store S3 Device` leaves such a store, with the entries that it had (`failed`). From
 /// then on nothing changes (`stays`): in the rest of the script each command that sends an entry is answered `store S4 Failed`, or that memory ran out
 /// (`entries`), and each checkpoint `store S4 Failed` (`checkpoints`). All else is answered from these entries still ([`one_command_has_one_answer`]).
 pub fn a_store_that_failed_takes_nothing_more()
-    ensures failed { (before after : Standing) (command : PlainCommand) → Answer before command (store_fault_line store_fault.Device) after → (after.failed ≡ true) × (after.history ≡ before.history) }
-    ensures stays { (before after : Standing) (commands : List PlainCommand) (answers : List (List ℕ)) → before.failed ≡ true → AnswersEach before commands answers after → after ≡ before }
-    ensures entries { (before after : Standing) (commands : List PlainCommand) (answers : List (List ℕ)) (place later : ℕ) (command : PlainCommand) (answer : List ℕ) (e : EntryValue) → AnswersEach before commands answers after
-        → slice_get answers place ≡ Some (store_fault_line store_fault.Device) → place < later → slice_get commands later ≡ Some command → slice_get answers later ≡ Some answer → Sends before.history.currency command e
+    ensures failed { (before after : Standing) (command : PlainCommand)
+        → Answer before command (store_fault_line store_fault.Device) after
+        → (after.failed ≡ true) × (after.history ≡ before.history) }
+    ensures stays { (before after : Standing) (commands : List PlainCommand)
+        (answers : List (List ℕ)) → before.failed ≡ true → AnswersEach before commands answers after
+        → after ≡ before }
+    ensures entries { (before after : Standing) (commands : List PlainCommand)
+        (answers : List (List ℕ)) (place later : ℕ) (command : PlainCommand) (answer : List ℕ)
+        (e : EntryValue) → AnswersEach before commands answers after
+        → slice_get answers place ≡ Some (store_fault_line store_fault.Device) → place < later
+        → slice_get commands later ≡ Some command → slice_get answers later ≡ Some answer
+        → Sends before.history.currency command e
         → (answer ≡ store_fault_line store_fault.Failed) ⊎ (answer ≡ no_memory_line) }
-    ensures checkpoints { (before after : Standing) (commands : List PlainCommand) (answers : List (List ℕ)) (place later : ℕ) (answer : List ℕ) → AnswersEach before commands answers after
-        → slice_get answers place ≡ Some (store_fault_line store_fault.Device) → place < later → slice_get commands later ≡ Some checkpoint → slice_get answers later ≡ Some answer → answer ≡ store_fault_line store_fault.Failed }
+    ensures checkpoints { (before after : Standing) (commands : List PlainCommand)
+        (answers : List (List ℕ)) (place later : ℕ) (answer : List ℕ)
+        → AnswersEach before commands answers after
+        → slice_get answers place ≡ Some (store_fault_line store_fault.Device) → place < later
+        → slice_get commands later ≡ Some checkpoint → slice_get answers later ≡ Some answer
+        → answer ≡ store_fault_line store_fault.Failed }
 {}
 
 /// What the store doesn't do has its cause. `store S4 Failed` is answered only where the device had failed before (`failed`); `store S5 Generations` only to a
@@ -137,17 +195,31 @@ pub fn a_store_that_failed_takes_nothing_more()
 /// fault of a store is an answer (`others`). A side of the second form has each entry, so `store S8 OldSide` never comes while one is in use (`new_side`), nor
 /// behind a checkpoint that was made (`checkpointed`).
 pub fn what_the_store_refuses_has_its_cause()
-    ensures failed { (before after : Standing) (command : PlainCommand) → Answer before command (store_fault_line store_fault.Failed) after → (before.failed ≡ true) × (after ≡ before) }
-    ensures generations { (before after : Standing) (command : PlainCommand) → Answer before command (store_fault_line store_fault.Generations) after
+    ensures failed { (before after : Standing) (command : PlainCommand)
+        → Answer before command (store_fault_line store_fault.Failed) after
+        → (before.failed ≡ true) × (after ≡ before) }
+    ensures generations { (before after : Standing) (command : PlainCommand)
+        → Answer before command (store_fault_line store_fault.Generations) after
         → (command ≡ checkpoint) × (before.generation ≡ last_generation) × (after ≡ before) }
-    ensures too_large { (before after : Standing) (command : PlainCommand) → Answer before command (store_fault_line store_fault.TooLarge) after → LacksRoom before command × (after ≡ before) }
-    ensures old_side { (before after : Standing) (command : PlainCommand) → Answer before command (store_fault_line store_fault.OldSide) after → LacksKind before command × (after ≡ before) }
-    ensures others { (before after : Standing) (command : PlainCommand) (why : StoreFault) → Answer before command (store_fault_line why) after
-        → (why ≡ store_fault.Device) ⊎ ((why ≡ store_fault.Failed) ⊎ ((why ≡ store_fault.Generations) ⊎ ((why ≡ store_fault.TooLarge) ⊎ ((why ≡ store_fault.OldSide) ⊎ (why ≡ store_fault.NoMemory))))) }
-    ensures new_side { (before after : Standing) (commands : List PlainCommand) (answers : List (List ℕ)) (place : ℕ) → before.form ≡ Two → AnswersEach before commands answers after
+    ensures too_large { (before after : Standing) (command : PlainCommand)
+        → Answer before command (store_fault_line store_fault.TooLarge) after
+        → LacksRoom before command × (after ≡ before) }
+    ensures old_side { (before after : Standing) (command : PlainCommand)
+        → Answer before command (store_fault_line store_fault.OldSide) after
+        → LacksKind before command × (after ≡ before) }
+    ensures others { (before after : Standing) (command : PlainCommand) (why : StoreFault)
+        → Answer before command (store_fault_line why) after
+        → (why ≡ store_fault.Device) ⊎ ((why ≡ store_fault.Failed)
+        ⊎ ((why ≡ store_fault.Generations) ⊎ ((why ≡ store_fault.TooLarge)
+        ⊎ ((why ≡ store_fault.OldSide) ⊎ (why ≡ store_fault.NoMemory))))) }
+    ensures new_side { (before after : Standing) (commands : List PlainCommand)
+        (answers : List (List ℕ)) (place : ℕ) → before.form ≡ Two
+        → AnswersEach before commands answers after
         → slice_get answers place ≡ Some (store_fault_line store_fault.OldSide) → ⊥ }
-    ensures checkpointed { (before after : Standing) (commands : List PlainCommand) (answers : List (List ℕ)) (place later : ℕ) → AnswersEach before commands answers after
-        → slice_get commands place ≡ Some checkpoint → slice_get answers place ≡ Some checkpointed_line → place < later
+    ensures checkpointed { (before after : Standing) (commands : List PlainCommand)
+        (answers : List (List ℕ)) (place later : ℕ) → AnswersEach before commands answers after
+        → slice_get commands place ≡ Some checkpoint
+        → slice_get answers place ≡ Some checkpointed_line → place < later
         → slice_get answers later ≡ Some (store_fault_line store_fault.OldSide) → ⊥ }
 {}
 
@@ -155,11 +227,20 @@ pub fn what_the_store_refuses_has_its_cause()
 /// so after each command (`command`), and after a script (`script`). Wherever a command stands in a script, it is answered from the warehouse that
 /// the commands before it left, which is whole and whose reports add up (`moment`). So the laws of `fw_query` on costs hold of each report that is printed.
 pub fn a_warehouse_stays_whole()
-    ensures command { (before after : Standing) (command : PlainCommand) (answer : List ℕ) → IsWhole before.history.entries → Answer before command answer after → IsWhole after.history.entries }
-    ensures script { (before after : Standing) (commands : List PlainCommand) (answers : List (List ℕ)) → IsWhole before.history.entries → AnswersEach before commands answers after → IsWhole after.history.entries }
-    ensures moment { (before after : Standing) (commands : List PlainCommand) (answers : List (List ℕ)) (place : ℕ) (command : PlainCommand) (answer : List ℕ) → IsWhole before.history.entries
-        → AnswersEach before commands answers after → slice_get commands place ≡ Some command → slice_get answers place ≡ Some answer
-        → (middle : Standing) × (next : Standing) × AnswersEach before (take place commands) (take place answers) middle × Answer middle command answer next
+    ensures command { (before after : Standing) (command : PlainCommand) (answer : List ℕ)
+        → IsWhole before.history.entries → Answer before command answer after
+        → IsWhole after.history.entries }
+    ensures script { (before after : Standing) (commands : List PlainCommand)
+        (answers : List (List ℕ)) → IsWhole before.history.entries
+        → AnswersEach before commands answers after → IsWhole after.history.entries }
+    ensures moment { (before after : Standing) (commands : List PlainCommand)
+        (answers : List (List ℕ)) (place : ℕ) (command : PlainCommand) (answer : List ℕ)
+        → IsWhole before.history.entries
+        → AnswersEach before commands answers after → slice_get commands place ≡ Some command
+        → slice_get answers place ≡ Some answer
+        → (middle : Standing) × (next : Standing)
+        × AnswersEach before (take place commands) (take place answers) middle
+        × Answer middle command answer next
         × IsWhole middle.history.entries × ReportsAddUp middle.history.entries }
 {}
 
@@ -174,46 +255,81 @@ pub fn a_warehouse_stays_whole()
 /// (`script`). After a script whose
 /// device failed it is as the script left it, or has this entry as well (`after_script`). There is one such entry at most (`one`).
 pub fn what_a_crash_leaves_is_reported_whole()
-    ensures between { (before now : History) (entries : List EntryValue) (answered : ℕ) (image : Image) → now ≡ with_first before answered entries → StandsFor now image → HasAnswered before entries answered image }
-    ensures within { (before now : History) (entries : List EntryValue) (answered : ℕ) (e : EntryValue) (image : Image) → now ≡ with_first before answered entries → slice_get entries answered ≡ Some e
-        → StandsForEither now (taken now.entries e) image → HasAnswered before entries answered image }
-    ensures opens { (before : History) (entries : List EntryValue) (answered : ℕ) (image : Image) → HasAnswered before entries answered image
-        → (found : History) × StandsFor found image × (StandsForNone image → ⊥) × ((side : Side) (at : ℕ) → CorruptAt image side at → ⊥) }
-    ensures run { (before found : History) (entries : List EntryValue) (answered : ℕ) (image : Image) → HasAnswered before entries answered image → StandsFor found image
-        → (n : ℕ) × (answered ≤ n) × (n ≤ answered + 1) × (found ≡ with_first before n entries) × IsWhole found.entries × ReportsAddUp found.entries }
-    ensures first { (before found : History) (entries : List EntryValue) (image : Image) → StandsForFirst before entries image → StandsFor found image
-        → (n : ℕ) × (found ≡ with_first before n entries) × IsWhole found.entries × ReportsAddUp found.entries }
-    ensures group { (before found : History) (more : List EntryValue) (image : Image) → StandsForEither before more image → StandsFor found image
-        → ((found ≡ before) ⊎ (found ≡ with_more before more)) × IsWhole found.entries × ReportsAddUp found.entries }
-    ensures script { (before after : Standing) (commands : List PlainCommand) (answers : List (List ℕ)) (found : History) (image : Image)
-        → IsBetween (IsInFlight before after commands answers) before.history after image → StandsFor found image
+    ensures between { (before now : History) (entries : List EntryValue) (answered : ℕ)
+        (image : Image) → now ≡ with_first before answered entries → StandsFor now image
+        → HasAnswered before entries answered image }
+    ensures within { (before now : History) (entries : List EntryValue) (answered : ℕ)
+        (e : EntryValue) (image : Image) → now ≡ with_first before answered entries
+        → slice_get entries answered ≡ Some e
+        → StandsForEither now (taken now.entries e) image
+        → HasAnswered before entries answered image }
+    ensures opens { (before : History) (entries : List EntryValue) (answered : ℕ) (image : Image)
+        → HasAnswered before entries answered image
+        → (found : History) × StandsFor found image × (StandsForNone image → ⊥)
+        × ((side : Side) (at : ℕ) → CorruptAt image side at → ⊥) }
+    ensures run { (before found : History) (entries : List EntryValue) (answered : ℕ)
+        (image : Image) → HasAnswered before entries answered image → StandsFor found image
+        → (n : ℕ) × (answered ≤ n) × (n ≤ answered + 1) × (found ≡ with_first before n entries)
+        × IsWhole found.entries × ReportsAddUp found.entries }
+    ensures first { (before found : History) (entries : List EntryValue) (image : Image)
+        → StandsForFirst before entries image → StandsFor found image
+        → (n : ℕ) × (found ≡ with_first before n entries) × IsWhole found.entries
+        × ReportsAddUp found.entries }
+    ensures group { (before found : History) (more : List EntryValue) (image : Image)
+        → StandsForEither before more image → StandsFor found image
+        → ((found ≡ before) ⊎ (found ≡ with_more before more)) × IsWhole found.entries
+        × ReportsAddUp found.entries }
+    ensures script { (before after : Standing) (commands : List PlainCommand)
+        (answers : List (List ℕ)) (found : History) (image : Image)
+        → IsBetween (IsInFlight before after commands answers) before.history after image
+        → StandsFor found image
         → (more : List EntryValue) × (found ≡ with_more before.history more)
         × (((rest : List EntryValue) × (after.history ≡ with_more found rest))
-        ⊎ ((after.failed ≡ true) × ((place : ℕ) × (command : PlainCommand) × (last : EntryValue) × (slice_get commands place ≡ Some command) × (slice_get answers place ≡ Some (store_fault_line store_fault.Device))
-        × Sends before.history.currency command last × (judged after.history.entries last ≡ verdict.Accept) × (has_entry after.form last ≡ true) × (found ≡ with_more after.history (last ∷ [])))))
+        ⊎ ((after.failed ≡ true) × ((place : ℕ) × (command : PlainCommand) × (last : EntryValue)
+        × (slice_get commands place ≡ Some command)
+        × (slice_get answers place ≡ Some (store_fault_line store_fault.Device))
+        × Sends before.history.currency command last
+        × (judged after.history.entries last ≡ verdict.Accept) × (has_entry after.form last ≡ true)
+        × (found ≡ with_more after.history (last ∷ [])))))
         × IsWhole found.entries × ReportsAddUp found.entries }
-    ensures after_script { (before after : Standing) (commands : List PlainCommand) (answers : List (List ℕ)) (more : List EntryValue) (found : History) (image : Image)
-        → AreInFlight (IsInFlight before after commands answers) more → StandsForEither after.history more image → StandsFor found image
+    ensures after_script { (before after : Standing) (commands : List PlainCommand)
+        (answers : List (List ℕ)) (more : List EntryValue) (found : History) (image : Image)
+        → AreInFlight (IsInFlight before after commands answers) more
+        → StandsForEither after.history more image → StandsFor found image
         → ((found ≡ after.history)
-        ⊎ ((place : ℕ) × (command : PlainCommand) × (last : EntryValue) × (slice_get commands place ≡ Some command) × (slice_get answers place ≡ Some (store_fault_line store_fault.Device))
-        × Sends before.history.currency command last × (judged after.history.entries last ≡ verdict.Accept) × (has_entry after.form last ≡ true) × (found ≡ with_more after.history (last ∷ []))))
+        ⊎ ((place : ℕ) × (command : PlainCommand) × (last : EntryValue)
+        × (slice_get commands place ≡ Some command)
+        × (slice_get answers place ≡ Some (store_fault_line store_fault.Device))
+        × Sends before.history.currency command last
+        × (judged after.history.entries last ≡ verdict.Accept) × (has_entry after.form last ≡ true)
+        × (found ≡ with_more after.history (last ∷ []))))
         × IsWhole found.entries × ReportsAddUp found.entries }
-    ensures one { (before after : Standing) (commands : List PlainCommand) (answers : List (List ℕ)) (e f : EntryValue) → AnswersEach before commands answers after
-        → IsInFlight before after commands answers e → IsInFlight before after commands answers f → e ≡ f }
+    ensures one { (before after : Standing) (commands : List PlainCommand) (answers : List (List ℕ))
+        (e f : EntryValue) → AnswersEach before commands answers after
+        → IsInFlight before after commands answers e → IsInFlight before after commands answers f
+        → e ≡ f }
 {}
 
 /// What a crash leaves can be opened, of entries that are added as a group (`group`) and of a run of [`Store::run`](fw_recover::Store::run) (`first`), at any
 /// moment of a script (`script`) and of each of its commands (`command`), and after a script (`after_script`): there is a warehouse for which the files stand,
 /// and they are neither missing nor corrupt.
 pub fn what_a_crash_leaves_can_be_opened()
-    ensures group { (before : History) (more : List EntryValue) (image : Image) → StandsForEither before more image → (found : History) × Opens found image }
-    ensures first { (before : History) (entries : List EntryValue) (image : Image) → StandsForFirst before entries image → (found : History) × Opens found image }
-    ensures script { (before after : Standing) (commands : List PlainCommand) (answers : List (List ℕ)) (image : Image)
-        → IsBetween (IsInFlight before after commands answers) before.history after image → (found : History) × Opens found image }
-    ensures after_script { (before after : Standing) (commands : List PlainCommand) (answers : List (List ℕ)) (more : List EntryValue) (image : Image)
-        → AreInFlight (IsInFlight before after commands answers) more → StandsForEither after.history more image → (found : History) × Opens found image }
-    ensures command { (before after : Standing) (command : PlainCommand) (answer : List ℕ) (image : Image)
-        → IsBetween (FailsOnSent before command answer) before.history after image → (found : History) × Opens found image }
+    ensures group { (before : History) (more : List EntryValue) (image : Image)
+        → StandsForEither before more image → (found : History) × Opens found image }
+    ensures first { (before : History) (entries : List EntryValue) (image : Image)
+        → StandsForFirst before entries image → (found : History) × Opens found image }
+    ensures script { (before after : Standing) (commands : List PlainCommand)
+        (answers : List (List ℕ)) (image : Image)
+        → IsBetween (IsInFlight before after commands answers) before.history after image
+        → (found : History) × Opens found image }
+    ensures after_script { (before after : Standing) (commands : List PlainCommand)
+        (answers : List (List ℕ)) (more : List EntryValue) (image : Image)
+        → AreInFlight (IsInFlight before after commands answers) more
+        → StandsForEither after.history more image → (found : History) × Opens found image }
+    ensures command { (before after : Standing) (command : PlainCommand) (answer : List ℕ)
+        (image : Image)
+        → IsBetween (FailsOnSent before command answer) before.history after image
+        → (found : History) × Opens found image }
 {}
 
 /// The commands of a script are run one after the other: whichever of them one looks at, it was run on what those before it left, and those behind it were
@@ -224,13 +340,21 @@ pub fn what_a_crash_leaves_can_be_opened()
 /// is what the commands up to it left, or, only where the device failed, this and the entry in flight (`opened`). A command that is run once the device has
 /// failed leaves store and volume as they are.
 pub fn commands_are_run_in_turn<V: Volume>(before: &Store<V>, after: &Store<V>)
-    ensures turn { (commands : List PlainCommand) (answers : List (List ℕ)) (place : ℕ) (command : PlainCommand) (answer : List ℕ) → RunsInTurn V.tells V.view before.now commands answers after.now
-        → slice_get commands place ≡ Some command → slice_get answers place ≡ Some answer → RunsAt V.tells V.view before.now commands answers place command answer after.now }
-    ensures opened { (commands : List PlainCommand) (answers : List (List ℕ)) (place : ℕ) (command : PlainCommand) (answer : List ℕ) (image : Image) (found : History) → IsTrue V.tells → before.now.failed ≡ false
-        → slice_get commands place ≡ Some command → slice_get answers place ≡ Some answer → (at : RunsAt V.tells V.view before.now commands answers place command answer after.now)
+    ensures turn { (commands : List PlainCommand) (answers : List (List ℕ)) (place : ℕ)
+        (command : PlainCommand) (answer : List ℕ)
+        → RunsInTurn V.tells V.view before.now commands answers after.now
+        → slice_get commands place ≡ Some command → slice_get answers place ≡ Some answer
+        → RunsAt V.tells V.view before.now commands answers place command answer after.now }
+    ensures opened { (commands : List PlainCommand) (answers : List (List ℕ)) (place : ℕ)
+        (command : PlainCommand) (answer : List ℕ) (image : Image) (found : History)
+        → IsTrue V.tells → before.now.failed ≡ false
+        → slice_get commands place ≡ Some command → slice_get answers place ≡ Some answer
+        → (at : RunsAt V.tells V.view before.now commands answers place command answer after.now)
         → (V.view at.next.volume).may_leave image → StandsFor found image
         → (found ≡ at.next.history)
-        ⊎ ((at.next.failed ≡ true) × ((e : EntryValue) × IsInFlight (standing_of V.view before.now) (standing_of V.view at.next) (take (suc place) commands) (take (suc place) answers) e
+        ⊎ ((at.next.failed ≡ true) × ((e : EntryValue)
+        × IsInFlight (standing_of V.view before.now) (standing_of V.view at.next)
+        (take (suc place) commands) (take (suc place) answers) e
         × (found ≡ with_more at.next.history (e ∷ [])))) }
 {}
 
@@ -242,23 +366,41 @@ pub fn commands_are_run_in_turn<V: Volume>(before: &Store<V>, after: &Store<V>)
 /// whole script, what is opened after a crash at any moment is what its first commands left, up to some place; or, only where the device failed, what the
 /// script left and the entry in flight (`prefix`).
 pub fn a_crash_keeps_what_was_answered()
-    ensures command { (before after : Standing) (command : PlainCommand) (answer : List ℕ) (image : Image) (found : History) → Answer before command answer after
-        → IsBetween (FailsOnSent before command answer) before.history after image → StandsFor found image
+    ensures command { (before after : Standing) (command : PlainCommand) (answer : List ℕ)
+        (image : Image) (found : History) → Answer before command answer after
+        → IsBetween (FailsOnSent before command answer) before.history after image
+        → StandsFor found image
         → ((found ≡ before.history)
-        ⊎ ((e : EntryValue) × Sends before.history.currency command e × (judged before.history.entries e ≡ verdict.Accept) × (found ≡ with_more before.history (e ∷ []))))
+        ⊎ ((e : EntryValue) × Sends before.history.currency command e
+        × (judged before.history.entries e ≡ verdict.Accept)
+        × (found ≡ with_more before.history (e ∷ []))))
         × IsWhole found.entries × ReportsAddUp found.entries }
-    ensures answered { (before middle next : Standing) (commands : List PlainCommand) (answers : List (List ℕ)) (running : PlainCommand) (answer : List ℕ) (image : Image) (found : History) (place n : ℕ) (command : PlainCommand)
-        → AnswersEach before commands answers middle → Answer middle running answer next → IsBetween (FailsOnSent middle running answer) middle.history next image → StandsFor found image
-        → slice_get commands place ≡ Some command → slice_get answers place ≡ Some (accepted_line n) → n < 2 ^ 64 → length middle.history.entries < 2 ^ 64
+    ensures answered { (before middle next : Standing) (commands : List PlainCommand)
+        (answers : List (List ℕ)) (running : PlainCommand) (answer : List ℕ) (image : Image)
+        (found : History) (place n : ℕ) (command : PlainCommand)
+        → AnswersEach before commands answers middle → Answer middle running answer next
+        → IsBetween (FailsOnSent middle running answer) middle.history next image
+        → StandsFor found image
+        → slice_get commands place ≡ Some command → slice_get answers place ≡ Some (accepted_line n)
+        → n < 2 ^ 64 → length middle.history.entries < 2 ^ 64
         → (e : EntryValue) × Sends before.history.currency command e × StandsAt found.entries n e }
-    ensures answered_after { (before after : Standing) (commands : List PlainCommand) (answers : List (List ℕ)) (more : List EntryValue) (image : Image) (found : History) (place n : ℕ) (command : PlainCommand)
-        → AnswersEach before commands answers after → StandsForEither after.history more image → StandsFor found image
-        → slice_get commands place ≡ Some command → slice_get answers place ≡ Some (accepted_line n) → n < 2 ^ 64 → length after.history.entries < 2 ^ 64
+    ensures answered_after { (before after : Standing) (commands : List PlainCommand)
+        (answers : List (List ℕ)) (more : List EntryValue) (image : Image) (found : History)
+        (place n : ℕ) (command : PlainCommand)
+        → AnswersEach before commands answers after → StandsForEither after.history more image
+        → StandsFor found image
+        → slice_get commands place ≡ Some command → slice_get answers place ≡ Some (accepted_line n)
+        → n < 2 ^ 64 → length after.history.entries < 2 ^ 64
         → (e : EntryValue) × Sends before.history.currency command e × StandsAt found.entries n e }
-    ensures prefix { (before after : Standing) (commands : List PlainCommand) (answers : List (List ℕ)) (image : Image) (found : History) → AnswersEach before commands answers after
-        → IsBetween (IsInFlight before after commands answers) before.history after image → StandsFor found image
-        → ((place : ℕ) × (middle : Standing) × AnswersEach before (take place commands) (take place answers) middle × (found ≡ middle.history))
-        ⊎ ((after.failed ≡ true) × ((e : EntryValue) × IsInFlight before after commands answers e × (found ≡ with_more after.history (e ∷ [])))) }
+    ensures prefix { (before after : Standing) (commands : List PlainCommand)
+        (answers : List (List ℕ)) (image : Image) (found : History)
+        → AnswersEach before commands answers after
+        → IsBetween (IsInFlight before after commands answers) before.history after image
+        → StandsFor found image
+        → ((place : ℕ) × (middle : Standing) × AnswersEach before (take place commands)
+        (take place answers) middle × (found ≡ middle.history))
+        ⊎ ((after.failed ≡ true) × ((e : EntryValue) × IsInFlight before after commands answers e
+        × (found ≡ with_more after.history (e ∷ [])))) }
 {}
 
 /// A warehouse outlives its stops, however many. In each session, from an opening to the next stop, entries are committed, one by one or in groups, the
@@ -270,25 +412,48 @@ pub fn a_crash_keeps_what_was_answered()
 /// ones of the session's first n entries, where n is how many were answered, or these and those in flight, and behind these what came later (`kept`). So what
 /// was accepted keeps its place for good. It is whole, and its reports add up (`whole`).
 pub fn a_warehouse_outlives_its_stops()
-    ensures single { (before : History) (s : SessionValue) → s.in_flight ≡ 1 → HasAnswered before s.entries s.answered s.image → HasKept before s }
-    ensures group { (before now : History) (s : SessionValue) → now ≡ with_first before s.answered s.entries
-        → StandsForEither now (accepted_of now.entries (take s.in_flight (drop s.answered s.entries))) s.image → HasKept before s }
-    ensures script { (before middle next : Standing) (commands : List PlainCommand) (answers : List (List ℕ)) (running : PlainCommand) (answer : List ℕ) (image : Image)
-        → AnswersEach before commands answers middle → Answer middle running answer next → IsBetween (FailsOnSent middle running answer) middle.history next image
-        → (s : SessionValue) × (s.image ≡ image) × IsSessionOf (Sends before.history.currency running) before.history commands answers s × HasKept before.history s }
-    ensures after_script { (before after : Standing) (commands : List PlainCommand) (answers : List (List ℕ)) (more : List EntryValue) (image : Image)
-        → AnswersEach before commands answers after → AreInFlight (IsInFlight before after commands answers) more → StandsForEither after.history more image
-        → (s : SessionValue) × (s.image ≡ image) × IsSessionOf (IsInFlight before after commands answers) before.history commands answers s × HasKept before.history s }
-    ensures kept { (before after : History) (sessions : List SessionValue) (place : ℕ) (s : SessionValue) → PassesThrough before sessions after → slice_get sessions place ≡ Some s
-        → (middle : History) × (n : ℕ) × (more : List EntryValue) × PassesThrough before (take place sessions) middle × ((n ≡ s.answered) ⊎ (n ≡ s.answered + s.in_flight))
+    ensures single { (before : History) (s : SessionValue) → s.in_flight ≡ 1
+        → HasAnswered before s.entries s.answered s.image → HasKept before s }
+    ensures group { (before now : History) (s : SessionValue)
+        → now ≡ with_first before s.answered s.entries
+        → StandsForEither now (accepted_of now.entries
+        (take s.in_flight (drop s.answered s.entries))) s.image → HasKept before s }
+    ensures script { (before middle next : Standing) (commands : List PlainCommand)
+        (answers : List (List ℕ)) (running : PlainCommand) (answer : List ℕ) (image : Image)
+        → AnswersEach before commands answers middle → Answer middle running answer next
+        → IsBetween (FailsOnSent middle running answer) middle.history next image
+        → (s : SessionValue) × (s.image ≡ image)
+        × IsSessionOf (Sends before.history.currency running) before.history commands answers s
+        × HasKept before.history s }
+    ensures after_script { (before after : Standing) (commands : List PlainCommand)
+        (answers : List (List ℕ)) (more : List EntryValue) (image : Image)
+        → AnswersEach before commands answers after
+        → AreInFlight (IsInFlight before after commands answers) more
+        → StandsForEither after.history more image
+        → (s : SessionValue) × (s.image ≡ image)
+        × IsSessionOf (IsInFlight before after commands answers) before.history commands answers s
+        × HasKept before.history s }
+    ensures kept { (before after : History) (sessions : List SessionValue) (place : ℕ)
+        (s : SessionValue) → PassesThrough before sessions after → slice_get sessions place ≡ Some s
+        → (middle : History) × (n : ℕ) × (more : List EntryValue)
+        × PassesThrough before (take place sessions) middle
+        × ((n ≡ s.answered) ⊎ (n ≡ s.answered + s.in_flight))
         × (after ≡ with_more middle (accepted_of middle.entries (take n s.entries) ++ more)) }
-    ensures whole { (before after : History) (sessions : List SessionValue) → IsWhole before.entries → PassesThrough before sessions after → IsWhole after.entries × ReportsAddUp after.entries }
+    ensures whole { (before after : History) (sessions : List SessionValue) → IsWhole before.entries
+        → PassesThrough before sessions after → IsWhole after.entries × ReportsAddUp after.entries }
 {}
 
-/// A crash in a script that [`serve`](crate::serve) runs ends a session of those that [`reopen`](crate::reopen) speaks of: at a moment of the command at some
-/// place (`within`), or behind commands that were run in turn (`behind`). The store that it began with had been created or opened: its device hadn't
-/// failed, and each image that a crash could leave stood for its warehouse.
+/// A crash in a script that [`serve`](crate::serve) runs ends a session of those that [`reopen`](crate::reopen) speaks of, at
+/// whatever moment since its first command it comes (`any_image`): at a moment of the command at some place (`within`), or
+/// behind commands that were run in turn (`behind`). The store that it began with had been created or opened: its device
+/// hadn't failed, and each image that a crash could leave stood for its warehouse.
 pub fn a_served_script_may_stop_anywhere<V: Volume>(begun: &Store<V>, ended: &Store<V>)
+    ensures any_image { (commands : List PlainCommand) (answers : List (List ℕ)) (image : Image)
+        → IsTrue V.tells → begun.now.failed ≡ false
+        → EachStandsFor begun.now.history (V.view begun.now.volume)
+        → RunsInTurn V.tells V.view begun.now commands answers ended.now
+        → (V.view ended.now.volume).left_since (V.view begun.now.volume).moment image
+        → EndsASession V.tells V.view begun.now commands answers image }
     ensures within { (commands : List PlainCommand) (answers : List (List ℕ)) (place : ℕ)
         (command : PlainCommand) (answer : List ℕ) (image : Image)
         → begun.now.failed ≡ false → EachStandsFor begun.now.history (V.view begun.now.volume)

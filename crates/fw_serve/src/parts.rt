@@ -9,9 +9,11 @@ use std::io::Write;
 
 /// Writes the parts one after another.
 pub(crate) fn write_parts<W: Write>(writer: &mut W, parts: &[&[u8]]) -> Result<(), ServeFault>
-    ensures whole { OnOk result (Appends (W.contents writer.old) (W.contents writer.new) (concat (map (λ part. part.now) parts.now))) }
+    ensures whole { OnOk result (Appends (W.contents writer.old) (W.contents writer.new)
+        (concat (map (λ part. part.now) parts.now))) }
     ensures part { IfErr result (λ why. (why ≡ ServeFault.Write)
-        × WritesPart (W.contents writer.old) (W.contents writer.new) (concat (map (λ part. part.now) parts.now))) }
+        × WritesPart (W.contents writer.old) (W.contents writer.new)
+        (concat (map (λ part. part.now) parts.now))) }
 {
     for part in parts {
         write_part(writer, part)?;
@@ -22,7 +24,8 @@ pub(crate) fn write_parts<W: Write>(writer: &mut W, parts: &[&[u8]]) -> Result<(
 // Writes one part. A writer that takes no byte has failed, as has one that is interrupted.
 fn write_part<W: Write>(writer: &mut W, part: &[u8]) -> Result<(), ServeFault>
     ensures whole { OnOk result (Appends (W.contents writer.old) (W.contents writer.new) part.now) }
-    ensures part { IfErr result (λ why. (why ≡ ServeFault.Write) × WritesPart (W.contents writer.old) (W.contents writer.new) part.now) }
+    ensures part { IfErr result (λ why. (why ≡ ServeFault.Write)
+        × WritesPart (W.contents writer.old) (W.contents writer.new) part.now) }
 {
     let mut rest = part;
     while !rest.is_empty() {

@@ -40,8 +40,10 @@ pub(crate) fn answer_report(
 ) -> Reply
     requires some_workers { 1 ≤ workers }
     requires few_workers { workers ≤ most_workers }
-    requires kept { AreKept (commitments_of snapshot.now.entries) (rows_of snapshot.now.entries) covers.old }
-    ensures kept { AreKept (commitments_of snapshot.now.entries) (rows_of snapshot.now.entries) covers.new }
+    requires kept { AreKept (commitments_of snapshot.now.entries) (rows_of snapshot.now.entries)
+        covers.old }
+    ensures kept { AreKept (commitments_of snapshot.now.entries) (rows_of snapshot.now.entries)
+        covers.new }
     ensures answer { ReportAnswer snapshot.now key.now from to (reply_text result) }
 {
     match report_text(rt, alloc, snapshot, covers, key, from, to, workers) {
@@ -63,8 +65,10 @@ fn report_text(
 ) -> Result<Vec<u8>, QueryFault>
     requires some_workers { 1 ≤ workers }
     requires few_workers { workers ≤ most_workers }
-    requires kept { AreKept (commitments_of snapshot.now.entries) (rows_of snapshot.now.entries) covers.old }
-    ensures kept { AreKept (commitments_of snapshot.now.entries) (rows_of snapshot.now.entries) covers.new }
+    requires kept { AreKept (commitments_of snapshot.now.entries) (rows_of snapshot.now.entries)
+        covers.old }
+    ensures kept { AreKept (commitments_of snapshot.now.entries) (rows_of snapshot.now.entries)
+        covers.new }
     ensures text { IsReportText snapshot.now key.now from to result }
 {
     let query = Query {

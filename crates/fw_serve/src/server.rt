@@ -48,19 +48,30 @@ pub fn serve<R: Read, W: Write, V: Volume>(
 ) -> Result<(), ServeFault>
     requires some_worker { 1 ≤ workers }
     requires few_workers { workers ≤ most_workers }
-    ensures done { OnOk result (IsServed (R.remaining reader.old) (standing_of V.view store.old) (standing_of V.view store.new) (W.contents writer.old) (W.contents writer.new)) }
-    ensures write { result ≡ Err ServeFault.Write → IsServedInPart (R.remaining reader.old) (standing_of V.view store.old) (standing_of V.view store.new) (W.contents writer.old) (W.contents writer.new) }
-    ensures untouched { IfErr result (λ why. (why ≢ ServeFault.Write) → (store.new ≡ store.old) × (writer.new ≡ writer.old)) }
-    ensures too_long { result ≡ Err ServeFault.TooLong → IfSome (R.remaining reader.old) (λ bytes. most_bytes < length bytes) }
-    ensures any_moment { IsTrue V.tells → store.old.failed ≡ false → CrashLeaves V.view (R.remaining reader.old) store.old store.new (W.contents writer.old) (W.contents writer.new) }
-    ensures each_command { RunsByCommand V.tells V.view (R.remaining reader.old) store.old store.new (W.contents writer.old) (W.contents writer.new) }
+    ensures done { OnOk result (IsServed (R.remaining reader.old) (standing_of V.view store.old)
+        (standing_of V.view store.new) (W.contents writer.old) (W.contents writer.new)) }
+    ensures write { result ≡ Err ServeFault.Write
+        → IsServedInPart (R.remaining reader.old) (standing_of V.view store.old)
+        (standing_of V.view store.new) (W.contents writer.old) (W.contents writer.new) }
+    ensures untouched { IfErr result (λ why. (why ≢ ServeFault.Write)
+        → (store.new ≡ store.old) × (writer.new ≡ writer.old)) }
+    ensures too_long { result ≡ Err ServeFault.TooLong
+        → IfSome (R.remaining reader.old) (λ bytes. most_bytes < length bytes) }
+    ensures any_moment { IsTrue V.tells → store.old.failed ≡ false
+        → CrashLeaves V.view (R.remaining reader.old) store.old store.new (W.contents writer.old)
+        (W.contents writer.new) }
+    ensures each_command { RunsByCommand V.tells V.view (R.remaining reader.old) store.old store.new
+        (W.contents writer.old) (W.contents writer.new) }
     ensures one_run { IsOneRun V.tells V.view result (R.remaining reader.old)
         store.old store.new (W.contents writer.old) (W.contents writer.new) }
-    ensures each { IsTrue V.tells → store.new.failed ≡ false → EachStandsFor store.new.history (V.view store.new.volume) }
+    ensures each { IsTrue V.tells → store.new.failed ≡ false
+        → EachStandsFor store.new.history (V.view store.new.volume) }
     ensures each_once_failed { IsTrue V.tells → store.new.failed ≡ true
-        → (more : List EntryValue) × ((c : Image) → (V.view store.new.volume).may_leave c → StandsForEither store.new.history more c) }
+        → (more : List EntryValue) × ((c : Image) → (V.view store.new.volume).may_leave c
+        → StandsForEither store.new.history more c) }
     ensures once_failed { store.old.failed ≡ true → store.new ≡ store.old }
-    ensures cause { store.old.failed ≡ false → store.new.failed ≡ true → Rose (V.view store.old.volume).failures (V.view store.new.volume).failures }
+    ensures cause { store.old.failed ≡ false → store.new.failed ≡ true
+        → Rose (V.view store.old.volume).failures (V.view store.new.volume).failures }
 {
     store.keeps();
     let mut posts = Posts::new(alloc, workers);
@@ -84,9 +95,13 @@ fn answer_all<W: Write, V: Volume>(
 ) -> Result<(), ServeFault>
     requires some_worker { 1 ≤ workers }
     requires few_workers { workers ≤ most_workers }
-    ensures done { OnOk result (Serves text.now (standing_of V.view store.old) (standing_of V.view store.new) (W.contents writer.old) (W.contents writer.new)) }
-    ensures write { IfErr result (λ why. (why ≡ ServeFault.Write) × ServesInPart text.now (standing_of V.view store.old) (standing_of V.view store.new) (W.contents writer.old) (W.contents writer.new)) }
-    ensures runs { RunsTo V.tells V.view result text.now store.old store.new (W.contents writer.old) (W.contents writer.new) }
+    ensures done { OnOk result (Serves text.now (standing_of V.view store.old)
+        (standing_of V.view store.new) (W.contents writer.old) (W.contents writer.new)) }
+    ensures write { IfErr result (λ why. (why ≡ ServeFault.Write)
+        × ServesInPart text.now (standing_of V.view store.old) (standing_of V.view store.new)
+        (W.contents writer.old) (W.contents writer.new)) }
+    ensures runs { RunsTo V.tells V.view result text.now store.old store.new (W.contents writer.old)
+        (W.contents writer.new) }
 {
     let mut script = text.commands();
     let mut covers = Covers::new(alloc);

@@ -13,8 +13,10 @@ use std::io::Write;
 // Writes the reply, with the line feed that ends its line.
 #[tactic(auto, unfolding(crate::specs::ReplyText::reply_text, crate::specs::Replies::accepted_line, crate::specs::Replies::already_line, crate::specs::Replies::gap_line, crate::specs::Replies::counted, crate::specs::Replies::store_line, crate::specs::Replies::checkpointed_line, crate::specs::Replies::no_memory_line, crate::specs::Replies::bad_command_line, crate::specs::Replies::bad_end_line))]
 pub fn write_reply<W: Write>(writer: &mut W, reply: &Reply) -> Result<(), ServeFault>
-    ensures whole { OnOk result (Appends (W.contents writer.old) (W.contents writer.new) (reply_text reply.now)) }
-    ensures part { IfErr result (λ why. (why ≡ ServeFault.Write) × WritesPart (W.contents writer.old) (W.contents writer.new) (reply_text reply.now)) }
+    ensures whole { OnOk result (Appends (W.contents writer.old) (W.contents writer.new)
+        (reply_text reply.now)) }
+    ensures part { IfErr result (λ why. (why ≡ ServeFault.Write)
+        × WritesPart (W.contents writer.old) (W.contents writer.new) (reply_text reply.now)) }
 {
     let mut digits = itoa::Buffer::new();
     match reply {
@@ -63,8 +65,11 @@ fn write_counts<W: Write>(
     commitments: u64,
     policies: u8,
 ) -> Result<(), ServeFault>
-    ensures whole { OnOk result (Appends (W.contents writer.old) (W.contents writer.new) (counts_line entries rows commitments policies)) }
-    ensures part { IfErr result (λ why. (why ≡ ServeFault.Write) × WritesPart (W.contents writer.old) (W.contents writer.new) (counts_line entries rows commitments policies)) }
+    ensures whole { OnOk result (Appends (W.contents writer.old) (W.contents writer.new)
+        (counts_line entries rows commitments policies)) }
+    ensures part { IfErr result (λ why. (why ≡ ServeFault.Write)
+        × WritesPart (W.contents writer.old) (W.contents writer.new)
+        (counts_line entries rows commitments policies)) }
 {
     let mut entry_digits = itoa::Buffer::new();
     let mut row_digits = itoa::Buffer::new();
@@ -87,8 +92,11 @@ fn write_counts<W: Write>(
 // Writes why a command was refused.
 #[tactic(auto, unfolding(crate::specs::ReplyText::refusal_text))]
 fn write_refusal<W: Write>(writer: &mut W, refusal: Refusal) -> Result<(), ServeFault>
-    ensures whole { OnOk result (Appends (W.contents writer.old) (W.contents writer.new) (refused (refusal_text refusal))) }
-    ensures part { IfErr result (λ why. (why ≡ ServeFault.Write) × WritesPart (W.contents writer.old) (W.contents writer.new) (refused (refusal_text refusal))) }
+    ensures whole { OnOk result (Appends (W.contents writer.old) (W.contents writer.new)
+        (refused (refusal_text refusal))) }
+    ensures part { IfErr result (λ why. (why ≡ ServeFault.Write)
+        × WritesPart (W.contents writer.old) (W.contents writer.new)
+        (refused (refusal_text refusal))) }
 {
     let mut digits = itoa::Buffer::new();
     let name = refusal.name.as_bytes();

@@ -24,14 +24,11 @@ returns-in-Ok-clause-moves g c =
 
 fails : (g : given.Over) (c : goal.In-Err g) → CommitFails g.V.Volume.view c.args.store.now c.commit.new.self c.args.entry.now (Err c.in-Err.fault)
 fails g c = record {
-  which = c.in-Err.ensures.which;
+  fails = c.in-Err.ensures.fails;
   failed = c.in-Err.ensures.failed;
-  unchanged = c.in-Err.ensures.unchanged;
-  gone = c.in-Err.ensures.lost;
   old_side = c.in-Err.ensures.old_side;
   accepted = c.in-Err.ensures.accepted;
   no_room = c.in-Err.ensures.too_large;
-  rose = c.in-Err.ensures.device;
   limit = c.in-Err.ensures.limit;
 }
 

@@ -6,8 +6,8 @@ use Rattle.fw_serve.proofs.recovery.reopen.Goals as goal
 pub returns-clause-promise : goal.returns-clause-promise
 returns-clause-promise g c = λ held earlier last told left.
     let seen = (g.V.Volume.view c.args.volume).seen in
-    let (h, stands) = left_stands g.V.Volume.tells g.V.Volume.view held earlier last seen g.met.V.Volume.only_now told left in (
-      IfOk-weaker c.open.result _ _ (λ s found. promised g.V.Volume.tells g.V.Volume.view held earlier last seen s.history g.met.V.Volume.only_now told left (found.1 told)) c.open.ensures.found,
+    let (h, stands) = left_stands g.V.Volume.tells g.V.Volume.view held earlier last seen told left in (
+      IfOk-weaker c.open.result _ _ (λ s found. promised g.V.Volume.tells g.V.Volume.view held earlier last seen s.history told left (found.1 told)) c.open.ensures.found,
       IfErr-weaker c.open.result _ _ (λ e fault. fault told)
           (stands_else_fault g.V.Volume.tells seen (λ _. h) c.open.result (λ _. stands) c.open.ensures.which c.open.ensures.none c.open.ensures.corrupt),
     )
