@@ -131,7 +131,7 @@ def questions(runs, data, sums, folder):
     checked = json.loads(runs.run("check --format json", "check", "--format", "json", data.export).output)
     runs.expect("check counts the rows and finds no fault", (checked["records"], checked["faults"]) == (sums.rows, 0))
     status = runs.run("status", "status", "--dir", folder)
-    runs.expect("status counts the rows", ["Rows", f"{sums.rows:,}"] in [it.split() for it in status.output.decode().splitlines()])
+    runs.expect("status counts the rows", ["Rows", f"{sums.rows:,}"] in [it.split()[:2] for it in status.output.decode().splitlines()])
     runs.expect("verify finds the files whole", runs.run("verify", "verify", "--dir", folder).output.startswith(b"sound\n"))
     return status
 

@@ -4,7 +4,7 @@ ghost use Rattle.fw_entry.specs.View.{command_view};
 
 use fw_charge::MOST_POST_ROWS;
 use fw_columns::Columns;
-use fw_console::Fault;
+use fw_console::{Fault, entry_code, say_fault};
 use fw_entry::{Command, Entry, EntryFault};
 use fw_snapshot::{State, Verdict, judge};
 use std::alloc::Global;
@@ -18,7 +18,7 @@ pub(crate) fn withdrawals_of(
 ) -> Result<Option<Vec<Entry>>, Fault> {
     let alloc = rt.alloc();
     let Some(mut next) = next_number(alloc, state, origin)? else {
-        return Ok(none_left(rt, origin));
+        return none_left(rt, origin);
     };
     let mut entries = Vec::new(alloc);
     for number in numbers {
@@ -41,7 +41,7 @@ pub(crate) fn posts_behind(
 ) -> Result<Option<Vec<Entry>>, Fault> {
     let alloc = rt.alloc();
     let Some(first) = next_number(alloc, state, origin)? else {
-        return Ok(none_left(rt, origin));
+        return none_left(rt, origin);
     };
     let mut next = first.saturating_add(before as u64);
     let mut entries = Vec::new(alloc);
@@ -83,9 +83,10 @@ fn next_number(alloc: Global, state: &State, origin: &str) -> Result<Option<u64>
 }
 
 // Says that an origin has no next number.
-fn none_left(rt: &HostRuntime, origin: &str) -> Option<Vec<Entry>> {
-    let _ = eprintln!(rt; "focusd: {origin} has no next number");
-    None
+fn none_left(rt: &HostRuntime, origin: &str) -> Result<Option<Vec<Entry>>, Fault> {
+    let about = format!(in rt.alloc(); "{origin} has no next number")?;
+    say_fault(rt, about.as_str(), "E2 Seq");
+    Ok(None)
 }
 
 // Says why an entry can't be.
@@ -94,9 +95,8 @@ fn no_entry(
     origin: &str,
     fault: EntryFault,
 ) -> Result<Option<Vec<Entry>>, Fault> {
-    if let EntryFault::NoMemory = fault {
-        return Err(Fault::NoMemory);
-    }
-    let _ = eprintln!(rt; "focusd: an entry of {origin}: {fault}");
+    let code = entry_code(fault)?;
+    let about = format!(in rt.alloc(); "an entry of {origin}")?;
+    say_fault(rt, about.as_str(), code);
     Ok(None)
 }

@@ -2,13 +2,13 @@
 ghost use Rattle.std.specs.Prelude.{◌≤◌, length, IfOk};
 ghost use Rattle.fw_segment.specs.Groups.{group, IsGroup};
 
-use fw_console::Fault;
+use fw_console::{Fault, conflict_code, say_fault};
 use fw_disk::Volume;
 use fw_entry::Entry;
 use fw_entry_bytes::{Form, put_entry};
 use fw_recover::Store;
 use fw_segment::decode_group;
-use fw_snapshot::{Conflict, State, Verdict, judge};
+use fw_snapshot::{State, Verdict, judge};
 use std::alloc::{AllocError, Global};
 
 /// The most entries of a group.
@@ -67,7 +67,7 @@ pub(crate) fn add_entries<V: Volume>(
         if !add_group(rt, store, first)? {
             return Ok(false);
         }
-        if store.log_len() > store.body_len() {
+        if store.checkpoint_pays() {
             store.checkpoint(rt.alloc())?;
         }
         rest = others;
@@ -119,30 +119,9 @@ fn group_bytes(alloc: Global, entries: &[Entry]) -> Result<Vec<u8>, AllocError> 
 
 // Says why an entry isn't accepted.
 fn say_verdict(rt: &HostRuntime, verdict: Verdict) {
-    let why = match verdict {
-        Verdict::Refused(conflict) => conflict_text(conflict),
-        Verdict::Accept | Verdict::Already { .. } | Verdict::Gap { .. } => {
-            "the origin has no next number"
-        }
+    let fault = match verdict {
+        Verdict::Refused(conflict) => conflict_code(conflict),
+        Verdict::Accept | Verdict::Already { .. } | Verdict::Gap { .. } => "E2 Seq",
     };
-    let _ = eprintln!(rt; "focusd: {why}");
-}
-
-// Why an entry doesn't go with what was accepted before.
-fn conflict_text(conflict: Conflict) -> &'static str {
-    match conflict {
-        Conflict::Full => {
-            "J1 Full: more than 4,194,304 rows would have been posted to the warehouse, withdrawn ones among them; focusd compact makes one without these"
-        }
-        Conflict::OwnCommitment => {
-            "J4 OwnCommitment: a row of the files carries the id of a commitment of the warehouse as its CommitmentDiscountId"
-        }
-        Conflict::NoSuchPost => "J6 NoSuchPost: the origin has no post of this number",
-        Conflict::Withdrawn => "J7 Withdrawn: the post is withdrawn already",
-        Conflict::DoubleId
-        | Conflict::IdInUse
-        | Conflict::TooManyCommitments
-        | Conflict::NoSuchCommitment
-        | Conflict::PurchaseLimit => "it doesn't go with what was accepted before",
-    }
+    say_fault(rt, "an entry that was to be added", fault);
 }

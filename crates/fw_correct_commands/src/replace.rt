@@ -11,8 +11,8 @@ use fw_charge::hour_of;
 use fw_columns::Columns;
 use fw_command_line::{DIR, DRY_RUN, FILES, ORIGIN, QUIET};
 use fw_console::{
-    Fault, advised, begin_replacement, end_replacement, open_warehouse, unfinished_origin,
-    wrong_origin,
+    Fault, advised, begin_replacement, end_replacement, open_warehouse, say_fault,
+    unfinished_origin, wrong_origin,
 };
 use fw_disk::Volume;
 use fw_entry::{Entry, is_origin};
@@ -85,9 +85,8 @@ fn replace_in(rt: &HostRuntime, job: &Job<'_>, files: &[&str]) -> Result<ExitCod
 fn is_another_unfinished(rt: &HostRuntime, job: &Job<'_>) -> Result<bool, Fault> {
     match unfinished_origin(rt, job.folder)? {
         Some(origin) if origin.as_str() != job.origin => {
-            let _ = eprintln!(rt;
-                "focusd: the replacement of the rows of {origin} isn't finished: run it again first"
-            );
+            let about = format!(in rt.alloc(); "the rows of {origin}")?;
+            say_fault(rt, about.as_str(), "R6 Unfinished");
             Ok(true)
         }
         _ => Ok(false),
@@ -185,7 +184,7 @@ fn plan_of(
     job: &Job<'_>,
     parts: Vec<Columns>,
 ) -> Result<Option<Plan>, Fault> {
-    let rows = StoredRows::of(rt.alloc(), state)?;
+    let rows = StoredRows::of(rt.alloc(), state.segments())?;
     let Some(replaced) = replaced_posts(rt, state, &rows, job)? else {
         return Ok(None);
     };
@@ -253,7 +252,7 @@ fn missing_parts(
 fn replaced_posts(
     rt: &HostRuntime,
     state: &State,
-    rows: &StoredRows<'_>,
+    rows: &StoredRows,
     job: &Job<'_>,
 ) -> Result<Option<Vec<Post>>, Fault> {
     let posts = posts_of(rt.alloc(), state, job.origin)?;
@@ -266,7 +265,7 @@ fn replaced_posts(
 // The posts whose rows are all in a range; `None` where one has rows outside of it too, which was said.
 fn posts_in(
     rt: &HostRuntime,
-    rows: &StoredRows<'_>,
+    rows: &StoredRows,
     origin: &str,
     posts: &[Post],
     range: Hours,
@@ -295,9 +294,8 @@ fn are_inside(rt: &HostRuntime, job: &Job<'_>, parts: &[Columns]) -> Result<bool
         return Ok(true);
     }
     let hours = hours_text(rt.alloc(), hours.from, hours.to.saturating_sub(1))?;
-    let _ = eprintln!(rt;
-        "focusd: the files have rows of {hours}, which is not all in the range of --from and --to"
-    );
+    let about = format!(in rt.alloc(); "the files have rows of {hours}")?;
+    say_fault(rt, about.as_str(), "R5 Outside");
     Ok(false)
 }
 
@@ -325,7 +323,7 @@ fn size_of(parts: &[Columns]) -> Size {
 }
 
 // The size of the rows of posts, whose hours are joined with others.
-fn replaced_size(rows: &StoredRows<'_>, posts: &[Post], hours: Option<Hours>) -> Size {
+fn replaced_size(rows: &StoredRows, posts: &[Post], hours: Option<Hours>) -> Size {
     let mut size = Size { rows: 0, hours };
     for post in posts {
         let summary = summary_of(rows, post);

@@ -6,7 +6,7 @@ use crate::groups::{add_entries, state_with};
 use crate::texts::{hours_text, posts_text, print_line, print_text, rows_text};
 use clap::ArgMatches;
 use fw_command_line::{DIR, DRY_RUN, ORIGIN, YES};
-use fw_console::{Fault, WRONG_USE, advised, open_warehouse, wrong_origin};
+use fw_console::{Fault, WRONG_USE, advised, open_warehouse, say_fault, wrong_origin};
 use fw_disk::Volume;
 use fw_entry::{Entry, is_origin};
 use fw_recover::Store;
@@ -102,7 +102,8 @@ fn nothing(rt: &HostRuntime, state: &State, job: &Job<'_>) -> Result<ExitCode, F
     let origin = job.origin;
     if let Choice::Number(number) = job.choice {
         if !state.has_post(origin, number) {
-            let _ = eprintln!(rt; "focusd: {origin} has no post {number}");
+            let about = format!(in rt.alloc(); "{origin} has no post {number}")?;
+            say_fault(rt, about.as_str(), "J6 NoSuchPost");
             return Ok(ExitCode::FAILURE);
         }
     }
@@ -117,7 +118,7 @@ fn chosen_posts(
     job: &Job<'_>,
 ) -> Result<Option<Vec<Chosen>>, Fault> {
     let alloc = rt.alloc();
-    let rows = StoredRows::of(alloc, state)?;
+    let rows = StoredRows::of(alloc, state.segments())?;
     let mut chosen = Vec::new(alloc);
     let mut is_whole = true;
     for post in posts_of(alloc, state, job.origin)? {
@@ -135,7 +136,7 @@ fn chosen_posts(
 }
 
 // Whether a post is meant.
-fn reach_in(rows: &StoredRows<'_>, post: &Post, choice: Choice) -> Reach {
+fn reach_in(rows: &StoredRows, post: &Post, choice: Choice) -> Reach {
     match choice {
         Choice::Number(wanted) if wanted == post.number => Reach::Inside,
         Choice::Number(_) => Reach::Outside,
@@ -152,9 +153,8 @@ pub(crate) fn say_across(
     summary: &Summary,
 ) -> Result<(), Fault> {
     let hours = hours_text(rt.alloc(), summary.first_hour, summary.last_hour)?;
-    let _ = eprintln!(rt;
-        "focusd: post {number} of {origin} has rows of {hours}, in the range and outside of it: nothing was done"
-    );
+    let about = format!(in rt.alloc(); "post {number} of {origin} has rows of {hours}")?;
+    say_fault(rt, about.as_str(), "R4 Across");
     Ok(())
 }
 

@@ -15,4 +15,9 @@ pub record IsTextOf (currency text : List ℕ) (e : EntryValue) : Type 0 where
 -- a dump of entries: the text of each, in their order, and nothing else
 unfoldable pub IsDumpOf : List ℕ → List EntryValue → List ℕ → Type 0
 IsDumpOf currency [] text = text ≡ []
-IsDumpOf currency (e ∷ entries) text = (first : List ℕ) × (rest : List ℕ) × IsTextOf currency first e × IsDumpOf currency entries rest × (text ≡ first ++ rest)
+IsDumpOf currency (e ∷ entries) text =
+    (first : List ℕ)
+    × (rest : List ℕ)
+    × IsTextOf currency first e
+    × IsDumpOf currency entries rest
+    × (text ≡ first ++ rest)

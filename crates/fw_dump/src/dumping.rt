@@ -26,7 +26,9 @@ use std::io::Write;
 /// `Entry` where an entry has no text, `Write` where the writer failed, `NoMemory`. The texts of the entries before were written, and where
 /// the writer failed a part of the next one may have been.
 pub fn dump<W: Write>(alloc: Global, state: &State, writer: &mut W) -> Result<(), DumpFault>
-    ensures { OnOk result ((text : List ℕ) × IsDumpOf state.now.currency state.now.entries text × Appends (W.contents writer.old) (W.contents writer.new) text) }
+    ensures { OnOk result ((text : List ℕ)
+        × IsDumpOf state.now.currency state.now.entries text
+        × Appends (W.contents writer.old) (W.contents writer.new) text) }
 {
     let currency = state.currency();
     let mut rows = RowsLeft::of(state.segments());
@@ -45,7 +47,9 @@ fn write_entry<W: Write>(
     place: usize,
     writer: &mut W,
 ) -> Result<(), DumpFault>
-    ensures { OnOk result ((text : List ℕ) × IsTextOf currency text entry.now × Appends (W.contents writer.old) (W.contents writer.new) text) }
+    ensures { OnOk result ((text : List ℕ)
+        × IsTextOf currency text entry.now
+        × Appends (W.contents writer.old) (W.contents writer.new) text) }
 {
     match entry_text(alloc, currency, entry) {
         Ok(text) => write_text(writer, text.as_slice()),
@@ -69,9 +73,12 @@ fn write_text<W: Write>(writer: &mut W, text: &[u8]) -> Result<(), DumpFault>
 
 // The entry of a head, whose rows are the next ones.
 fn next_entry(alloc: Global, head: &Head, rows: &mut RowsLeft<'_>) -> Result<Entry, AllocError>
-    requires { IsEntry (entry_of head.now (take (row_count head.now.content) (rows_left rows.old))) }
-    ensures entry { IfOk result (λ entry. entry ≡ entry_of head.now (take (row_count head.now.content) (rows_left rows.old))) }
-    ensures rest { OnOk result (rows_left rows.new ≡ drop (row_count head.now.content) (rows_left rows.old)) }
+    requires { IsEntry
+        (entry_of head.now (take (row_count head.now.content) (rows_left rows.old))) }
+    ensures entry { IfOk result (λ entry.
+        entry ≡ entry_of head.now (take (row_count head.now.content) (rows_left rows.old))) }
+    ensures rest { OnOk result
+        (rows_left rows.new ≡ drop (row_count head.now.content) (rows_left rows.old)) }
 {
     let command = next_command(alloc, head.content(), rows)?;
     let origin = String::from_str(alloc, head.origin())?;
@@ -84,9 +91,13 @@ fn next_command(
     content: &Content,
     rows: &mut RowsLeft<'_>,
 ) -> Result<Command, AllocError>
-    requires { let brought = content_view content.now in IsCommand (command_of brought (take (row_count brought) (rows_left rows.old))) }
-    ensures command { let brought = content_view content.now in IfOk result (λ command. command_view command ≡ command_of brought (take (row_count brought) (rows_left rows.old))) }
-    ensures rest { OnOk result (rows_left rows.new ≡ drop (row_count (content_view content.now)) (rows_left rows.old)) }
+    requires { let brought = content_view content.now in
+        IsCommand (command_of brought (take (row_count brought) (rows_left rows.old))) }
+    ensures command { let brought = content_view content.now in IfOk result (λ command.
+        command_view command
+        ≡ command_of brought (take (row_count brought) (rows_left rows.old))) }
+    ensures rest { OnOk result
+        (rows_left rows.new ≡ drop (row_count (content_view content.now)) (rows_left rows.old)) }
 {
     match content {
         Content::Post { rows: count } => {

@@ -15,7 +15,17 @@ ghost use Rattle.fw_snapshot.specs.Verdicts.{with_more};
 /// entries, in order (`same`), unless a command is answered that memory ran out or that the store didn't do it. So an empty warehouse has
 /// then the same history as the one that was dumped, and each law on what is answered from a history holds of the two alike.
 pub fn a_dump_makes_the_same_warehouse()
-    ensures sends { (currency text : List ℕ) (entries : List EntryValue) (commands : List PlainCommand) → IsDumpOf currency entries text → CommandsOf text commands → AllZip (Sends currency) commands entries }
-    ensures same { (text : List ℕ) (entries : List EntryValue) (before after : Standing) (commands : List PlainCommand) (answers : List (List ℕ)) → IsDumpOf before.history.currency entries text
-        → IsLegalAfter before.history.entries entries → CommandsOf text commands → AnswersEach before commands answers after → NoneHindered answers → after.history ≡ with_more before.history entries }
+    ensures sends { (currency text : List ℕ) (entries : List EntryValue)
+        (commands : List PlainCommand)
+        → IsDumpOf currency entries text
+        → CommandsOf text commands
+        → AllZip (Sends currency) commands entries }
+    ensures same { (text : List ℕ) (entries : List EntryValue) (before after : Standing)
+        (commands : List PlainCommand) (answers : List (List ℕ))
+        → IsDumpOf before.history.currency entries text
+        → IsLegalAfter before.history.entries entries
+        → CommandsOf text commands
+        → AnswersEach before commands answers after
+        → NoneHindered answers
+        → after.history ≡ with_more before.history entries }
 {}

@@ -8,7 +8,7 @@ use fw_columns::{Columns, ColumnsBuilder};
 use fw_persistent::Sequence;
 use std::alloc::{AllocError, Global};
 
-/// The rows of segments that aren't taken yet, in order. A row is made once it is taken: none is held here.
+/// The rows of segments that aren't taken yet, in order. A row goes from its segment into the columns of those that are taken: none is made on the way.
 #[derive(Drop)]
 pub(crate) struct RowsLeft<'a> {
     segments: &'a Sequence<Columns>,
@@ -36,7 +36,9 @@ impl<'a> RowsLeft<'a> {
         count: usize,
     ) -> Result<ColumnsBuilder, AllocError>
         requires { length (take count (rows_left self.old)) ≤ most_column_rows }
-        ensures { IfOk result (λ front. (front ≡ take count (rows_left self.old)) × (rows_left self.new ≡ drop count (rows_left self.old))) }
+        ensures { IfOk result (λ front.
+            (front ≡ take count (rows_left self.old))
+            × (rows_left self.new ≡ drop count (rows_left self.old))) }
     {
         let mut front = ColumnsBuilder::new(alloc);
         while front.len() < count {
@@ -45,8 +47,7 @@ impl<'a> RowsLeft<'a> {
             }
             let columns = self.segments.get(self.segment);
             if self.taken < columns.len() {
-                let row = columns.row(self.taken)?;
-                front.push_row(&row)?;
+                front.push_lent(&columns.lent(self.taken))?;
                 self.taken += 1;
             } else {
                 self.segment += 1;

@@ -50,7 +50,8 @@ fn sends(
     command: Command<'_>,
     entry: &Entry,
 ) -> Result<bool, AllocError>
-    ensures { IfOk result (λ sends. sends ≡ true → Sends currency (plain_command command.entry) entry.now) }
+    ensures { IfOk result (λ sends. sends ≡ true
+        → Sends currency (plain_command command.entry) entry.now) }
 {
     match command {
         Command::Entry {
@@ -73,7 +74,8 @@ fn sends_as(
     content: &[u8],
     entry: &Entry,
 ) -> Result<bool, AllocError>
-    ensures { IfOk result (λ sends. sends ≡ true → Sends currency (plain.entry kind origin.now sequence.now content.now) entry.now) }
+    ensures { IfOk result (λ sends. sends ≡ true
+        → Sends currency (plain.entry kind origin.now sequence.now content.now) entry.now) }
 {
     let _seq = entry.seq();
     let Some(number) = sequence_number(sequence) else {
@@ -96,8 +98,10 @@ fn read_content(
     kind: EntryKind,
     content: &[u8],
 ) -> Result<Option<EntryCommand>, AllocError>
-    ensures reads { IfOk result (λ read. IfSome read (λ command. ContentReads kind currency content.now (Ok (command_view command)))) }
-    ensures sized { IfOk result (λ read. IfSome read (λ command. HasRowCount (command_view command))) }
+    ensures reads { IfOk result (λ read. IfSome read (λ command.
+        ContentReads kind currency content.now (Ok (command_view command)))) }
+    ensures sized { IfOk result (λ read. IfSome read (λ command.
+        HasRowCount (command_view command))) }
 {
     match kind {
         EntryKind::Post => match read_columns(alloc, content, currency) {

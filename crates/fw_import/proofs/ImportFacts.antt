@@ -1,5 +1,5 @@
 -- How many rows a text reads as, and that entries with the same bytes are one.
-use Rattle.std.proofs.Common.{◌≡◌, ◌∙◌, ◌++◌, List, [], ℕ, Result, Ok, length, sym, ap, arith}
+use Rattle.std.proofs.Common.{◌≡◌, ◌∙◌, ◌++◌, List, [], ℕ, Result, Ok, ap}
 use Rattle.std.proofs.lemmas.Slice.Zip.{AllZip-long}
 use Rattle.fw_charge.specs.Charge.{Charge}
 use Rattle.fw_entry.specs.Entry.{EntryValue}

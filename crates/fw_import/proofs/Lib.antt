@@ -1,1 +1,2 @@
 mod ImportFacts
+mod ImporterFacts

@@ -1,2 +1,4 @@
+pub mod Importer
+pub mod ImporterView
 pub mod Importing
 pub mod Sending

@@ -1,18 +1,17 @@
 //! A part of a text as the post of an origin.
-ghost use Rattle.std.specs.Prelude.{◌≡◌, false, length, List, Ok, IfOk, OnErr};
-ghost use Rattle.fw_charge.specs.Charge.{Charge};
-ghost use Rattle.fw_rows.specs.Rows.{RowsRead};
+ghost use Rattle.std.specs.Prelude.{◌≡◌, false, length, Contains, IfOk, OnErr};
 ghost use Rattle.fw_snapshot.specs.History.{is_withdrawn, posted};
-ghost use Rattle.fw_import.specs.Importing.{post_of, Becomes, MayStop, IsPostOf};
+ghost use Rattle.fw_import.specs.Importer.{Knows};
+ghost use Rattle.fw_import.specs.Importing.{Becomes, IsPartThere, IsPostOf, IsTaken, IsThere};
+ghost use Rattle.fw_import.specs.Importing.{MayStop};
 
-use crate::comparing::same_entry;
 use crate::fault::ImportFault;
-use crate::stored::stored_post;
-use fw_charge::MOST_POST_ROWS;
-use fw_column_rows::read_columns;
+use crate::importer::Importer;
+use fw_column_rows::read_columns_after;
 use fw_disk::Volume;
 use fw_entry::{Command, Entry, EntryFault};
 use fw_recover::Store;
+use fw_replace::own_posts_are_entries;
 use fw_rows::Currency;
 use fw_snapshot::{State, Verdict};
 use std::alloc::Global;
@@ -35,9 +34,12 @@ pub struct Taken {
     pub rows: u64,
 }
 
-/// Takes the rows of a CSV text into a store, as the post of an origin under a number. It is on the volume, synced, before this returns
-/// `Added`. A post that was accepted before under this number has to have the same rows, else the answer is `Differs`; where it was
+/// Takes the rows of a CSV text into a store, as the post of the importer's origin under a number. It is on the volume, synced, before this
+/// returns `Added`. A post that was accepted before under this number has to have the same rows, else the answer is `Differs`; where it was
 /// withdrawn, the answer is `Withdrawn`, whatever rows it has.
+///
+/// The importer is one that took each part before into this store, or a new one, and nothing else has changed the warehouse since its last
+/// part, unless it [forgot](Importer::forget_posts) its posts.
 ///
 /// # Errors
 /// `Rows` where the text has a fault, the first one; `Entry` where the name of the origin, the number or the size is out of range; `Gap`
@@ -45,18 +47,25 @@ pub struct Taken {
 pub fn import_part<V: Volume>(
     alloc: Global,
     store: &mut Store<V>,
-    origin: &str,
+    importer: &mut Importer<'_>,
     number: u64,
     text: &[u8],
 ) -> Result<Taken, ImportFault>
-    ensures done { IfOk result (λ taken. (rows : List Charge) × RowsRead store.old.history.currency text.now (Ok rows) × (taken.rows ≡ length rows) × Becomes taken.outcome (post_of origin.now number rows) store.old store.new) }
+    ensures done { IfOk result (λ taken.
+        IsTaken importer.old.origin number text.now taken store.old store.new) }
+    ensures there { Knows importer.old store.old.history.entries
+        → IfOk result (λ taken. IsPartThere store.old.history.currency importer.old.origin
+        number text.now taken.outcome store.old.history.entries) }
     ensures refused { OnErr result (store.new.history ≡ store.old.history) }
     ensures any_moment { MayStop V.tells V.view store.old store.new }
+    ensures knows { Knows importer.old store.old.history.entries
+        → Knows importer.new store.new.history.entries }
+    ensures origin { importer.new.origin ≡ importer.old.origin }
 {
     let currency = store.state().state().currency();
-    let entry = read_part(alloc, currency, origin, number, text)?;
+    let entry = read_part(alloc, importer, currency, number, text)?;
     let rows = row_count(&entry);
-    let outcome = submit(alloc, store, &entry)?;
+    let outcome = submit(alloc, store, importer, &entry)?;
     Ok(Taken { outcome, rows })
 }
 
@@ -73,22 +82,25 @@ fn row_count(entry: &Entry) -> u64
     }
 }
 
-/// The rows of a CSV text as the post of an origin under a number.
+/// The rows of a CSV text as the post of the importer's origin under a number. A text of tags that the importer read before isn't read again.
 ///
 /// # Errors
 /// `Rows` where the text has a fault, the first one; `Entry` where the name of the origin, the number or the size is out of range;
 /// `NoMemory`.
 pub fn read_part(
     alloc: Global,
+    importer: &mut Importer<'_>,
     currency: Currency,
-    origin: &str,
     number: u64,
     text: &[u8],
 ) -> Result<Entry, ImportFault>
-    ensures { IfOk result (IsPostOf currency origin.now number text.now) }
+    ensures post { IfOk result (IsPostOf currency importer.old.origin number text.now) }
+    ensures same { importer.new ≡ importer.old }
 {
-    match read_columns(alloc, text, currency) {
-        Ok(rows) => match Entry::new(alloc, origin.as_bytes(), number, Command::Post(rows)) {
+    let read = read_columns_after(alloc, text, currency, &mut importer.texts);
+    let origin = importer.origin().as_bytes();
+    match read {
+        Ok(rows) => match Entry::new(alloc, origin, number, Command::Post(rows)) {
             Ok(entry) => Ok(entry),
             Err(EntryFault::NoMemory) => Err(ImportFault::NoMemory),
             Err(fault) => Err(ImportFault::Entry(fault)),
@@ -97,24 +109,34 @@ pub fn read_part(
     }
 }
 
-// Adds an entry, or compares it with the one that was accepted under its number.
+// Adds an entry of the importer's origin, or compares it with the one that was accepted under its number.
 fn submit<V: Volume>(
     alloc: Global,
     store: &mut Store<V>,
+    importer: &mut Importer<'_>,
     entry: &Entry,
 ) -> Result<Outcome, ImportFault>
+    requires origin { entry.now.origin ≡ importer.old.origin }
     ensures done { IfOk result (λ outcome. Becomes outcome entry.now store.old store.new) }
+    ensures there { Knows importer.old store.old.history.entries
+        → IfOk result (λ outcome. IsThere outcome entry.now store.old.history.entries) }
     ensures refused { OnErr result (store.new.history ≡ store.old.history) }
     ensures any_moment { MayStop V.tells V.view store.old store.new }
+    ensures knows { Knows importer.old store.old.history.entries
+        → Knows importer.new store.new.history.entries }
+    ensures same_origin { importer.new.origin ≡ importer.old.origin }
 {
     let verdict = match store.commit(alloc, entry) {
         Ok(verdict) => verdict,
         Err(fault) => return Err(ImportFault::Store(fault)),
     };
     match verdict {
-        Verdict::Accept => Ok(Outcome::Added),
+        Verdict::Accept => {
+            importer.forget_posts();
+            Ok(Outcome::Added)
+        }
         Verdict::Already { .. } => {
-            compare(alloc, store.state().state(), entry)?;
+            compare(alloc, store.state().state(), importer, entry)?;
             Ok(Outcome::Same)
         }
         Verdict::Gap { expected } => Err(ImportFault::Gap { expected }),
@@ -122,33 +144,31 @@ fn submit<V: Volume>(
     }
 }
 
-// Compares an entry with the one that was accepted under its number, which has to count.
-fn compare(alloc: Global, state: &State, entry: &Entry) -> Result<(), ImportFault>
-    ensures { IfOk result (λ _. is_withdrawn state.now.entries entry.now.origin entry.now.seq ≡ false) }
+// Compares an entry of the importer's origin with the one that was accepted under its number, which has to count.
+fn compare(
+    alloc: Global,
+    state: &State,
+    importer: &mut Importer<'_>,
+    entry: &Entry,
+) -> Result<(), ImportFault>
+    requires origin { entry.now.origin ≡ importer.old.origin }
+    ensures counts { IfOk result (λ _.
+        is_withdrawn state.now.entries entry.now.origin entry.now.seq ≡ false) }
+    ensures there { Knows importer.old state.now.entries
+        → IfOk result (λ _. Contains state.now.entries entry.now) }
+    ensures knows { Knows importer.old state.now.entries → Knows importer.new state.now.entries }
+    ensures same_origin { importer.new.origin ≡ importer.old.origin }
 {
     if state.is_withdrawn(entry.origin(), entry.seq()) {
         return Err(ImportFault::Withdrawn);
     }
-    let Some(rows) = stored_post(alloc, state, entry.origin(), entry.seq())? else {
+    own_posts_are_entries();
+    let Command::Post(rows) = entry.command() else {
         return Err(ImportFault::Differs);
     };
-    if rows.len() > MOST_POST_ROWS {
-        return Err(ImportFault::Differs);
-    }
-    match Entry::new(
-        alloc,
-        entry.origin().as_bytes(),
-        entry.seq(),
-        Command::Post(rows),
-    ) {
-        Ok(stored) => {
-            if same_entry(alloc, entry, &stored)? {
-                Ok(())
-            } else {
-                Err(ImportFault::Differs)
-            }
-        }
-        Err(EntryFault::NoMemory) => Err(ImportFault::NoMemory),
-        Err(_) => Err(ImportFault::Differs),
+    if importer.has_part(alloc, state, entry.seq(), rows)? {
+        Ok(())
+    } else {
+        Err(ImportFault::Differs)
     }
 }

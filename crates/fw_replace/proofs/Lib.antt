@@ -1,7 +1,6 @@
 mod PostFacts
+mod OwnFacts
 mod ReadFacts
-mod StartFacts
-mod RowFacts
 mod SummaryFacts
 mod MatchFacts
 mod ReplaceFacts

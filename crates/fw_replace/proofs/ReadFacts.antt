@@ -1,7 +1,7 @@
 -- The rows of a post, read one after the other.
 use Rattle.std.proofs.Common.{◌≡◌, ◌∙◌, ◌+◌, ◌-◌, ◌≤◌, ◌++◌, ◌∷◌, [], ℕ, List, length, min, get_or, take, drop, sym, ap, arith}
 use Rattle.std.specs.Prelude.{Some, slice_get}
-use Rattle.std.proofs.lemmas.List.{drop_min, get_or-drop, length-drop, take_min, take_more}
+use Rattle.std.proofs.lemmas.List.{drop_min, get_or-drop, length-drop, length-take-le, take_min, take_more}
 use Rattle.std.proofs.lemmas.Option.{get_or_from_slice_get, slice_get_within}
 
 -- one item more of those from a place on
@@ -31,3 +31,7 @@ in_range all start count first behind begins ends =
     ∙ take_min count (drop first all)
     ∙ ap (λ n. take count (drop n all)) begins
     ∙ ap (take count) (drop_min start all)
+
+-- as many rows as there are places
+pub counted : {A : Type 0} (all : List A) (first behind : ℕ) → behind ≤ length all → length (take (behind - first) (drop first all)) ≡ behind - first
+counted all first behind within = let long = length-drop first all in length-take-le (behind - first) (drop first all) (omega arith)

@@ -1,7 +1,6 @@
 pub mod Posts
-pub mod Starts
-pub mod StoredView
-pub mod Comparing
+pub mod Own
+pub mod OwnView
 pub mod Summaries
 pub mod Matching
 pub mod Replacing

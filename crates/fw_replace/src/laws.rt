@@ -1,14 +1,16 @@
 //! What holds of all posts and parts: laws, each the contract of a function that does nothing.
-ghost use Rattle.std.specs.Prelude.{◌≡◌, ◌++◌, All, Bool, List, ℕ, filter, length, map, not};
+ghost use Rattle.std.specs.Prelude.{◌≡◌, ◌++◌, All, Bool, Contains, List, ℕ, filter, length, map, not};
 ghost use Rattle.std.specs.List.{flat_map};
 ghost use Rattle.std.specs.List.Sorted.{IsPermutation};
 ghost use Rattle.fw_charge.specs.Charge.{Charge};
 ghost use Rattle.fw_entry.specs.Entry.{EntryValue};
+ghost use Rattle.fw_entry.specs.Entry.CommandValue.{post};
 ghost use Rattle.fw_posted.specs.Marks.{selected};
 ghost use Rattle.fw_posted.specs.Rows.{segment_rows};
 ghost use Rattle.fw_snapshot.specs.History.{rows_posted};
 ghost use Rattle.fw_snapshot.specs.Judging.{IsLegal};
 ghost use Rattle.fw_replace.specs.Matching.{AreMatched, AreStaying, NoneHas};
+ghost use Rattle.fw_replace.specs.Own.{HasNumbered};
 ghost use Rattle.fw_replace.specs.Posts.{own_rows, posts_of, rows_at};
 ghost use Rattle.fw_replace.specs.Replacing.{Ask, postings, withdrawals};
 ghost use Rattle.fw_replace.specs.declared.posts.Post.{Post};
@@ -18,6 +20,13 @@ pub fn posts_have_the_rows_that_count()
     ensures { (origin : List ℕ) (entries : List EntryValue)
         → flat_map (rows_at (rows_posted entries)) (posts_of origin entries)
         ≡ own_rows origin entries }
+{}
+
+/// Where a post of an origin has the number and the rows of a part, one of the entries is the part as the post of the origin under this number.
+pub fn own_posts_are_entries()
+    ensures { (origin : List ℕ) (entries : List EntryValue) (number : ℕ) (part : List Charge)
+        → HasNumbered (rows_posted entries) number part (posts_of origin entries)
+        → Contains entries (record { origin = origin; seq = number; command = post part }) }
 {}
 
 /// The posts that aren't left stay, and have the rows of the parts that are there; none that is left has the rows of another part. So the rows of

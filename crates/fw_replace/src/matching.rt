@@ -1,12 +1,10 @@
 //! Which posts have the rows of which parts.
-ghost use Rattle.std.specs.Prelude.{◌≡◌, ◌↔◌, IfOk, IsTrue, MatchBool, MatchOption};
+ghost use Rattle.std.specs.Prelude.{◌≡◌, IfOk, MatchBool, MatchOption};
 ghost use Rattle.fw_replace.specs.Matching.{AreMatched, HasFirst, IsTaken, NoneHas};
-ghost use Rattle.fw_replace.specs.Posts.{rows_at};
 
-use crate::comparing::is_same_row;
-use crate::posts::Post;
-use crate::stored::StoredRows;
+use crate::posts::{Post, has_rows};
 use fw_columns::Columns;
+use fw_stored_rows::StoredRows;
 use std::alloc::{AllocError, Global};
 use std::collections::VecDeque;
 
@@ -24,7 +22,7 @@ pub struct Matching {
 /// rows, and one at its first row where the numbers agree. The error comes where memory ran out.
 pub fn matched(
     alloc: Global,
-    rows: &StoredRows<'_>,
+    rows: &StoredRows,
     posts: &[Post],
     parts: &[Columns],
 ) -> Result<Matching, AllocError>
@@ -43,7 +41,7 @@ pub fn matched(
 }
 
 // Takes out the first of the posts that has the rows of a part, and says whether there was one.
-fn take_first(rows: &StoredRows<'_>, left: &mut VecDeque<Post>, part: &Columns) -> bool
+fn take_first(rows: &StoredRows, left: &mut VecDeque<Post>, part: &Columns) -> bool
     ensures { MatchBool result
         (IsTaken rows.now part.now left.old.items left.new.items)
         ((left.new.items ≡ left.old.items) × NoneHas rows.now part.now left.old.items) }
@@ -58,7 +56,7 @@ fn take_first(rows: &StoredRows<'_>, left: &mut VecDeque<Post>, part: &Columns) 
 }
 
 // The place of the first of the posts that has the rows of a part.
-fn first_with(rows: &StoredRows<'_>, posts: &VecDeque<Post>, part: &Columns) -> Option<usize>
+fn first_with(rows: &StoredRows, posts: &VecDeque<Post>, part: &Columns) -> Option<usize>
     ensures { MatchOption result
         (NoneHas rows.now part.now posts.now.items)
         (HasFirst rows.now part.now posts.now.items) }
@@ -69,20 +67,4 @@ fn first_with(rows: &StoredRows<'_>, posts: &VecDeque<Post>, part: &Columns) -> 
         }
     }
     None
-}
-
-// Whether the rows of a post are those of a part.
-fn has_rows(rows: &StoredRows<'_>, post: &Post, part: &Columns) -> bool
-    ensures { IsTrue result ↔ (rows_at rows.now post.now ≡ part.now) }
-{
-    let (first, behind) = rows.range_of(post);
-    if behind - first != part.len() {
-        return false;
-    }
-    for place in 0..part.len() {
-        if !is_same_row(&rows.lent(first + place), &part.lent(place)) {
-            return false;
-        }
-    }
-    true
 }

@@ -1,9 +1,11 @@
 //! The posts of an origin.
-ghost use Rattle.std.specs.Prelude.{◌≡◌, All, IfOk};
+ghost use Rattle.std.specs.Prelude.{◌≡◌, ◌≤◌, ◌-◌, ◌↔◌, All, IfOk, IsTrue, length, take, drop};
 ghost use Rattle.fw_snapshot.specs.Heads.{row_count};
-ghost use Rattle.fw_replace.specs.Posts.{IsOwnPost, posts_of};
+ghost use Rattle.fw_replace.specs.Posts.{IsOwnPost, posts_of, rows_at};
 
+use fw_columns::Columns;
 use fw_snapshot::{Content, Head, State};
+use fw_stored_rows::StoredRows;
 use std::alloc::{AllocError, Global};
 
 /// A post of an origin: its number among the entries of the origin, and where its rows stand among all rows that were ever posted to the
@@ -55,4 +57,25 @@ fn rows_in(head: &Head) -> usize
         | Content::Withdraw(_)
         | Content::AddPurchase(_) => 0,
     }
+}
+
+/// Whether a post has the rows of a part, each in all its fields, and no other rows. It reads rows up to the first that differs.
+pub fn has_rows(rows: &StoredRows, post: &Post, part: &Columns) -> bool
+    ensures { IsTrue result ↔ (rows_at rows.now post.now ≡ part.now) }
+{
+    let (first, behind) = range_of(rows, post);
+    behind - first == part.len() && rows.has_at(first, part)
+}
+
+/// The place of the first row of a post, and the place behind its last one, as far as there are rows.
+pub(crate) fn range_of(rows: &StoredRows, post: &Post) -> (usize, usize)
+    ensures order { result.0 ≤ result.1 }
+    ensures within { result.1 ≤ length rows.now }
+    ensures rows { take (result.1 - result.0) (drop result.0 rows.now)
+        ≡ rows_at rows.now post.now }
+{
+    let len = rows.len();
+    let first = post.start.min(len);
+    let behind = first + post.rows.min(len - first);
+    (first, behind)
 }

@@ -4,10 +4,10 @@ ghost use Rattle.fw_money.specs.Amount.{most_nanos};
 ghost use Rattle.fw_replace.specs.Posts.{rows_at};
 ghost use Rattle.fw_replace.specs.Summaries.{begins_in, reach_of, summary_of, summary_with};
 
-use crate::posts::Post;
-use crate::stored::StoredRows;
+use crate::posts::{Post, range_of};
 use fw_charge::LAST_HOUR;
 use fw_columns::LentRow;
+use fw_stored_rows::StoredRows;
 
 /// What the rows of a post come to.
 #[derive(Clone, Copy, Drop)]
@@ -32,10 +32,10 @@ pub enum Reach {
 }
 
 /// What the rows of a post come to. It reads each of them once.
-pub fn summary_of(rows: &StoredRows<'_>, post: &Post) -> Summary
+pub fn summary_of(rows: &StoredRows, post: &Post) -> Summary
     ensures { result ≡ summary_of (rows_at rows.now post.now) }
 {
-    let (first, behind) = rows.range_of(post);
+    let (first, behind) = range_of(rows, post);
     let mut summary = Summary {
         first_hour: u64::from(LAST_HOUR),
         last_hour: 0,
@@ -62,10 +62,10 @@ fn with_row(summary: &Summary, row: &LentRow<'_>) -> Summary
 }
 
 /// Where the rows of a post stand to the hours from one on, up to and without another, both counted from 1970. It reads each row once.
-pub fn reach_of(rows: &StoredRows<'_>, post: &Post, from: u64, to: u64) -> Reach
+pub fn reach_of(rows: &StoredRows, post: &Post, from: u64, to: u64) -> Reach
     ensures { result ≡ reach_of from to (rows_at rows.now post.now) }
 {
-    let (first, behind) = rows.range_of(post);
+    let (first, behind) = range_of(rows, post);
     let mut some_in = false;
     let mut all_in = true;
     for place in first..behind {

@@ -2,7 +2,7 @@
 use crate::ended::check_all;
 use crate::stores::{Faulty, NEVER, ROOM, created};
 use fw_disk::Mode;
-use fw_import::{ImportFault, Outcome, import_part};
+use fw_import::{ImportFault, Importer, Outcome, import_part};
 use fw_recover::{Store, StoreFault};
 use fw_rows::RowFault;
 use fw_serve::serve;
@@ -52,10 +52,11 @@ const IMPORTS: &[(&str, u64, char)] = &[
 fn letter(
     alloc: Global,
     store: &mut Store<Faulty>,
+    importer: &mut Importer<'_>,
     text: &str,
     number: u64,
 ) -> Result<char, StoreFault> {
-    match import_part(alloc, store, "a", number, text.as_bytes()) {
+    match import_part(alloc, store, importer, number, text.as_bytes()) {
         Ok(taken) => match taken.outcome {
             Outcome::Added => Ok('A'),
             Outcome::Same => Ok('S'),
@@ -77,8 +78,9 @@ fn first_wrong(
     store: &mut Store<Faulty>,
     imports: &[(&str, u64, char)],
 ) -> Result<Option<usize>, StoreFault> {
+    let mut importer = Importer::new(alloc, "a");
     for (place, (text, number, wanted)) in imports.iter().enumerate() {
-        if letter(alloc, store, text, *number)? != *wanted {
+        if letter(alloc, store, &mut importer, text, *number)? != *wanted {
             return Ok(Some(place));
         }
     }

@@ -1,6 +1,0 @@
-use Rattle.std.proofs.Common.{◌≡◌, take, drop}
-use Rattle.fw_replace.proofs.matching.has_rows.Given as goal
-
--- the rows so far are the same
-abbrev pub invariant-loop-place : goal.invariant-loop-place
-invariant-loop-place l = take l.place l.part ≡ take l.place (drop l.first l.rows)

@@ -1,0 +1,2 @@
+mod StartFacts
+mod RowFacts
