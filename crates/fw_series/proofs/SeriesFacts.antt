@@ -15,14 +15,13 @@ use Rattle.fw_charge.specs.Charge.{Charge}
 use Rattle.fw_entry.specs.Entry as entry
 use Rattle.fw_entry.specs.Spelling.{IsEntry}
 use Rattle.fw_query.specs.OfHistory.{AreLinesOf, IsReportOn}
-use Rattle.fw_query.specs.Refusals.{IsRefused}
 use Rattle.fw_query.specs.declared.fault.QueryFault.{QueryFault}
 use Rattle.fw_sums.specs.RangeLines.{AreRangeLines, joined}
 use Rattle.fw_query.specs.Reports.{EntryValue}
 use Rattle.fw_query.proofs.DirectFacts.{billed_lines, charged_direct, direct_lines}
 use Rattle.fw_snapshot.specs.History.{commitments_of, rows_of}
 use Rattle.fw_terms.specs.Commitment.{CommitmentValue}
-use Rattle.fw_series.specs.Series.{AreParts, IsPartRefused, IsPartReport, billed_of_parts, charged_of_parts, direct_of_parts}
+use Rattle.fw_series.specs.Series.{AreParts, IsPartRefused, IsPartReport, IsRefusedOn, billed_of_parts, charged_of_parts, direct_of_parts}
 use Rattle.fw_series.specs.Sums.{billed_in, charged_in, direct_in}
 use Rattle.fw_series.specs.declared.series.Part.{Part}
 use Rattle.fw_series.proofs.LineFacts.{total_append}
@@ -139,7 +138,7 @@ period_within step from to (period ∷ periods) (suc k) d are within =
 
 -- there is no report of one of the periods
 pub refused_part : (history : List entry.EntryValue) (key : List ℕ) (from to : ℕ) (step : Step) (periods : List Period) (k : ℕ) (d : Period) (fault : QueryFault) → ArePeriods step from to periods → k < length periods
-    → IsRefused (commitments_of history) (rows_of history) key (get_or periods k d).from (get_or periods k d).to fault → IsPartRefused history key from to fault
+    → IsRefusedOn history key (get_or periods k d).from (get_or periods k d).to fault → IsPartRefused history key from to fault
 refused_part history key from to step periods k d fault are within refused =
     let has = period_within step from to periods k d are within in
     record { low = (get_or periods k d).from; high = (get_or periods k d).to; begins = has.0; some = has.1; ends = has.2; refused = refused }

@@ -1,5 +1,6 @@
 pub mod Sums
 pub mod Series
+pub mod Report
 pub mod Top
 pub mod Lines
 pub mod Escapes

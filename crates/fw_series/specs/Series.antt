@@ -31,6 +31,11 @@ pub record IsSeries (history : List entry.EntryValue) (key : List ℕ) (from to 
   pub whole : IsReportOn history key from to series.whole
   pub parts : ArePartsBy history key from to step series.parts.items
 
+-- there is no report on a history under a key for this reason
+abbrev pub IsRefusedOn : List entry.EntryValue → List ℕ → ℕ → ℕ → QueryFault → Type 0
+IsRefusedOn history key from to fault =
+    IsRefused (commitments_of history) (rows_of history) key from to fault
+
 -- there is no report of some hours of the range for this reason
 pub record IsPartRefused (history : List entry.EntryValue) (key : List ℕ) (from to : ℕ) (fault : QueryFault) : Type 0 where
   pub low : ℕ
@@ -38,12 +43,14 @@ pub record IsPartRefused (history : List entry.EntryValue) (key : List ℕ) (fro
   pub begins : from ≤ low
   pub some : low < high
   pub ends : high ≤ to
-  pub refused : IsRefused (commitments_of history) (rows_of history) key low high fault
+  pub refused : IsRefusedOn history key low high fault
 
--- there is no report of the range, or of some hours of it
-abbrev pub IsSeriesRefused : List entry.EntryValue → List ℕ → ℕ → ℕ → QueryFault → Type 0
-IsSeriesRefused history key from to fault =
-    IsRefused (commitments_of history) (rows_of history) key from to fault ⊎ IsPartRefused history key from to fault
+-- there is no report of the range or, where it is cut, of some hours of it
+abbrev pub IsSeriesRefused : List entry.EntryValue → List ℕ → ℕ → ℕ → Option Step → QueryFault
+    → Type 0
+IsSeriesRefused history key from to None fault = IsRefusedOn history key from to fault
+IsSeriesRefused history key from to (Some step) fault =
+    IsRefusedOn history key from to fault ⊎ IsPartRefused history key from to fault
 
 -- the sums over all groups of all parts
 abbrev pub billed_of_parts : List Part → ℤ

@@ -1,4 +1,7 @@
 //! Reports as CSV.
+ghost use Rattle.std.specs.Prelude.{◌≡◌, None, IfOk};
+ghost use Rattle.fw_query.specs.Texts.{report_text};
+
 use crate::lines::{Line, lines_of};
 use crate::names::{chosen, group_of, kind_of};
 use crate::series::Series;
@@ -25,10 +28,19 @@ pub(crate) fn csv_text(
     alloc: Global,
     series: &Series,
     view: &View<'_>,
-) -> Result<Vec<u8>, AllocError> {
+) -> Result<Vec<u8>, AllocError>
+    ensures { view.now.step ≡ None → view.now.top ≡ None
+        → IfOk result (λ text. text.items ≡ report_text series.now.whole) }
+{
     if view.step.is_none() && view.top.is_none() {
-        return report_csv(alloc, &series.whole);
+        report_csv(alloc, &series.whole)
+    } else {
+        records_text(alloc, series, view)
     }
+}
+
+// The records of periods or of some groups, below the names of the columns.
+fn records_text(alloc: Global, series: &Series, view: &View<'_>) -> Result<Vec<u8>, AllocError> {
     let names = chosen(alloc, series, view)?;
     let names = names.as_ref().map(|names| names.as_slice());
     let mut writer = WriterBuilder::new().from_writer(Vec::new(alloc));

@@ -3,7 +3,7 @@ use crate::escapes::json_string;
 use crate::lines::{Line, lines_of};
 use crate::names::{chosen, group_of, kind_of};
 use crate::series::{Part, Series};
-use crate::sums::{Sums, sums_of};
+use crate::sums::{Sums, sums_in};
 use crate::view::View;
 use fw_calendar::hour_text;
 use fw_query::Report;
@@ -70,9 +70,7 @@ fn push_report(
     report: &Report,
     names: Option<&[String]>,
 ) -> Result<(), AllocError> {
-    let Some(sums) = sums_of(report.entries()) else {
-        return Err(AllocError);
-    };
+    let sums = sums_in(report)?;
     let lines = lines_of(alloc, report, names)?;
     text.push_str("\"groups\":[")?;
     for (place, line) in lines.as_slice().iter().enumerate() {

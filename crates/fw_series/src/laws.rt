@@ -14,17 +14,33 @@ ghost use Rattle.fw_series.specs.Sums.{billed_in, charged_in, direct_in};
 
 /// The lines of a report sum to what all of its groups cost, whichever groups have a line of their own.
 pub fn lines_keep_the_sums()
-    ensures billed { (names : Names) (entries : List EntryValue) (lines : List LineValue) → AreLines names entries lines → billed_on lines ≡ billed_in entries }
-    ensures direct { (names : Names) (entries : List EntryValue) (lines : List LineValue) → AreLines names entries lines → direct_on lines ≡ direct_in entries }
-    ensures charged { (names : Names) (entries : List EntryValue) (lines : List LineValue) → AreLines names entries lines → charged_on lines ≡ charged_in entries }
+    ensures billed { (names : Names) (entries : List EntryValue) (lines : List LineValue)
+        → AreLines names entries lines → billed_on lines ≡ billed_in entries }
+    ensures direct { (names : Names) (entries : List EntryValue) (lines : List LineValue)
+        → AreLines names entries lines → direct_on lines ≡ direct_in entries }
+    ensures charged { (names : Names) (entries : List EntryValue) (lines : List LineValue)
+        → AreLines names entries lines → charged_on lines ≡ charged_in entries }
 {}
 
 /// The sums of the periods are those of the whole range: of BilledCost, of EffectiveCost and of what is charged, over all groups. Under a policy a
 /// group's own charges needn't be: each period shares its common costs, and rounds, on its own.
 pub fn periods_sum_to_the_whole()
-    ensures billed { (history : List entry.EntryValue) (key : List ℕ) (from to : ℕ) (step : Step) (whole : List EntryValue) (parts : List Part) → IsReportOn history key from to whole → AreParts history key from to step parts → billed_in whole ≡ billed_of_parts parts }
-    ensures direct { (history : List entry.EntryValue) (key : List ℕ) (from to : ℕ) (step : Step) (whole : List EntryValue) (parts : List Part) → IsReportOn history key from to whole → AreParts history key from to step parts → direct_in whole ≡ direct_of_parts parts }
-    ensures charged { (history : List entry.EntryValue) (key : List ℕ) (from to : ℕ) (step : Step) (whole : List EntryValue) (parts : List Part) → All IsEntry history → IsReportOn history key from to whole → AreParts history key from to step parts → charged_in whole ≡ charged_of_parts parts }
+    ensures billed { (history : List entry.EntryValue) (key : List ℕ) (from to : ℕ)
+        (step : Step) (whole : List EntryValue) (parts : List Part)
+        → IsReportOn history key from to whole
+        → AreParts history key from to step parts
+        → billed_in whole ≡ billed_of_parts parts }
+    ensures direct { (history : List entry.EntryValue) (key : List ℕ) (from to : ℕ)
+        (step : Step) (whole : List EntryValue) (parts : List Part)
+        → IsReportOn history key from to whole
+        → AreParts history key from to step parts
+        → direct_in whole ≡ direct_of_parts parts }
+    ensures charged { (history : List entry.EntryValue) (key : List ℕ) (from to : ℕ)
+        (step : Step) (whole : List EntryValue) (parts : List Part)
+        → All IsEntry history
+        → IsReportOn history key from to whole
+        → AreParts history key from to step parts
+        → charged_in whole ≡ charged_of_parts parts }
 {}
 
 /// No byte of a text in a page begins or ends a tag, or ends a value in quotes.

@@ -1,8 +1,9 @@
 //! Reports of the periods of a range, and reports of which only the groups that are charged most have lines of their own; and how they are
 //! written for people and for programs.
 //!
-//! [`series_of`] makes the reports, [`most_charged`] chooses groups, [`lines_of`] are what is shown of a report, and [`written`] writes all of it
-//! as a table, as CSV, as JSON or as a page of HTML. Costs are nanos, 10^-9 of the currency unit, and hours are counted from 1970.
+//! [`report_text`] answers a query by the text of its report: of the whole range or by period, of all groups or of some, as a table, as CSV, as
+//! JSON or as a page of HTML. [`series_of`] makes the reports, [`most_charged`] chooses groups, [`lines_of`] are what is shown of a report, and
+//! [`written`] writes all of it. Costs are nanos, 10^-9 of the currency unit, and hours are counted from 1970.
 #![tactic(auto)]
 
 mod chart;
@@ -13,6 +14,7 @@ mod laws;
 mod lines;
 mod names;
 mod page;
+mod report;
 mod series;
 mod sums;
 mod table;
@@ -21,7 +23,8 @@ mod view;
 
 pub use laws::{escaped_is_no_markup, lines_keep_the_sums, periods_sum_to_the_whole};
 pub use lines::{Line, lines_of};
+pub use report::{ReportOptions, report_text};
 pub use series::{Part, Series, series_of};
 pub use sums::{Sums, sums_of};
 pub use top::most_charged;
-pub use view::{SeriesFormat, View, written};
+pub use view::{Format, View, written};

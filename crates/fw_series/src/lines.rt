@@ -78,7 +78,9 @@ fn group_line<'r>(entry: &'r Entry) -> Line<'r>
 
 // The groups that have no line of their own, or `None` where a sum of their costs passes 128 bits.
 fn left_of(entries: &[Entry], names: Option<&[String]>) -> Option<Left>
-    ensures { MatchOption result (IsPast (filter (is_left names.entry) entries.now)) (IsLeft (filter (is_left names.entry) entries.now)) }
+    ensures { MatchOption result
+        (IsPast (filter (is_left names.entry) entries.now))
+        (IsLeft (filter (is_left names.entry) entries.now)) }
 {
     let mut left = Left {
         count: 0,

@@ -4,7 +4,7 @@ use crate::escapes::push_shown;
 use crate::lines::{Line, lines_of};
 use crate::names::{chosen, name_of};
 use crate::series::{Part, Series};
-use crate::sums::{Sums, sums_of};
+use crate::sums::{Sums, sums_in};
 use crate::top::most_charged;
 use crate::view::View;
 use fw_calendar::{Step, hour_text};
@@ -238,12 +238,4 @@ fn push_costs(
     put(page, "<td>")?;
     put(page, share.as_str())?;
     put(page, "</td></tr>\n")
-}
-
-// The sums of a report.
-fn sums_in(report: &Report) -> Result<Sums, AllocError> {
-    match sums_of(report.entries()) {
-        Some(sums) => Ok(sums),
-        None => Err(AllocError),
-    }
 }

@@ -1,10 +1,6 @@
 //! The reports of the periods of a range.
-ghost use Rattle.std.specs.Prelude.{◌≡◌, ◌<◌, ◌≤◌, ◌⊎◌, All, IfErr, IfOk, map, [], ℕ};
-ghost use Rattle.fw_calendar.specs.Periods.{ArePeriods};
-ghost use Rattle.fw_query.specs.Refusals.{IsRefused};
-ghost use Rattle.fw_query.specs.Reports.{IsReport};
-ghost use Rattle.fw_snapshot.specs.History.{commitments_of, policy_of, rows_of};
-ghost use Rattle.fw_series.specs.Series.{AreParts, IsPartReport, IsSeries, IsSeriesRefused};
+ghost use Rattle.std.specs.Prelude.{◌≡◌, ◌<◌, IfErr, IfOk, Some};
+ghost use Rattle.fw_series.specs.Series.{AreParts, IsPartReport, IsRefusedOn, IsSeries, IsSeriesRefused};
 
 use fw_calendar::{Period, Step, periods};
 use fw_query::{Query, QueryFault, Report, report_alone};
@@ -31,16 +27,21 @@ pub struct Series {
 
 /// The report that a query asks for and, where there is a step, the report of each period of its range: the range is cut where a new hour,
 /// day or month begins. Each report is that of [`fw_query::report`] over its hours alone, so that common costs are shared period by period.
-/// `Range` where the range has no hour or more than 26,304; `TotalTooLarge` where the costs of the range or of a period pass 10^19 nanos;
-/// `NoMemory` where memory ran out.
+/// Without a step the report of the range is the only one that is made.
+///
+/// # Errors
+/// `Range` where the range has no hour or more than 26,304; `TotalTooLarge` where the costs of the
+/// range or, where it is cut, of a period pass 10^19 nanos; `NoMemory` where memory ran out.
 pub fn series_of(
     alloc: Global,
     snapshot: &Snapshot,
     query: &Query<'_>,
     step: Option<Step>,
 ) -> Result<Series, QueryFault>
-    ensures series { IfOk result (IsSeries snapshot.now.entries query.now.key.now query.now.from_hour query.now.to_hour step) }
-    ensures fault { IfErr result (IsSeriesRefused snapshot.now.entries query.now.key.now query.now.from_hour query.now.to_hour) }
+    ensures series { IfOk result (IsSeries snapshot.now.entries query.now.key.now
+        query.now.from_hour query.now.to_hour step) }
+    ensures fault { IfErr result (IsSeriesRefused snapshot.now.entries query.now.key.now
+        query.now.from_hour query.now.to_hour step) }
 {
     let whole = report_alone(alloc, snapshot, query)?;
     let parts = match step {
@@ -58,8 +59,10 @@ fn parts_of(
     step: Step,
 ) -> Result<Vec<Part>, QueryFault>
     requires { query.now.from_hour < query.now.to_hour }
-    ensures parts { IfOk result (λ parts. AreParts snapshot.now.entries query.now.key.now query.now.from_hour query.now.to_hour step parts.items) }
-    ensures fault { IfErr result (IsSeriesRefused snapshot.now.entries query.now.key.now query.now.from_hour query.now.to_hour) }
+    ensures parts { IfOk result (λ parts. AreParts snapshot.now.entries query.now.key.now
+        query.now.from_hour query.now.to_hour step parts.items) }
+    ensures fault { IfErr result (IsSeriesRefused snapshot.now.entries query.now.key.now
+        query.now.from_hour query.now.to_hour (Some step)) }
 {
     let periods = periods(alloc, step, query.from_hour, query.to_hour)?;
     let mut parts = Vec::new(alloc);
@@ -81,7 +84,8 @@ fn part_of(
 ) -> Result<Part, QueryFault>
     ensures period { IfOk result (λ part. part.period ≡ period) }
     ensures report { IfOk result (IsPartReport snapshot.now.entries key.now) }
-    ensures fault { IfErr result (IsRefused (commitments_of snapshot.now.entries) (rows_of snapshot.now.entries) key.now period.from period.to) }
+    ensures fault { IfErr result
+        (IsRefusedOn snapshot.now.entries key.now period.from period.to) }
 {
     let query = Query {
         key,

@@ -1,8 +1,9 @@
 //! Sums of costs over groups.
-ghost use Rattle.std.specs.Prelude.{◌≡◌, MatchOption};
+ghost use Rattle.std.specs.Prelude.{◌≡◌, IfOk, MatchOption};
 ghost use Rattle.fw_series.specs.Sums.{AreSums, IsPast, IsWith};
 
-use fw_query::Entry;
+use fw_query::{Entry, Report};
+use std::alloc::AllocError;
 
 /// Sums of costs in nanos, over groups.
 #[derive(Clone, Copy, Debug, Drop, PartialEq, Eq)]
@@ -57,4 +58,14 @@ pub fn sums_of(entries: &[Entry]) -> Option<Sums>
         sums = sums.with(entry)?;
     }
     Some(sums)
+}
+
+/// The sums of the costs of a report's groups. The one error is that one of them passes 128 bits on the way.
+pub(crate) fn sums_in(report: &Report) -> Result<Sums, AllocError>
+    ensures { IfOk result (AreSums report.now) }
+{
+    match sums_of(report.entries()) {
+        Some(sums) => Ok(sums),
+        None => Err(AllocError),
+    }
 }

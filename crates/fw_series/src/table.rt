@@ -4,7 +4,7 @@ ghost use Rattle.std.specs.Prelude.{◌≤◌};
 use crate::lines::{Line as ReportLine, lines_of};
 use crate::names::{chosen, name_of};
 use crate::series::Series;
-use crate::sums::{Sums, sums_of};
+use crate::sums::{Sums, sums_in};
 use crate::view::View;
 use fw_calendar::Step;
 use fw_query::Report;
@@ -143,12 +143,4 @@ fn push_costs(
     cells.push(cents_text(alloc, costs.charged)?)?;
     cells.push(share_text(alloc, costs.charged, all.charged)?)?;
     Ok(())
-}
-
-// The sums of a report.
-fn sums_in(report: &Report) -> Result<Sums, AllocError> {
-    match sums_of(report.entries()) {
-        Some(sums) => Ok(sums),
-        None => Err(AllocError),
-    }
 }

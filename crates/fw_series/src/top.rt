@@ -9,7 +9,8 @@ use std::cmp::Reverse;
 /// The groups of a report that are charged most, at most so many, the most charged first; groups that are charged alike stand in the order
 /// of their names. The one error is that memory ran out.
 pub fn most_charged(alloc: Global, report: &Report, count: usize) -> Result<Vec<String>, AllocError>
-    ensures { IfOk result (λ names. AreMostCharged count report.now (map string_bytes names.items)) }
+    ensures { IfOk result (λ names.
+        AreMostCharged count report.now (map string_bytes names.items)) }
 {
     let mut ranked = ranked(alloc, report.entries())?;
     ranked.truncate(count);

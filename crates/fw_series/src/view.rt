@@ -1,4 +1,8 @@
 //! How reports are written.
+ghost use Rattle.std.specs.Prelude.{◌≡◌, None, IfOk};
+ghost use Rattle.fw_query.specs.Texts.{report_text};
+ghost use Rattle.fw_series.specs.declared.view.Format.TheVariants.{Csv};
+
 use crate::csv_text::csv_text;
 use crate::json::json_text;
 use crate::page::page_text;
@@ -7,9 +11,9 @@ use crate::table::table_of;
 use fw_calendar::Step;
 use std::alloc::{AllocError, Global};
 
-/// How a series is written.
+/// How a report is written.
 #[derive(Clone, Copy, Debug, Drop, PartialEq, Eq)]
-pub enum SeriesFormat {
+pub enum Format {
     /// Columns that line up, in cents.
     Table,
     /// Records, exact to the nano.
@@ -37,17 +41,21 @@ pub struct View<'v> {
     pub top: Option<usize>,
 }
 
-/// A series in a format. The one error is that memory ran out, or that a sum of groups passes 128 bits.
+/// A series in a format. Without periods and with all groups its CSV is that of the report. The one error is that memory ran out, or that a
+/// sum of groups passes 128 bits.
 pub fn written(
     alloc: Global,
     series: &Series,
     view: &View<'_>,
-    format: SeriesFormat,
-) -> Result<Vec<u8>, AllocError> {
+    format: Format,
+) -> Result<Vec<u8>, AllocError>
+    ensures csv { format ≡ Csv → view.now.step ≡ None → view.now.top ≡ None
+        → IfOk result (λ text. text.items ≡ report_text series.now.whole) }
+{
     match format {
-        SeriesFormat::Table => Ok(table_of(alloc, series, view)?.into_bytes()),
-        SeriesFormat::Csv => csv_text(alloc, series, view),
-        SeriesFormat::Json => Ok(json_text(alloc, series, view)?.into_bytes()),
-        SeriesFormat::Html => page_text(alloc, series, view),
+        Format::Table => Ok(table_of(alloc, series, view)?.into_bytes()),
+        Format::Csv => csv_text(alloc, series, view),
+        Format::Json => Ok(json_text(alloc, series, view)?.into_bytes()),
+        Format::Html => page_text(alloc, series, view),
     }
 }

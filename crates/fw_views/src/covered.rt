@@ -2,7 +2,6 @@
 ghost use Rattle.std.specs.Prelude.{IfErr};
 ghost use Rattle.fw_query.specs.Refusals.{AreRefused};
 
-use crate::report::Format;
 use csv::{Writer, WriterBuilder};
 use fw_coverage::{Coverage, coverage};
 use fw_query::QueryFault;
@@ -25,21 +24,33 @@ const ALIGNS: [Align; 10] = [
     Align::Right,
 ];
 
-/// How well the commitments of a snapshot were used in the hours from `from` up to, not including, `to`, counted from 1970, as text. `Range`
-/// where the range has no hour or more than 26,304; `NoMemory` where memory ran out.
+/// How a coverage is written.
+#[derive(Clone, Copy, Debug, Drop, PartialEq, Eq)]
+pub enum CoverageFormat {
+    /// Columns that line up; quantities in hundredths, and costs in cents.
+    Table,
+    /// Records; quantities and costs with nine digits after the point.
+    Csv,
+}
+
+/// How well the commitments of a snapshot were used in the hours from `from` up to, not including, `to`, counted from 1970, as text: what of
+/// each one's capacity was used, in its unit, and what that cost, in units of the currency.
+///
+/// # Errors
+/// `Range` where the range has no hour or more than 26,304; `NoMemory` where memory ran out.
 pub fn coverage_text(
     alloc: Global,
     snapshot: &Snapshot,
     from: u64,
     to: u64,
-    format: Format,
+    format: CoverageFormat,
 ) -> Result<Vec<u8>, QueryFault>
     ensures { IfErr result (AreRefused from to) }
 {
     let found = coverage(alloc, snapshot, from, to)?;
     match format {
-        Format::Csv => Ok(coverage_csv(alloc, found.as_slice())?),
-        Format::Table => Ok(coverage_table(alloc, found.as_slice())?.into_bytes()),
+        CoverageFormat::Csv => Ok(coverage_csv(alloc, found.as_slice())?),
+        CoverageFormat::Table => Ok(coverage_table(alloc, found.as_slice())?.into_bytes()),
     }
 }
 

@@ -1,17 +1,12 @@
-//! What the commands for people print, as text.
+//! What the commands for people print of a warehouse, as text.
 //!
-//! [`answer`] answers a [`Question`] to an open warehouse. Amounts come from `fw_query` and are exact; what is rounded is only what a table
-//! shows.
+//! [`answer`] answers a [`Question`] to an open warehouse. Reports are written by `fw_series`, lines by `fw_query`; coverage and what a
+//! warehouse holds are written here. Amounts are exact; what is rounded is only what a table shows.
 #![tactic(auto)]
 
 mod covered;
 mod questions;
-mod report;
-mod series;
 mod status;
-mod tables;
 
-pub use covered::coverage_text;
+pub use covered::{CoverageFormat, coverage_text};
 pub use questions::{Question, answer};
-pub use report::{Format, report_text};
-pub use series::SeriesOptions;

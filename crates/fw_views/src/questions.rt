@@ -1,35 +1,32 @@
 //! Questions, and their answers as text.
-ghost use Rattle.std.specs.Prelude.{◌≡◌, ℕ, List, IfOk};
+ghost use Rattle.std.specs.Prelude.{◌≡◌, ℕ, List, None, IfErr, IfOk};
 ghost use Rattle.fw_amortise.specs.LineValue.{LineValue};
-ghost use Rattle.fw_sums.specs.RangeLines.{AreRangeLines};
-ghost use Rattle.fw_query.specs.Reports.{EntryValue, IsReport};
-ghost use Rattle.fw_query.specs.Texts.{lines_text, report_text};
+ghost use Rattle.fw_query.specs.OfHistory.{AreLinesOf};
+ghost use Rattle.fw_query.specs.Refusals.{AreRefused};
+ghost use Rattle.fw_query.specs.Texts.{lines_text};
+ghost use Rattle.fw_series.specs.Report.{IsReportCsv};
+ghost use Rattle.fw_series.specs.Series.{IsSeriesRefused};
+ghost use Rattle.fw_series.specs.declared.report.ReportOptions.{ReportOptions};
+ghost use Rattle.fw_series.specs.declared.view.Format.TheVariants.{Csv};
 ghost use Rattle.fw_sums.specs.declared.query.Query.{Query};
-ghost use Rattle.fw_snapshot.specs.History.{commitments_of, policy_of, rows_of};
-ghost use Rattle.fw_views.specs.declared.questions.Question.TheVariants.{Report, Lines};
-ghost use Rattle.fw_views.specs.declared.report.Format.TheVariants.{Csv};
+ghost use Rattle.fw_views.specs.declared.covered.CoverageFormat.{CoverageFormat};
+ghost use Rattle.fw_views.specs.declared.questions.Question.TheVariants.{Coverage, Lines, Report};
 
-use crate::covered::coverage_text;
-use crate::report::{Format, report_text};
-use crate::series::{SeriesOptions, series_text};
+use crate::covered::{CoverageFormat, coverage_text};
 use crate::status::{sound_text, status_text};
 use fw_disk::Volume;
 use fw_query::{Query, QueryFault, lines_csv};
 use fw_recover::Store;
+use fw_series::{ReportOptions, report_text};
 use std::alloc::Global;
 
 /// A question to a warehouse.
 #[derive(Clone, Copy, Debug)]
 pub enum Question<'q> {
-    /// What each group of a tag cost.
+    /// What each group of a tag cost, in the whole range or by period.
     Report {
         query: Query<'q>,
-        format: Format,
-    },
-    /// What each group of a tag cost, by period, or of the groups that are charged most, or for programs and browsers.
-    Series {
-        query: Query<'q>,
-        options: SeriesOptions,
+        options: ReportOptions,
     },
     /// Each line behind the costs of the hours from `from` up to, not including, `to`, counted from 1970.
     Lines {
@@ -40,7 +37,7 @@ pub enum Question<'q> {
     Coverage {
         from: u64,
         to: u64,
-        format: Format,
+        format: CoverageFormat,
     },
     /// What the warehouse holds.
     Status,
@@ -48,19 +45,36 @@ pub enum Question<'q> {
     Verify,
 }
 
-/// The answer to a question, as text. Nothing changes. The errors are those of the question: of a report and of a series `Range`, `TotalTooLarge`
-/// and `NoMemory`, of lines and coverage `Range` and `NoMemory`, of a status `NoMemory`.
+/// The answer to a question, as text; costs are in units of the currency. Nothing changes.
+///
+/// # Errors
+/// Of a report, of lines and of a coverage `Range` where the range has no hour or more than 26,304; of a report `TotalTooLarge` where the
+/// costs of the range or, where it is cut, of a period pass 10^19 nanos; of each question `NoMemory` where memory ran out.
 pub fn answer<V: Volume>(
     alloc: Global,
     store: &Store<V>,
     question: &Question<'_>,
 ) -> Result<Vec<u8>, QueryFault>
-    ensures report { (query : Query) → question.now ≡ Report query Csv → IfOk result (λ text. (entries : List EntryValue) × IsReport (commitments_of store.now.history.entries) (rows_of store.now.history.entries) (policy_of store.now.history.entries) query.key.now query.from_hour query.to_hour entries × (text.items ≡ report_text entries)) }
-    ensures lines { (from to : ℕ) → question.now ≡ Lines from to → IfOk result (λ text. (lines : List LineValue) × AreRangeLines (commitments_of store.now.history.entries) (rows_of store.now.history.entries) from to lines × (text.items ≡ lines_text lines)) }
+    ensures report { (query : Query) (options : ReportOptions)
+        → question.now ≡ Report query options
+        → options.step ≡ None → options.top ≡ None → options.format ≡ Csv
+        → IfOk result (λ text. IsReportCsv store.now.history.entries query.key.now
+        query.from_hour query.to_hour text.items) }
+    ensures report_fault { (query : Query) (options : ReportOptions)
+        → question.now ≡ Report query options
+        → IfErr result (IsSeriesRefused store.now.history.entries query.key.now
+        query.from_hour query.to_hour options.step) }
+    ensures lines { (from to : ℕ) → question.now ≡ Lines from to
+        → IfOk result (λ text. (lines : List LineValue)
+        × AreLinesOf store.now.history.entries from to lines
+        × (text.items ≡ lines_text lines)) }
+    ensures lines_fault { (from to : ℕ) → question.now ≡ Lines from to
+        → IfErr result (AreRefused from to) }
+    ensures coverage_fault { (from to : ℕ) (format : CoverageFormat)
+        → question.now ≡ Coverage from to format → IfErr result (AreRefused from to) }
 {
     match question {
-        Question::Report { query, format } => report_text(alloc, store.state(), query, *format),
-        Question::Series { query, options } => series_text(alloc, store.state(), query, options),
+        Question::Report { query, options } => report_text(alloc, store.state(), query, options),
         Question::Lines { from, to } => lines_csv(alloc, store.state(), *from, *to),
         Question::Coverage { from, to, format } => {
             coverage_text(alloc, store.state(), *from, *to, *format)

@@ -25,7 +25,7 @@ pub(crate) fn status_text<V: Volume>(
 ) -> Result<String, AllocError> {
     let mut lines = Vec::new(alloc);
     push_contents(alloc, &mut lines, store.state().state())?;
-    push_sizes(alloc, &mut lines, store.body_len(), store.log_len())?;
+    push_sizes(alloc, &mut lines, store)?;
     table_text(alloc, &ALIGNS, lines.as_slice())
 }
 
@@ -209,15 +209,15 @@ fn policy_text(alloc: Global, state: &State) -> Result<String, AllocError> {
 }
 
 // Adds the lines of the files.
-fn push_sizes(alloc: Global, lines: &mut Vec<Line>, body: u64, log: u64) -> Result<(), AllocError> {
-    push(alloc, lines, "Body", bytes_text(alloc, body)?)?;
-    push(alloc, lines, "Log", bytes_text(alloc, log)?)?;
-    push(
-        alloc,
-        lines,
-        "Checkpoint",
-        String::from_str(alloc, checkpoint_word(body, log))?,
-    )
+fn push_sizes<V: Volume>(
+    alloc: Global,
+    lines: &mut Vec<Line>,
+    store: &Store<V>,
+) -> Result<(), AllocError> {
+    push(alloc, lines, "Body", bytes_text(alloc, store.body_len())?)?;
+    push(alloc, lines, "Log", bytes_text(alloc, store.log_len())?)?;
+    let checkpoint = String::from_str(alloc, checkpoint_word(store.checkpoint_pays()))?;
+    push(alloc, lines, "Checkpoint", checkpoint)
 }
 
 // A number of bytes.
@@ -226,9 +226,9 @@ fn bytes_text(alloc: Global, bytes: u64) -> Result<String, AllocError> {
     format!(in alloc; "{count} bytes")
 }
 
-// Whether a checkpoint pays: it costs as much as writing the body, and saves reading the log.
-fn checkpoint_word(body: u64, log: u64) -> &'static str {
-    if log >= body {
+// What a status says of a checkpoint.
+fn checkpoint_word(pays: bool) -> &'static str {
+    if pays {
         "pays: the log is as long as the body or longer"
     } else {
         "not yet: the log is shorter than the body"
