@@ -35,6 +35,15 @@ COVERAGE_HEADER = [
     "CommitmentDiscountId", "CommitmentDiscountCategory", "Unit", "Capacity", "Used", "Unused", "UsedCost", "UnusedCost", "BilledCost",
 ]  # fmt: skip
 MONTH = ("--from", "2024-01", "--to", "2024-02")
+# What is said of a record and of a header that is too long.
+TOO_LONG = "V16 LongRecord: expected a record of at most 4 MiB. Look for a quote that is not closed, in this record or before it.\n"
+LONG_HEADER = "H3 LongHeader: expected a header of at most 2 MiB. Look for a quote in the header that is not closed, and whether the file is a CSV at all.\n"
+
+
+def no_house(folder):
+    """What a command says of a folder without a warehouse."""
+    remedy = "Give the right folder, or make one by --create of focusd run, import or load."
+    return f"focusd: S1 NoHouse\n{folder}: the folder holds no warehouse. What to do: {remedy}\n"
 
 
 def focusd(*words, given=b""):
@@ -430,6 +439,34 @@ class Commands(unittest.TestCase):
         self.assertEqual((status, printed), (2, ""))
         self.assertIn('"V99"', said)
 
+    def test_explain_lists_each_code_once(self):
+        status, printed, said = focusd("explain")
+        self.assertEqual((status, said), (0, ""))
+        names = [line.split(": ")[0] for line in printed.splitlines()]
+        self.assertEqual(len(set(names)), len(names))
+        self.assertEqual((names[0], names[-1]), ("H1 MissingColumn", "NoMemory"))
+        for line in printed.splitlines():
+            self.assertTrue(focusd("explain", line.split(":")[0].split()[0])[1].startswith(f"{line}.\nWhat to do: "), line)
+
+    def test_a_message_carries_its_code_its_file_and_the_reason(self):
+        """Also where nobody looks at a terminal, but for scripts, whose standard error has one line."""
+        missing = self.folder + "/none"
+        system = "No such file or directory"
+        for words in (("report", "--tag", "t", *MONTH), ("lines", *MONTH), ("coverage", *MONTH), ("status",), ("verify",), ("checkpoint",), ("dump",)):
+            said = focusd(*words, "--dir", missing)[2].splitlines()
+            self.assertEqual((len(said), said[0]), (2, "focusd: K1 Io"), words)
+            self.assertTrue(said[1].startswith(f"{missing}: {system}") and ". What to do: Look whether the folder is there" in said[1], said)
+        self.assertEqual(focusd("run", "--dir", missing), (1, "", "focusd: K1 Io\n"))
+        file = missing + ".csv"
+        for words in (("import", "--dir", self.folder, "--origin", "new"), ("check",), ("replace", "--dir", self.folder, "--origin", "new")):
+            self.assertTrue(focusd(*words, file)[2].startswith(f"focusd: {file}: F1 Read: {system}"), words)
+        self.assertRegex(focusd("add", "--dir", self.folder, "--origin", "new", file)[2], rf"^{re.escape(file)}: {system}.* \(F1 Read\)\n")
+        bad = pathlib.Path(self.folder) / "bad.csv"
+        bad.write_text("BilledCost\n1\n")
+        for words in (("import", "--quiet", "--dir", self.folder, "--origin", "new"), ("replace", "--quiet", "--dir", self.folder, "--origin", "new")):
+            said = focusd(*words, str(bad))[2].splitlines()[0]
+            self.assertEqual(said, f"focusd: {bad}:1: the header, EffectiveCost: H1 MissingColumn: expected a column of this name. `focusd check` lists all faults.")
+
     def test_each_code_of_the_formats_is_explained(self):
         text = (HERE.parent / "docs" / "FORMATS.md").read_text()
         for code in sorted(set(expected.re.findall(r"(?:refused|store|focusd:) ([A-Z]\d+ [A-Z]\w+)", text))):
@@ -747,12 +784,29 @@ class Files(unittest.TestCase):
         with tempfile.TemporaryDirectory() as folder:
             words = ("import", "--quiet", "--dir", folder, "--origin", "aws", str(self.EXPORT))
             status, printed, said = focusd(*words)
-            self.assertEqual((status, printed, said), (1, "", "focusd: S1 NoHouse\n"))
+            self.assertEqual((status, printed, said), (1, "", no_house(folder)))
             for said in ("imported 300 rows, 0 were there already; 1 post\n", "imported 0 rows, 300 were there already; 1 post\n"):
                 self.assertEqual(focusd(*words, "--create"), (0, said, ""))
             self.assertEqual(focusd(*words, "--create", "--currency", "dollars")[0], 2)
             self.assertEqual(self.imported(self.EXPORT)[0], 0)
             self.assertEqual(focusd("report", "--dir", folder, *self.SEPTEMBER)[1], self.report())
+
+    def test_an_import_makes_the_folder_too(self):
+        with tempfile.TemporaryDirectory() as room:
+            folder = f"{room}/costs"
+            words = ("import", "--quiet", "--origin", "aws", "--create", "--dir")
+            # Nothing is made until the first post is known to be right.
+            for wrong in (self.file("none.csv", self.HEADER), "no such file"):
+                self.assertEqual(focusd(*words, folder, wrong)[:2], (1, ""), wrong)
+                self.assertEqual(list(pathlib.Path(room).iterdir()), [], wrong)
+            self.assertEqual(focusd(*words, folder, str(self.EXPORT)), (0, "imported 300 rows, 0 were there already; 1 post\n", ""))
+            self.assertEqual(focusd(*words, folder, str(self.EXPORT)), (0, "imported 0 rows, 300 were there already; 1 post\n", ""))
+            # None above it is made, and none without --create.
+            for given in (("import", "--quiet", "--origin", "aws", "--dir", f"{room}/other"), (*words, f"{room}/no/costs")):
+                status, printed, said = focusd(*given, str(self.EXPORT))
+                self.assertEqual((status, printed), (1, ""), given)
+                self.assertTrue(said.startswith(f"focusd: K1 Io\n{given[-1]}: No such file or directory"), said)
+            self.assertEqual([it.name for it in pathlib.Path(room).iterdir()], ["costs"])
 
     def test_a_new_warehouse_has_the_currency_that_was_named(self):
         euros = self.file("euros.csv", self.EXPORT.read_bytes().replace(b"USD", b"EUR"))
@@ -762,7 +816,7 @@ class Files(unittest.TestCase):
             for more in (("--currency", "EUR", str(self.EXPORT)), (euros,), (self.file("none.csv", self.HEADER),), (self.file("empty.csv", b""),), ("no such file",)):
                 status, printed, said = focusd(*words, *more)
                 self.assertEqual((status, printed), (1, ""), more)
-                self.assertEqual(focusd("status", "--dir", folder), (1, "", "focusd: S1 NoHouse\n"), more)
+                self.assertEqual(focusd("status", "--dir", folder), (1, "", no_house(folder)), more)
             status, _, said = focusd(*words, euros)
             self.assertIn(':2: record 1, BillingCurrency: "EUR": V6 Currency: expected USD, the currency of the warehouse that would be made', said)
             self.assertEqual(focusd(*words, "--currency", "EUR", euros)[0], 0)
@@ -899,12 +953,12 @@ class Files(unittest.TestCase):
         status, printed, said = focusd("check", "--format", "json", file)
         found = json.loads(printed)
         self.assertEqual((status, [it["code"] for it in found["findings"]], found["records"]), (1, ["V3 Category"], 2))
-        self.assertEqual(said, f"focusd: {file}:5: record 3 is longer than 4 MiB; is a quote not closed?\n")
+        self.assertEqual(said, f"focusd: {file}:5: record 3: {TOO_LONG}")
         self.assertIn("V3 Category ChargeCategory: 1; ", focusd("check", file)[1])
         file = self.file("header.csv", b'"' + b"x" * (3 << 20))
         for words in (("check", file), ("import", "--quiet", "--dir", self.folder, "--origin", "a", file)):
             status, _, said = focusd(*words)
-            self.assertEqual((status, said), (1, f"focusd: {file}:1: the header is longer than 2 MiB; is a quote not closed?\n"), words)
+            self.assertEqual((status, said), (1, f"focusd: {file}:1: the header: {LONG_HEADER}"), words)
 
     def test_lines_that_a_carriage_return_ends(self):
         """A record with a fault is placed by lines of each kind, also behind several parts."""
@@ -930,20 +984,21 @@ class Files(unittest.TestCase):
     def test_a_record_that_is_too_long_behind_two_parts(self):
         for end in (b"\n", b"\r"):
             file = self.file("long.csv", b"".join([self.HEADER, self.ROW * 9000, b'"', b"x" * (5 << 20)]).replace(b"\n", end))
-            said = f"focusd: {file}:9002: record 9001 is longer than 4 MiB; is a quote not closed?\n"
+            said = f"focusd: {file}:9002: record 9001: {TOO_LONG}"
             self.assertEqual(focusd("check", file)[2], said)
             with tempfile.TemporaryDirectory() as folder:
                 self.assertEqual(focusd("import", "--quiet", "--dir", folder, "--create", "--origin", "aws", file), (1, "", said))
 
     def test_a_folder_in_place_of_a_file(self):
         folder = str(self.room)
-        for words, before, after in (
-            (("check", folder), "focusd: ", ""),
-            (("import", "--dir", self.folder, "--origin", "a", folder), "focusd: ", ""),
-            (("replace", "--dir", self.folder, "--origin", "a", folder), "focusd: ", "focusd: nothing was replaced\n"),
-            (("add", "--dir", self.folder, "--origin", "a", folder), "", "focusd: nothing was added\n"),
+        said = f"focusd: {folder}: F1 Read: it is a folder, and not a file\n"
+        for words, wanted in (
+            (("check", folder), said),
+            (("import", "--dir", self.folder, "--origin", "a", folder), said),
+            (("replace", "--dir", self.folder, "--origin", "a", folder), said + "focusd: nothing was replaced\n"),
+            (("add", "--dir", self.folder, "--origin", "a", folder), f"{folder}: it is a folder, and not a file (F1 Read)\nfocusd: nothing was added\n"),
         ):
-            self.assertEqual(focusd(*words), (1, "", f"{before}{folder}: it is a folder, and not a file\n{after}"), words)
+            self.assertEqual(focusd(*words), (1, "", wanted), words)
 
     def test_a_message_has_a_line_of_its_own_behind_the_progress(self):
         one, none = self.file("one.csv", self.HEADER + self.ROW), str(self.room / "none.csv")
@@ -956,7 +1011,7 @@ class Files(unittest.TestCase):
                 said += os.read(ours, 4096)
             os.close(ours)
             self.assertEqual(run.returncode, 1)
-            self.assertRegex(said.decode(), r"^\r0 rows, 0 MB\x1b\[K\r1 row, 0 MB\x1b\[K\r\nfocusd: .*none\.csv: No such file", words)
+            self.assertRegex(said.decode(), r"^\r0 rows, 0 MB\x1b\[K\r1 row, 0 MB\x1b\[K\r\nfocusd: .*none\.csv: F1 Read: No such file", words)
 
     def test_a_record_with_too_few_fields_or_too_many(self):
         for row, fields in ((self.ROW.replace(b"\n", b",1,2\n"), "8 fields"), (b"1\n", "1 field")):
@@ -1420,7 +1475,7 @@ billed = "1.5"
             ('billed = "4"', 'billed = "four"', "cd.toml: line 10: [[purchase]]: there must be 1 to 64 [[purchase]]"),
             ("hours = 3", "hours = 3\n  colour = 1", "cd.toml: line 5: colour = 1: a commitment has the fields id, "),
             ("hours = 3", f"hours = 3 # {100 * 'x'}", "cd.toml: line 4: hours = 3"),
-            ('["vm"]', '["vm"', "cd.toml: it is no TOML in UTF-8"),
+            ('["vm"]', '["vm"', "cd.toml: the file that is to be added is no TOML in UTF-8. What to do: "),
         ):
             text = self.COMMITMENT.replace(old, new)
             if "xxx" in text:
@@ -1456,11 +1511,12 @@ billed = "1.5"
         file = self.file("f.toml", "")
         for text in ("", 'id = "cd-1"\n', '[tags]\nkey = "a"\n', 'colour = "red"\n'):
             self.file("f.toml", text)
-            self.refused("f.toml: it is neither a commitment, which has ", file)
+            self.refused("f.toml: the file that is to be added is neither a commitment, which has ", file)
+            self.refused("(A2 NoKind)\n", file)
         self.file("f.toml", 'key = "team"\n' + self.COMMITMENT)
-        self.refused("f.toml: it has fields of a policy, and of a commitment or a purchase", file)
+        self.refused("f.toml: the file that is to be added has fields of a policy, and of a commitment or a purchase", file)
         self.file("f.toml", 'key = "team"\nbilled = "1"\n')
-        self.refused("f.toml: it has fields of a policy, and of a commitment or a purchase", file)
+        self.refused("f.toml: the file that is to be added has fields of a policy, and of a commitment or a purchase", file)
         # What only a purchase has is a fault of a commitment, whose terms are there.
         self.file("f.toml", self.COMMITMENT.replace("hours = 3", 'hours = 3\nat = "2024-01-01T00:00Z"'))
         self.refused('f.toml: line 5: at = "2024-01-01T00:00Z": a commitment has the fields id, ', file)
@@ -1476,7 +1532,7 @@ billed = "1.5"
         self.assertEqual(self.add(first), (0, line, ""))
         refusal = 'cost.toml: policy by "cost-center" takes the place of the policy by "team" (entry 3), whose key is another one'
         self.refused(refusal, other)
-        self.refused("give --yes to add it", other)
+        self.refused("What to do: Give --yes, where it is meant that costs by the old key are not shared any more. (A4 OtherKey)\n", other)
         line = 'cost.toml: policy by "cost-center" takes the place of the policy by "team" (entry 3): entry 4 (billing 3)\n'
         self.assertEqual(self.add("--yes", other), (0, line, ""))
 
@@ -1553,7 +1609,7 @@ paid.toml: commitment cd-1 would have 4 purchases, for 17.5 USD
 
     def test_purchases_that_are_not_added(self):
         commitment, purchase = self.file("cd.toml", self.COMMITMENT), self.file("paid.toml", self.PURCHASE)
-        missing = "paid.toml: purchase for commitment cd-1: the warehouse has no commitment of this id: correct the id, or add the commitment first (J8 NoSuchCommitment)\n"
+        missing = "paid.toml: purchase for commitment cd-1: the warehouse has no commitment of the id that the purchase is added to. What to do: Correct the id, "
         self.refused(missing, purchase)
         self.refused(missing, purchase, commitment)
         self.assertIn(missing, self.add("--dry-run", purchase)[2])
@@ -1579,7 +1635,7 @@ paid.toml: commitment cd-1 would have 4 purchases, for 17.5 USD
             ('"1.5"', "1.5", 'paid.toml: line 3: billed = 1.5: "billed" must be an amount of at least 0, as 14.4, in quotes (C2 Field)\n'),
             ('"1.5"', '"-1"', 'paid.toml: line 3: billed = "-1": "billed" must be an amount of at least 0, as 14.4, in quotes (C3 Limit)\n'),
             ('"1.5"', '"1.5"\ncolour = 1', "paid.toml: line 4: colour = 1: a purchase that is added to a commitment has the fields id, at and billed (C2 Field)\n"),
-            ('"1.5"', '"1.5', "paid.toml: it is no TOML in UTF-8"),
+            ('"1.5"', '"1.5', "paid.toml: the file that is to be added is no TOML in UTF-8. What to do: "),
         ):
             self.file("paid.toml", self.PURCHASE.replace(old, new))
             self.refused(said, file)
@@ -1590,7 +1646,7 @@ paid.toml: commitment cd-1 would have 4 purchases, for 17.5 USD
         self.assertEqual(whole[1:9], b"FWHOUSE2")
         left.write_bytes(whole[:8] + b"1" + whole[9:])
         commitment, purchase, policy = self.file("cd.toml", self.COMMITMENT), self.file("paid.toml", self.PURCHASE), self.file("team.toml", self.POLICY)
-        said = "paid.toml: purchase for commitment cd-1: an earlier version of focusd wrote the warehouse, in a form without such purchases: run `focusd checkpoint`"
+        said = "paid.toml: purchase for commitment cd-1: the warehouse is in an older form, which can hold neither a withdrawal nor a purchase"
         self.refused(said, commitment, purchase)
         self.assertEqual(self.add(commitment)[0], 0)
         self.refused("(S8 OldSide)\n", policy, purchase)
@@ -1619,10 +1675,11 @@ paid.toml: commitment cd-1 would have 4 purchases, for 17.5 USD
         empty.mkdir()
         for words in ((), ("--dry-run",)):
             found = focusd("add", "--dir", str(empty), "--origin", "billing", *words, file)
-            self.assertEqual(found, (1, "", "focusd: S1 NoHouse\n"))
+            self.assertEqual(found, (1, "", no_house(empty)))
             self.assertEqual(list(empty.iterdir()), [])
             found = focusd("add", "--dir", str(self.top / "none"), "--origin", "billing", *words, file)
-            self.assertEqual(found, (1, "", "focusd: K1 Io\n"))
+            self.assertEqual(found[:2], (1, ""))
+            self.assertRegex(found[2], r"^focusd: K1 Io\n" + re.escape(f"{self.top}/none") + r": No such file.*\. What to do: Look whether .*\.\n$")
             self.assertFalse((self.top / "none").exists())
 
     def test_an_id_that_a_row_carries(self):
@@ -1633,7 +1690,8 @@ paid.toml: commitment cd-1 would have 4 purchases, for 17.5 USD
 
     def test_257_commitments(self):
         files = [self.file(f"{number}.toml", self.COMMITMENT.replace("cd-1", f"cd-{number}")) for number in range(257)]
-        self.refused("256.toml: commitment cd-256: the warehouse has 256 commitments, and takes no more (J5 TooManyCommitments)\n", *files)
+        said = "256 commitments were accepted before, and the warehouse takes no more. What to do: Begin another warehouse. (J5 TooManyCommitments)\n"
+        self.refused(f"256.toml: commitment cd-256: {said}", *files)
         self.assertEqual(self.add(*files[:256])[0], 0)
         self.assertIn(["Commitments", "256", "of", "256"], [line.split() for line in self.focusd("status")[1].splitlines()])
         self.refused("(J5 TooManyCommitments)", files[256])
@@ -1918,7 +1976,7 @@ class Dumps(unittest.TestCase):
         self.assertEqual(focusd("import", "--quiet", "--dir", folder, "--origin", "feeds", str(export))[0], 0)
         status, printed, said = focusd("dump", "--dir", folder)
         self.assertEqual((status, printed, said.splitlines()[0]), (1, first, "focusd: D1 TooManyLines"))
-        self.assertIn("entry 2 of the warehouse has more than 1,000,000 lines", said)
+        self.assertIn("entry 2 of the warehouse: the entry can't be dumped: its CSV would have more than 1,000,000 lines", said)
 
     def test_a_time_that_no_text_reads_as(self):
         """A warehouse made byte by byte, as FORMATS has it: a tax of one nano, up to the last second of the year 9999."""

@@ -302,7 +302,7 @@ class Replacements(Corrections):
         self.has_just(october, again)
         # Rows outside of the range are named, and nothing is done.
         self.fails(
-            "not all in the range", "replace", "--origin", "aws", "--from", "2024-09", "--to", "2024-10", self.file("wrong.csv", again + october)
+            "R5 Outside: the files have rows outside of the range", "replace", "--origin", "aws", "--from", "2024-09", "--to", "2024-10", self.file("wrong.csv", again + october)
         )
         # A post that has rows on both sides of a range's end.
         ends = sorted(it.split(",")[4] for it in october)
@@ -369,7 +369,7 @@ class Replacements(Corrections):
             self.assertEqual(status, 0)
             self.assertIn("focusd replace --dir", said)
             self.assertIn("--origin aws", said)
-        self.fails("run it again first", "replace", "--origin", "gcp", self.file("g.csv", records))
+        self.fails("R6 Unfinished: ", "replace", "--origin", "gcp", self.file("g.csv", records))
         self.do("replace", "--origin", "aws", self.file("again.csv", records))
         self.assertNotIn("replacing", self.kept())
         # One that was not written whole was never begun.

@@ -1,11 +1,11 @@
 #!/usr/bin/env python3
-"""Makes the manual page and the shell completions of focusd from what its own help says.
+"""Makes the manual page and the shell completions of focusd from what its own help and its codes say.
 
     tools/make_manual.py out/focusd            writes the files below share/
-    tools/make_manual.py out/focusd --check    says which of them are not what the program's help says, and writes none
+    tools/make_manual.py out/focusd --check    says which of them are not what the program says, and writes none
 
 The program is asked for `--help` and for `COMMAND --help`: so a page or a completion can't name an option that the program doesn't
-take. Exit status: 0; 1 where --check found a difference; 2 where the help can't be read.
+take. It is asked by `explain` for each code that it prints, what that means and what to do. Exit status: 0; 1 where --check found a difference; 2 where the help can't be read.
 """
 
 import os
@@ -62,12 +62,29 @@ class Help:
     after: str = ""
 
 
+def printed(program, words):
+    """What the program prints."""
+    done = subprocess.run([program, *words], stdout=subprocess.PIPE, stderr=subprocess.PIPE, text=True, check=False)
+    if done.returncode or not done.stdout.strip():
+        raise HelpError(f"{program} {' '.join(words)} printed nothing: {done.stderr.strip()[:200]}")
+    return done.stdout
+
+
 def asked(program, words):
     """The help that the program prints."""
-    done = subprocess.run([program, *words, "--help"], stdout=subprocess.PIPE, stderr=subprocess.PIPE, text=True, check=False)
-    if done.returncode or not done.stdout.strip():
-        raise HelpError(f"{program} {' '.join(words)} --help printed no help: {done.stderr.strip()[:200]}")
-    return done.stdout
+    return printed(program, [*words, "--help"])
+
+
+def explained(program):
+    """What the program says of each code that it prints: the code with its name, what it means, and what to do."""
+    words = [[line.split(":")[0].split()[0]] for line in printed(program, ["explain"]).splitlines()]
+    found = []
+    for word in words:
+        said = re.fullmatch(r"([^:\n]+): (.+)\n(What to do: .+)\n", printed(program, ["explain", *word]))
+        if not said:
+            raise HelpError(f"{program} explain {word[0]} doesn't say what it means and what to do")
+        found.append(said.groups())
+    return found
 
 
 def entries(lines):
@@ -131,7 +148,7 @@ def roff_after(text):
     return f".PP\n.nf\n{roff(text)}\n.fi\n" if text else ""
 
 
-def manual(version, top, helps):
+def manual(version, top, helps, codes):
     """The manual page."""
     made = f'.TH FOCUSD 1 "" "{version}" "User Commands"\n'
     made += f".SH NAME\nfocusd \\- {roff(top.about[0].lower() + top.about[1:])}\n"
@@ -141,6 +158,9 @@ def manual(version, top, helps):
         made += "".join(f".TP\n\\fI{roff(argument)}\\fR\n{roff(text)}\n" for argument, text in said.arguments)
         made += "".join(roff_option(option) for option in said.options)
         made += roff_after(said.after)
+    if codes:
+        made += ".SH CODES\nWhat each code means that a command prints, and what to do.\n"
+        made += "".join(f".TP\n\\fB{roff(name)}\\fR\n{roff(meaning)}\n{roff(remedy)}\n" for name, meaning, remedy in codes)
     return made
 
 
@@ -344,11 +364,12 @@ def fish_completion(top, helps):
 
 
 def made_of(program):
-    """The files that the program's help makes, by their paths."""
+    """The files that the program's help and its codes make, by their paths."""
     top = read_help(asked(program, []))
     helps = {name: read_help(asked(program, [name])) for name in top.commands if name != "help"}
+    codes = explained(program) if "explain" in helps else []
     version = subprocess.run([program, "--version"], stdout=subprocess.PIPE, text=True, check=False).stdout.strip()
-    return {MANUAL: manual(version, top, helps), BASH: bash_completion(top, helps), ZSH: zsh_completion(top, helps), FISH: fish_completion(top, helps)}
+    return {MANUAL: manual(version, top, helps, codes), BASH: bash_completion(top, helps), ZSH: zsh_completion(top, helps), FISH: fish_completion(top, helps)}
 
 
 def main():
@@ -377,7 +398,7 @@ def main():
         with open(target, "w", encoding="utf-8") as file:
             file.write(text)
     for path in stale:
-        print(f"{path} is not what {options.program} --help says: run tools/make_manual.py {options.program}")
+        print(f"{path} is not what {options.program} says: run tools/make_manual.py {options.program}")
     return 1 if stale else 0
 
 

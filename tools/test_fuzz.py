@@ -294,7 +294,7 @@ class CommandLines(unittest.TestCase):
             ("", "wrong"), ("--help", "help"), ("-V", "help"), ("run -h", "help"), ("help run", "help"), ("help no", "wrong"), ("no", "wrong"), ("run", "runs"),
             ("run --workers=64", "runs"), ("run --workers 65", "wrong"), ("run --create --create", "wrong"), ("run --create=yes", "wrong"), ("run --dir", "wrong"),
             ("run --dir --create", "wrong"), ("run x", "wrong"), ("run --currency usd", "wrong"), ("import --dir d --origin o", "wrong"), ("check -", "runs"),
-            ("check -- --no", "runs"), ("explain V5", "runs"), ("explain V5 V6", "wrong"), (report, "runs"), (report + " --top 1001", "wrong"), (report + " --by week", "wrong"),
+            ("check -- --no", "runs"), ("explain", "runs"), ("explain V5", "runs"), ("explain V5 V6", "wrong"), (report, "runs"), (report + " --top 1001", "wrong"), (report + " --by week", "wrong"),
             (report.replace("2024-02", "2024-01"), "wrong"), (report.replace("2024-01", "2020-01"), "wrong"), ("run --no --help", "wrong"), ("run --help --no", "help"),
         ):  # fmt: skip
             self.assertEqual(command_oracle.meaning(line.encode().split()), meaning, line)

@@ -15,9 +15,10 @@ TOP = """Keeps a warehouse of costs
 Usage: prog <COMMAND>
 
 Commands:
-  take    Takes files, 'quoted' [and: more]
-  report  Sums costs
-  help    Print this message or the help of the given subcommand(s)
+  take     Takes files, 'quoted' [and: more]
+  report   Sums costs
+  explain  Says what a code means
+  help     Print this message or the help of the given subcommand(s)
 
 Options:
   -h, --help     Print help
@@ -51,10 +52,24 @@ Options:
       --format <FORMAT>  How it is printed [default: table] [possible values: table, csv]
   -h, --help             Print help
 """
+EXPLAIN = """Says what a code means
+
+Usage: prog explain [CODE]
+
+Arguments:
+  [CODE]  A code, as V5
+
+Options:
+  -h, --help  Print help
+"""
+LIST = "V5 Cost: the cost is none: it is no number\nNoMemory: memory ran out\n"
+COST = "V5 Cost: the cost is none: it is no number.\nWhat to do: Write digits - and a point.\n"
+MEMORY = "NoMemory: memory ran out.\nWhat to do: Close other programs.\n"
 PROGRAM = f"""#!{sys.executable}
 import sys
-texts = {{"": {TOP!r}, "take": {TAKE!r}, "report": {REPORT!r}}}
-print("prog 1.2" if sys.argv[1:] == ["--version"] else texts[sys.argv[1] if len(sys.argv) > 2 else ""], end="")
+texts = {{"--help": {TOP!r}, "take --help": {TAKE!r}, "report --help": {REPORT!r}, "explain --help": {EXPLAIN!r}, "--version": "prog 1.2"}}
+texts.update({{"explain": {LIST!r}, "explain V5": {COST!r}, "explain NoMemory": {MEMORY!r}}})
+print(texts[" ".join(sys.argv[1:])], end="")
 """
 
 
@@ -87,6 +102,17 @@ class MakeManual(unittest.TestCase):
             self.assertIn(name, page)
         self.assertNotIn(".SS help", page)
 
+    def test_the_page_explains_each_code(self):
+        page = make_manual.made_of(self.program)[make_manual.MANUAL]
+        said = "\\fBV5 Cost\\fR\nthe cost is none: it is no number.\nWhat to do: Write digits \\- and a point.\n"
+        self.assertTrue(page.endswith(f".TP\n{said}.TP\n\\fBNoMemory\\fR\nmemory ran out.\nWhat to do: Close other programs.\n"), page[-400:])
+
+    def test_a_code_that_is_not_explained_is_refused(self):
+        with open(self.program, "w", encoding="utf-8") as file:
+            file.write(PROGRAM.replace("What to do: Close", "Close"))
+        with self.assertRaises(make_manual.HelpError):
+            make_manual.made_of(self.program)
+
     def completed(self, words, place):
         """What bash completes at a place of these words."""
         script = os.path.join(self.room.name, "completion")
@@ -100,7 +126,7 @@ class MakeManual(unittest.TestCase):
     def test_bash_completes(self):
         self.assertEqual(self.completed(["focusd", "re"], 1), ["report"])
         self.assertEqual(self.completed(["focusd", "-"], 1), ["--help", "--version"])
-        self.assertEqual(self.completed(["focusd", "help", ""], 2), ["report", "take"])
+        self.assertEqual(self.completed(["focusd", "help", ""], 2), ["explain", "report", "take"])
         self.assertEqual(self.completed(["focusd", "take", "--q"], 2), ["--quiet"])
         self.assertEqual(self.completed(["focusd", "report", "--format", ""], 3), ["csv", "table"])
         self.assertEqual(self.completed(["focusd", "take", "pro"], 2), ["prog"])

@@ -57,7 +57,7 @@ COMMANDS = {
     "replace": ({"dir": DIR, "origin": DIR, **PERHAPS, "dry-run": FLAG, "quiet": FLAG}, 1, MANY),
     "withdraw": ({"dir": DIR, "origin": DIR, "seq": Option(), **PERHAPS, "all": FLAG, "dry-run": FLAG, "yes": FLAG}, 0, 0),
     "dump": ({"dir": DIR}, 0, 0),
-    "explain": ({}, 1, 1),
+    "explain": ({}, 0, 1),
 }  # fmt: skip
 
 

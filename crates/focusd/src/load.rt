@@ -3,6 +3,7 @@ use clap::ArgMatches;
 use fw_command_line::{ANALYSTS, CREATE, CURRENCY, DIR, FILES, ORIGIN};
 use fw_console::{Fault, WRONG_USE, advised, print_answer, read_currency};
 use fw_disk::{FileVolume, NullVolume, Volume};
+use fw_explain::explain_fault;
 use fw_load::{Job, LoadFault, Progress, load};
 use fw_recover::{Store, StoreFault};
 use fw_rows::Currency;
@@ -154,11 +155,19 @@ fn print_loaded(
     match fault {
         None => printed,
         Some(LoadFault::NoMemory) | Some(LoadFault::Write) => Err(Fault::NoMemory),
-        Some(fault) => {
-            let _ = eprintln!(rt; "focusd: {fault}");
-            Ok(ExitCode::FAILURE)
-        }
+        Some(LoadFault::Store(fault)) => Err(Fault::Store(fault)),
+        Some(fault) => say_fault(rt, fault),
     }
+}
+
+// Says what ended a load: the line of the fault, and one with what it means and what to do.
+fn say_fault(rt: &HostRuntime, fault: LoadFault) -> Result<ExitCode, Fault> {
+    let printed = format!(in rt.alloc(); "{fault}")?;
+    let words = explain_fault(printed.as_str());
+    let (meaning, remedy) = (words.meaning, words.remedy);
+    let _ = eprintln!(rt; "focusd: {fault}");
+    let _ = eprintln!(rt; "{meaning}. What to do: {remedy}");
+    Ok(ExitCode::FAILURE)
 }
 
 /// How many files of a load are stored.

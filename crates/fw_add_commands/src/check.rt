@@ -10,6 +10,7 @@ use fw_console::Fault;
 use fw_documents::{Document, read_document};
 use fw_entry::CommandKind;
 use fw_entry_bytes::Form;
+use fw_explain::explain_fault;
 use fw_snapshot::State;
 use fw_table::shown_text;
 use std::alloc::{AllocError, Global};
@@ -156,7 +157,7 @@ fn in_form(
 ) -> Result<Option<State>, Fault> {
     if tried.outcome == Outcome::Added && !has_form(trial.form, document) {
         let name = name_text(rt.alloc(), document)?;
-        say_old_side(rt, file, name.as_str());
+        say_old_side(rt, file, name.as_str())?;
         return Ok(None);
     }
     taken(rt, job, &trial.state, file, document, tried)
@@ -204,8 +205,9 @@ fn say_other_key(
 ) -> Result<(), Fault> {
     let name = name_text(rt.alloc(), document)?;
     let replaced = replaced_text(rt.alloc(), state, document)?;
+    let remedy = explain_fault("A4 OtherKey").remedy;
     let _ = eprintln!(rt;
-        "{file}: {name}{replaced}, whose key is another one: costs by the old key are not shared any more; give --yes to add it"
+        "{file}: {name}{replaced}, whose key is another one. What to do: {remedy} (A4 OtherKey)"
     );
     Ok(())
 }

@@ -3,12 +3,12 @@ use crate::bought::limit_text;
 use crate::texts::name_text;
 use fw_adding::{AddFault, agree_in, committed};
 use fw_commitment::{CommitmentFault, CommitmentField};
-use fw_console::Fault;
+use fw_console::{Fault, conflict_code, entry_code};
 use fw_documents::{
     Document, DocumentFault, Kind, Located, expected_in_commitment, expected_in_policy,
     expected_in_purchase, locate, unknown_name,
 };
-use fw_entry::EntryFault;
+use fw_explain::explain_fault;
 use fw_policy::{PolicyFault, PolicyField};
 use fw_recover::StoreFault;
 use fw_snapshot::{Conflict, State};
@@ -28,21 +28,9 @@ pub(crate) fn say_fault(
 ) -> Result<bool, Fault> {
     match fault {
         DocumentFault::NoMemory => Err(Fault::NoMemory),
-        DocumentFault::Syntax => say(
-            rt,
-            file,
-            "it is no TOML in UTF-8: texts stand in quotes, and each purchase or rule begins with a line [[purchase]] or [[rule]] (C1 Syntax)",
-        ),
-        DocumentFault::NoKind => say(
-            rt,
-            file,
-            "it is neither a commitment, which has id, category, start, hours, capacity and purchase, nor a policy, which has key and rule, nor a purchase for a commitment that is there, which has id, at and billed",
-        ),
-        DocumentFault::TwoKinds => say(
-            rt,
-            file,
-            "it has fields of a policy, and of a commitment or a purchase: put each into a file of its own",
-        ),
+        DocumentFault::Syntax => say_words(rt, file, "A1 NoToml"),
+        DocumentFault::NoKind => say_words(rt, file, "A2 NoKind"),
+        DocumentFault::TwoKinds => say_words(rt, file, "A3 TwoKinds"),
         DocumentFault::Commitment(fault) => {
             say_commitment(rt, file, text, Kind::Commitment, fault)
         }
@@ -51,10 +39,18 @@ pub(crate) fn say_fault(
     }
 }
 
-// Says a sentence about a file. The answer is false.
-fn say(rt: &HostRuntime, file: &str, sentence: &str) -> Result<bool, Fault> {
-    let _ = eprintln!(rt; "{file}: {sentence}");
+// Says what a fault means, and what to do. It is about a file, or about what a file has. The answer is false.
+fn say_words(rt: &HostRuntime, about: &str, fault: &str) -> Result<bool, Fault> {
+    let words = explain_fault(fault);
+    let (meaning, remedy) = (words.meaning, words.remedy);
+    let _ = eprintln!(rt; "{about}: {meaning}. What to do: {remedy} ({fault})");
     Ok(false)
+}
+
+// Says what a fault of what a file has means, and what to do. The answer is false.
+fn say_named(rt: &HostRuntime, file: &str, name: &str, fault: &str) -> Result<bool, Fault> {
+    let about = format!(in rt.alloc(); "{file}: {name}")?;
+    say_words(rt, about.as_str(), fault)
 }
 
 // What a field must be in a document of a kind that has it.
@@ -75,7 +71,7 @@ fn say_commitment(
 ) -> Result<bool, Fault> {
     match fault {
         CommitmentFault::NoMemory => Err(Fault::NoMemory),
-        CommitmentFault::Syntax => say(rt, file, "it is no TOML in UTF-8 (C1 Syntax)"),
+        CommitmentFault::Syntax => say_words(rt, file, "C1 Syntax"),
         CommitmentFault::Field(CommitmentField::Unknown) => say_unknown(
             rt,
             file,
@@ -104,7 +100,7 @@ fn say_policy(
 ) -> Result<bool, Fault> {
     match fault {
         PolicyFault::NoMemory => Err(Fault::NoMemory),
-        PolicyFault::Syntax => say(rt, file, "it is no TOML in UTF-8 (P1 Syntax)"),
+        PolicyFault::Syntax => say_words(rt, file, "P1 Syntax"),
         PolicyFault::Field(PolicyField::Unknown) => say_unknown(
             rt,
             file,
@@ -121,16 +117,8 @@ fn say_policy(
             let place = Place::of_policy(field);
             say_field(rt, file, text, place, expected_in_policy(field), "P3 Limit")
         }
-        PolicyFault::DoubleFrom => say(
-            rt,
-            file,
-            "two rules give the cost of one group away: join them into one with all its targets (P4 DoubleFrom)",
-        ),
-        PolicyFault::TargetIsFrom => say(
-            rt,
-            file,
-            "a rule gives to a group that a rule gives away: costs move once (P5 TargetIsFrom)",
-        ),
+        PolicyFault::DoubleFrom => say_words(rt, file, "P4 DoubleFrom"),
+        PolicyFault::TargetIsFrom => say_words(rt, file, "P5 TargetIsFrom"),
     }
 }
 
@@ -254,39 +242,24 @@ pub(crate) fn say_refusal(
     let name = name_text(rt.alloc(), document)?;
     match fault {
         AddFault::NoMemory | AddFault::Store(StoreFault::NoMemory) => Err(Fault::NoMemory),
-        AddFault::Store(StoreFault::OldSide) => {
-            say_old_side(rt, file, name.as_str());
-            Ok(false)
-        }
+        AddFault::Store(StoreFault::OldSide) => say_old_side(rt, file, name.as_str()),
         AddFault::Store(fault) => Err(Fault::Store(fault)),
         AddFault::Conflict(conflict) => {
             say_conflict(rt, state, file, document, name.as_str(), conflict)
         }
-        AddFault::Entry(fault) => say_entry(rt, file, name.as_str(), fault),
+        AddFault::Entry(fault) => say_named(rt, file, name.as_str(), entry_code(fault)?),
         AddFault::NoNumber => {
-            let _ = eprintln!(rt; "{file}: {name}: the origin {origin} has no further number");
+            let _ = eprintln!(rt;
+                "{file}: {name}: the origin {origin} has no further number (E2 Seq)"
+            );
             Ok(false)
         }
     }
 }
 
-/// Says that the log of the warehouse has no such entries before the next checkpoint.
-pub(crate) fn say_old_side(rt: &HostRuntime, file: &str, name: &str) {
-    let _ = eprintln!(rt;
-        "{file}: {name}: an earlier version of focusd wrote the warehouse, in a form without such purchases: run `focusd checkpoint`, which writes it anew, and then add the file again (S8 OldSide)"
-    );
-}
-
-// Says why a document makes no entry.
-fn say_entry(rt: &HostRuntime, file: &str, name: &str, fault: EntryFault) -> Result<bool, Fault> {
-    let code = match fault {
-        EntryFault::NoMemory => return Err(Fault::NoMemory),
-        EntryFault::Origin => "E1 Origin",
-        EntryFault::Seq => "E2 Seq",
-        EntryFault::TooLarge => "E3 TooLarge",
-    };
-    let _ = eprintln!(rt; "{file}: {name}: {fault} ({code})");
-    Ok(false)
+/// Says that the log of the warehouse has no such entries before the next checkpoint. The answer is false.
+pub(crate) fn say_old_side(rt: &HostRuntime, file: &str, name: &str) -> Result<bool, Fault> {
+    say_named(rt, file, name, "S8 OldSide")
 }
 
 // Says why a document doesn't go with what was accepted before.
@@ -298,26 +271,11 @@ fn say_conflict(
     name: &str,
     conflict: Conflict,
 ) -> Result<bool, Fault> {
-    let reason = match conflict {
-        Conflict::DoubleId => return say_double(rt, state, file, document, name),
-        Conflict::IdInUse => {
-            "a row of the warehouse carries this id as its CommitmentDiscountId: the provider has amortised the commitment in its rows already, so don't add it (J3 IdInUse)"
-        }
-        Conflict::TooManyCommitments => {
-            "the warehouse has 256 commitments, and takes no more (J5 TooManyCommitments)"
-        }
-        Conflict::Full =>
-            "more than 4,194,304 rows would have been posted to the warehouse (J1 Full)",
-        Conflict::OwnCommitment => "a row carries the id of a commitment (J4 OwnCommitment)",
-        Conflict::NoSuchPost => "the origin has no post of this number (J6 NoSuchPost)",
-        Conflict::Withdrawn => "the post is withdrawn already (J7 Withdrawn)",
-        Conflict::NoSuchCommitment => {
-            "the warehouse has no commitment of this id: correct the id, or add the commitment first (J8 NoSuchCommitment)"
-        }
-        Conflict::PurchaseLimit => return say_limit(rt, state, file, document, name),
-    };
-    let _ = eprintln!(rt; "{file}: {name}: {reason}");
-    Ok(false)
+    match conflict {
+        Conflict::DoubleId => say_double(rt, state, file, document, name),
+        Conflict::PurchaseLimit => say_limit(rt, state, file, document, name),
+        other => say_named(rt, file, name, conflict_code(other)),
+    }
 }
 
 // Says that a commitment can't have a purchase too.

@@ -17,13 +17,13 @@ pub(crate) fn text_of(rt: &HostRuntime, file: &str) -> Result<Option<Vec<u8>>, F
     let name = shown_text(rt.alloc(), file)?;
     let name = name.as_str();
     if is_folder(rt, file) {
-        let _ = eprintln!(rt; "{name}: it is a folder, and not a file");
+        let _ = eprintln!(rt; "{name}: it is a folder, and not a file (F1 Read)");
         return Ok(None);
     }
     match fs::open(rt, file) {
         Ok(mut opened) => read_text(rt, name, &mut opened),
         Err(error) => {
-            let _ = eprintln!(rt; "{name}: {error}");
+            let _ = eprintln!(rt; "{name}: {error} (F1 Read)");
             Ok(None)
         }
     }
@@ -47,11 +47,11 @@ fn read_text<R: Read>(
         Ok(text) => Ok(Some(text)),
         Err(ServeFault::NoMemory) => Err(Fault::NoMemory),
         Err(ServeFault::TooLong) => {
-            let _ = eprintln!(rt; "{file}: it has more than 64 MiB");
+            let _ = eprintln!(rt; "{file}: it has more than 64 MiB (F3 TooLong)");
             Ok(None)
         }
         Err(_) => {
-            let _ = eprintln!(rt; "{file}: it can't be read");
+            let _ = eprintln!(rt; "{file}: it can't be read (F1 Read)");
             Ok(None)
         }
     }

@@ -12,12 +12,13 @@ ghost use Rattle.fw_check.specs.Faults.{column_text, place_value};
 
 use crate::columns::{is_double, is_missing};
 use crate::fields::{first_record, has_next, records_of};
-use crate::findings::{Finding, Place, add_fault, column_name, column_of, expected_of, value_of};
+use crate::findings::{Finding, Place, add_fault, column_name, column_of, value_of};
 use crate::located::{blank, line_ends};
 use crate::repair::repaired;
 use crate::statistics::{Statistics, count_text};
 use csv::ByteRecord;
 use fw_cut::{Part, cut_off};
+use fw_explain::explain_fault;
 use fw_rows::{Column, Currency, RecordFault, Row, RowFault, read_rows, rows_read_as_one};
 use std::alloc::{AllocError, Global};
 
@@ -34,23 +35,26 @@ struct Kind {
     expected: &'static str,
 }
 
+impl Kind {
+    // The kind of a fault with this code and name.
+    fn of(code: &'static str) -> Kind
+        ensures { result.code.now ≡ code.now }
+    {
+        Kind {
+            code,
+            expected: explain_fault(code).expected,
+        }
+    }
+}
+
 /// The header lacks a column that it must have.
-const MISSING: Kind = Kind {
-    code: "H1 MissingColumn",
-    expected: "a column of this name",
-};
+const MISSING: &str = "H1 MissingColumn";
 
 /// The header has a column more than once.
-const DOUBLE: Kind = Kind {
-    code: "H2 DoubleColumn",
-    expected: "one column of this name",
-};
+const DOUBLE: &str = "H2 DoubleColumn";
 
 /// No record follows the header.
-const NO_ROWS: Kind = Kind {
-    code: "V14 NoRows",
-    expected: "a record behind the header",
-};
+const NO_ROWS: &str = "V14 NoRows";
 
 /// A text that is checked part by part.
 #[derive(Drop)]
@@ -103,9 +107,11 @@ impl Checker {
         rows_read_as_one(header, self.currency);
         match read_rows(alloc, header, self.currency) {
             Err(RowFault::MissingColumn(column)) => {
-                self.note_columns(alloc, header, MISSING, column)
+                self.note_columns(alloc, header, Kind::of(MISSING), column)
             }
-            Err(RowFault::DoubleColumn(column)) => self.note_columns(alloc, header, DOUBLE, column),
+            Err(RowFault::DoubleColumn(column)) => {
+                self.note_columns(alloc, header, Kind::of(DOUBLE), column)
+            }
             Err(RowFault::NoMemory) => Err(AllocError),
             Ok(_)
             | Err(RowFault::Record { .. })
@@ -143,7 +149,7 @@ impl Checker {
     {
         for column in Column::ALL.iter() {
             if *column != first && is_missing(header, *column) {
-                self.note_text(alloc, MISSING, column.name())?;
+                self.note_text(alloc, Kind::of(MISSING), column.name())?;
             }
         }
         Ok(())
@@ -160,7 +166,7 @@ impl Checker {
     {
         for column in Column::ALL.iter() {
             if *column != first && is_double(header, *column) {
-                self.note_text(alloc, DOUBLE, column.name())?;
+                self.note_text(alloc, Kind::of(DOUBLE), column.name())?;
             }
         }
         Ok(())
@@ -173,7 +179,7 @@ impl Checker {
         ensures stays { OnOk result (self.old.faults ≤ self.new.faults) }
     {
         if self.records == 0 && self.faults == 0 {
-            return self.note_text(alloc, NO_ROWS, "");
+            return self.note_text(alloc, Kind::of(NO_ROWS), "");
         }
         Ok(())
     }
@@ -234,11 +240,16 @@ impl Checker {
     /// Checks the records of a part. The answer is the header's fault, if it has one, or `NoMemory`.
     pub fn check(&mut self, alloc: Global, part: &Part) -> Result<(), RowFault>
         // Where the part reads as rows, these are counted, and no fault is.
-        ensures rows { OnOk result ((rows : List Charge) → RowsRead self.old.currency part.now.text.items (Ok rows) → checked self.new ≡ with_read (records_in part.now) rows (checked self.old)) }
+        ensures rows { OnOk result ((rows : List Charge)
+            → RowsRead self.old.currency part.now.text.items (Ok rows)
+            → checked self.new ≡ with_read (records_in part.now) rows (checked self.old)) }
         // Where it has no record, nothing is.
-        ensures none { OnOk result (RowsRead self.old.currency part.now.text.items (Err NoRows) → checked self.new ≡ checked self.old) }
+        ensures none { OnOk result (RowsRead self.old.currency part.now.text.items (Err NoRows)
+            → checked self.new ≡ checked self.old) }
         // Where one of its records breaks a rule, at least one fault is counted.
-        ensures bad { OnOk result ((number : ℕ) (fault : RecordFault) → RowsRead self.old.currency part.now.text.items (Err (Record number fault)) → kept (self.old.faults + 1) ≤ self.new.faults) }
+        ensures bad { OnOk result ((number : ℕ) (fault : RecordFault)
+            → RowsRead self.old.currency part.now.text.items (Err (Record number fault))
+            → kept (self.old.faults + 1) ≤ self.new.faults) }
         // Faults that were counted stay.
         ensures stays { OnOk result (self.old.faults ≤ self.new.faults) }
     {
@@ -528,8 +539,10 @@ impl Checker {
         column: Option<Column>,
     ) -> Result<(), AllocError>
         ensures stays { OnOk result (self.old.faults ≤ self.new.faults) }
-        ensures counted { OnOk result ((expected value : List ℕ) × (checked self.new ≡ with_fault (fault_name fault) (column_text column) expected
-            (record { line = kept (self.old.lines + 1); number = self.old.records; value = value }) (checked self.old))) }
+        ensures counted { OnOk result ((expected value : List ℕ)
+            × (checked self.new ≡ with_fault (fault_name fault) (column_text column) expected
+            (record { line = kept (self.old.lines + 1); number = self.old.records; value = value })
+            (checked self.old))) }
     {
         let value = value_of(alloc, header, fields, column)?;
         let place = Place {
@@ -537,11 +550,7 @@ impl Checker {
             record: self.records,
             value,
         };
-        let kind = Kind {
-            code: fault.name(),
-            expected: expected_of(fault),
-        };
-        self.add(alloc, kind, column_name(column), place)?;
+        self.add(alloc, Kind::of(fault.name()), column_name(column), place)?;
         Ok(())
     }
 }

@@ -45,7 +45,8 @@ const PLACES: usize = 3;
 impl Finding {
     // One more fault, at this place, which is kept if it is one of the first.
     fn add(&mut self, place: Place) -> Result<(), AllocError>
-        ensures { OnOk result (finding_value self.new ≡ one_more (place_value place) (finding_value self.old)) }
+        ensures { OnOk result (finding_value self.new
+            ≡ one_more (place_value place) (finding_value self.old)) }
     {
         self.count = self.count.saturating_add(1);
         if self.places.len() < PLACES {
@@ -57,7 +58,8 @@ impl Finding {
 
 // Where the finding of a code and a column stands, or how many findings there are where there is none.
 fn finding_of(findings: &[Finding], code: &str, column: &str) -> usize
-    ensures value { result ≡ position_or_len (λ f. is_of code.now column.now (finding_value f)) findings.now }
+    ensures value { result ≡ position_or_len (λ f.
+        is_of code.now column.now (finding_value f)) findings.now }
     ensures within { result ≤ length findings.now }
 {
     for (place, finding) in findings.iter().enumerate() {
@@ -77,7 +79,9 @@ pub(crate) fn add_fault(
     expected: &'static str,
     place: Place,
 ) -> Result<(), AllocError>
-    ensures { OnOk result (map finding_value findings.new.items ≡ noted code.now column.now expected.now (place_value place) (map finding_value findings.old.items)) }
+    ensures { OnOk result (map finding_value findings.new.items
+        ≡ noted code.now column.now expected.now (place_value place)
+        (map finding_value findings.old.items)) }
 {
     let at = finding_of(findings.as_slice(), code, column);
     if at < findings.len() {
@@ -109,33 +113,6 @@ const SHORT: [Column; 4] = [
     Column::SkuId,
     Column::SubAccountId,
 ];
-
-/// What a record must have where it has this fault.
-pub(crate) fn expected_of(fault: RecordFault) -> &'static str {
-    match fault {
-        RecordFault::Fields => "as many fields as the header",
-        RecordFault::NotUtf8 => "UTF-8 text",
-        RecordFault::Category => "Usage, Purchase, Tax, Credit or Adjustment",
-        RecordFault::Class => "nothing or Correction",
-        RecordFault::Cost => {
-            "a number: digits with at most one point, as 1000.00, at most 100,000,000"
-        }
-        RecordFault::Currency => "the currency of the warehouse",
-        RecordFault::Time => {
-            "a time on a whole second from 1970 to 9999-12-30T22:00:00Z, as 2024-01-01T00:00:00Z"
-        }
-        RecordFault::PeriodOrder => "a time that is not before ChargePeriodStart",
-        RecordFault::Commitment => "Usage or Spend, exactly where CommitmentDiscountId is set",
-        RecordFault::Status => {
-            "Used or Unused where CommitmentDiscountId is set; it may be empty where the charge isn't Usage"
-        }
-        RecordFault::Quantity => "nothing or a number, as 0.5",
-        RecordFault::BadTags => "nothing or a JSON object of texts, true, false and null",
-        RecordFault::TooLong => {
-            "at most 256 bytes; at most 256 tags with keys and values of at most 1,024 bytes"
-        }
-    }
-}
 
 /// The name of the column of a fault, or the empty text where the fault is of the whole record.
 pub(crate) fn column_name(column: Option<Column>) -> &'static str

@@ -9,8 +9,9 @@ ghost use Rattle.fw_rows.specs.FaultNames.{fault_name};
 ghost use Rattle.fw_rows.specs.declared.column.Column.{Column as ColumnValue};
 
 use crate::fields::first_record;
-use crate::findings::{column_name, column_of, expected_of, value_of};
+use crate::findings::{column_name, column_of, value_of};
 use fw_cut::{Part, cut_off};
+use fw_explain::explain_fault;
 use fw_rows::RecordFault;
 use std::alloc::{AllocError, Global};
 
@@ -66,11 +67,15 @@ pub fn locate(
     fault: RecordFault,
 ) -> Result<Located, AllocError>
     ensures code { IfOk result (λ l. l.code.now ≡ fault_name fault) }
-    ensures column { IfOk result (λ l. (c : Option ColumnValue) × CanStandIn fault c × (l.column.now ≡ column_text c)) }
+    ensures column { IfOk result (λ l. (c : Option ColumnValue) × CanStandIn fault c
+        × (l.column.now ≡ column_text c)) }
     // The first record stands behind the empty lines.
-    ensures first { IfOk result (λ l. number ≤ 1 → l.lines_before ≡ line_ends_in line_end (before_record (records_in part.now) 0)) }
+    ensures first { IfOk result (λ l. number ≤ 1
+        → l.lines_before ≡ line_ends_in line_end (before_record (records_in part.now) 0)) }
     // Each other one stands behind as many whole records as its number says.
-    ensures later { IfOk result (λ l. 1 < number → (cut : Cut) × Cuts (records_in part.now) (number - 1) cut × (l.lines_before ≡ line_ends_in line_end (before_record (records_in part.now) cut.end))) }
+    ensures later { IfOk result (λ l. 1 < number
+        → (cut : Cut) × Cuts (records_in part.now) (number - 1) cut
+        × (l.lines_before ≡ line_ends_in line_end (before_record (records_in part.now) cut.end))) }
 {
     let text = part.text.as_slice();
     let (head, body) = text.split_at(part.header.min(text.len()));
@@ -89,6 +94,6 @@ pub fn locate(
         code: fault.name(),
         column: column_name(column),
         value: value_of(alloc, &header, &record, column)?,
-        expected: expected_of(fault),
+        expected: explain_fault(fault.name()).expected,
     })
 }

@@ -42,7 +42,8 @@ pub(crate) fn count_text(
     key: &str,
     times: u64,
 ) -> Result<(), AllocError>
-    ensures { OnOk result (text_counts counts.new.entries ≡ counted bytes_eq key.now times (text_counts counts.old.entries)) }
+    ensures { OnOk result (text_counts counts.new.entries
+        ≡ counted bytes_eq key.now times (text_counts counts.old.entries)) }
 {
     let before = counts.get(key).copied().unwrap_or(0);
     let key = String::from_str(alloc, key)?;
@@ -65,7 +66,8 @@ fn count_tags(
     counts: &mut IndexMap<String, u64>,
     tags: &[Tag],
 ) -> Result<(), AllocError>
-    ensures { OnOk result (text_counts counts.new.entries ≡ counted_all (map (λ t. t.key) tags.now) (text_counts counts.old.entries)) }
+    ensures { OnOk result (text_counts counts.new.entries
+        ≡ counted_all (map (λ t. t.key) tags.now) (text_counts counts.old.entries)) }
 {
     for tag in tags {
         count_text(alloc, counts, tag.key(), 1)?;

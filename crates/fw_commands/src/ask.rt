@@ -1,20 +1,16 @@
 //! Questions to the warehouse of a folder.
 use clap::ArgMatches;
 use fw_command_line::DIR;
-use fw_console::{Fault, advised, always_advised, open_warehouse, print_answer, warn_unfinished};
+use fw_console::{Fault, advised, open_warehouse, print_answer, warn_unfinished};
 use fw_views::{Question, answer};
 use std::process::ExitCode;
 
 /// Opens the warehouse of the folder that the options name, and prints its answer to a question. Where
-/// rows are being replaced and the replacement was stopped, that is said too. What `verify` finds is printed whole
-/// also where nobody looks at a terminal.
+/// rows are being replaced and the replacement was stopped, that is said too.
 pub(crate) fn ask(rt: &HostRuntime, options: &ArgMatches<'_>, question: &Question<'_>) -> ExitCode {
     let folder = options.get_str(DIR).unwrap_or("");
     let asked = answer_in(rt, folder, question).and_then(|text| print_answer(rt, text.as_slice()));
-    match question {
-        Question::Verify => always_advised(rt, folder, asked),
-        _ => advised(rt, folder, asked),
-    }
+    advised(rt, folder, asked)
 }
 
 // The answer of the warehouse of a folder.

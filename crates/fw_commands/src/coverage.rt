@@ -3,7 +3,7 @@ use crate::ask::ask;
 use clap::ArgMatches;
 use fw_command_line::FORMAT;
 use fw_console::{Fault, read_range, wrong_time};
-use fw_views::{Format, Question};
+use fw_views::{CoverageFormat, Question};
 use std::process::ExitCode;
 
 /// Prints the coverage that the options ask for.
@@ -13,8 +13,8 @@ pub fn print_coverage(rt: &HostRuntime, options: &ArgMatches<'_>) -> Result<Exit
         Err(option) => return Ok(wrong_time(rt, options, option)),
     };
     let format = match options.get_str(FORMAT) {
-        Some("csv") => Format::Csv,
-        _ => Format::Table,
+        Some("csv") => CoverageFormat::Csv,
+        _ => CoverageFormat::Table,
     };
     Ok(ask(rt, options, &Question::Coverage { from, to, format }))
 }

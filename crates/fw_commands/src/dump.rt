@@ -6,6 +6,7 @@ use clap::ArgMatches;
 use fw_command_line::DIR;
 use fw_console::{Fault, advised, open_warehouse};
 use fw_dump::{DumpFault, TextFault, dump};
+use fw_explain::explain_fault;
 use fw_serve::ServeFault;
 use fw_snapshot::State;
 use fw_table::shown_text;
@@ -38,19 +39,24 @@ fn dump_state(rt: &HostRuntime, folder: &str, state: &State) -> Result<ExitCode,
     }
 }
 
+// The code of why an entry can't be dumped.
+fn code_of(why: TextFault) -> &'static str {
+    match why {
+        TextFault::TooManyLines => "D1",
+        TextFault::Differs => "D2",
+        TextFault::NoMemory => "NoMemory",
+    }
+}
+
 // Says that a dump of a folder of this name stopped before an entry, and why.
 fn stopped(rt: &HostRuntime, folder: &str, number: u64, why: TextFault) -> ExitCode
     ensures { exit_status result ≡ 1 }
 {
     let _ = eprintln!(rt; "focusd: {why}");
-    let reason = match why {
-        TextFault::TooManyLines =>
-            "has more than 1,000,000 lines, the most of an entry in a script",
-        TextFault::Differs | TextFault::NoMemory =>
-            "would read as another entry: a text can't say all that it has, or focusd has a defect",
-    };
+    let words = explain_fault(code_of(why));
+    let (meaning, remedy) = (words.meaning, words.remedy);
     let _ = eprintln!(rt;
-        "{folder}: entry {number} of the warehouse {reason}. The script ends before it."
+        "{folder}: entry {number} of the warehouse: {meaning}. What to do: {remedy}"
     );
     ExitCode::FAILURE
 }

@@ -9,8 +9,8 @@ use fw_calendar::Step;
 use fw_command_line::{BY, FORMAT, TAG, TOP};
 use fw_console::{Fault, WRONG_USE, read_range, wrong_time};
 use fw_query::Query;
-use fw_series::SeriesFormat;
-use fw_views::{Format, Question, SeriesOptions};
+use fw_series::{Format, ReportOptions};
+use fw_views::Question;
 use std::process::ExitCode;
 
 /// The most groups that `--top` takes.
@@ -35,28 +35,15 @@ pub fn print_report(rt: &HostRuntime, options: &ArgMatches<'_>) -> Result<ExitCo
         },
         None => None,
     };
-    let series = SeriesOptions {
-        step: step_of(options.get_str(BY)),
-        top,
-        format: format_of(options.get_str(FORMAT)),
+    let question = Question::Report {
+        query,
+        options: ReportOptions {
+            step: step_of(options.get_str(BY)),
+            top,
+            format: format_of(options.get_str(FORMAT)),
+        },
     };
-    Ok(ask(rt, options, &question_of(query, series)))
-}
-
-// The question that a query and options come to: a plain report where nothing else is asked for.
-fn question_of<'q>(query: Query<'q>, options: SeriesOptions) -> Question<'q> {
-    let is_plain = options.step.is_none() && options.top.is_none();
-    match options.format {
-        SeriesFormat::Table if is_plain => Question::Report {
-            query,
-            format: Format::Table,
-        },
-        SeriesFormat::Csv if is_plain => Question::Report {
-            query,
-            format: Format::Csv,
-        },
-        _ => Question::Series { query, options },
-    }
+    Ok(ask(rt, options, &question))
 }
 
 // The period that a word of `--by` names.
@@ -70,12 +57,12 @@ fn step_of(word: Option<&str>) -> Option<Step> {
 }
 
 // The format that a word of `--format` names.
-fn format_of(word: Option<&str>) -> SeriesFormat {
+fn format_of(word: Option<&str>) -> Format {
     match word {
-        Some("csv") => SeriesFormat::Csv,
-        Some("json") => SeriesFormat::Json,
-        Some("html") => SeriesFormat::Html,
-        _ => SeriesFormat::Table,
+        Some("csv") => Format::Csv,
+        Some("json") => Format::Json,
+        Some("html") => Format::Html,
+        _ => Format::Table,
     }
 }
 

@@ -6,7 +6,7 @@ ghost use Rattle.fw_serve.specs.Served.{most_workers};
 
 use clap::ArgMatches;
 use fw_command_line::{CREATE, CURRENCY, DIR, WORKERS};
-use fw_console::{Fault, advised, read_currency, wrong_use};
+use fw_console::{Fault, advised_on_terminal, read_currency, wrong_use};
 use fw_disk::{FileVolume, NullVolume, Volume};
 use fw_recover::{Store, StoreFault};
 use fw_rows::Currency;
@@ -38,7 +38,7 @@ pub fn serve_script(
                 currency,
                 workers,
             );
-            Ok(advised(rt, folder, served))
+            Ok(advised_on_terminal(rt, folder, served))
         }
         None => serve_memory(rt, threads, currency, workers),
     }

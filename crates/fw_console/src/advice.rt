@@ -5,25 +5,30 @@ ghost use Rattle.fw_console.specs.Statuses.{status_of};
 
 use crate::fault::{Fault, failed};
 use fw_disk::{FolderFault, Side};
+use fw_explain::explain_fault;
 use fw_recover::StoreFault;
 use fw_table::shown_text;
 use std::io::{self, IsTerminal};
 use std::process::ExitCode;
 
-/// The status of what was done with a folder. A fault is printed, and what helps where standard error is a terminal.
+/// The status of what was done with a folder. A fault is printed, and what helps.
 pub fn advised(rt: &HostRuntime, folder: &str, done: Result<ExitCode, Fault>) -> ExitCode
     ensures status { IfOk done (λ status. result ≡ status) }
     ensures fault { IfErr done (λ fault. exit_status result ≡ status_of fault) }
 {
-    ended(rt, folder, done, rt.stderr().is_terminal())
+    ended(rt, folder, done, true)
 }
 
-/// The status of what was done with a folder. A fault is printed, and what helps.
-pub fn always_advised(rt: &HostRuntime, folder: &str, done: Result<ExitCode, Fault>) -> ExitCode
+/// The status of what a script did with a folder. A fault is printed, and what helps where standard error is a terminal.
+pub fn advised_on_terminal(
+    rt: &HostRuntime,
+    folder: &str,
+    done: Result<ExitCode, Fault>,
+) -> ExitCode
     ensures status { IfOk done (λ status. result ≡ status) }
     ensures fault { IfErr done (λ fault. exit_status result ≡ status_of fault) }
 {
-    ended(rt, folder, done, true)
+    ended(rt, folder, done, rt.stderr().is_terminal())
 }
 
 // The status of what was done with a folder. A fault is printed, and also what helps, where that is wanted.
@@ -50,32 +55,33 @@ fn advise(rt: &HostRuntime, folder: &str, fault: &Fault) {
     }
 }
 
-// Prints what was wrong in words, and what helps, where there is more to say than the fault's own line does.
+// Prints what was wrong with a folder or its files, what the system said of it, and what helps.
 fn print_advice(rt: &HostRuntime, folder: &str, fault: &Fault) -> io::Result<()> {
     match fault {
         Fault::Folder(FolderFault::InUse) => {
             eprintln!(rt; "{folder}: another process has this folder open")
         }
-        Fault::Folder(why) => eprintln!(rt;
-            "{folder}: {why}; the folder must exist, and its files must be readable and writable"
-        ),
-        Fault::Store(StoreFault::NoHouse) => {
-            eprintln!(rt; "{folder} holds no warehouse; make one with --create")
-        }
-        Fault::Store(StoreFault::Exists) => {
-            eprintln!(rt; "{folder} holds a warehouse already; open it without --create")
+        Fault::Folder(why) => {
+            let remedy = explain_fault("K1 Io").remedy;
+            eprintln!(rt; "{folder}: {why}. What to do: {remedy}")
         }
         Fault::Store(StoreFault::Corrupt { side, at }) => {
             eprintln!(rt; "{folder}/{}: damaged at byte {at}", file_name(*side))
         }
-        Fault::Store(StoreFault::Device) => {
-            eprintln!(rt; "{folder}: a read, a write or a sync of its files failed")
-        }
-        Fault::Store(StoreFault::OldSide) => eprintln!(rt;
-            "{folder} is in an older form, which can't hold this entry; run focusd checkpoint --dir {folder}, and then this again"
-        ),
+        Fault::Store(StoreFault::NoMemory) => Ok(()),
+        Fault::Store(fault) => print_words(rt, folder, fault),
         _ => Ok(()),
     }
+}
+
+// Prints what a fault of a warehouse means, and what to do. Where memory for that is refused, nothing is said.
+fn print_words(rt: &HostRuntime, folder: &str, fault: &StoreFault) -> io::Result<()> {
+    let Ok(printed) = format!(in rt.alloc(); "{fault}") else {
+        return Ok(());
+    };
+    let words = explain_fault(printed.as_str());
+    let (meaning, remedy) = (words.meaning, words.remedy);
+    eprintln!(rt; "{folder}: {meaning}. What to do: {remedy}")
 }
 
 // The name of a side's file.

@@ -4,6 +4,7 @@ ghost use Rattle.std.specs.Process.{exit_status};
 ghost use Rattle.fw_console.specs.Statuses.{status_of, wrong_use_status};
 
 use fw_disk::FolderFault;
+use fw_explain::explain_fault;
 use fw_query::QueryFault;
 use fw_recover::StoreFault;
 use fw_serve::ServeFault;
@@ -23,7 +24,7 @@ pub enum Fault {
     #[error("{0}")]
     Serve(ServeFault),
     /// The range of a question has no hour, or more than 26,304.
-    #[error("Q1 Range: --from and --to must be at least one hour and at most 26,304 hours apart; that of --to is not in the range")]
+    #[error("Q1 Range")]
     Range,
     /// The costs of a report are too large.
     #[error("Q2 TotalTooLarge")]
@@ -95,11 +96,22 @@ impl Fault {
 /// Where the command line is wrong.
 pub const WRONG_USE: u8 = 2;
 
+// Prints the line of a range that can't be asked for. It says what the options take, since it is the command line that is wrong.
+fn say_range(rt: &HostRuntime) {
+    let words = explain_fault("Q1 Range");
+    let (meaning, remedy) = (words.meaning, words.remedy);
+    let _ = eprintln!(rt; "focusd: Q1 Range: {meaning}. {remedy}");
+}
+
 /// Prints the line of a fault. A closed standard error leaves nobody to tell.
 pub fn failed(rt: &HostRuntime, fault: &Fault) -> ExitCode
     ensures { exit_status result ≡ status_of fault.now }
 {
-    let _ = eprintln!(rt; "focusd: {fault}");
+    if let Fault::Range = fault {
+        say_range(rt);
+    } else {
+        let _ = eprintln!(rt; "focusd: {fault}");
+    }
     ExitCode::from(fault.status())
 }
 

@@ -10,8 +10,9 @@ mod output;
 mod progress;
 mod range;
 mod unfinished;
+mod words;
 
-pub use advice::{advised, always_advised};
+pub use advice::{advised, advised_on_terminal};
 pub use currency::read_currency;
 pub use fault::{Fault, WRONG_USE, failed, wrong_use};
 pub use folder::open_warehouse;
@@ -20,3 +21,4 @@ pub use output::print_answer;
 pub use progress::{Progress, bytes_of};
 pub use range::{read_range, wrong_time};
 pub use unfinished::{begin_replacement, end_replacement, unfinished_origin, warn_unfinished};
+pub use words::{conflict_code, entry_code, say_fault};

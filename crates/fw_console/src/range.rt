@@ -26,8 +26,11 @@ pub fn read_range(
 
 // The range that begins and ends at the times that two texts stand for.
 fn range_of(alloc: Global, from: &str, to: &str) -> Result<Result<(u64, u64), &'static str>, Fault>
-    ensures times { IfOk result (λ read. IfOk read (λ range. IsTimeText from.now range.0 × IsTimeText to.now range.1 × (range.0 < range.1))) }
-    ensures wrong { IfOk result (λ read. IfErr read (λ id. ((h : ℕ) → id.now ≡ codes "from" → ¬ IsTimeText from.now h) × ((h : ℕ) → id.now ≡ codes "to" → ¬ IsTimeText to.now h))) }
+    ensures times { IfOk result (λ read. IfOk read (λ range.
+        IsTimeText from.now range.0 × IsTimeText to.now range.1 × (range.0 < range.1))) }
+    ensures wrong { IfOk result (λ read. IfErr read (λ id.
+        ((h : ℕ) → id.now ≡ codes "from" → ¬ IsTimeText from.now h)
+        × ((h : ℕ) → id.now ≡ codes "to" → ¬ IsTimeText to.now h))) }
 {
     let first = read_time(alloc, from)?;
     let end = read_time(alloc, to)?;

@@ -3,14 +3,15 @@ ghost use Rattle.std.specs.Prelude.{◌≡◌};
 ghost use Rattle.fw_cut.specs.declared.fault.CutFault.TheVariants.{NoMemory};
 
 use std::alloc::AllocError;
+use std::io;
 use thiserror::Error;
 
 /// Why a text can't be cut.
-#[derive(Clone, Copy, Debug, Drop, PartialEq, Eq, Error)]
+#[derive(Clone, Copy, Debug, Drop, Error)]
 pub enum CutFault {
-    /// A read failed.
-    #[error("a read failed")]
-    Read,
+    /// A read failed, for this reason.
+    #[error("a read failed: {0}")]
+    Read(io::Error),
     /// The text ends within its first record, the header, or has no record.
     #[error("no record follows the header")]
     NoRecord,

@@ -39,6 +39,6 @@ fn read_piece<R: Read>(reader: &mut R, text: &mut Vec<u8>) -> Result<usize, CutF
             text.truncate(filled + count);
             Ok(count)
         }
-        Err(_) => Err(CutFault::Read),
+        Err(error) => Err(CutFault::Read(error)),
     }
 }

@@ -1,12 +1,12 @@
 //! `focusd check`: all faults of CSV exports, and what is in them.
 ghost use Rattle.std.specs.Prelude.{◌≡◌, ◌≤◌, IfOk, IsTrue};
 
-use crate::messages::say_cut_fault;
+use crate::messages::{code_of, say_cut_fault};
 use crate::opening::open_export;
 use clap::ArgMatches;
 use fw_check::{Checker, as_json, as_text};
 use fw_command_line::{CURRENCY, FILES, FORMAT, QUIET};
-use fw_console::{Fault, Progress, print_answer, wrong_use};
+use fw_console::{Fault, Progress, print_answer, say_fault, wrong_use};
 use fw_cut::{CutFault, Cutter, Part};
 use fw_rows::{Currency, RowFault};
 use fw_table::shown_text;
@@ -91,7 +91,8 @@ fn check_cut<R: Read>(
     is_json: bool,
     progress: &mut Progress,
 ) -> Result<bool, Fault>
-    ensures clean { IfOk result (λ is_clean. IsTrue is_clean → (checker.new.faults ≡ 0) × 1 ≤ checker.new.records) }
+    ensures clean { IfOk result (λ is_clean. IsTrue is_clean
+        → (checker.new.faults ≡ 0) × 1 ≤ checker.new.records) }
 {
     let is_whole = check_parts(rt, name, cutter, checker, progress)?;
     progress.end(rt);
@@ -187,7 +188,7 @@ fn check_part(
             progress.end(rt);
             let name = shown_text(rt.alloc(), name)?;
             let name = name.as_str();
-            let _ = eprintln!(rt; "focusd: {name}: {fault}");
+            say_fault(rt, name, code_of(fault));
             return Ok(Checked::Refused);
         }
     }

@@ -69,7 +69,7 @@ fn counted(count: Result<u64, CutFault>) -> Result<Option<u64>, Fault> {
     match count {
         Ok(rows) => Ok(Some(rows)),
         Err(CutFault::NoMemory) => Err(Fault::NoMemory),
-        Err(CutFault::Read | CutFault::NoRecord | CutFault::TooLong | CutFault::LongHeader) => {
+        Err(CutFault::Read(_) | CutFault::NoRecord | CutFault::TooLong | CutFault::LongHeader) => {
             Ok(None)
         }
     }

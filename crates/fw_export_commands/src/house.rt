@@ -1,28 +1,39 @@
 //! The warehouse that files are imported into: one that there is, or one that the first post makes.
 use fw_columns::Columns;
 use fw_console::{Fault, open_warehouse};
-use fw_disk::FileVolume;
+use fw_disk::{FileVolume, FolderFault};
 use fw_import::{Sent, posts_of};
 use fw_recover::{Store, StoreFault};
 use fw_rows::Currency;
 use fw_serve::reopen;
 use fw_snapshot::State;
 use std::alloc::Global;
+use std::fs::{self, File};
+use std::io;
 
-/// A warehouse, or the folder of one that is to be made.
+/// A warehouse, or the place of one that is to be made.
 #[derive(Drop)]
 pub(crate) struct House {
     // the warehouse, once there is one
     store: Option<Store<FileVolume>>,
-    // the folder, until there is one
-    volume: Option<FileVolume>,
+    // where it is to be made, until there is one
+    place: Option<Place>,
     // the currency of one that is to be made
     currency: Currency,
 }
 
+// Where a warehouse is to be made.
+#[derive(Drop)]
+enum Place {
+    // in a folder that is there
+    Folder(FileVolume),
+    // in a folder of this name, which is to be made too
+    Missing(String),
+}
+
 impl House {
-    /// Opens the warehouse of a folder. Where there is none, and one may be made, no warehouse is made yet: the first post does it. Where none may be
-    /// made, no file is.
+    /// Opens the warehouse of a folder. Where there is none, and one may be made, neither a warehouse nor a folder is made yet: the first post does
+    /// it. Where none may be made, no file is.
     pub(crate) fn open(
         rt: &HostRuntime,
         folder: &str,
@@ -31,6 +42,10 @@ impl House {
     ) -> Result<House, Fault> {
         if !creates {
             return Ok(House::of(open_warehouse(rt, folder)?, currency));
+        }
+        if is_missing(rt, folder) {
+            let place = Place::Missing(String::from_str(rt.alloc(), folder)?);
+            return Ok(House::in_place(place, currency));
         }
         match reopen(rt.alloc(), FileVolume::open(rt, folder)?) {
             Ok(store) => Ok(House::of(store, currency)),
@@ -42,7 +57,7 @@ impl House {
     fn of(store: Store<FileVolume>, currency: Currency) -> House {
         House {
             store: Some(store),
-            volume: None,
+            place: None,
             currency,
         }
     }
@@ -56,19 +71,25 @@ impl House {
         if fault != StoreFault::NoHouse {
             return Err(Fault::Store(fault));
         }
-        Ok(House {
-            store: None,
-            volume: Some(volume),
-            currency,
-        })
+        Ok(House::in_place(Place::Folder(volume), currency))
     }
 
-    /// Makes the warehouse, if there is none yet.
-    pub(crate) fn make(&mut self, alloc: Global) -> Result<(), Fault> {
-        let Some(volume) = self.volume.take() else {
+    // The warehouse that is to be made in a place.
+    fn in_place(place: Place, currency: Currency) -> House {
+        House {
+            store: None,
+            place: Some(place),
+            currency,
+        }
+    }
+
+    /// Makes the warehouse, and its folder where that isn't there, if there is none yet.
+    pub(crate) fn make(&mut self, rt: &HostRuntime) -> Result<(), Fault> {
+        let Some(place) = self.place.take() else {
             return Ok(());
         };
-        self.store = Some(made(alloc, volume, self.currency)?);
+        let volume = volume_of(rt, place)?;
+        self.store = Some(made(rt.alloc(), volume, self.currency)?);
         Ok(())
     }
 
@@ -131,6 +152,31 @@ impl House {
             None => Ok(Vec::new(alloc)),
         }
     }
+}
+
+// Whether there is no file and no folder of this name.
+fn is_missing(rt: &HostRuntime, folder: &str) -> bool {
+    match fs::metadata(rt, folder) {
+        Ok(_) => false,
+        Err(error) => error.kind() == io::ErrorKind::NotFound,
+    }
+}
+
+// The volume of a place. A folder that isn't there is made.
+fn volume_of(rt: &HostRuntime, place: Place) -> Result<FileVolume, Fault> {
+    match place {
+        Place::Folder(volume) => Ok(volume),
+        Place::Missing(folder) => Ok(in_new_folder(rt, folder.as_str())?),
+    }
+}
+
+// The volume of a folder that is made, and that is there after a crash too.
+fn in_new_folder(rt: &HostRuntime, folder: &str) -> Result<FileVolume, FolderFault> {
+    fs::create_dir(rt, folder)?;
+    let above = format!(in rt.alloc(); "{folder}/..")?;
+    let above = File::open(rt, above.as_str())?;
+    above.sync_all()?;
+    FileVolume::open(rt, folder)
 }
 
 // A new warehouse in a folder.

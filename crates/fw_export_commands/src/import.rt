@@ -62,7 +62,8 @@ fn import_files_into(
     if !do_fit(rt, house, origin, files)? {
         return Ok(ExitCode::FAILURE);
     }
-    let mut standing = Standing::new(origin, others_of(rt.alloc(), house, origin)?);
+    let others = others_of(rt.alloc(), house, origin)?;
+    let mut standing = Standing::new(rt.alloc(), origin, others);
     let mut progress = Progress::new(rt, options.get_flag(QUIET), files);
     for file in files {
         if !import_named(rt, house, &mut standing, &mut progress, file)? {

@@ -5,8 +5,9 @@ use crate::others::Shared;
 use crate::standing::{Place, Standing};
 use fw_calendar::hour_text;
 use fw_check::locate;
-use fw_console::{Fault, WRONG_USE};
+use fw_console::{Fault, WRONG_USE, conflict_code, entry_code, say_fault};
 use fw_cut::{CutFault, Part};
+use fw_explain::explain_fault;
 use fw_import::ImportFault;
 use fw_recover::StoreFault;
 use fw_rows::{Currency, RecordFault, Row, RowFault, read_rows};
@@ -49,26 +50,27 @@ pub fn say_cut_fault(
     let name = name.as_str();
     match fault {
         CutFault::NoMemory => return Err(Fault::NoMemory),
-        CutFault::Read => {
-            let _ = eprintln!(rt;
-                "focusd: {name}:{line}: it can't be read on from record {record} on"
-            );
+        CutFault::Read(why) => {
+            let _ = eprintln!(rt; "focusd: {name}:{line}: from record {record} on: F1 Read: {why}");
         }
         CutFault::NoRecord => {
-            let _ = eprintln!(rt; "focusd: {name}: V14 NoRows: no record follows the header");
+            let meaning = explain_fault("V14 NoRows").meaning;
+            let _ = eprintln!(rt; "focusd: {name}: V14 NoRows: {meaning}");
         }
         CutFault::TooLong => {
-            let _ = eprintln!(rt;
-                "focusd: {name}:{line}: record {record} is longer than 4 MiB; is a quote not closed?"
-            );
+            let what = format!(in rt.alloc(); "record {record}")?;
+            say_too_long(rt, name, line, what.as_str(), "V16 LongRecord");
         }
-        CutFault::LongHeader => {
-            let _ = eprintln!(rt;
-                "focusd: {name}:1: the header is longer than 2 MiB; is a quote not closed?"
-            );
-        }
+        CutFault::LongHeader => say_too_long(rt, name, 1, "the header", "H3 LongHeader"),
     }
     Ok(())
+}
+
+// Says that a record or a header is too long.
+fn say_too_long(rt: &HostRuntime, name: &str, line: u64, what: &str, fault: &str) {
+    let words = explain_fault(fault);
+    let (expected, remedy) = (words.expected, words.remedy);
+    let _ = eprintln!(rt; "focusd: {name}:{line}: {what}: {fault}: expected {expected}. {remedy}");
 }
 
 /// Says why a part was not imported, and how to go on.
@@ -81,44 +83,47 @@ pub(crate) fn explain(
     standing: &Standing<'_>,
     fault: ImportFault,
 ) -> Result<(), Fault> {
-    let line = place.line;
-    let record = place.record;
-    let number = standing.number;
-    let origin = standing.origin;
     match fault {
         ImportFault::NoMemory
         | ImportFault::Rows(RowFault::NoMemory)
-        | ImportFault::Store(StoreFault::NoMemory) => return Err(Fault::NoMemory),
-        ImportFault::Store(fault) => return Err(Fault::Store(fault)),
-        ImportFault::Rows(fault) => return explain_rows(rt, house, name, part, place, fault),
-        ImportFault::Conflict(conflict) => {
-            return explain_conflict(rt, house, name, part, place, conflict);
-        }
-        ImportFault::Entry(fault) => {
-            let _ = eprintln!(rt;
-                "focusd: {name}:{line}: the post from record {record} on: {fault}"
-            );
-        }
-        ImportFault::Differs => {
-            let _ = eprintln!(rt;
-                "focusd: {name}:{line}: entry {number} of {origin} is in the warehouse already and has other rows than the file from record {record} on."
-            );
-            let _ = eprintln!(rt;
-                "The file has changed or grown since, or the files are in another order, or another export was imported as {origin}. Nothing more was imported. Give each export an --origin of its own; `focusd replace` puts an export in the place of one that was imported before."
-            );
-        }
+        | ImportFault::Store(StoreFault::NoMemory) => Err(Fault::NoMemory),
+        ImportFault::Store(fault) => Err(Fault::Store(fault)),
+        ImportFault::Rows(fault) => explain_rows(rt, house, name, part, place, fault),
+        ImportFault::Conflict(conflict) => explain_conflict(rt, house, name, part, place, conflict),
+        ImportFault::Entry(fault) => say_post(rt, name, place, entry_code(fault)?),
+        ImportFault::Differs => say_entry(rt, name, place, standing, standing.number, "R1 Differs"),
         ImportFault::Withdrawn => {
-            let _ = eprintln!(rt;
-                "focusd: {name}:{line}: post {number} of {origin} was withdrawn: its rows count no more, and the file has them from record {record} on."
-            );
-            let _ = eprintln!(rt;
-                "Nothing more was imported. `focusd replace --origin {origin}` has the file's rows count, in the place of what {origin} sent before."
-            );
+            say_entry(rt, name, place, standing, standing.number, "R2 Withdrawn")
         }
         ImportFault::Gap { expected } => {
-            let _ = eprintln!(rt; "focusd: {name}:{line}: entry {expected} of {origin} is missing");
+            say_entry(rt, name, place, standing, expected, "R3 Gap")
         }
     }
+}
+
+// Says what is wrong with the post that begins at a place of a file.
+fn say_post(rt: &HostRuntime, name: &str, place: &Place, fault: &str) -> Result<(), Fault> {
+    let (line, record) = (place.line, place.record);
+    let about = format!(in rt.alloc(); "{name}:{line}: the post from record {record} on")?;
+    say_fault(rt, about.as_str(), fault);
+    Ok(())
+}
+
+// Says what is wrong with an entry of the origin, and from where on a file has its rows.
+fn say_entry(
+    rt: &HostRuntime,
+    name: &str,
+    place: &Place,
+    standing: &Standing<'_>,
+    number: u64,
+    fault: &str,
+) -> Result<(), Fault> {
+    let (line, record) = (place.line, place.record);
+    let origin = standing.origin;
+    let about = format!(in rt.alloc();
+        "{name}:{line}: entry {number} of {origin}, from record {record} on"
+    )?;
+    say_fault(rt, about.as_str(), fault);
     Ok(())
 }
 
@@ -143,12 +148,7 @@ fn explain_conflict(
             Ok(())
         }
         Conflict::OwnCommitment => explain_own(rt, house, name, part, place),
-        other => {
-            let _ = eprintln!(rt;
-                "focusd: {name}:{line}: the post from record {record} on doesn't go with what is in the warehouse: {other:?}"
-            );
-            Ok(())
-        }
+        other => say_post(rt, name, place, conflict_code(other)),
     }
 }
 
@@ -208,12 +208,12 @@ fn say_own(
     )?;
     let line = place.line.saturating_add(at.lines_before);
     let record = place.record.saturating_add(before as u64);
+    let words = explain_fault("J4 OwnCommitment");
+    let (expected, remedy) = (words.expected, words.remedy);
     let _ = eprintln!(rt;
-        "focusd: {name}:{line}: record {record}, CommitmentDiscountId: {id:?}: J4 OwnCommitment: expected an id that no commitment of the warehouse has"
+        "focusd: {name}:{line}: record {record}, CommitmentDiscountId: {id:?}: J4 OwnCommitment: expected {expected}"
     );
-    let _ = eprintln!(rt;
-        "No row of its post was imported; those before it stay. Import the rows as they were before the provider amortised them, without that CommitmentDiscountId."
-    );
+    let _ = eprintln!(rt; "No row of its post was imported; those before it stay. {remedy}");
     Ok(())
 }
 
@@ -254,11 +254,29 @@ pub fn say_row_fault(
         }
         RowFault::NoMemory => Err(Fault::NoMemory),
         other => {
-            let code = code_of(other);
-            let _ = eprintln!(rt;
-                "focusd: {name}: {code}: {other}. `focusd check` lists all faults."
-            );
+            say_header_fault(rt, name, other);
             Ok(())
+        }
+    }
+}
+
+// Says what is wrong with a header, or that no record is behind it.
+fn say_header_fault(rt: &HostRuntime, name: &str, fault: RowFault) {
+    let code = code_of(fault);
+    let column = column_of(fault);
+    let comma = if column.is_empty() { "" } else { ", " };
+    let expected = explain_fault(code).expected;
+    let _ = eprintln!(rt;
+        "focusd: {name}:1: the header{comma}{column}: {code}: expected {expected}. `focusd check` lists all faults."
+    );
+}
+
+// The column of a fault that is of a header; the empty text where it is of none.
+fn column_of(fault: RowFault) -> &'static str {
+    match fault {
+        RowFault::MissingColumn(column) | RowFault::DoubleColumn(column) => column.name(),
+        RowFault::Record { .. } | RowFault::NoRows | RowFault::TooManyRows | RowFault::NoMemory => {
+            ""
         }
     }
 }
@@ -313,8 +331,8 @@ fn wanted_currency(rt: &HostRuntime, house: &House) -> Result<String, Fault> {
     Ok(format!(in rt.alloc(); "{letters}, the currency of the warehouse")?)
 }
 
-// The code and the name of a fault that is of no single record.
-fn code_of(fault: RowFault) -> &'static str {
+/// The code and the name of a fault.
+pub(crate) fn code_of(fault: RowFault) -> &'static str {
     match fault {
         RowFault::MissingColumn(_) => "H1 MissingColumn",
         RowFault::DoubleColumn(_) => "H2 DoubleColumn",

@@ -41,6 +41,6 @@ fn say_not_opened(
     let name = shown_text(rt.alloc(), file)?;
     let name = name.as_str();
     progress.end(rt);
-    let _ = eprintln!(rt; "focusd: {name}: {why}");
+    let _ = eprintln!(rt; "focusd: {name}: F1 Read: {why}");
     Ok(())
 }

@@ -127,7 +127,7 @@ fn import_cut(
         }
     }
     place.pass_lines(body_of(part));
-    make_checkpoint(rt, house)?;
+    make_checkpoint(rt, house, standing)?;
     Ok(if part.is_last {
         Imported::Last
     } else {
@@ -139,22 +139,22 @@ fn import_cut(
 fn post_part(
     rt: &HostRuntime,
     house: &mut House,
-    standing: &Standing<'_>,
+    standing: &mut Standing<'_>,
     part: &Part,
 ) -> Result<Result<Taken, ImportFault>, Fault> {
     if house.is_new() {
         let currency = house.currency();
         let read = read_part(
             rt.alloc(),
+            &mut standing.importer,
             currency,
-            standing.origin,
             standing.number,
             &part.text,
         );
         if let Err(fault) = read {
             return Ok(Err(fault));
         }
-        house.make(rt.alloc())?;
+        house.make(rt)?;
     }
     let Some(store) = house.store() else {
         return Err(Fault::Store(StoreFault::NoHouse));
@@ -162,7 +162,7 @@ fn post_part(
     Ok(import_part(
         rt.alloc(),
         store,
-        standing.origin,
+        &mut standing.importer,
         standing.number,
         &part.text,
     ))
@@ -191,13 +191,18 @@ fn look_for_shared(
     Ok(())
 }
 
-// Makes a checkpoint where it pays: once the log has grown longer than the body.
-fn make_checkpoint(rt: &HostRuntime, house: &mut House) -> Result<(), Fault> {
+// Makes a checkpoint where it pays. It joins segments, so those that the importer keeps are let go of.
+fn make_checkpoint(
+    rt: &HostRuntime,
+    house: &mut House,
+    standing: &mut Standing<'_>,
+) -> Result<(), Fault> {
     let Some(store) = house.store() else {
         return Ok(());
     };
-    if store.log_len() > store.body_len() {
+    if store.checkpoint_pays() {
         store.checkpoint(rt.alloc())?;
+        standing.importer.forget_posts();
     }
     Ok(())
 }

@@ -1,12 +1,15 @@
 //! Where an import stands.
 use crate::others::Others;
 use fw_check::line_ends;
-use fw_import::{Outcome, Taken};
+use fw_import::{Importer, Outcome, Taken};
+use std::alloc::Global;
 
 /// Where an import stands.
 #[derive(Drop)]
 pub(crate) struct Standing<'a> {
     pub(crate) origin: &'a str,
+    /// What is kept of the origin from one part to the next.
+    pub(crate) importer: Importer<'a>,
     /// The number of the next post.
     pub(crate) number: u64,
     /// Rows that were added.
@@ -46,9 +49,10 @@ impl Place {
 
 impl<'a> Standing<'a> {
     /// Nothing was imported yet.
-    pub(crate) fn new(origin: &'a str, others: Option<Others>) -> Standing<'a> {
+    pub(crate) fn new(alloc: Global, origin: &'a str, others: Option<Others>) -> Standing<'a> {
         Standing {
             origin,
+            importer: Importer::new(alloc, origin),
             number: 1,
             added: 0,
             same: 0,
