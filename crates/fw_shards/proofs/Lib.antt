@@ -1,0 +1,10 @@
+mod ListFacts
+mod RangeFacts
+mod AlikeFacts
+mod HistoryFacts
+mod AddedFacts
+mod RankFacts
+mod CoverFacts
+mod LineFacts
+mod DealtFacts
+mod CaseFacts

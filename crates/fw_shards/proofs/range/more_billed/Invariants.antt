@@ -1,0 +1,10 @@
+use Rattle.std.proofs.Common.{◌≡◌, ◌≤◌, ◌+◌, take}
+use Rattle.fw_shards.specs.Added.{billed_size, capped, most_added}
+use Rattle.fw_shards.proofs.range.more_billed.Given as goal
+
+-- the size so far
+abbrev pub invariant-loop-entry : goal.invariant-loop-entry
+invariant-loop-entry l = record {
+  size : l.size ≡ capped (l.initial.size + billed_size (take l.entry-index l.entries));
+  within : l.size ≤ most_added + 1;
+}

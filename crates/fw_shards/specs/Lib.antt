@@ -1,0 +1,5 @@
+pub mod Dealt
+pub mod Asked
+pub mod Added
+pub mod Places
+pub mod Refusals
