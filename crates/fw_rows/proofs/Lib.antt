@@ -10,4 +10,5 @@ mod ColumnFacts
 mod CellFacts
 pub mod MakingFacts
 mod RowFacts
+mod ShortFacts
 pub mod OneReading

@@ -10,7 +10,7 @@ use Rattle.fw_rules.specs.Table.{FirstBroken, NoneBroken}
 use Rattle.fw_rows.specs.Columns.{Record, text_in}
 use Rattle.fw_rows.specs.Judged.{JudgedWithin}
 use Rattle.fw_rows.specs.Parts.{AreCells, charged_rules, detail_rules, NamedOrNull, discount_text, texts_of}
-use Rattle.fw_rows.specs.Rules.{KindReads, Stands, StatusReads, Texts, form_rules, not_null, rules_of, text_rules}
+use Rattle.fw_rows.specs.Rules.{KindReads, StatusReads, Texts, form_rules, not_null, rules_of, text_rules}
 use Rattle.fw_rows.specs.declared.cells.Cells.{Cells}
 use Rattle.fw_rows.specs.declared.column.Column.TheVariants as column
 use Rattle.fw_rows.specs.declared.details.NamedDiscount.{NamedDiscount}

@@ -7,7 +7,7 @@ use Rattle.csv.specs.declared.reader.Reader.{Reader}
 use Rattle.csv.proofs.ReadFacts.{rows-more, rows-end, reached-more}
 use Rattle.csv.specs.declared.parser.State.TheVariants as st
 use Rattle.std.proofs.Common.{append-nil}
-use Rattle.fw_rows.specs.At.{At, Finds, next_of}
+use Rattle.fw_rows.specs.At.{AtLong, Finds, next_of}
 
 -- one record that was reached is the next one
 reached_one : (s s2 : State) (y z : List ℕ) (f : List (List ℕ)) → Reached default_config s y (f ∷ []) s2 z → next_of s y ≡ Some (f, s2, z)
@@ -15,8 +15,8 @@ unfolding Reached
 reached_one s s2 y z f h = h.1 ∙ (rw (← h.3.0, ← h.3.1, h.2) refl)
 
 -- what one read of a reader found
-pub finds : (old new : Reader (Bor (List ℕ))) (found : Bool) (f : List (List ℕ)) (s : State) (y : List ℕ) → At old s y → took_first new ≡ true
-    → ReadRecord (λ (b : Bor (List ℕ)). Some b.now) old new found f → Finds new s y f found
+pub finds : (old new : Reader (Bor (List ℕ))) (found : Bool) (f : List (List ℕ)) (s : State) (y : List ℕ) → AtLong old s y → took_first new ≡ true
+    → ReadRecord (λ (b : Bor (List ℕ)). Some b.now) old new found f → Finds AtLong new s y f found
 unfolding Reached
 finds old new true f s y at first r =
     let m = rows-more (λ (b : Bor (List ℕ)). Some b.now) old new f default_config s y y [] at.config at.source (sym at.state, refl) r in

@@ -4,9 +4,7 @@ use Rattle.std.specs.List.{AllZip}
 use Rattle.csv.specs.Reading.{default_config, records_from, strip_bom, Reached}
 use Rattle.csv.specs.declared.parser.State.{State}
 use Rattle.csv.specs.declared.parser.State.TheVariants as st
-use Rattle.csv.specs.declared.reader.Reader.{Reader}
-use Rattle.std.specs.Borrow.{Bor}
-use Rattle.fw_rows.specs.At.{At, Finds}
+use Rattle.fw_rows.specs.At.{Finds}
 use Rattle.fw_charge.specs.Charge.{Charge}
 use Rattle.fw_rows.specs.Columns.{Record, missing_column, place_in, text_in}
 use Rattle.fw_rows.specs.Header.{ArePlaces}
@@ -42,12 +40,12 @@ abbrev pub AreRows : List ℕ → Record → List Record → List Charge → Typ
 AreRows currency header body rows = AllZip (λ fields row. RecordReads currency header fields (Ok row)) body rows
 
 -- where the reader stands behind a header and some records, and the rows of these
-pub record Read (currency text : List ℕ) (reader : Reader (Bor (List ℕ))) (places : Places) (rows : List Charge) : Type 0 where
+pub record Read {R : Type 0} (A : R → State → List ℕ → Type 0) (currency text : List ℕ) (reader : R) (places : Places) (rows : List Charge) : Type 0 where
   pub state : State
   pub rest : List ℕ
   pub header : Record
   pub body : List Record
-  pub at : At reader state rest
+  pub at : A reader state rest
   pub reached : Reached default_config st.StartRecord (strip_bom text) (header ∷ body) state rest
   pub stand : ArePlaces header places
   pub whole : IsHeader header
@@ -77,15 +75,15 @@ unfolding RowsRead records_of
 text_reads currency text header body r all reads = rw all reads
 
 -- a text without records
-pub nothing_reads : (currency text : List ℕ) (new : Reader (Bor (List ℕ))) (f : Record) → Finds new st.StartRecord (strip_bom text) f false
+pub nothing_reads : {R : Type 0} (A : R → State → List ℕ → Type 0) (currency text : List ℕ) (new : R) (f : Record) → Finds A new st.StartRecord (strip_bom text) f false
     → RowsRead currency text (Err (fault.MissingColumn column.BilledCost))
 unfolding RowsRead records_of missing_column place_in
-nothing_reads currency text new f finds = rw (records_end (most_rows + 2) st.StartRecord (strip_bom text) finds) refl
+nothing_reads A currency text new f finds = rw (records_end (most_rows + 2) st.StartRecord (strip_bom text) finds) refl
 
 -- a header's fault
-pub header_reads : (currency text : List ℕ) (new : Reader (Bor (List ℕ))) (f : Record) (e : RowFault) → Finds new st.StartRecord (strip_bom text) f true
+pub header_reads : {R : Type 0} (A : R → State → List ℕ → Type 0) (currency text : List ℕ) (new : R) (f : Record) (e : RowFault) → Finds A new st.StartRecord (strip_bom text) f true
     → ((currency : List ℕ) (body : List Record) → RecordsRead currency f body (Err e)) → RowsRead currency text (Err e)
-header_reads currency text new f e finds bad =
+header_reads A currency text new f e finds bad =
     text_reads currency text f (records_from default_config (most_rows + 1) finds.0 finds.1) (Err e) (records_more (most_rows + 1) st.StartRecord finds.0 (strip_bom text) finds.1 f finds.3)
     (bad currency (records_from default_config (most_rows + 1) finds.0 finds.1))
 
@@ -95,9 +93,9 @@ unfolding RowsRead
 memory_reads currency text = tt
 
 -- the header was read
-pub read-start : (currency text : List ℕ) (new : Reader (Bor (List ℕ))) (f : Record) (places : Places) → Finds new st.StartRecord (strip_bom text) f true → ArePlaces f places → IsHeader f
-    → Read currency text new places []
-read-start currency text new f places finds stand whole = record {
+pub read-start : {R : Type 0} (A : R → State → List ℕ → Type 0) (currency text : List ℕ) (new : R) (f : Record) (places : Places) → Finds A new st.StartRecord (strip_bom text) f true → ArePlaces f places → IsHeader f
+    → Read A currency text new places []
+read-start A currency text new f places finds stand whole = record {
   state = finds.0;
   rest = finds.1;
   header = f;
@@ -112,9 +110,9 @@ read-start currency text new f places finds stand whole = record {
 }
 
 -- a record more was read, and stands for a row
-read-row : (currency text : List ℕ) (old new : Reader (Bor (List ℕ))) (places : Places) (rows : List Charge) (f : Record) (row : Charge) (r : Read currency text old places rows)
-    → ((s : State) (y : List ℕ) → At old s y → Finds new s y f true) → RecordReads currency r.header f (Ok row) → length rows < most_rows → Read currency text new places (rows ++ row ∷ [])
-read-row currency text old new places rows f row r finds reads few =
+read-row : {R : Type 0} (A : R → State → List ℕ → Type 0) (currency text : List ℕ) (old new : R) (places : Places) (rows : List Charge) (f : Record) (row : Charge) (r : Read A currency text old places rows)
+    → ((s : State) (y : List ℕ) → A old s y → Finds A new s y f true) → RecordReads currency r.header f (Ok row) → length rows < most_rows → Read A currency text new places (rows ++ row ∷ [])
+read-row A currency text old new places rows f row r finds reads few =
     let m = finds r.state r.rest r.at in
     record {
       state = m.0;
@@ -131,20 +129,20 @@ read-row currency text old new places rows f row r finds reads few =
     }
 
 -- a record more was read, and its row was added
-pub read-more : (currency text : List ℕ) (old new : Reader (Bor (List ℕ))) (places : Places) (rows now : List Charge) (f : Record) → Read currency text old places rows
-    → ((s : State) (y : List ℕ) → At old s y → Finds new s y f true) → ((header : Record) → ArePlaces header places → Judged currency header f rows now (Ok tt)) → length rows < most_rows
-    → Read currency text new places now × (length now ≡ length rows + 1)
-read-more currency text old new places rows now f r finds reads few =
+pub read-more : {R : Type 0} (A : R → State → List ℕ → Type 0) (currency text : List ℕ) (old new : R) (places : Places) (rows now : List Charge) (f : Record) → Read A currency text old places rows
+    → ((s : State) (y : List ℕ) → A old s y → Finds A new s y f true) → ((header : Record) → ArePlaces header places → Judged currency header f rows now (Ok tt)) → length rows < most_rows
+    → Read A currency text new places now × (length now ≡ length rows + 1)
+read-more A currency text old new places rows now f r finds reads few =
     let judged = reads r.header r.stand in
     let row = judged.1.0 in
     let is : now ≡ rows ++ row ∷ [] = judged.1.2 in
-    (subst (Read currency text new places) (sym is) (read-row currency text old new places rows f row r finds (row-reads currency r.header f row judged.0 judged.1.1) few), ap length is ∙ length-append rows (row ∷ []))
+    (subst (Read A currency text new places) (sym is) (read-row A currency text old new places rows f row r finds (row-reads currency r.header f row judged.0 judged.1.1) few), ap length is ∙ length-append rows (row ∷ []))
 
 -- a record more was read, and breaks a rule
-read-fault : (currency text : List ℕ) (old new : Reader (Bor (List ℕ))) (places : Places) (rows : List Charge) (f : Record) (number : ℕ) (e : RecordFault) → Read currency text old places rows
-    → ((s : State) (y : List ℕ) → At old s y → Finds new s y f true) → ((header : Record) → ArePlaces header places → FirstBroken (rules_of currency header f) e) → length rows < most_rows
+read-fault : {R : Type 0} (A : R → State → List ℕ → Type 0) (currency text : List ℕ) (old new : R) (places : Places) (rows : List Charge) (f : Record) (number : ℕ) (e : RecordFault) → Read A currency text old places rows
+    → ((s : State) (y : List ℕ) → A old s y → Finds A new s y f true) → ((header : Record) → ArePlaces header places → FirstBroken (rules_of currency header f) e) → length rows < most_rows
     → number ≡ length rows + 1 → RowsRead currency text (Err (fault.Record number e))
-read-fault currency text old new places rows f number e r finds reads few is =
+read-fault A currency text old new places rows f number e r finds reads few is =
     let m = finds r.state r.rest r.at in
     let k = most_rows - length r.body in
     let after = records_from default_config k m.0 m.1 in
@@ -153,32 +151,32 @@ read-fault currency text old new places rows f number e r finds reads few is =
     (r.whole, r.body, f, after, refl, omega (arith, r.counted), omega (arith, r.counted), none_broken currency r.header r.body rows r.are, fault-reads currency r.header f e (reads r.header r.stand))
 
 -- a record more was read, and no row comes of it
-pub read-refused : (currency text : List ℕ) (old new : Reader (Bor (List ℕ))) (places : Places) (rows now : List Charge) (f : Record) (number : ℕ) (e : Refusal) → Read currency text old places rows
-    → ((s : State) (y : List ℕ) → At old s y → Finds new s y f true) → ((header : Record) → ArePlaces header places → Judged currency header f rows now (Err e)) → length rows < most_rows
+pub read-refused : {R : Type 0} (A : R → State → List ℕ → Type 0) (currency text : List ℕ) (old new : R) (places : Places) (rows now : List Charge) (f : Record) (number : ℕ) (e : Refusal) → Read A currency text old places rows
+    → ((s : State) (y : List ℕ) → A old s y → Finds A new s y f true) → ((header : Record) → ArePlaces header places → Judged currency header f rows now (Err e)) → length rows < most_rows
     → number ≡ length rows + 1 → RowsRead currency text (Err (fault_at number e))
-read-refused currency text old new places rows now f number (refusal.Broken e) r finds reads few is = read-fault currency text old new places rows f number e r finds reads few is
-read-refused currency text old new places rows now f number refusal.NoMemory r finds reads few is = memory_reads currency text
+read-refused A currency text old new places rows now f number (refusal.Broken e) r finds reads few is = read-fault A currency text old new places rows f number e r finds reads few is
+read-refused A currency text old new places rows now f number refusal.NoMemory r finds reads few is = memory_reads currency text
 
 -- a record more was read than a text may have
-pub read-full : (currency text : List ℕ) (old new : Reader (Bor (List ℕ))) (places : Places) (rows : List Charge) (f : Record) → Read currency text old places rows
-    → ((s : State) (y : List ℕ) → At old s y → Finds new s y f true) → length rows ≡ most_rows → RowsRead currency text (Err fault.TooManyRows)
-read-full currency text old new places rows f r finds full =
+pub read-full : {R : Type 0} (A : R → State → List ℕ → Type 0) (currency text : List ℕ) (old new : R) (places : Places) (rows : List Charge) (f : Record) → Read A currency text old places rows
+    → ((s : State) (y : List ℕ) → A old s y → Finds A new s y f true) → length rows ≡ most_rows → RowsRead currency text (Err fault.TooManyRows)
+read-full A currency text old new places rows f r finds full =
     let m = finds r.state r.rest r.at in
     let all = whole_last (most_rows + 2) r.state m.0 (strip_bom text) r.rest m.1 r.header f r.body r.reached (omega (arith, r.counted)) m.3 in
     text_reads currency text r.header (r.body ++ (f ∷ [])) (Err fault.TooManyRows) all (r.whole, r.body, f, refl, r.counted ∙ full, none_broken currency r.header r.body rows r.are)
 
 -- no record is left behind the header
-pub read-none : (currency text : List ℕ) (old new : Reader (Bor (List ℕ))) (places : Places) (rows : List Charge) (f : Record) → Read currency text old places rows
-    → ((s : State) (y : List ℕ) → At old s y → Finds new s y f false) → length rows ≡ 0 → RowsRead currency text (Err fault.NoRows)
-read-none currency text old new places rows f r finds none =
+pub read-none : {R : Type 0} (A : R → State → List ℕ → Type 0) (currency text : List ℕ) (old new : R) (places : Places) (rows : List Charge) (f : Record) → Read A currency text old places rows
+    → ((s : State) (y : List ℕ) → A old s y → Finds A new s y f false) → length rows ≡ 0 → RowsRead currency text (Err fault.NoRows)
+read-none A currency text old new places rows f r finds none =
     let k = most_rows + 1 - length r.body in
     let all = whole_end (most_rows + 2) k r.state (strip_bom text) r.rest r.header r.body r.reached (omega (arith, r.counted, r.few)) (finds r.state r.rest r.at) in
     text_reads currency text r.header r.body (Err fault.NoRows) all (r.whole, no_rows r.body (r.counted ∙ none))
 
 -- no record is left behind the rows
-pub read-all : (currency text : List ℕ) (old new : Reader (Bor (List ℕ))) (places : Places) (rows : List Charge) (f : Record) → Read currency text old places rows
-    → ((s : State) (y : List ℕ) → At old s y → Finds new s y f false) → 0 < length rows → RowsRead currency text (Ok rows)
-read-all currency text old new places rows f r finds some =
+pub read-all : {R : Type 0} (A : R → State → List ℕ → Type 0) (currency text : List ℕ) (old new : R) (places : Places) (rows : List Charge) (f : Record) → Read A currency text old places rows
+    → ((s : State) (y : List ℕ) → A old s y → Finds A new s y f false) → 0 < length rows → RowsRead currency text (Ok rows)
+read-all A currency text old new places rows f r finds some =
     let k = most_rows + 1 - length r.body in
     let all = whole_end (most_rows + 2) k r.state (strip_bom text) r.rest r.header r.body r.reached (omega (arith, r.counted, r.few)) (finds r.state r.rest r.at) in
     text_reads currency text r.header r.body (Ok rows) all (r.whole, omega (arith, r.counted), r.few, r.are)

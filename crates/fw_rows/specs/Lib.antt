@@ -8,4 +8,5 @@ pub mod Refusals
 pub mod Judged
 pub mod Parts
 pub mod Sinks
+pub mod Short
 pub mod FaultNames

@@ -15,6 +15,7 @@ mod laws;
 mod reading;
 mod records;
 mod row;
+mod short;
 mod sink;
 mod values;
 

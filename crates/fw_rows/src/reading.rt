@@ -1,6 +1,8 @@
 //! How a CSV text reads as rows.
 ghost use Rattle.std.specs.Prelude.{◌≡◌, ◌<◌, [], length, OnOk};
+ghost use Rattle.csv.specs.Reading.{strip_bom};
 ghost use Rattle.csv.specs.Records.{AllText, fields_of};
+ghost use Rattle.csv.specs.declared.parser.State.TheVariants as st;
 ghost use Rattle.fw_rows.specs.Columns.{Record, text_in};
 ghost use Rattle.fw_rows.specs.Header.{ArePlaces};
 ghost use Rattle.fw_rows.specs.Judged.{JudgedWithin};
@@ -13,7 +15,8 @@ use crate::cells::Cells;
 use crate::column::Column;
 use crate::fault::{RecordFault, Refusal, RowFault};
 use crate::header::Places;
-use crate::records::{advance, open, record_for};
+use crate::records::{Records, open, record_for};
+use crate::short::ShortText;
 use crate::sink::{RowSink, Rows};
 use csv::ByteRecord;
 use fw_charge::{Currency, MOST_POST_ROWS, Row};
@@ -21,6 +24,9 @@ use std::alloc::Global;
 
 /// The greatest number of rows of a text: as many as a post may have.
 const MOST_ROWS: usize = MOST_POST_ROWS;
+
+/// The longest text, in bytes, that is read byte by byte: a longer one costs more so than by a table.
+const LONGEST_SHORT: usize = 2_048;
 
 /// Reads the rows of a CSV text whose first record is its header; a byte order mark may stand before it. Costs are in `currency`.
 ///
@@ -50,14 +56,57 @@ pub fn read_into<S: RowSink>(
     ensures some { OnOk result (0 < length (S.rows sink.new)) }
     ensures ready { OnOk result (S.is_ready sink.new) }
 {
-    let mut reader = open(alloc, text);
+    if text.len() <= LONGEST_SHORT {
+        return read_records(
+            alloc,
+            text,
+            &mut ShortText::new(alloc, text),
+            currency,
+            sink,
+        );
+    }
+    read_long(alloc, text, currency, sink)
+}
+
+/// Reads the rows of a long text, as [`read_into`] does.
+#[inline(never)]
+fn read_long<S: RowSink>(
+    alloc: Global,
+    text: &[u8],
+    currency: Currency,
+    sink: &mut S,
+) -> Result<(), RowFault>
+    requires ready { S.is_ready sink.old }
+    requires none { S.rows sink.old ≡ [] }
+    ensures rows { RowsRead currency text.now (rows_in (S.rows sink.new) result) }
+    ensures some { OnOk result (0 < length (S.rows sink.new)) }
+    ensures ready { OnOk result (S.is_ready sink.new) }
+{
+    read_records(alloc, text, &mut open(alloc, text), currency, sink)
+}
+
+/// Reads the rows of a text by its records, as [`read_into`] does.
+fn read_records<R: Records, S: RowSink>(
+    alloc: Global,
+    text: &[u8],
+    records: &mut R,
+    currency: Currency,
+    sink: &mut S,
+) -> Result<(), RowFault>
+    requires start { R.at records.old st.StartRecord (strip_bom text.now) }
+    requires ready { S.is_ready sink.old }
+    requires none { S.rows sink.old ≡ [] }
+    ensures rows { RowsRead currency text.now (rows_in (S.rows sink.new) result) }
+    ensures some { OnOk result (0 < length (S.rows sink.new)) }
+    ensures ready { OnOk result (S.is_ready sink.new) }
+{
     let mut fields = record_for(alloc, text);
-    if !advance(&mut reader, &mut fields)? {
+    if !records.advance(&mut fields)? {
         return Err(RowFault::MissingColumn(Column::BilledCost));
     }
     let places = Places::of_header(&fields)?;
     let mut count = 0;
-    'records: while advance(&mut reader, &mut fields)? {
+    'records: while records.advance(&mut fields)? {
         if count == MOST_ROWS {
             return Err(RowFault::TooManyRows);
         }

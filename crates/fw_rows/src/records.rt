@@ -4,14 +4,26 @@ ghost use Rattle.csv.specs.Reading.{strip_bom};
 ghost use Rattle.csv.specs.Records.{fields_of, field_at};
 ghost use Rattle.csv.specs.declared.parser.State.{State};
 ghost use Rattle.csv.specs.declared.parser.State.TheVariants as st;
-ghost use Rattle.fw_rows.specs.At.{At, Finds};
+ghost use Rattle.fw_rows.specs.At.{AtLong, Finds};
 
 use csv::{ByteRecord, Reader, ReaderBuilder};
 use std::alloc::{AllocError, Global};
 
+/// The records of a text in memory, one at a time.
+pub(crate) trait Records {
+    /// It reads on from this state, with this text left.
+    ghost at: { Self → State → List ℕ → Type 0 };
+
+    /// Reads the next record into `fields`, and says whether there is one. It fails only where
+    /// memory runs out.
+    fn advance(&mut self, fields: &mut ByteRecord) -> Result<bool, AllocError>
+        ensures { IfOk result (λ found. (s : State) (y : List ℕ) → at self.old s y
+            → Finds at self.new s y (fields_of fields.new) found) };
+}
+
 /// A reader at the start of a text.
 pub(crate) fn open<'a>(alloc: Global, text: &'a [u8]) -> Reader<&'a [u8]>
-    ensures { At result st.StartRecord (strip_bom text.now) }
+    ensures { AtLong result st.StartRecord (strip_bom text.now) }
 {
     ReaderBuilder::new()
         .has_headers(false)
@@ -35,18 +47,16 @@ pub(crate) fn record_for(alloc: Global, text: &[u8]) -> ByteRecord {
     }
 }
 
-/// Reads the next record into `fields`, and says whether there is one. A text in memory is always read, so
-/// it fails only where memory runs out.
-pub(crate) fn advance<'a>(
-    reader: &mut Reader<&'a [u8]>,
-    fields: &mut ByteRecord,
-) -> Result<bool, AllocError>
-    ensures { IfOk result (λ found. (s : State) (y : List ℕ) → At reader.old s y → Finds reader.new s y (fields_of fields.new) found) }
-{
-    let Ok(found) = reader.read_byte_record(fields) else {
-        return Err(AllocError);
-    };
-    Ok(found)
+impl Records for Reader<&[u8]> {
+    ghost at = { AtLong };
+
+    fn advance(&mut self, fields: &mut ByteRecord) -> Result<bool, AllocError> {
+        // A text in memory is always read, so it fails only where memory runs out.
+        let Ok(found) = self.read_byte_record(fields) else {
+            return Err(AllocError);
+        };
+        Ok(found)
+    }
 }
 
 /// The field of a record at a place.

@@ -5,7 +5,7 @@ use Rattle.csv.specs.declared.parser.State.TheVariants as st
 use Rattle.std.proofs.lemmas.Result.{err_from_is_err_and}
 use Rattle.fw_charge.specs.Charge.{Charge}
 use Rattle.fw_rows.proofs.RowFacts.{Read, nothing_reads, header_reads, memory_reads, read-start, read-more, read-refused, read-full, read-none, read-all}
-use Rattle.fw_rows.proofs.reading.read_into.Goals as goal
+use Rattle.fw_rows.proofs.reading.read_records.Goals as goal
 
 pub returns-in_err-advance-clause-rows : goal.returns-in_err-advance-clause-rows
 returns-in_err-advance-clause-rows g c =
@@ -14,23 +14,23 @@ returns-in_err-advance-clause-rows g c =
 pub returns-then-not-branch-clause-rows : goal.returns-then-not-branch-clause-rows
 returns-then-not-branch-clause-rows g c =
     let none : c.in_ok-advance.field-0 ≡ false = search rules in
-    nothing_reads c.args.currency c.args.text.now c.advance.new.reader (fields_of c.advance.new.fields)
-    (rw none at (c.in_ok-advance.ensures st.StartRecord (strip_bom c.args.text.now) c.open-reader.ensures))
+    nothing_reads g.R.Records.at c.args.currency c.args.text.now c.advance.new.self (fields_of c.advance.new.fields)
+    (rw none at (c.in_ok-advance.ensures st.StartRecord (strip_bom c.args.text.now) c.requires.start))
 
 pub returns-in_err-places-clause-rows : goal.returns-in_err-places-clause-rows
 returns-in_err-places-clause-rows g c =
     let p = err_from_is_err_and c.from_residual-in_err-places.result c.from_residual-in_err-places.ensures.1 in
     let some : c.in_ok-advance.field-0 ≡ true = search rules in
-    rw (p.1, p.2) (header_reads c.args.currency c.args.text.now c.advance.new.reader (fields_of c.advance.new.fields) c.in_err-places.field-0.0
-    (rw some at (c.in_ok-advance.ensures st.StartRecord (strip_bom c.args.text.now) c.open-reader.ensures)) c.in_err-places.ensures)
+    rw (p.1, p.2) (header_reads g.R.Records.at c.args.currency c.args.text.now c.advance.new.self (fields_of c.advance.new.fields) c.in_err-places.field-0.0
+    (rw some at (c.in_ok-advance.ensures st.StartRecord (strip_bom c.args.text.now) c.requires.start)) c.in_err-places.ensures)
 
 pub records-init : goal.records-init
 records-init g c =
     let some : c.in_ok-advance.field-0 ≡ true = search rules in
     let start =
-    read-start c.args.currency c.args.text.now c.advance.new.reader (fields_of c.advance.new.fields) c.in_ok-places.places
-    (rw some at (c.in_ok-advance.ensures st.StartRecord (strip_bom c.args.text.now) c.open-reader.ensures)) c.in_ok-places.ensures.0 c.in_ok-places.ensures.1 in
-    let NowRead : List Charge → Type 0 = λ rows. Read c.args.currency c.args.text.now c.advance.new.reader c.in_ok-places.places rows in
+    read-start g.R.Records.at c.args.currency c.args.text.now c.advance.new.self (fields_of c.advance.new.fields) c.in_ok-places.places
+    (rw some at (c.in_ok-advance.ensures st.StartRecord (strip_bom c.args.text.now) c.requires.start)) c.in_ok-places.ensures.0 c.in_ok-places.ensures.1 in
+    let NowRead : List Charge → Type 0 = λ rows. Read g.R.Records.at c.args.currency c.args.text.now c.advance.new.self c.in_ok-places.places rows in
     record { read = subst NowRead (sym c.requires.none) start; counted = ap length c.requires.none; few = omega arith; ready = c.requires.ready }
 
 pub returns-in_err-advance-2-clause-rows : goal.returns-in_err-advance-2-clause-rows
@@ -40,7 +40,7 @@ returns-in_err-advance-2-clause-rows g c =
 pub returns-then-count-eq-MOST_ROWS-clause-rows : goal.returns-then-count-eq-MOST_ROWS-clause-rows
 returns-then-count-eq-MOST_ROWS-clause-rows g c =
     let some : c.in_ok-advance-2.field-0 ≡ true = search rules in
-    read-full c.args.currency c.args.text.now c.records.reader c.advance-in-records.new.reader c.in_ok-places.places (g.S.RowSink.rows c.records.sink)
+    read-full g.R.Records.at c.args.currency c.args.text.now c.records.records c.advance-in-records.new.self c.in_ok-places.places (g.S.RowSink.rows c.records.sink)
     (fields_of c.advance-in-records.new.fields) c.records.invariant.read
     (rw some at c.in_ok-advance-2.ensures) (omega (arith, c.records.invariant.counted, c.if-count-eq-MOST_ROWS.true))
 
@@ -50,7 +50,7 @@ add_record-requires-clause-room g c = omega (arith, c.records.invariant.counted,
 pub returns-in-Err-clause-rows : goal.returns-in-Err-clause-rows
 returns-in-Err-clause-rows g c =
     let some : c.in_ok-advance-2.field-0 ≡ true = search rules in
-    rw c.at_record.ensures (read-refused c.args.currency c.args.text.now c.records.reader c.advance-in-records.new.reader c.in_ok-places.places
+    rw c.at_record.ensures (read-refused g.R.Records.at c.args.currency c.args.text.now c.records.records c.advance-in-records.new.self c.in_ok-places.places
     (g.S.RowSink.rows c.records.sink) (g.S.RowSink.rows c.add_record.new.sink) (fields_of c.advance-in-records.new.fields) (c.records.count + 1) c.in-Err.refusal c.records.invariant.read
     (rw some at c.in_ok-advance-2.ensures) (rw c.in-Err.is at c.add_record.ensures.row) (omega (arith, c.records.invariant.counted, c.records.invariant.few, c.if-count-eq-MOST_ROWS.false))
     (omega (arith, c.records.invariant.counted)))
@@ -60,7 +60,7 @@ records-preserved g c =
     let some : c.in_ok-advance-2.field-0 ≡ true = search rules in
     let before = c.records.invariant in
     let more =
-    read-more c.args.currency c.args.text.now c.records.reader c.advance-in-records.new.reader c.in_ok-places.places
+    read-more g.R.Records.at c.args.currency c.args.text.now c.records.records c.advance-in-records.new.self c.in_ok-places.places
     (g.S.RowSink.rows c.records.sink) (g.S.RowSink.rows c.add_record.new.sink) (fields_of c.advance-in-records.new.fields) before.read
     (rw some at c.in_ok-advance-2.ensures) (rw c.in_default.is at c.add_record.ensures.row) (omega (arith, before.counted, before.few, c.if-count-eq-MOST_ROWS.false)) in
     record {
@@ -73,14 +73,14 @@ records-preserved g c =
 pub returns-then-count-eq0-clause-rows : goal.returns-then-count-eq0-clause-rows
 returns-then-count-eq0-clause-rows g c =
     let none : c.in_ok-advance-2.field-0 ≡ false = search rules in
-    read-none c.args.currency c.args.text.now c.records.reader c.advance-in-records.new.reader c.in_ok-places.places (g.S.RowSink.rows c.records.sink)
+    read-none g.R.Records.at c.args.currency c.args.text.now c.records.records c.advance-in-records.new.self c.in_ok-places.places (g.S.RowSink.rows c.records.sink)
     (fields_of c.advance-in-records.new.fields) c.records.invariant.read
     (rw none at c.in_ok-advance-2.ensures) (omega (arith, c.records.invariant.counted, c.if-count-eq0.true))
 
 pub returns-clause-rows : goal.returns-clause-rows
 returns-clause-rows g c =
     let none : c.in_ok-advance-2.field-0 ≡ false = search rules in
-    read-all c.args.currency c.args.text.now c.records.reader c.advance-in-records.new.reader c.in_ok-places.places (g.S.RowSink.rows c.records.sink)
+    read-all g.R.Records.at c.args.currency c.args.text.now c.records.records c.advance-in-records.new.self c.in_ok-places.places (g.S.RowSink.rows c.records.sink)
     (fields_of c.advance-in-records.new.fields) c.records.invariant.read
     (rw none at c.in_ok-advance-2.ensures) (omega (arith, c.records.invariant.counted, c.if-count-eq0.false))
 

@@ -1,14 +1,14 @@
 use Rattle.fw_rows.specs.Rows.{most_rows}
 use Rattle.fw_rows.proofs.RowFacts.{Read}
 use Rattle.std.proofs.Common.{◌≡◌, ◌≤◌, ◌+◌, ◌-◌, length}
-use Rattle.fw_rows.proofs.reading.read_into.Given as goal
+use Rattle.fw_rows.proofs.reading.read_records.Given as goal
 
 -- the records so far were read, and their rows added
 abbrev pub invariant-records : goal.invariant-records
 invariant-records g l =
     let rows = g.S.RowSink.rows l.sink in
     record {
-      read : Read l.fn.currency l.fn.text l.reader l.places rows;
+      read : Read g.R.Records.at l.fn.currency l.fn.text l.records l.places rows;
       counted : length rows ≡ l.count;
       few : l.count ≤ most_rows;
       ready : g.S.RowSink.is_ready l.sink;
