@@ -178,8 +178,8 @@ module _ {V : Type 0} (tells : Bool) (view : V → View) (inside s : StoreState 
         (stands payloads fresh.stands)
 
 -- the state with one entry more
-pub with_one : (h before state next : History) (e : EntryValue) → before ≡ h → state ≡ record { currency = before.currency; entries = before.entries ++ e ∷ [] } → next ≡ state → next ≡ with_more h (e ∷ [])
-with_one h before state next e same more shared = shared ∙ more ∙ ap (λ (k : History). with_more k (e ∷ [])) same
+pub with_one : (h before next : History) (e : EntryValue) → before ≡ h → next ≡ record { currency = before.currency; entries = before.entries ++ e ∷ [] } → next ≡ with_more h (e ∷ [])
+with_one h before next e same more = more ∙ ap (λ (k : History). with_more k (e ∷ [])) same
 
 -- nothing was added
 pub added_none : {V : Type 0} (tells : Bool) (view : V → View) (s : StoreState V) (accepted : List EntryValue) → IsKept tells view s → s.failed ≡ false → accepted ≡ []

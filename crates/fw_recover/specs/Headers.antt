@@ -1,5 +1,5 @@
 -- What the header of a side says.
-use Rattle.std.specs.Prelude.{◌≡◌, ℕ, List, ◌∷◌, ◌++◌, take, Option, Some, None}
+use Rattle.std.specs.Prelude.{◌≡◌, ℕ, List, ◌∷◌, ◌++◌, length, take, Option, Some, None}
 use Rattle.fw_bytes.specs.Spelling.{number64}
 use Rattle.fw_entry_bytes.specs.declared.form.Form.{Form}
 use Rattle.fw_recover.specs.declared.header.Header.{Header}
@@ -18,3 +18,8 @@ pub record HasHeader (form : Form) (generation body_len : ℕ) (file : List ℕ)
 abbrev pub IsHeader : Option Header → List ℕ → Type 0
 IsHeader None file = IsOpen file → ⊥
 IsHeader (Some header) file = HasHeader header.form header.generation header.body_len file
+
+-- a file of so many bytes, of which these are the first 25
+pub record BeginsWith (front : List ℕ) (len : ℕ) (file : List ℕ) : Type 0 where
+  pub size : length file ≡ len
+  pub is : front ≡ take 25 file

@@ -1,6 +1,7 @@
 -- What is found while a warehouse is opened.
-use Rattle.std.specs.Prelude.{◌≡◌, ◌≢◌, ◌⊎◌, ⊤, ℕ, ◌+◌, ◌-◌, List, ◌∷◌, ◌++◌, length, take, drop, map, All, Ok, Err}
+use Rattle.std.specs.Prelude.{◌≡◌, ◌≢◌, ◌⊎◌, ⊤, ℕ, ◌+◌, ◌-◌, ◌≤◌, Bool, IsTrue, List, ◌∷◌, ◌++◌, length, take, drop, map, All, Ok, Err}
 use Rattle.fw_disk.specs.declared.volume.Side.{Side}
+use Rattle.fw_disk.specs.Volume.{View, SameSizes, Calm}
 use Rattle.fw_entry.specs.Entry.{EntryValue}
 use Rattle.fw_entry_bytes.specs.declared.form.Form.{Form}
 use Rattle.fw_entry_bytes.specs.Whole.{whole}
@@ -27,6 +28,13 @@ IsOpenFault TooLarge = ⊥
 IsOpenFault Exists = ⊥
 IsOpenFault OldSide = ⊥
 IsOpenFault NoMemory = ⊤
+
+-- a call that reads and writes nothing: no byte changes, a crash leaves nothing that it could not leave before, lengths stay,
+-- and failures are counted
+pub record OnlyReads (tells : Bool) (old new : View) : Type 0 where
+  pub calm : IsTrue tells → Calm old new
+  pub sizes : SameSizes old new
+  pub later : old.failures ≤ new.failures
 
 -- the fault of a log that is read on a side, as that of a store
 abbrev pub log_fault : Side → LogFault → StoreFault

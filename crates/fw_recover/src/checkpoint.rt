@@ -7,13 +7,14 @@ ghost use Rattle.fw_recover.specs.Stands.{StandsFor, EachStandsFor};
 ghost use Rattle.fw_recover.specs.Checkpoints.{HasNoRoomFor, IsCheckpointed};
 ghost use Rattle.fw_recover.specs.Making.{SpellsSide};
 
+use crate::shared::snapshot_of;
 use crate::spelled::side_bytes;
 use crate::{Store, StoreFault, make_side};
 use fw_disk::Volume;
 use fw_entry_bytes::Form;
 use fw_journal::Log;
-use fw_snapshot::Snapshot;
-use std::alloc::Global;
+use fw_snapshot::{Snapshot, State};
+use std::alloc::{AllocError, Global};
 
 impl<V: Volume> Store<V> {
     /// Makes the side that isn't in use anew, of the state as it is, of the second form and with the next generation; from
@@ -81,14 +82,11 @@ impl<V: Volume> Store<V> {
             → HasNoRoomFor (V.view self.now.volume).limit self.now.history }
         ensures which { OnErr result (IsErrOf result TooLarge ⊎ IsErrOf result NoMemory) }
     {
-        let Ok(merged) = self.snapshot.state().merged() else {
+        let Ok(merged) = merged_of(self.snapshot.state()) else {
             return Err(StoreFault::NoMemory);
         };
-        let bytes = side_bytes(alloc, generation, &merged, self.volume.limit())?;
-        match Snapshot::new(merged) {
-            Ok(snapshot) => Ok((bytes, snapshot)),
-            Err(_) => Err(StoreFault::NoMemory),
-        }
+        let bytes = side_bytes(alloc, generation, merged.state(), self.volume.limit())?;
+        Ok((bytes, merged))
     }
 
     /// The length of the body of the side in use, in bytes.
@@ -113,4 +111,11 @@ impl<V: Volume> Store<V> {
     {
         self.body_len() <= self.log_len()
     }
+}
+
+/// The state, once its short segments are joined. The error comes where memory ran out.
+fn merged_of(state: &State) -> Result<Snapshot, AllocError>
+    ensures { IfOk result (λ merged. merged ≡ state.now) }
+{
+    snapshot_of(state.merged()?)
 }

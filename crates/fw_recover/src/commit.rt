@@ -12,6 +12,7 @@ ghost use Rattle.fw_recover.specs.Opening.{GoesBehind};
 ghost use Rattle.fw_recover.specs.Committing.{prepared_on, judged_on, taken_on, accepted_on, LacksRoom, LeavesEither, Committed, Appended, Fails, Lost, IsCommitFault};
 
 use crate::prepared::{group_of_one, len_of_one};
+use crate::shared::with_entry;
 use crate::{Prepared, Store, StoreFault};
 use fw_disk::Volume;
 use fw_journal::LogFault;
@@ -131,7 +132,7 @@ impl<V: Volume> Store<V> {
         if self.failed {
             return Err(StoreFault::Failed);
         }
-        let Ok(prepared) = Prepared::new(alloc, self.form, self.snapshot.state(), entries) else {
+        let Ok(prepared) = Prepared::new(alloc, self.form, &self.snapshot, entries) else {
             return Err(StoreFault::NoMemory);
         };
         let Some(prepared) = prepared else {
@@ -202,10 +203,7 @@ impl<V: Volume> Store<V> {
         ensures limit { (V.view self.new.volume).limit ≡ (V.view self.old.volume).limit }
     {
         self.keeps();
-        let Ok(state) = self.snapshot.state().apply(entry) else {
-            return Err(StoreFault::NoMemory);
-        };
-        let Ok(next) = Snapshot::new(state) else {
+        let Ok(next) = with_entry(self.snapshot.state(), entry) else {
             return Err(StoreFault::NoMemory);
         };
         if let Some(added) = self.append_length(len_of_one(entry)) {

@@ -2,9 +2,10 @@
 ghost use Rattle.std.specs.Prelude.{◌≡◌, ◌⊎◌, ◌↔◌, ◌<◌, ◌≤◌, length, false, IfOk, IfErr, OnOk, OnErr, IsOk, IsErr, IsErrOf, IsTrue, IsFalse};
 ghost use Rattle.fw_disk.specs.declared.volume.Side.{Side};
 ghost use Rattle.fw_disk.specs.declared.volume.Side.TheVariants.{Left};
-ghost use Rattle.fw_disk.specs.Volume.{Rose, Calm, SameSizes, LeavesOnly};
+ghost use Rattle.fw_disk.specs.Volume.{Rose, Calm, LeavesOnly};
 ghost use Rattle.fw_entry_bytes.specs.declared.form.Form.TheVariants.{Two};
 ghost use Rattle.fw_recover.specs.declared.fault.StoreFault.TheVariants.{Device, TooLarge, Exists, NoMemory};
+ghost use Rattle.fw_recover.specs.Opening.{OnlyReads};
 ghost use Rattle.fw_recover.specs.Sides.{IsOpen};
 ghost use Rattle.fw_recover.specs.Stands.{StandsForNone, EachStandsFor};
 ghost use Rattle.fw_recover.specs.Making.{SpellsSide, AllSettled};
@@ -13,6 +14,7 @@ ghost use Rattle.fw_recover.specs.Checkpoints.{HasBodyAlone};
 ghost use Rattle.fw_recover.specs.Store.{IsInUse};
 
 use crate::opening::settle;
+use crate::shared::snapshot_of;
 use crate::spelled::side_bytes;
 use crate::{Store, StoreFault, make_side};
 use fw_charge::Currency;
@@ -129,9 +131,7 @@ fn find_free<V: Volume>(volume: &mut V) -> Result<(), StoreFault>
         → (side : Side) × IsOpen ((V.view volume.old).seen side) }
     ensures which { OnErr result (IsErrOf result Device ⊎ IsErrOf result Exists) }
 
-    ensures calm { IsTrue V.tells → Calm (V.view volume.old) (V.view volume.new) }
-    ensures sizes { SameSizes (V.view volume.old) (V.view volume.new) }
-    ensures later { (V.view volume.old).failures ≤ (V.view volume.new).failures }
+    ensures reads { OnlyReads V.tells (V.view volume.old) (V.view volume.new) }
     ensures device { IsErrOf result Device → Rose (V.view volume.old).failures
         (V.view volume.new).failures }
 {
@@ -152,9 +152,7 @@ fn has_open_side<V: Volume>(volume: &mut V) -> Result<bool, VolumeFault>
     ensures none { IfOk result (λ found. IsTrue V.tells → IsFalse found
         → StandsForNone (V.view volume.old).seen) }
 
-    ensures calm { IsTrue V.tells → Calm (V.view volume.old) (V.view volume.new) }
-    ensures sizes { SameSizes (V.view volume.old) (V.view volume.new) }
-    ensures later { (V.view volume.old).failures ≤ (V.view volume.new).failures }
+    ensures reads { OnlyReads V.tells (V.view volume.old) (V.view volume.new) }
     ensures cause { OnErr result (Rose (V.view volume.old).failures (V.view volume.new).failures) }
 {
     if is_open(volume, Side::Left)? {
@@ -168,9 +166,7 @@ fn is_open<V: Volume>(volume: &mut V, side: Side) -> Result<bool, VolumeFault>
     ensures exact { IfOk result (λ found. IsTrue V.tells
         → (IsTrue found ↔ IsOpen ((V.view volume.old).seen side))) }
 
-    ensures calm { IsTrue V.tells → Calm (V.view volume.old) (V.view volume.new) }
-    ensures sizes { SameSizes (V.view volume.old) (V.view volume.new) }
-    ensures later { (V.view volume.old).failures ≤ (V.view volume.new).failures }
+    ensures reads { OnlyReads V.tells (V.view volume.old) (V.view volume.new) }
     ensures cause { OnErr result (Rose (V.view volume.old).failures (V.view volume.new).failures) }
 {
     if volume.len(side) < 26 {
@@ -194,10 +190,9 @@ fn first_side(
     ensures too_large { IsErrOf result TooLarge → limit < 45 }
     ensures which { OnErr result (IsErrOf result TooLarge ⊎ IsErrOf result NoMemory) }
 {
-    let state = State::empty(alloc, currency);
-    let bytes = side_bytes(alloc, 1, &state, limit)?;
-    match Snapshot::new(state) {
-        Ok(snapshot) => Ok((bytes, snapshot)),
-        Err(_) => Err(StoreFault::NoMemory),
-    }
+    let Ok(snapshot) = snapshot_of(State::empty(alloc, currency)) else {
+        return Err(StoreFault::NoMemory);
+    };
+    let bytes = side_bytes(alloc, 1, snapshot.state(), limit)?;
+    Ok((bytes, snapshot))
 }

@@ -1,18 +1,18 @@
 //! The headers of the two sides, and which side is in use.
 ghost use Rattle.std.specs.Option.{ForSome};
-ghost use Rattle.std.specs.Prelude.{◌≡◌, ◌⊎◌, ◌+◌, ◌<◌, ◌≤◌, ℕ, length, take, drop, IfSome, IfNone, IfOk, IfErr, IsErrOf, IsTrue};
+ghost use Rattle.std.specs.Prelude.{◌≡◌, ◌⊎◌, ◌+◌, ◌<◌, ◌≤◌, ℕ, List, length, take, drop, IfSome, IfNone, IfOk, IfErr, IsErrOf, IsTrue};
 ghost use Rattle.std.specs.Int.{from_le_bytes};
 ghost use Rattle.std.specs.Int.Width.{w64};
 ghost use Rattle.fw_bytes.specs.Spelling.{number64};
 ghost use Rattle.fw_disk.specs.declared.volume.Side.{Side};
-ghost use Rattle.fw_disk.specs.Volume.{Rose, SameSizes, Calm};
+ghost use Rattle.fw_disk.specs.Volume.{Rose};
 ghost use Rattle.fw_entry_bytes.specs.declared.form.Form.{Form};
 ghost use Rattle.fw_recover.specs.declared.fault.StoreFault.TheVariants.{NoHouse, Corrupt, Device};
 ghost use Rattle.fw_recover.specs.Sides.{magic, IsOpen};
 ghost use Rattle.fw_recover.specs.Stands.{IsNewest, StandsForNone};
 ghost use Rattle.fw_recover.specs.Corrupt.{LacksAt, CorruptAt};
-ghost use Rattle.fw_recover.specs.Headers.{HasHeader, IsHeader};
-ghost use Rattle.fw_recover.specs.Opening.{IsOpenFault};
+ghost use Rattle.fw_recover.specs.Headers.{HasHeader, IsHeader, BeginsWith};
+ghost use Rattle.fw_recover.specs.Opening.{OnlyReads, IsOpenFault};
 
 use crate::StoreFault;
 use fw_disk::{Side, Volume};
@@ -47,9 +47,7 @@ pub fn side_in_use<V: Volume>(volume: &mut V) -> Result<(Side, Header), StoreFau
         → CorruptAt (V.view volume.old).seen side at }
     ensures which { IfErr result IsOpenFault }
 
-    ensures calm { IsTrue V.tells → Calm (V.view volume.old) (V.view volume.new) }
-    ensures sizes { SameSizes (V.view volume.old) (V.view volume.new) }
-    ensures later { (V.view volume.old).failures ≤ (V.view volume.new).failures }
+    ensures reads { OnlyReads V.tells (V.view volume.old) (V.view volume.new) }
     ensures device { IsErrOf result Device → Rose (V.view volume.old).failures
         (V.view volume.new).failures }
 {
@@ -87,9 +85,7 @@ fn header_of<V: Volume>(volume: &mut V, side: Side) -> Result<Option<Header>, St
     ensures not_no_house { IsErrOf result NoHouse → ⊥ }
     ensures which { IfErr result IsOpenFault }
 
-    ensures calm { IsTrue V.tells → Calm (V.view volume.old) (V.view volume.new) }
-    ensures sizes { SameSizes (V.view volume.old) (V.view volume.new) }
-    ensures later { (V.view volume.old).failures ≤ (V.view volume.new).failures }
+    ensures reads { OnlyReads V.tells (V.view volume.old) (V.view volume.new) }
     ensures device { IsErrOf result Device → Rose (V.view volume.old).failures
         (V.view volume.new).failures }
 {
@@ -97,23 +93,41 @@ fn header_of<V: Volume>(volume: &mut V, side: Side) -> Result<Option<Header>, St
     if len < 26 {
         return Ok(None);
     }
-    let mut header = [0; 25];
-    let Ok(()) = volume.read(side, 0, &mut header) else {
+    let mut front = [0; 25];
+    let Ok(()) = volume.read(side, 0, &mut front) else {
         return Err(StoreFault::Device);
     };
-    if header[0] != 1 {
+    match header_in(&front, len) {
+        Ok(header) => Ok(header),
+        Err(at) => Err(StoreFault::Corrupt { side, at }),
+    }
+}
+
+/// The header that the first 25 bytes of a file are, which has so many bytes; none where they are those of a side that isn't
+/// open. The error is the place of the first fault.
+fn header_in(front: &[u8], len: u64) -> Result<Option<Header>, u64>
+    requires long { length front.now ≡ 25 }
+    requires more { 26 ≤ len }
+    ensures found { IfOk result (λ header. (file : List ℕ) → BeginsWith front.now len file
+        → IsHeader header file) }
+    ensures within { IfOk result (λ header. ForSome header (λ h.
+        (0 < h.generation) × (25 + h.body_len < len))) }
+    ensures lacks { IfErr result (λ at. (file : List ℕ) → BeginsWith front.now len file
+        → IsOpen file × LacksAt file at) }
+{
+    if front[0] != 1 {
         return Ok(None);
     }
-    let Some(form) = form_of(&header) else {
-        return Err(StoreFault::Corrupt { side, at: 1 });
+    let Some(form) = form_of(front) else {
+        return Err(1);
     };
-    let generation = number_in(&header, 9);
+    let generation = number_in(front, 9);
     if generation == 0 {
-        return Err(StoreFault::Corrupt { side, at: 9 });
+        return Err(9);
     }
-    let body_len = number_in(&header, 17);
+    let body_len = number_in(front, 17);
     if body_len >= len - 25 {
-        return Err(StoreFault::Corrupt { side, at: 17 });
+        return Err(17);
     }
     Ok(Some(Header {
         form,

@@ -8,19 +8,20 @@ ghost use Rattle.fw_entry_bytes.specs.Forms.{has_entry};
 ghost use Rattle.fw_snapshot.specs.Judging.{judged};
 ghost use Rattle.fw_snapshot.specs.Verdicts.{taken, verdicts_on, accepted_of, with_more};
 
+use crate::shared::with_entry;
 use fw_entry_bytes::Form;
-use fw_snapshot::{Entry, State, Verdict, judge};
+use fw_snapshot::{Entry, Snapshot, Verdict, judge};
 use std::alloc::AllocError;
 
 /// The verdict on an entry, which is put behind the state where it is accepted.
-pub(crate) fn judge_and_add(state: &mut State, entry: &Entry) -> Result<Verdict, AllocError>
+pub(crate) fn judge_and_add(state: &mut Snapshot, entry: &Entry) -> Result<Verdict, AllocError>
     ensures verdict { IfOk result (λ verdict. verdict ≡ judged state.old.entries entry.now) }
     ensures state { IfOk result (λ verdict. state.new
         ≡ with_more state.old (taken state.old.entries entry.now)) }
 {
-    match judge(state, entry) {
+    match judge(state.state(), entry) {
         Verdict::Accept => {
-            *state = state.apply(entry)?;
+            *state = with_entry(state.state(), entry)?;
             Ok(Verdict::Accept)
         }
         verdict => Ok(verdict),
@@ -31,7 +32,7 @@ pub(crate) fn judge_and_add(state: &mut State, entry: &Entry) -> Result<Verdict,
 /// state and the verdicts into a list, and says whether the form has each accepted one.
 pub(crate) fn judge_each(
     form: Form,
-    state: &mut State,
+    state: &mut Snapshot,
     entries: &[Entry],
     verdicts: &mut Vec<Verdict>,
 ) -> Result<bool, AllocError>

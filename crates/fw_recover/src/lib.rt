@@ -19,6 +19,7 @@ mod laws;
 mod opening;
 mod prepared;
 mod run;
+mod shared;
 mod sides;
 mod spelled;
 mod store;

@@ -1,6 +1,7 @@
 //! Entries that are judged, and spelled as a group, before anything of them is written.
 ghost use Rattle.std.specs.Prelude.{◌≡◌, ◌<◌, ◌≤◌, [], ◌∷◌, false, length, true, IfNone, IfOk, IfSome};
 ghost use Rattle.std.specs.List.{list_all};
+ghost use Rattle.std.specs.Vec.{vec_capacity};
 ghost use Rattle.fw_entry_bytes.specs.Forms.{has_entry};
 ghost use Rattle.fw_segment.specs.Groups.{group, IsGroup};
 ghost use Rattle.fw_snapshot.specs.Verdicts.{verdicts_on, accepted_of, chosen, with_more};
@@ -9,7 +10,7 @@ ghost use Rattle.fw_recover.specs.Committing.{payload_of, IsFrameable};
 use crate::judging::judge_each;
 use fw_entry_bytes::Form;
 use fw_segment::append_accepted;
-use fw_snapshot::{Entry, Snapshot, State, Verdict};
+use fw_snapshot::{Entry, Snapshot, Verdict};
 use std::alloc::{AllocError, Global};
 use std::marker::Model;
 use std::slice;
@@ -46,7 +47,7 @@ impl Prepared {
     pub(crate) fn new(
         alloc: Global,
         form: Form,
-        state: &State,
+        state: &Snapshot,
         entries: &[Entry],
     ) -> Result<Option<Prepared>, AllocError>
         requires group { IsGroup entries.now }
@@ -60,14 +61,13 @@ impl Prepared {
         ensures old { IfOk result (λ found. IfNone found
             (list_all (has_entry form) (accepted_of state.now.entries entries.now) ≡ false)) }
     {
-        let (verdicts, next, has_each) = judge_all(alloc, form, state, entries)?;
-        if !has_each {
+        let mut verdicts = Vec::with_capacity(alloc, entries.len())?;
+        let Some(next) = judged(form, state, entries, &mut verdicts)? else {
             return Ok(None);
-        }
-        let before = state.entries();
-        let accepted = next.entries() - before;
+        };
+        let before = state.state().entries();
+        let accepted = next.state().entries() - before;
         let payload = group_of_accepted(alloc, accepted, entries, &verdicts)?;
-        let next = Snapshot::settled(&next)?;
         Ok(Some(Prepared {
             entries: before,
             next,
@@ -91,23 +91,31 @@ impl Prepared {
     }
 }
 
-/// The verdict on each of these entries, the state with the accepted ones, and whether the form has each of these.
-fn judge_all(
-    alloc: Global,
+/// The state with those of the entries that are accepted, where the form has each of these, and the verdicts in the list.
+fn judged(
     form: Form,
-    state: &State,
+    state: &Snapshot,
     entries: &[Entry],
-) -> Result<(Vec<Verdict>, State, bool), AllocError>
-    ensures verdicts { IfOk result (λ r. r.0.items ≡ verdicts_on state.now.entries entries.now) }
-    ensures next { IfOk result (λ r. r.1 ≡ with_more state.now
-        (accepted_of state.now.entries entries.now)) }
-    ensures has_each { IfOk result (λ r. r.2 ≡ list_all (has_entry form)
-        (accepted_of state.now.entries entries.now)) }
+    verdicts: &mut Vec<Verdict>,
+) -> Result<Option<Snapshot>, AllocError>
+    requires none { verdicts.old.items ≡ [] }
+    requires room { length entries.now ≤ vec_capacity verdicts.old }
+    ensures verdicts { IfOk result (λ _.
+        verdicts.new.items ≡ verdicts_on state.now.entries entries.now) }
+    ensures next { IfOk result (λ found. IfSome found (λ next.
+        next ≡ with_more state.now (accepted_of state.now.entries entries.now))) }
+    ensures of_form { IfOk result (λ found.
+        IfSome found (λ _. list_all (has_entry form) (accepted_of state.now.entries entries.now)
+        ≡ true)) }
+    ensures old { IfOk result (λ found. IfNone found
+        (list_all (has_entry form) (accepted_of state.now.entries entries.now) ≡ false)) }
 {
-    let mut verdicts = Vec::with_capacity(alloc, entries.len())?;
     let mut next = state.copy()?;
-    let has_each = judge_each(form, &mut next, entries, &mut verdicts)?;
-    Ok((verdicts, next, has_each))
+    if judge_each(form, &mut next, entries, verdicts)? {
+        Ok(Some(Snapshot::settled(next.state())?))
+    } else {
+        Ok(None)
+    }
 }
 
 /// The bytes of the group of the entries that their verdicts accept, which are so many; no bytes where there is none.

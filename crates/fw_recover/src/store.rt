@@ -70,7 +70,7 @@ impl<V: Volume> Store<V> {
     {
         let mut volume = volume;
         match read_sides(alloc, &mut volume) {
-            Ok((form, generation, log, state)) => match Snapshot::settled(&state) {
+            Ok((form, generation, log, state)) => match Snapshot::settled(state.state()) {
                 Ok(snapshot) => Ok(Store {
                     volume,
                     form,

@@ -1,12 +1,12 @@
 //! The walk over the log of a side, from the state that its body spells on.
 ghost use Rattle.std.specs.Prelude.{◌≡◌, ◌+◌, ◌<◌, ◌≤◌, ℕ, IfOk, IfErr, IsErrOf, IsTrue, MatchBool};
 ghost use Rattle.fw_disk.specs.declared.volume.Side.{Side};
-ghost use Rattle.fw_disk.specs.Volume.{Rose, SameSizes, Calm};
+ghost use Rattle.fw_disk.specs.Volume.{Rose};
 ghost use Rattle.fw_snapshot.specs.Judging.{IsLegal, IsLegalAfter};
 ghost use Rattle.fw_snapshot.specs.Verdicts.{with_more};
 ghost use Rattle.fw_recover.specs.declared.fault.StoreFault.TheVariants.{NoHouse, Corrupt, Device};
 ghost use Rattle.fw_recover.specs.Corrupt.{LogBreaks};
-ghost use Rattle.fw_recover.specs.Opening.{log_fault, IsOpenFault, GoesBehind, GoesNotBehind, HasGroups, IsClosedAt};
+ghost use Rattle.fw_recover.specs.Opening.{log_fault, IsOpenFault, GoesBehind, GoesNotBehind, HasGroups, IsClosedAt, OnlyReads};
 
 use crate::StoreFault;
 use crate::judging::judge_and_add;
@@ -14,7 +14,7 @@ use fw_disk::{Side, Volume};
 use fw_entry_bytes::Form;
 use fw_journal::{LogFault, frame_at};
 use fw_segment::{DecodeFault, decode_group};
-use fw_snapshot::{Entry, State, Verdict};
+use fw_snapshot::{Entry, Snapshot, Verdict};
 use std::alloc::{AllocError, Global};
 
 /// Puts the groups of a log of the form behind the state, and answers the log's first closed gate. It reads the log frame by frame:
@@ -28,7 +28,7 @@ pub(crate) fn walk_log<V: Volume>(
     side: Side,
     form: Form,
     start: u64,
-    state: &mut State,
+    state: &mut Snapshot,
 ) -> Result<u64, StoreFault>
     requires legal { IsLegal state.old.entries }
 
@@ -43,9 +43,7 @@ pub(crate) fn walk_log<V: Volume>(
     ensures not_no_house { IsErrOf result NoHouse → ⊥ }
     ensures which { IfErr result IsOpenFault }
 
-    ensures calm { IsTrue V.tells → Calm (V.view volume.old) (V.view volume.new) }
-    ensures sizes { SameSizes (V.view volume.old) (V.view volume.new) }
-    ensures later { (V.view volume.old).failures ≤ (V.view volume.new).failures }
+    ensures reads { OnlyReads V.tells (V.view volume.old) (V.view volume.new) }
     ensures device { IsErrOf result Device → Rose (V.view volume.old).failures
         (V.view volume.new).failures }
 {
@@ -80,7 +78,7 @@ fn of_log(side: Side, fault: LogFault) -> StoreFault
 fn add_group(
     alloc: Global,
     form: Form,
-    state: &mut State,
+    state: &mut Snapshot,
     payload: &[u8],
 ) -> Result<bool, AllocError>
     ensures { IfOk result (λ all. MatchBool all (GoesBehind form state.old payload.now state.new)
@@ -94,7 +92,7 @@ fn add_group(
 }
 
 /// Puts entries behind the state, up to the first one that isn't accepted after those before it; false where there is one.
-fn add_all(state: &mut State, entries: &[Entry]) -> Result<bool, AllocError>
+fn add_all(state: &mut Snapshot, entries: &[Entry]) -> Result<bool, AllocError>
     ensures { IfOk result (λ all. MatchBool all
         (IsLegalAfter state.old.entries entries.now × (state.new ≡ with_more state.old entries.now))
         (IsLegalAfter state.old.entries entries.now → ⊥)) }

@@ -15,18 +15,18 @@ use Rattle.fw_recover.proofs.create.make_first.Goals.{After-make_side}
 
 pub returns-in_err-find_free-clause-any_moment : goal.returns-in_err-find_free-clause-any_moment
 returns-in_err-find_free-clause-any_moment g c told settled none =
-    calm_none (empty c.args.currency) (g.V.Volume.view c.args.volume.now) (g.V.Volume.view c.find_free.new.volume) (c.find_free.ensures.calm told) settled none
+    calm_none (empty c.args.currency) (g.V.Volume.view c.args.volume.now) (g.V.Volume.view c.find_free.new.volume) (c.find_free.ensures.reads.calm told) settled none
 
 pub returns-in_err-bytes-clause-any_moment : goal.returns-in_err-bytes-clause-any_moment
 returns-in_err-bytes-clause-any_moment g c told settled none =
-    calm_none (empty c.args.currency) (g.V.Volume.view c.args.volume.now) (g.V.Volume.view c.find_free.new.volume) (c.find_free.ensures.calm told) settled none
+    calm_none (empty c.args.currency) (g.V.Volume.view c.args.volume.now) (g.V.Volume.view c.find_free.new.volume) (c.find_free.ensures.reads.calm told) settled none
 
 -- while Left is made
 moments : (g : given.Over) (c : goal.After-make_side g) → IsTrue g.V.Volume.tells → AllSettled (g.V.Volume.view c.args.volume.now) → StandsForNone (g.V.Volume.view c.args.volume.now).seen
     → LeavesOnly (g.V.Volume.view c.args.volume.now) (g.V.Volume.view c.make_side.new.volume) (StandsForNoneOr (empty c.args.currency))
 moments g c told settled none =
     first_since c.args.currency c.deref.result.now c.in_ok-bytes.bytes.items c.deref.ensures.value c.in_ok-bytes.ensures.made
-    (g.V.Volume.view c.args.volume.now) (g.V.Volume.view c.find_free.new.volume) (g.V.Volume.view c.make_side.new.volume) (c.find_free.ensures.calm told) none
+    (g.V.Volume.view c.args.volume.now) (g.V.Volume.view c.find_free.new.volume) (g.V.Volume.view c.make_side.new.volume) (c.find_free.ensures.reads.calm told) none
     settled (c.make_side.ensures.any_moment told (c.in_ok-find_free.ensures.settled told))
 
 pub returns-in_default-clause-any_moment : goal.returns-in_default-clause-any_moment
@@ -48,7 +48,7 @@ returns-clause-in_use g c =
       fresh = λ told.
           let fresh =
           first_in_use c.args.currency c.deref.result.now c.in_ok-bytes.bytes.items c.deref.ensures.value c.in_ok-bytes.ensures.made
-          (g.V.Volume.view c.args.volume.now) (g.V.Volume.view c.find_free.new.volume) new (c.find_free.ensures.calm told) (c.in_ok-find_free.ensures.free told)
+          (g.V.Volume.view c.args.volume.now) (g.V.Volume.view c.find_free.new.volume) new (c.find_free.ensures.reads.calm told) (c.in_ok-find_free.ensures.free told)
           (c.in-Ok.ensures.made told (c.in_ok-find_free.ensures.settled told)) in
           subst (λ (k : ℕ). IsFresh Two 1 (empty_log Left k) c.in_ok-bytes.snapshot new) start
           (subst (λ (s : History). IsFresh Two 1 (empty_log Left 44) s new) (sym c.in_ok-bytes.ensures.state) fresh);

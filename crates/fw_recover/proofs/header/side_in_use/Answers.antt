@@ -24,7 +24,7 @@ returns-then-left-right-clause-corrupt g c side at is told =
     let right = c.in-Some-Some.right in
     let first : HasHeader left.form left.generation left.body_len (old.seen Left) = rw c.in-Some-Some.is-0 at (c.in_ok-left.ensures.found told) in
     let there : HasHeader right.form right.generation right.body_len ((g.V.Volume.view c.header_of.new.volume).seen Right) = rw c.in-Some-Some.is-1 at (c.in_ok-right.ensures.found told) in
-    let second = subst (λ l. HasHeader right.form right.generation right.body_len l) ((c.in_ok-left.ensures.calm told).seen Right) there in
+    let second = subst (λ l. HasHeader right.form right.generation right.body_len l) ((c.in_ok-left.ensures.reads.calm told).seen Right) there in
     let side_is : side ≡ Right = cc in
     let place : at ≡ 9 = cc in
     twins old.seen side at left.form right.form left.generation right.generation left.body_len right.body_len first second c.if-left-right.true side_is place

@@ -1,6 +1,5 @@
-use Rattle.std.proofs.Common.{◌≤◌, ◌-◌, IsTrue}
-use Rattle.fw_disk.specs.Volume.{SameSizes, Calm}
-use Rattle.fw_recover.specs.Opening.{HasGroups}
+use Rattle.std.proofs.Common.{◌-◌, IsTrue}
+use Rattle.fw_recover.specs.Opening.{HasGroups, OnlyReads}
 use Rattle.fw_recover.proofs.walk.walk_log.Given as goal
 
 -- the groups up to this gate are behind the state, and nothing has changed
@@ -10,9 +9,7 @@ invariant-loop-payload g l =
     let now = g.V.Volume.view l.volume in
     record {
       groups : IsTrue g.V.Volume.tells → HasGroups l.form l.initial.state l.start l.gate (old.seen l.side) l.state;
-      calm : IsTrue g.V.Volume.tells → Calm old now;
-      sizes : SameSizes old now;
-      later : old.failures ≤ now.failures;
+      reads : OnlyReads g.V.Volume.tells old now;
     }
 
 abbrev pub decreases-loop-payload : goal.decreases-loop-payload

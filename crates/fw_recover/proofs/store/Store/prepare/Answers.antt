@@ -27,8 +27,8 @@ returns-clause-room g c =
 pub returns-in_default-prepared-clause-old_side : goal.returns-in_default-prepared-clause-old_side
 returns-in_default-prepared-clause-old_side g c is all =
     let es = c.args.entries.now in
-    let same : c.state.result.now ≡ c.args.self.now.history = c.state.ensures ∙ ap (λ (x : StoreState _). x.history) c.self.view_is in
+    let same : c.self.inside.snapshot ≡ c.args.self.now.history = ap (λ (x : StoreState _). x.history) c.self.view_is in
     let form = ap (λ (x : StoreState _). x.form) c.self.view_is in
-    let old : list_all (has_entry c.self.inside.form) (accepted_of c.state.result.now.entries es) ≡ false = rw c.in_default-prepared.is at c.in-Ok.ensures.old in
-    not_of_form c.self.inside.form (accepted_of c.state.result.now.entries es) old
-    (subst (λ (f : Form). IsOfForm f (accepted_of c.state.result.now.entries es)) (sym form) (subst (λ (h : History). IsOfForm c.args.self.now.form (accepted_of h.entries es)) (sym same) all))
+    let old : list_all (has_entry c.self.inside.form) (accepted_of c.self.inside.snapshot.entries es) ≡ false = rw c.in_default-prepared.is at c.in-Ok.ensures.old in
+    not_of_form c.self.inside.form (accepted_of c.self.inside.snapshot.entries es) old
+    (subst (λ (f : Form). IsOfForm f (accepted_of c.self.inside.snapshot.entries es)) (sym form) (subst (λ (h : History). IsOfForm c.args.self.now.form (accepted_of h.entries es)) (sym same) all))
