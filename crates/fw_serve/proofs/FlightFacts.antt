@@ -34,17 +34,7 @@ use Rattle.fw_serve.proofs.FailedFacts.{gone_by_answer}
 use Rattle.fw_serve.proofs.MoveFacts.{Moves-then, by_flag, failed_stays, flight_as, moved_at, moved_failed, not_both, stands_still}
 use Rattle.fw_serve.proofs.RunFacts.{step}
 use Rattle.fw_serve.proofs.ServedFacts.{CommandsOf-whole, StartsWithCommands-more}
-use Rattle.fw_serve.proofs.WrittenFacts.{same_currency}
-
--- ---- places in lists
-get_front : {A : Type 0} (xs ys : List A) (place : ℕ) (x : A) → slice_get xs place ≡ Some x → slice_get (xs ++ ys) place ≡ Some x
-get_front [] ys place x there = absurd (cc)
-get_front (y ∷ xs) ys zero x there = there
-get_front (y ∷ xs) ys (suc place) x there = get_front xs ys place x there
-
-get_last : {A : Type 0} (xs : List A) (x : A) → slice_get (xs ++ x ∷ []) (length xs) ≡ Some x
-get_last [] x = refl
-get_last (y ∷ xs) x = get_last xs x
+use Rattle.fw_serve.proofs.WrittenFacts.{same_currency, slice_get-front, slice_get-seam}
 
 -- ---- one command more
 same_length : (commands : List PlainCommand) (before after : Standing) (answers : List (List ℕ)) → AnswersEach before commands answers after → length answers ≡ length commands
@@ -59,20 +49,6 @@ kept_currency [] before after answers given = ap (λ (s : Standing). s.history.c
 kept_currency (c ∷ commands) before after answers given =
     kept_currency commands given.1 after given.2 given.4 ∙ same_currency before c given.0 given.1 (step before c given.0 given.1 given.3)
 
-each_more : (commands : List PlainCommand) (before middle after : Standing) (answers : List (List ℕ)) (command : PlainCommand) (text : List ℕ) → AnswersEach before commands answers middle
-    → Answer middle command text after → AnswersEach before (commands ++ command ∷ []) (answers ++ text ∷ []) after
-unfolding AnswersEach
-each_more [] before middle after answers command text given answered =
-    (text, after, [], subst (λ (s : Standing). Answer s command text after) given.1 answered, (refl, refl), ap (λ (l : List (List ℕ)). l ++ text ∷ []) given.0)
-each_more (c ∷ commands) before middle after answers command text given answered = (
-  given.0,
-  given.1,
-  given.2 ++ text ∷ [],
-  given.3,
-  each_more commands given.1 middle after given.2 command text given.4 answered,
-  ap (λ (l : List (List ℕ)). l ++ text ∷ []) given.5,
-)
-
 concat_more : (answers : List (List ℕ)) (text : List ℕ) → concat (answers ++ text ∷ []) ≡ concat answers ++ text
 concat_more answers text = concat-append answers (text ∷ []) ∙ ap (λ (l : List ℕ). concat answers ++ l) (append-nil text)
 
@@ -83,31 +59,39 @@ flies_on : (before middle after : Standing) (commands : List PlainCommand) (answ
 flies_on before middle after commands answers command text e same flies = record {
   place = flies.place;
   command = flies.command;
-  asked = get_front commands (command ∷ []) flies.place flies.command flies.asked;
-  fails = get_front answers (text ∷ []) flies.place (store_fault_line store_fault.Device) flies.fails;
+  asked = slice_get-front commands (command ∷ []) flies.place flies.command flies.asked;
+  fails = slice_get-front answers (text ∷ []) flies.place (store_fault_line store_fault.Device) flies.fails;
   sends = flies.sends;
   accepted = subst (λ (s : Standing). judged s.history.entries e ≡ verdict.Accept) (sym same) flies.accepted;
   of_form = subst (λ (s : Standing). has_entry s.form e ≡ true) (sym same) flies.of_form;
 }
 
+-- the command at this place sends it, and nothing changes behind
+flies_at : (before middle next after : Standing) (commands : List PlainCommand) (answers : List (List ℕ)) (place : ℕ) (command : PlainCommand) (text : List ℕ) (e : EntryValue)
+    → slice_get commands place ≡ Some command → slice_get answers place ≡ Some text → middle.history.currency ≡ before.history.currency
+    → Answer middle command text next → after ≡ next → FailsOnSent middle command text e → IsInFlight before after commands answers e
+flies_at before middle next after commands answers place command text e asked says money answered same flies =
+    let fails : Answer middle command (store_fault_line store_fault.Device) next = subst (λ (t : List ℕ). Answer middle command t next) flies.1.says answered in
+    let left : after ≡ lost middle = same ∙ gone_by_answer middle next command fails in
+    record {
+      place = place;
+      command = command;
+      asked = asked;
+      fails = says ∙ ap Some flies.1.says;
+      sends = subst (λ (currency : List ℕ). Sends currency command e) money flies.0;
+      accepted = subst (λ (s : Standing). judged s.history.entries e ≡ verdict.Accept) (sym left) flies.1.accepted;
+      of_form = subst (λ (s : Standing). has_entry s.form e ≡ true) (sym left) flies.1.of_form;
+    }
+
 -- the last command sends it
 flies_last : (before middle after : Standing) (commands : List PlainCommand) (answers : List (List ℕ)) (command : PlainCommand) (text : List ℕ) (e : EntryValue)
     → AnswersEach before commands answers middle → Answer middle command text after → FailsOnSent middle command text e
     → IsInFlight before after (commands ++ command ∷ []) (answers ++ text ∷ []) e
-flies_last before middle after commands answers command text e given answered flies =
-    let fails : Answer middle command (store_fault_line store_fault.Device) after = subst (λ (t : List ℕ). Answer middle command t after) flies.1.says answered in
-    let gone : after ≡ lost middle = gone_by_answer middle after command fails in
-    let last : slice_get (answers ++ text ∷ []) (length commands) ≡ Some text =
-    subst (λ n. slice_get (answers ++ text ∷ []) n ≡ Some text) (same_length commands before middle answers given) (get_last answers text) in
-    record {
-      place = length commands;
-      command = command;
-      asked = get_last commands command;
-      fails = last ∙ ap Some flies.1.says;
-      sends = subst (λ (currency : List ℕ). Sends currency command e) (kept_currency commands before middle answers given) flies.0;
-      accepted = subst (λ (s : Standing). judged s.history.entries e ≡ verdict.Accept) (sym gone) flies.1.accepted;
-      of_form = subst (λ (s : Standing). has_entry s.form e ≡ true) (sym gone) flies.1.of_form;
-    }
+flies_last before middle after commands answers command text e given answered =
+    let says : slice_get (answers ++ text ∷ []) (length commands) ≡ Some text =
+    subst (λ n. slice_get (answers ++ text ∷ []) n ≡ Some text) (same_length commands before middle answers given) (slice_get-seam answers [] text) in
+    flies_at before middle after after (commands ++ command ∷ []) (answers ++ text ∷ []) (length commands) command text e (slice_get-seam commands [] command) says
+    (kept_currency commands before middle answers given) answered refl
 
 moves_more : {V : Type 0} (tells : Bool) (view : V → View) (a b c : StoreState V) (commands : List PlainCommand) (answers : List (List ℕ)) (command : PlainCommand) (text : List ℕ)
     → AnswersEach (standing_of view a) commands answers (standing_of view b) → Answer (standing_of view b) command text (standing_of view c)
@@ -175,18 +159,8 @@ turn_stays tells view (d ∷ commands) old new answers run failed =
 -- the first command sent the entry in flight, or a later one
 flies_first : (before next after : Standing) (d : PlainCommand) (commands : List PlainCommand) (first : List ℕ) (answers more : List (List ℕ)) (e : EntryValue) → answers ≡ first ∷ more
     → Answer before d first next → after ≡ next → FailsOnSent before d first e → IsInFlight before after (d ∷ commands) answers e
-flies_first before next after d commands first answers more e is answered same flies =
-    let fails : Answer before d (store_fault_line store_fault.Device) next = subst (λ (t : List ℕ). Answer before d t next) flies.1.says answered in
-    let left : after ≡ lost before = same ∙ gone_by_answer before next d fails in
-    record {
-      place = zero;
-      command = d;
-      asked = refl;
-      fails = ap (λ (l : List (List ℕ)). slice_get l zero) is ∙ ap Some flies.1.says;
-      sends = flies.0;
-      accepted = subst (λ (s : Standing). judged s.history.entries e ≡ verdict.Accept) (sym left) flies.1.accepted;
-      of_form = subst (λ (s : Standing). has_entry s.form e ≡ true) (sym left) flies.1.of_form;
-    }
+flies_first before next after d commands first answers more e is =
+    flies_at before before next after (d ∷ commands) answers zero d first e refl (ap (λ (l : List (List ℕ)). slice_get l zero) is) refl
 
 flies_later : (before next after : Standing) (d : PlainCommand) (commands : List PlainCommand) (first : List ℕ) (answers more : List (List ℕ)) (e : EntryValue) → answers ≡ first ∷ more
     → Answer before d first next → IsInFlight next after commands more e → IsInFlight before after (d ∷ commands) answers e
@@ -317,7 +291,7 @@ RunsSoFar-more tells view script left command rest a b c text x y z done first a
   commands = done.commands ++ command ∷ [];
   answers = done.answers ++ text ∷ [];
   reads = StartsWithCommands-more script done.commands left command rest done.reads first;
-  answered = each_more done.commands (standing_of view a) (standing_of view b) (standing_of view c) done.answers command text done.answered answered;
+  answered = turn_told tells view (done.commands ++ command ∷ []) a c (done.answers ++ text ∷ []) (turn_more tells view done.commands a b c done.answers command text done.in_turn answered within);
   writes = subst (Appends x z) (sym (concat_more done.answers text)) (Appends-trans x y z (concat done.answers) text done.writes wrote);
   moves = moves_more tells view a b c done.commands done.answers command text done.answered answered done.moves moves;
   in_turn = turn_more tells view done.commands a b c done.answers command text done.in_turn answered within;
@@ -332,7 +306,7 @@ Runs-part tells view script left command rest a b c text x y z done first answer
   commands = done.commands ++ command ∷ [];
   answers = done.answers ++ text ∷ [];
   reads = StartsWithCommands-more script done.commands left command rest done.reads first;
-  answered = each_more done.commands (standing_of view a) (standing_of view b) (standing_of view c) done.answers command text done.answered answered;
+  answered = turn_told tells view (done.commands ++ command ∷ []) a c (done.answers ++ text ∷ []) (turn_more tells view done.commands a b c done.answers command text done.in_turn answered within);
   writes = record {
     written = concat done.answers ++ wrote.written;
     unwritten = wrote.unwritten;
@@ -369,22 +343,9 @@ always (Err e) p = tt
 -- all commands were run, and the writer was flushed
 pub RunsTo-whole : {V : Type 0} (tells : Bool) (view : V → View) (result : Result (Unit {0}) ServeFault) (script left : List ℕ) (a b : StoreState V) (x y z : Option (List ℕ))
     → RunsSoFar tells view script left a b x y → left ≡ [] → Keeps y z → RunsTo tells view result script a b x z
+unfolding Runs-whole
 RunsTo-whole tells view result script left a b x y z done none kept = record {
-  runs = record {
-    left = left;
-    commands = done.commands;
-    answers = done.answers;
-    reads = done.reads;
-    answered = done.answered;
-    writes = record {
-      written = concat done.answers;
-      unwritten = [];
-      whole = sym (append-nil (concat done.answers));
-      writes = Appends-kept x y z (concat done.answers) done.writes kept;
-    };
-    moves = done.moves;
-    in_turn = done.in_turn;
-  };
+  runs = Runs-whole tells view script left a b x y z done kept;
   whole = always result (CommandsOf-whole script done.commands left done.reads none, Appends-kept x y z (concat done.answers) done.writes kept);
 }
 

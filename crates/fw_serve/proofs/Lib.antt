@@ -8,6 +8,7 @@ pub mod SilentFacts
 pub mod RunFacts
 pub mod OneAnswerFacts
 pub mod AlikeFacts
+pub mod NumberFacts
 pub mod WrittenFacts
 pub mod FailedFacts
 pub mod FormFacts

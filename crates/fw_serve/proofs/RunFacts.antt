@@ -7,6 +7,7 @@ use Rattle.fw_entry.specs.Spelling as spelling
 use Rattle.fw_entry.specs.Spelling.{most_entry_bytes}
 use Rattle.fw_entry.specs.declared.fault.EntryFault.{EntryFault}
 use Rattle.fw_entry.specs.declared.fault.EntryFault.TheVariants as entry_fault
+use Rattle.fw_entry_bytes.specs.Forms.{has_entry}
 use Rattle.fw_recover.specs.declared.fault.StoreFault.{StoreFault}
 use Rattle.fw_recover.specs.declared.fault.StoreFault.TheVariants as store_fault
 use Rattle.fw_recover.proofs.Standing.{no_more}
@@ -31,7 +32,7 @@ abbrev pub OneStep : Standing → PlainCommand → List ℕ → Standing → Typ
 OneStep before command text after =
     ((SendsNone before.history.currency command text ⊎ IsHindered text) × (speaks text ≡ false) × (after.history ≡ before.history))
     ⊎ ((e : EntryValue) × Sends before.history.currency command e × (text ≡ verdict_line (length before.history.entries + 1) (judged before.history.entries e))
-    × (after.history ≡ with_more before.history (taken before.history.entries e)))
+    × (judged before.history.entries e ≡ verdict.Accept → has_entry before.form e ≡ true) × (after.history ≡ with_more before.history (taken before.history.entries e)))
 
 pub same_history : (a b : Standing) → a ≡ b → a.history ≡ b.history
 same_history a b same = ap (λ (s : Standing). s.history) same
@@ -53,6 +54,7 @@ unkept before command e text after v sends is unaccepted stays =
       e,
       sends,
       stays.0 ∙ sym (ap (verdict_line (length before.history.entries + 1)) is),
+      λ accepted. absurd (not_both (is_accept v) (ap is_accept (sym is ∙ accepted)) unaccepted),
       same_history after before stays.1
           ∙ no_more before.history
           ∙ sym (ap (λ (l : List EntryValue). with_more before.history l) none)
@@ -68,6 +70,7 @@ judged_step before command e text after verdict.Accept sends is (inr (has, inl s
       e,
       sends,
       stored.0 ∙ sym (ap (verdict_line (length before.history.entries + 1)) is),
+      λ accepted. has,
       ap (λ (s : Standing). s.history) stored.1 ∙ sym (ap (λ (v : Verdict). with_more before.history (kept_by v e)) is),
     )
 judged_step before command e text after verdict.Accept sends is (inr (has, inr (inl full))) =
@@ -186,7 +189,7 @@ step before bad_end text after given = inl (inl tt, ap speaks given.0 ∙ bad_en
 -- an answer that says that memory ran out, or that the store didn't do it, leaves the entries as they were
 left_by_step : (before : Standing) (command : PlainCommand) (text : List ℕ) (after : Standing) → OneStep before command text after → IsHindered text → after.history ≡ before.history
 left_by_step before command text after (inl passed) out = passed.2
-left_by_step before command text after (inr (e, sends, says, grows)) out =
+left_by_step before command text after (inr (e, sends, says, has, grows)) out =
     absurd (not_both (speaks text) (ap speaks says ∙ verdict_speaks (length before.history.entries + 1) (judged before.history.entries e)) (hindered_silent text out))
 
 pub hindered_leaves : (before : Standing) (command : PlainCommand) (text : List ℕ) (after : Standing) → Answer before command text after → IsHindered text → after.history ≡ before.history
@@ -210,7 +213,7 @@ unfolding AreJudged accepted_of
 one_more before command text next commands answers more after is (inl passed) rest =
     let told : AreTold before.history commands more after = subst (λ (h : History). AreTold h commands more after) passed.2 rest in
     record { entries = told.entries; are_judged = (text, more, is, inl (passed.0, told.are_judged)); holds = told.holds }
-one_more before command text next commands answers more after is (inr (e, sends, says, grows)) rest =
+one_more before command text next commands answers more after is (inr (e, sends, says, has, grows)) rest =
     let held = before.history.entries in
     let told : AreTold (with_more before.history (taken held e)) commands more after = subst (λ (h : History). AreTold h commands more after) grows rest in
     record {

@@ -104,7 +104,7 @@ stopped_by : (held : History) (middle : Standing) (commands : List PlainCommand)
     → AddsOne middle running found → StandsFor found image → IsStopped (Sends held.currency running) held commands answers image
 stopped_by held middle commands answers running image found are (inl same) stands =
     stopped_none (Sends held.currency running) held middle.history found commands answers image are same stands
-stopped_by held middle commands answers running image found are (inr (e, sends, is, grows)) stands =
+stopped_by held middle commands answers running image found are (inr (e, sends, is, has, grows)) stands =
     let own : Sends held.currency running e = subst (λ (currency : List ℕ). Sends currency running e) (ap (λ (h : History). h.currency) are.holds) sends in
     stopped_last (Sends held.currency running) held middle.history found commands answers image e are own is grows stands
 

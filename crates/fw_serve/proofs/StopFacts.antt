@@ -3,6 +3,7 @@ use Rattle.std.proofs.Common.{◌≡◌, ◌⊎◌, ◌∙◌, ◌<◌, ◌^◌,
 use Rattle.std.proofs.lemmas.List.{append_cancel_left}
 use Rattle.fw_disk.specs.Volume.{Image}
 use Rattle.fw_entry.specs.Entry.{EntryValue}
+use Rattle.fw_entry_bytes.specs.Forms.{has_entry}
 use Rattle.fw_recover.proofs.Places.{stands_not_corrupt, stands_not_none, stands_one}
 use Rattle.fw_recover.proofs.Standing.{no_more}
 use Rattle.fw_recover.specs.Committing.{StandsForFirst, with_first}
@@ -62,44 +63,44 @@ front_one (x ∷ xs) ys e same =
     inr (ap (λ (l : List EntryValue). x ∷ l) (front_none xs ys rest) ∙ ap (λ (y : EntryValue). y ∷ []) (sym first))
 
 -- ---- what one command adds
--- these are the entries as they were, or with one that the command sends and that is accepted
+-- these are the entries as they were, or with one that the command sends, that is accepted and that the form of the side in use has
 abbrev pub AddsOne : Standing → PlainCommand → History → Type 0
 AddsOne before command g =
     (g ≡ before.history)
-    ⊎ ((e : EntryValue) × Sends before.history.currency command e × (judged before.history.entries e ≡ verdict.Accept) × (g ≡ with_more before.history (e ∷ [])))
+    ⊎ ((e : EntryValue) × Sends before.history.currency command e × (judged before.history.entries e ≡ verdict.Accept) × (has_entry before.form e ≡ true) × (g ≡ with_more before.history (e ∷ [])))
 
 adds_by : (before : Standing) (command : PlainCommand) (g : History) (e : EntryValue) (v : Verdict) → Sends before.history.currency command e → judged before.history.entries e ≡ v
-    → g ≡ with_more before.history (kept_by v e) → AddsOne before command g
-adds_by before command g e verdict.Accept sends is grows = inr (e, sends, is, grows)
-adds_by before command g e (verdict.Already last) sends is grows = inl (grows ∙ sym (no_more before.history))
-adds_by before command g e (verdict.Gap expected) sends is grows = inl (grows ∙ sym (no_more before.history))
-adds_by before command g e (verdict.Refused why) sends is grows = inl (grows ∙ sym (no_more before.history))
+    → (judged before.history.entries e ≡ verdict.Accept → has_entry before.form e ≡ true) → g ≡ with_more before.history (kept_by v e) → AddsOne before command g
+adds_by before command g e verdict.Accept sends is has grows = inr (e, sends, is, has is, grows)
+adds_by before command g e (verdict.Already last) sends is has grows = inl (grows ∙ sym (no_more before.history))
+adds_by before command g e (verdict.Gap expected) sends is has grows = inl (grows ∙ sym (no_more before.history))
+adds_by before command g e (verdict.Refused why) sends is has grows = inl (grows ∙ sym (no_more before.history))
 
 adds_step : (before : Standing) (command : PlainCommand) (text : List ℕ) (after : Standing) → OneStep before command text after → AddsOne before command after.history
 adds_step before command text after (inl passed) = inl passed.2
-adds_step before command text after (inr (e, sends, says, grows)) = adds_by before command after.history e (judged before.history.entries e) sends refl grows
+adds_step before command text after (inr (e, sends, says, has, grows)) = adds_by before command after.history e (judged before.history.entries e) sends refl has grows
 
 adds_one : (before : Standing) (command : PlainCommand) (text : List ℕ) (after : Standing) → Answer before command text after → AddsOne before command after.history
 adds_one before command text after given = adds_step before command text after (step before command text after given)
 
 -- ---- within one command
 found_front : (before : Standing) (command : PlainCommand) (found : History) (more : List EntryValue) (e : EntryValue) → found ≡ with_more before.history more → Sends before.history.currency command e
-    → judged before.history.entries e ≡ verdict.Accept → (more ≡ []) ⊎ (more ≡ e ∷ []) → AddsOne before command found
-found_front before command found more e same sends is (inl none) = inl (same ∙ ap (λ (l : List EntryValue). with_more before.history l) none ∙ sym (no_more before.history))
-found_front before command found more e same sends is (inr one) = inr (e, sends, is, same ∙ ap (λ (l : List EntryValue). with_more before.history l) one)
+    → judged before.history.entries e ≡ verdict.Accept → has_entry before.form e ≡ true → (more ≡ []) ⊎ (more ≡ e ∷ []) → AddsOne before command found
+found_front before command found more e same sends is has (inl none) = inl (same ∙ ap (λ (l : List EntryValue). with_more before.history l) none ∙ sym (no_more before.history))
+found_front before command found more e same sends is has (inr one) = inr (e, sends, is, has, same ∙ ap (λ (l : List EntryValue). with_more before.history l) one)
 
 found_one : (before after : Standing) (command : PlainCommand) (answer : List ℕ) (found : History) (more : List EntryValue) → found ≡ with_more before.history more
     → Leads (FailsOnSent before command answer) before.history more after → Answer before command answer after → AddsOne before command after.history → AddsOne before command found
 found_one before after command answer found more same (inl (rest, grows)) answered (inl stays) =
     let none : more ≡ [] = front_none more rest (same_more before.history [] (more ++ rest) (sym (no_more before.history) ∙ sym stays ∙ grows)) in
     inl (same ∙ ap (λ (l : List EntryValue). with_more before.history l) none ∙ sym (no_more before.history))
-found_one before after command answer found more same (inl (rest, grows)) answered (inr (e, sends, is, adds)) =
-    found_front before command found more e same sends is (front_one more rest e (same_more before.history (e ∷ []) (more ++ rest) (sym adds ∙ grows)))
+found_one before after command answer found more same (inl (rest, grows)) answered (inr (e, sends, is, has, adds)) =
+    found_front before command found more e same sends is has (front_one more rest e (same_more before.history (e ∷ []) (more ++ rest) (sym adds ∙ grows)))
 found_one before after command answer found more same (inr (fails, (done, last, flies, is, grows))) answered adds =
     let stays : after.history ≡ before.history = hindered_leaves before command answer after answered (inr (store_fault.Device, flies.1.says)) in
     let none : [] ≡ done = same_more before.history [] done (sym (no_more before.history) ∙ sym stays ∙ grows) in
     let one : more ≡ last ∷ [] = is ∙ ap (λ (l : List EntryValue). l ++ last ∷ []) (sym none) in
-    inr (last, flies.0, flies.1.accepted, same ∙ ap (λ (l : List EntryValue). with_more before.history l) one)
+    inr (last, flies.0, flies.1.accepted, flies.1.of_form, same ∙ ap (λ (l : List EntryValue). with_more before.history l) one)
 
 pub found_within : (before after : Standing) (command : PlainCommand) (answer : List ℕ) (image : Image) (found : History) → Answer before command answer after
     → IsBetween (FailsOnSent before command answer) before.history after image → StandsFor found image → AddsOne before command found
@@ -110,7 +111,7 @@ found_within before after command answer image found answered left stands =
 pub left_command : (before after : Standing) (command : PlainCommand) (answer : List ℕ) (image : Image) (found : History) → Answer before command answer after
     → IsBetween (FailsOnSent before command answer) before.history after image → StandsFor found image
     → ((found ≡ before.history)
-    ⊎ ((e : EntryValue) × Sends before.history.currency command e × (judged before.history.entries e ≡ verdict.Accept) × (found ≡ with_more before.history (e ∷ []))))
+    ⊎ ((e : EntryValue) × Sends before.history.currency command e × (judged before.history.entries e ≡ verdict.Accept) × (has_entry before.form e ≡ true) × (found ≡ with_more before.history (e ∷ []))))
     × IsWhole found.entries × ReportsAddUp found.entries
 left_command before after command answer image found answered left stands =
     let whole = opened found image stands in
@@ -119,14 +120,14 @@ left_command before after command answer image found answered left stands =
 -- ---- what was answered before
 added : (before : Standing) (command : PlainCommand) (found : History) → AddsOne before command found → (more : List EntryValue) × (found ≡ with_more before.history more)
 added before command found (inl same) = ([], same ∙ no_more before.history)
-added before command found (inr (e, sends, is, grows)) = (e ∷ [], grows)
+added before command found (inr (e, sends, is, has, grows)) = (e ∷ [], grows)
 
 pub left_answered : (before middle next : Standing) (commands : List PlainCommand) (answers : List (List ℕ)) (running : PlainCommand) (answer : List ℕ) (image : Image) (found : History) (place n : ℕ) (command : PlainCommand)
     → AnswersEach before commands answers middle → Answer middle running answer next → IsBetween (FailsOnSent middle running answer) middle.history next image → StandsFor found image
-    → slice_get commands place ≡ Some command → slice_get answers place ≡ Some (accepted_line n) → n < 2 ^ 64 → length middle.history.entries < 2 ^ 64
+    → slice_get commands place ≡ Some command → slice_get answers place ≡ Some (accepted_line n) → length middle.history.entries < 2 ^ 64
     → (e : EntryValue) × Sends before.history.currency command e × StandsAt found.entries n e
-left_answered before middle next commands answers running answer image found place n command given answered left stands asked says low few =
-    let (e, sends, at) = accepted_true commands before middle answers place n command given asked says low few in
+left_answered before middle next commands answers running answer image found place n command given answered left stands asked says few =
+    let (e, sends, at) = accepted_true commands before middle answers place n command given asked says few in
     let more = added middle running found (found_within middle next running answer image found answered left stands) in
     (e, sends, (at.0, at.1, ap (λ (h : History). slice_get h.entries at.0) more.1 ∙ slice_get-front middle.history.entries more.0 at.0 e at.2))
 
@@ -138,10 +139,10 @@ either_more before found more image (inr grown) stands = (more, stands_one image
 
 pub left_answered_after : (before after : Standing) (commands : List PlainCommand) (answers : List (List ℕ)) (more : List EntryValue) (image : Image) (found : History) (place n : ℕ) (command : PlainCommand)
     → AnswersEach before commands answers after → StandsForEither after.history more image → StandsFor found image
-    → slice_get commands place ≡ Some command → slice_get answers place ≡ Some (accepted_line n) → n < 2 ^ 64 → length after.history.entries < 2 ^ 64
+    → slice_get commands place ≡ Some command → slice_get answers place ≡ Some (accepted_line n) → length after.history.entries < 2 ^ 64
     → (e : EntryValue) × Sends before.history.currency command e × StandsAt found.entries n e
-left_answered_after before after commands answers more image found place n command given either stands asked says low few =
-    let (e, sends, at) = accepted_true commands before after answers place n command given asked says low few in
+left_answered_after before after commands answers more image found place n command given either stands asked says few =
+    let (e, sends, at) = accepted_true commands before after answers place n command given asked says few in
     let grown = either_more after.history found more image either stands in
     (e, sends, (at.0, at.1, ap (λ (h : History). slice_get h.entries at.0) grown.1 ∙ slice_get-front after.history.entries grown.0 at.0 e at.2))
 
@@ -179,7 +180,7 @@ front_more : (c : PlainCommand) (commands : List PlainCommand) → HasFronts com
 front_more c commands fronts before next after first answers others e more rest answered each is grows (inl same) =
     let later = fronts next after others (e ∷ more) rest each (grows ∙ ap (λ (h : History). with_more h (e ∷ (more ++ rest))) (sym same)) in
     front_behind c commands before next first answers others (e ∷ more) (e ∷ more) answered is later (ap (λ (h : History). with_more h (e ∷ more)) same)
-front_more c commands fronts before next after first answers others e more rest answered each is grows (inr (d, sends, accepted, adds)) =
+front_more c commands fronts before next after first answers others e more rest answered each is grows (inr (d, sends, accepted, has, adds)) =
     let told_later = told next commands others after each in
     let later = accepted_of next.history.entries told_later.entries in
     let whole : after.history ≡ with_more before.history (d ∷ later) = told_later.holds ∙ ap (λ (h : History). with_more h later) adds ∙ more_twice before.history (d ∷ []) later in

@@ -1,12 +1,9 @@
 -- What the answers to entries say is so.
 use Rattle.std.proofs.Common.{◌≡◌, ◌∙◌, ◌+◌, ◌<◌, ◌≤◌, ◌^◌, ◌++◌, ◌∷◌, [], ℕ, zero, suc, List, Some, true, get_or, not, length, slice_get, refl, sym, ap, subst, inl, inr, arith, length-append, append_assoc}
-use Rattle.std.specs.Prelude.{◌==◌, codes, decimal, if◌then◌else◌}
+use Rattle.std.specs.Prelude.{◌==◌, if◌then◌else◌}
 use Rattle.std.specs.Str.{bytes_eq}
-use Rattle.std.proofs.lemmas.Fmt.{decimal_injective}
-use Rattle.std.proofs.lemmas.List.{append_cancel_left, append_cancel_right}
 use Rattle.std.proofs.lemmas.List.Filters.{length-filter_both}
 use Rattle.fw_entry.specs.Entry.{EntryValue}
-use Rattle.fw_script.specs.Lines.{line_feed}
 use Rattle.fw_script.specs.Plain.{PlainCommand}
 use Rattle.fw_snapshot.specs.History.{History, entries_from}
 use Rattle.fw_snapshot.specs.Judging.{IsLegal, judged}
@@ -23,6 +20,7 @@ use Rattle.fw_serve.specs.Replies.{accepted_line, already_line, conflict_line, g
 use Rattle.fw_serve.specs.Runs.{AnswersEach, Sends, StandsAt}
 use Rattle.fw_serve.specs.Standings.{Standing}
 use Rattle.fw_serve.proofs.MoveFacts.{not_both}
+use Rattle.fw_serve.proofs.NumberFacts.{accepted_number, already_number, gap_number}
 use Rattle.fw_serve.proofs.RunFacts.{OneStep, step, told}
 use Rattle.fw_serve.proofs.SilentFacts.{speaks, verdict_speaks}
 
@@ -109,22 +107,6 @@ refused_says why count (verdict.Gap expected) same = absurd (apart 0 103 114 _ _
 refused_says why count (verdict.Refused other) same =
     ap verdict.Refused (sym (conflict_back other) ∙ ap (λ t. conflict_of (letter 9 t)) (sym same) ∙ conflict_back why)
 
--- a number that is written is one number
-accepted_number : (m n : ℕ) → m < 2 ^ 64 → n < 2 ^ 64 → accepted_line m ≡ accepted_line n → m ≡ n
-unfolding accepted_line
-accepted_number m n low below same =
-    decimal_injective m n low below (append_cancel_left (codes "accepted ") (decimal m) (decimal n) (append_cancel_right (codes "accepted " ++ decimal m) (codes "accepted " ++ decimal n) (line_feed ∷ []) same))
-
-already_number : (m n : ℕ) → m < 2 ^ 64 → n < 2 ^ 64 → already_line m ≡ already_line n → m ≡ n
-unfolding already_line
-already_number m n low below same =
-    decimal_injective m n low below (append_cancel_left (codes "already ") (decimal m) (decimal n) (append_cancel_right (codes "already " ++ decimal m) (codes "already " ++ decimal n) (line_feed ∷ []) same))
-
-gap_number : (m n : ℕ) → m < 2 ^ 64 → n < 2 ^ 64 → gap_line m ≡ gap_line n → m ≡ n
-unfolding gap_line
-gap_number m n low below same =
-    decimal_injective m n low below (append_cancel_left (codes "gap ") (decimal m) (decimal n) (append_cancel_right (codes "gap " ++ decimal m) (codes "gap " ++ decimal n) (line_feed ∷ []) same))
-
 -- ---- what was answered by the line of a verdict
 -- the command sent an entry that was judged, and this is the line of its verdict
 abbrev WasJudged : Standing → PlainCommand → List ℕ → Standing → Type 0
@@ -134,7 +116,7 @@ WasJudged before command text after =
 
 spoken : (before : Standing) (command : PlainCommand) (text : List ℕ) (after : Standing) → OneStep before command text after → speaks text ≡ true → WasJudged before command text after
 spoken before command text after (inl passed) h = absurd (not_both (speaks text) h passed.1)
-spoken before command text after (inr found) h = found
+spoken before command text after (inr (e, sends, says, has, grows)) h = (e, sends, says, grows)
 
 was_judged : (before : Standing) (command : PlainCommand) (count : ℕ) (v : Verdict) (after : Standing) → Answer before command (verdict_line count v) after → WasJudged before command (verdict_line count v) after
 was_judged before command count v after answered =
@@ -167,21 +149,20 @@ few_from origin es =
     let both = length-filter_both (λ (e : EntryValue). bytes_eq origin e.origin) (λ (e : EntryValue). not (bytes_eq origin e.origin)) (λ e. refl) es in
     omega (arith, both)
 
-pub already_true : (before after : Standing) (command : PlainCommand) (n : ℕ) → IsLegal before.history.entries → Answer before command (already_line n) after → n < 2 ^ 64
-    → length before.history.entries < 2 ^ 64
+pub already_true : (before after : Standing) (command : PlainCommand) (n : ℕ) → IsLegal before.history.entries → Answer before command (already_line n) after → length before.history.entries < 2 ^ 64
     → (e : EntryValue) × Sends before.history.currency command e × IsRepeat before.history.entries e × (n ≡ entries_from e.origin before.history.entries) × (after.history ≡ before.history)
-already_true before after command n legal answered low few =
+already_true before after command n legal answered few =
     let (e, sends, says, grows) = was_already before command n after answered in
     let said = already_says n (length before.history.entries + 1) (judged before.history.entries e) says in
     let found = already_repeat before.history.entries e said.0 legal (omega (arith, sends.numbers.positive)) said.1 in
     let many = few_from e.origin before.history.entries in
     let last = found.1 in
     let below : said.0 < 2 ^ 64 = omega arith in
-    (e, sends, found.0, already_number n said.0 low below said.2 ∙ found.1, left_by before e after (verdict.Already said.0) grows said.1 ∙ sym (no_more before.history))
+    (e, sends, found.0, already_number n said.0 below said.2 ∙ found.1, left_by before e after (verdict.Already said.0) grows said.1 ∙ sym (no_more before.history))
 
-pub gap_true : (before after : Standing) (command : PlainCommand) (n : ℕ) → Answer before command (gap_line n) after → n < 2 ^ 64
+pub gap_true : (before after : Standing) (command : PlainCommand) (n : ℕ) → Answer before command (gap_line n) after
     → (e : EntryValue) × Sends before.history.currency command e × (n ≡ entries_from e.origin before.history.entries + 1) × (n < e.seq) × (after.history ≡ before.history)
-gap_true before after command n answered low =
+gap_true before after command n answered =
     let (e, sends, says, grows) = was_gap before command n after answered in
     let said = gap_says n (length before.history.entries + 1) (judged before.history.entries e) says in
     let found = gap_only before.history.entries e said.0 said.1 in
@@ -189,7 +170,7 @@ gap_true before after command n answered low =
     let above = found.1 in
     let within = sends.numbers.within in
     let below : said.0 < 2 ^ 64 = omega arith in
-    let same : n ≡ said.0 = gap_number n said.0 low below said.2 in
+    let same : n ≡ said.0 = gap_number n said.0 below said.2 in
     (e, sends, same ∙ next, omega arith, left_by before e after (verdict.Gap said.0) grows said.1 ∙ sym (no_more before.history))
 
 pub refused_true : (before after : Standing) (command : PlainCommand) (why : Conflict) → Answer before command (conflict_line why) after
@@ -200,11 +181,11 @@ refused_true before after command why answered =
     (e, sends, said, left_by before e after (verdict.Refused why) grows said ∙ sym (no_more before.history))
 
 -- ---- accepted entries
-slice_get-seam : (xs ys : List EntryValue) (x : EntryValue) → slice_get (xs ++ x ∷ ys) (length xs) ≡ Some x
+pub slice_get-seam : {A : Type 0} (xs ys : List A) (x : A) → slice_get (xs ++ x ∷ ys) (length xs) ≡ Some x
 slice_get-seam [] ys x = refl
 slice_get-seam (y ∷ xs) ys x = slice_get-seam xs ys x
 
-pub slice_get-front : (xs ys : List EntryValue) (place : ℕ) (x : EntryValue) → slice_get xs place ≡ Some x → slice_get (xs ++ ys) place ≡ Some x
+pub slice_get-front : {A : Type 0} (xs ys : List A) (place : ℕ) (x : A) → slice_get xs place ≡ Some x → slice_get (xs ++ ys) place ≡ Some x
 slice_get-front [] ys place x there = absurd (cc)
 slice_get-front (y ∷ xs) ys zero x there = there
 slice_get-front (y ∷ xs) ys (suc place) x there = slice_get-front xs ys place x there
@@ -227,35 +208,35 @@ stands_later held e next after later one more =
     (length held.entries, refl, ap (λ (l : List EntryValue). slice_get l (length held.entries)) whole ∙ slice_get-seam held.entries later e)
 
 accepted_now : (before : Standing) (command : PlainCommand) (n : ℕ) (next : Standing) (after : History) (later : List EntryValue) → Answer before command (accepted_line n) next → after ≡ with_more next.history later
-    → n < 2 ^ 64 → length after.entries < 2 ^ 64 → (e : EntryValue) × Sends before.history.currency command e × StandsAt after.entries n e
-accepted_now before command n next after later answered more low few =
+    → length after.entries < 2 ^ 64 → (e : EntryValue) × Sends before.history.currency command e × StandsAt after.entries n e
+accepted_now before command n next after later answered more few =
     let (e, sends, says, grows) = was_accepted before command n next answered in
     let said = accepted_says n (length before.history.entries + 1) (judged before.history.entries e) says in
     let one = left_by before e next verdict.Accept grows said.0 in
     let whole : length after.entries ≡ length next.history.entries + length later = ap (λ (h : History). length h.entries) more ∙ length-append next.history.entries later in
     let front : length next.history.entries ≡ length before.history.entries + 1 = ap (λ (h : History). length h.entries) one ∙ length-append before.history.entries (e ∷ []) in
     let below : length before.history.entries + 1 < 2 ^ 64 = omega arith in
-    let same : length before.history.entries + 1 ≡ n = sym (accepted_number n (length before.history.entries + 1) low below said.1) in
+    let same : length before.history.entries + 1 ≡ n = sym (accepted_number n (length before.history.entries + 1) below said.1) in
     (e, sends, subst (λ k. StandsAt after.entries k e) same (stands_later before.history e next.history after later one more))
 
 pub same_currency : (before : Standing) (command : PlainCommand) (text : List ℕ) (after : Standing) → OneStep before command text after → after.history.currency ≡ before.history.currency
 same_currency before command text after (inl passed) = ap (λ (h : History). h.currency) passed.2
-same_currency before command text after (inr (e, sends, says, grows)) = ap (λ (h : History). h.currency) grows
+same_currency before command text after (inr (e, sends, says, has, grows)) = ap (λ (h : History). h.currency) grows
 
 pub accepted_true : (commands : List PlainCommand) (before after : Standing) (answers : List (List ℕ)) (place n : ℕ) (command : PlainCommand) → AnswersEach before commands answers after
-    → slice_get commands place ≡ Some command → slice_get answers place ≡ Some (accepted_line n) → n < 2 ^ 64 → length after.history.entries < 2 ^ 64
+    → slice_get commands place ≡ Some command → slice_get answers place ≡ Some (accepted_line n) → length after.history.entries < 2 ^ 64
     → (e : EntryValue) × Sends before.history.currency command e × StandsAt after.history.entries n e
 unfolding AnswersEach
-accepted_true [] before after answers place n command given sent answered low few = absurd (cc)
-accepted_true (c ∷ commands) before after answers zero n command given sent answered low few =
+accepted_true [] before after answers place n command given sent answered few = absurd (cc)
+accepted_true (c ∷ commands) before after answers zero n command given sent answered few =
     let own : c ≡ command = cc in
     let there : slice_get (given.0 ∷ given.2) zero ≡ Some (accepted_line n) = subst (λ (l : List (List ℕ)). slice_get l zero ≡ Some (accepted_line n)) given.5 answered in
     let says : given.0 ≡ accepted_line n = cc in
     let mine : Answer before command (accepted_line n) given.1 =
     subst (λ (t : List ℕ). Answer before command t given.1) says (subst (λ (x : PlainCommand). Answer before x given.0 given.1) own given.3) in
     let rest = told given.1 commands given.2 after given.4 in
-    accepted_now before command n given.1 after.history (accepted_of given.1.history.entries rest.entries) mine rest.holds low few
-accepted_true (c ∷ commands) before after answers (suc place) n command given sent answered low few =
+    accepted_now before command n given.1 after.history (accepted_of given.1.history.entries rest.entries) mine rest.holds few
+accepted_true (c ∷ commands) before after answers (suc place) n command given sent answered few =
     let there : slice_get (given.0 ∷ given.2) (suc place) ≡ Some (accepted_line n) = subst (λ (l : List (List ℕ)). slice_get l (suc place) ≡ Some (accepted_line n)) given.5 answered in
-    let (e, sends, stands) = accepted_true commands given.1 after given.2 place n command given.4 sent there low few in
+    let (e, sends, stands) = accepted_true commands given.1 after given.2 place n command given.4 sent there few in
     (e, subst (λ currency. Sends currency command e) (same_currency before c given.0 given.1 (step before c given.0 given.1 given.3)) sends, stands)

@@ -1,10 +1,11 @@
 -- Scripts that are served on one warehouse, stop after stop, and what is promised of the warehouse
 -- that is opened at the end.
-use Rattle.std.specs.Prelude.{◌≡◌, ◌⊎◌, ◌<◌, ◌^◌, ℕ, Bool, true, false, IsTrue, List, [], ◌∷◌, ◌++◌, Option, None, Some, length, slice_get, take}
+use Rattle.std.specs.Prelude.{◌≡◌, ◌⊎◌, ◌<◌, ◌≤◌, ℕ, Bool, true, false, IsTrue, IfErr, IfOk, List, [], ◌∷◌, Option, None, Result, Some, length, slice_get, take}
 use Rattle.fw_amortise.specs.LineValue.{LineValue}
 use Rattle.fw_disk.specs.declared.volume.Side.{Side}
 use Rattle.fw_disk.specs.Volume.{Image, View}
 use Rattle.fw_entry.specs.Entry.{EntryValue}
+use Rattle.fw_entry_bytes.specs.Forms.{has_entry}
 use Rattle.fw_query.specs.OfHistory.{AreLinesOf, IsReportOn}
 use Rattle.fw_query.specs.Refusals.{AreRefused, IsRefused}
 use Rattle.fw_query.specs.Reports as reports
@@ -12,17 +13,21 @@ use Rattle.fw_query.specs.Texts.{lines_text, report_text}
 use Rattle.fw_query.specs.declared.fault.QueryFault.{QueryFault}
 use Rattle.fw_recover.specs.Stands.{EachStandsFor, StandsFor}
 use Rattle.fw_recover.specs.Store.{StoreState}
+use Rattle.fw_recover.specs.declared.fault.StoreFault.{StoreFault}
 use Rattle.fw_recover.specs.declared.fault.StoreFault.TheVariants as store_fault
 use Rattle.fw_script.specs.Plain.{PlainCommand, lines, report}
 use Rattle.fw_snapshot.specs.History.{History, commitments_of, rows_of}
-use Rattle.fw_snapshot.specs.Verdicts.{accepted_of, verdicts_on, with_more}
+use Rattle.fw_snapshot.specs.Judging.{judged}
+use Rattle.fw_snapshot.specs.Verdicts.{with_more}
+use Rattle.fw_snapshot.specs.declared.verdict.Verdict.TheVariants as verdict
 use Rattle.fw_sums.specs.Limits.{IsRange}
 use Rattle.fw_serve.specs.Answers.{Answer}
-use Rattle.fw_serve.specs.Flight.{FailsOnSent, RunsInTurn}
+use Rattle.fw_serve.specs.Flight.{FailsOnSent, IsOneRun, RunsInTurn}
 use Rattle.fw_serve.specs.Replies.{accepted_line, counted, query_fault_line, store_fault_line}
-use Rattle.fw_serve.specs.Runs.{AreJudged, Sends, StandsAt, verdict_lines}
+use Rattle.fw_serve.specs.Runs.{AreTold, Sends, StandsAt}
 use Rattle.fw_serve.specs.Standings.{AreInFlight, IsBetween, Standing, standing_of}
 use Rattle.fw_serve.specs.Whole.{IsWhole, ReportsAddUp}
+use Rattle.fw_serve.specs.declared.fault.ServeFault.{ServeFault}
 
 -- ---- sessions
 -- A session: a store was created or opened, a script was served on it, and a crash came.
@@ -131,27 +136,38 @@ session_behind begun commands answers left image =
     }
 
 -- ---- what is promised
--- the entry in flight: the one that the running command sends, or one that a command sent which
--- was answered `store S3 Device`
-abbrev pub IsFlying : {V : Type 0} → List ℕ → ServedSession V → EntryValue → Type 0
-IsFlying currency s e =
-    ((command : PlainCommand) × (s.running ≡ Some command) × Sends currency command e)
-    ⊎ ((place : ℕ) × (command : PlainCommand) × (slice_get s.commands place ≡ Some command)
+-- a crash came while a command was sending this entry, and the device had not failed
+abbrev pub IsSending : {V : Type 0} → List ℕ → ServedSession V → EntryValue → Type 0
+IsSending currency s e =
+    (s.left.failed ≡ false)
+    × ((command : PlainCommand) × (s.running ≡ Some command) × Sends currency command e)
+
+-- the device failed while a command was sending this entry: it was answered `store S3 Device`
+abbrev pub HasFailedOn : {V : Type 0} → List ℕ → ServedSession V → EntryValue → Type 0
+HasFailedOn currency s e =
+    (s.left.failed ≡ true)
+    × ((place : ℕ) × (command : PlainCommand) × (slice_get s.commands place ≡ Some command)
     × (slice_get s.answers place ≡ Some (store_fault_line store_fault.Device))
     × Sends currency command e)
 
--- What is opened after a session: what it began with, and behind it, of the entries that its
--- answers speak of and the one in flight, those that are accepted, in order, and nothing else.
+-- The entry in flight when a session ended: it was being sent. It is accepted after all that the
+-- session had, and the form of the side in use has it.
+pub record IsFlying {V : Type 0} (currency : List ℕ) (s : ServedSession V) (e : EntryValue)
+    : Type 0 where
+  pub sent : IsSending currency s e ⊎ HasFailedOn currency s e
+  pub accepted : judged s.left.history.entries e ≡ verdict.Accept
+  pub of_form : has_entry s.left.form e ≡ true
+
+-- What is opened after a session: what it began with, behind it what was accepted of the entries
+-- that its answers speak of, in order, then the one in flight, or none, and nothing else.
 pub record IsKeptOf {V : Type 0} (held : History) (s : ServedSession V) (next : History)
     : Type 0 where
-  -- the entries that the answers speak of, each answered by the line of its verdict
-  pub entries : List EntryValue
-  pub answered : AreJudged held.currency s.commands s.answers entries
-      (verdict_lines (length held.entries) (verdicts_on held.entries entries))
-  -- the one in flight, or none
+  -- what the commands left: each entry that the answers speak of is answered by the line of its
+  -- verdict, and those that were accepted are there
+  pub told : AreTold held s.commands s.answers s.left.history
   pub flying : List EntryValue
   pub in_flight : AreInFlight (IsFlying held.currency s) flying
-  pub is : next ≡ with_more held (accepted_of held.entries (entries ++ flying))
+  pub is : next ≡ with_more s.left.history flying
 
 -- the same, session by session
 unfoldable pub IsPrefixOf : {V : Type 0} → History → List (ServedSession V) → History → Type 0
@@ -174,6 +190,30 @@ AreStatedLines entries from to answer =
     ⊎ ((found : List LineValue) × IsRange from to × AreLinesOf entries from to found
     × (answer ≡ counted (lines_text found)))
 
+-- a command of these sessions was answered before another: in an earlier session, or earlier in the
+-- same one
+abbrev pub IsBefore : ℕ → ℕ → ℕ → ℕ → Type 0
+IsBefore earlier before place turn = (earlier < place) ⊎ ((earlier ≡ place) × (before < turn))
+
+-- a warehouse of its first n entries
+abbrev pub first_of : ℕ → History → History
+first_of n h = record { currency = h.currency; entries = take n h.entries }
+
+-- How many entries there were when a command of a session was answered. They are the first ones of
+-- what is opened at the end.
+pub record WereThere {V : Type 0} (sessions : List (ServedSession V)) (found : History)
+    (place turn : ℕ) (s : ServedSession V) (n : ℕ) : Type 0 where
+  -- each of them is opened
+  pub opened : n ≤ length found.entries
+  -- each that had been answered `accepted M` by then is among them
+  pub acknowledged : (earlier before m : ℕ) (t : ServedSession V) (command : PlainCommand)
+      → IsBefore earlier before place turn
+      → slice_get sessions earlier ≡ Some t → slice_get t.commands before ≡ Some command
+      → slice_get t.answers before ≡ Some (accepted_line m) → m ≤ n
+  -- they are what the session began with, and what the answers before the command say was accepted
+  pub told : AreTold s.begun.history (take turn s.commands) (take turn s.answers)
+      (first_of n found)
+
 -- The promise. `found` is the warehouse after a prefix of the commands that holds each one that
 -- was acknowledged, and what is asked of it is answered by the stated allocation of its rows.
 pub record IsPromised {V : Type 0} (held : History) (sessions : List (ServedSession V))
@@ -185,7 +225,6 @@ pub record IsPromised {V : Type 0} (held : History) (sessions : List (ServedSess
   pub acknowledged : (place turn n : ℕ) (s : ServedSession V) (command : PlainCommand)
       → slice_get sessions place ≡ Some s → slice_get s.commands turn ≡ Some command
       → slice_get s.answers turn ≡ Some (accepted_line n)
-      → n < 2 ^ 64 → length found.entries < 2 ^ 64
       → (e : EntryValue) × Sends held.currency command e × StandsAt found.entries n e
   -- each entry was accepted after those before it, and keeps its limits
   pub whole : IsWhole found.entries
@@ -196,17 +235,34 @@ pub record IsPromised {V : Type 0} (held : History) (sessions : List (ServedSess
   pub listed : (before after : Standing) (from to : ℕ) (answer : List ℕ)
       → before.history ≡ found → Answer before (lines from to) answer after
       → AreStatedLines found.entries from to answer
-  -- so were the reports and the lines that a session printed: of the entries that there were then,
-  -- which are the first ones
+  -- so were the reports and the lines that a session printed: of the entries that there were then
   pub printed : (place turn : ℕ) (s : ServedSession V) (key : List ℕ) (from to : ℕ)
       (answer : List ℕ) → slice_get sessions place ≡ Some s
       → slice_get s.commands turn ≡ Some (report key from to)
       → slice_get s.answers turn ≡ Some answer
-      → (n : ℕ) × IsStatedReport (take n found.entries) key from to answer
+      → (n : ℕ) × WereThere sessions found place turn s n
+      × IsStatedReport (take n found.entries) key from to answer
   pub printed_lines : (place turn : ℕ) (s : ServedSession V) (from to : ℕ) (answer : List ℕ)
       → slice_get sessions place ≡ Some s → slice_get s.commands turn ≡ Some (lines from to)
       → slice_get s.answers turn ≡ Some answer
-      → (n : ℕ) × AreStatedLines (take n found.entries) from to answer
+      → (n : ℕ) × WereThere sessions found place turn s n
+      × AreStatedLines (take n found.entries) from to answer
   -- in them a commitment's Purchase lines have an EffectiveCost of 0, its Used and Unused lines
   -- over its term carry what its purchases cost, to the last nano, and no row counts twice
   pub adds_up : ReportsAddUp found.entries
+
+-- ---- one run
+-- A script was served on a store, the volume stopped, and its files were opened again. What is
+-- opened is what is promised of this one session; else the device failed, or memory ran out.
+pub record KeepsPromise {V : Type 0} (tells : Bool) (view : V → View)
+    (served : Result (Unit {0}) ServeFault) (bytes : Option (List ℕ)) (begun : StoreState V)
+    (held holds : Option (List ℕ)) (opened : Result (StoreState V) (V × StoreFault))
+    : Type 0 where
+  -- the store that the script left, and what the stop left of the two files
+  pub left : StoreState V
+  pub image : Image
+  -- the commands that were run, and their answers: what was read, and what was written
+  pub run : IsOneRun tells view served bytes begun left held holds
+  pub kept : IfOk opened (λ found. IsPromised begun.history
+      (session_behind begun run.commands run.answers left image ∷ []) found.history)
+  pub otherwise : IfErr opened (λ e. (e.1 ≡ store_fault.Device) ⊎ (e.1 ≡ store_fault.NoMemory))

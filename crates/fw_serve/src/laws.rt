@@ -1,6 +1,6 @@
 //! What holds of every run of commands: laws over the relation that [`serve`](crate::serve) promises between a script and what was written, each the
 //! contract of a function that does nothing.
-ghost use Rattle.std.specs.Prelude.{◌≡◌, ◌≢◌, ◌⊎◌, ◌+◌, ◌<◌, ◌≤◌, ◌^◌, ◌∷◌, ◌++◌, [], All, IsTrue, List, Some, drop, false, length, slice_get, suc, take, true, ℕ};
+ghost use Rattle.std.specs.Prelude.{◌≡◌, ◌≢◌, ◌⊎◌, ◌+◌, ◌<◌, ◌≤◌, ◌^◌, ◌∷◌, ◌++◌, [], All, IsTrue, List, Option, Result, Some, drop, false, length, slice_get, suc, take, true, ℕ};
 ghost use Rattle.std.specs.List.{concat};
 ghost use Rattle.fw_amortise.specs.LineValue.{LineValue};
 ghost use Rattle.fw_disk.specs.declared.volume.Side.{Side};
@@ -21,13 +21,14 @@ ghost use Rattle.fw_recover.specs.declared.fault.StoreFault.{StoreFault};
 ghost use Rattle.fw_recover.specs.declared.fault.StoreFault.TheVariants as store_fault;
 ghost use Rattle.fw_script.specs.Plain.{PlainCommand, checkpoint, lines, report, state};
 ghost use Rattle.fw_serve.specs.Answers.{Answer, Answers, last_generation};
-ghost use Rattle.fw_serve.specs.Flight.{FailsOnSent, IsInFlight, RunsAt, RunsInTurn};
+ghost use Rattle.fw_serve.specs.Flight.{CrashLeaves, FailsOnSent, IsInFlight, IsOneRun, RunsAt, RunsByCommand, RunsInTurn};
 ghost use Rattle.fw_serve.specs.Recovery.{EndsASession, IsStopped, session_behind, session_within};
 ghost use Rattle.fw_serve.specs.Replies.{accepted_line, already_line, checkpointed_line, conflict_line, counted, gap_line, no_memory_line, query_fault_line, state_line, store_fault_line};
 ghost use Rattle.fw_serve.specs.Runs.{AnswersEach, AreAlike, AreOne, AreSame, AreTold, AreUnhindered, IsHindered, IsOfASide, LacksKind, LacksRoom, NoneCutShort, NoneHindered, Sends, StandsAt};
 ghost use Rattle.fw_serve.specs.Sessions.{HasKept, IsSessionOf, Opens, PassesThrough, SessionValue};
 ghost use Rattle.fw_serve.specs.Standings.{AreInFlight, IsBetween, Standing, standing_of};
 ghost use Rattle.fw_serve.specs.Whole.{IsWhole, ReportsAddUp};
+ghost use Rattle.fw_serve.specs.declared.fault.ServeFault.{ServeFault};
 ghost use Rattle.fw_snapshot.specs.History.{History, commitments_of, entries_from, rows_of};
 ghost use Rattle.fw_snapshot.specs.Judging.{IsLegal, judged};
 ghost use Rattle.fw_snapshot.specs.Verdicts.{IsRepeat, accepted_of, taken, with_more};
@@ -130,14 +131,14 @@ pub fn questions_are_answered_from_what_is_held()
 
 /// What is written is true. `accepted N` is answered to the command of an entry, and after the script this is the Nth of the warehouse, counted from 1
 /// (`accepted`). No script moves an entry (`stays`). `already N`: an entry of its origin and number was there, and the last of its origin has the number N. `gap N`: its number is above N, which
-/// is the next of its origin. `refused J..`: it is refused for this reason. After the last three the warehouse holds what it held. Numbers are
-/// below 2^64, as all numbers that the program counts with.
+/// is the next of its origin. `refused J..`: it is refused for this reason. After the last three the warehouse holds what it held. It has fewer
+/// than 2^64 entries, as each that stands on a volume.
 pub fn what_is_written_is_true()
     ensures accepted { (before after : Standing) (commands : List PlainCommand)
         (answers : List (List ℕ)) (place n : ℕ) (command : PlainCommand)
         → AnswersEach before commands answers after
         → slice_get commands place ≡ Some command → slice_get answers place ≡ Some (accepted_line n)
-        → n < 2 ^ 64 → length after.history.entries < 2 ^ 64
+        → length after.history.entries < 2 ^ 64
         → (e : EntryValue) × Sends before.history.currency command e
         × StandsAt after.history.entries n e }
     ensures stays { (before after : Standing) (commands : List PlainCommand)
@@ -145,13 +146,13 @@ pub fn what_is_written_is_true()
         → AnswersEach before commands answers after
         → StandsAt before.history.entries n e → StandsAt after.history.entries n e }
     ensures already { (before after : Standing) (command : PlainCommand) (n : ℕ)
-        → IsLegal before.history.entries → Answer before command (already_line n) after → n < 2 ^ 64
+        → IsLegal before.history.entries → Answer before command (already_line n) after
         → length before.history.entries < 2 ^ 64
         → (e : EntryValue) × Sends before.history.currency command e
         × IsRepeat before.history.entries e × (n ≡ entries_from e.origin before.history.entries)
         × (after.history ≡ before.history) }
     ensures gap { (before after : Standing) (command : PlainCommand) (n : ℕ)
-        → Answer before command (gap_line n) after → n < 2 ^ 64
+        → Answer before command (gap_line n) after
         → (e : EntryValue) × Sends before.history.currency command e
         × (n ≡ entries_from e.origin before.history.entries + 1) × (n < e.seq)
         × (after.history ≡ before.history) }
@@ -339,6 +340,10 @@ pub fn what_a_crash_leaves_can_be_opened()
 /// this with the entry that the failed one sent (`LeavesWithin`, `RunsAt`). So where the device hadn't failed before the script, what is opened after a command
 /// is what the commands up to it left, or, only where the device failed, this and the entry in flight (`opened`). A command that is run once the device has
 /// failed leaves store and volume as they are.
+///
+/// Of what [`serve`](crate::serve) promises of its one run: what a crash leaves at any moment of it
+/// and after it is said of commands that were read and of answers that were written (`any_moment`),
+/// and so is what each of them did (`each_command`).
 pub fn commands_are_run_in_turn<V: Volume>(before: &Store<V>, after: &Store<V>)
     ensures turn { (commands : List PlainCommand) (answers : List (List ℕ)) (place : ℕ)
         (command : PlainCommand) (answer : List ℕ)
@@ -356,10 +361,18 @@ pub fn commands_are_run_in_turn<V: Volume>(before: &Store<V>, after: &Store<V>)
         × IsInFlight (standing_of V.view before.now) (standing_of V.view at.next)
         (take (suc place) commands) (take (suc place) answers) e
         × (found ≡ with_more at.next.history (e ∷ [])))) }
+    ensures any_moment { (result : Result (Unit {0}) ServeFault) (bytes held holds : Option (List ℕ))
+        → IsOneRun V.tells V.view result bytes before.now after.now held holds
+        → IsTrue V.tells → before.now.failed ≡ false
+        → CrashLeaves V.view bytes before.now after.now held holds }
+    ensures each_command { (result : Result (Unit {0}) ServeFault)
+        (bytes held holds : Option (List ℕ))
+        → IsOneRun V.tells V.view result bytes before.now after.now held holds
+        → RunsByCommand V.tells V.view bytes before.now after.now held holds }
 {}
 
 /// A crash within a script keeps what was answered. Where it comes at any moment of a command, and the device hadn't failed before, what is opened is what the
-/// commands before it left, or this and the entry that the command sends, which is accepted (`command`): so it has all that was answered by then. What was
+/// commands before it left, or this and the entry that the command sends, which is accepted, and which the form of the side in use has (`command`): so it has all that was answered by then. What was
 /// answered `accepted N` to a command before it is the Nth entry of it (`answered`). After a command, after the script, and at any moment once the device has
 /// failed, what is opened is what the commands left, or, only where it failed, this and the entry that the failed one sent ([`commands_are_run_in_turn`],
 /// [`what_a_crash_leaves_is_reported_whole`]). What was answered `accepted N` to one of these commands is the Nth entry of this too (`answered_after`). Of a
@@ -372,7 +385,7 @@ pub fn a_crash_keeps_what_was_answered()
         → StandsFor found image
         → ((found ≡ before.history)
         ⊎ ((e : EntryValue) × Sends before.history.currency command e
-        × (judged before.history.entries e ≡ verdict.Accept)
+        × (judged before.history.entries e ≡ verdict.Accept) × (has_entry before.form e ≡ true)
         × (found ≡ with_more before.history (e ∷ []))))
         × IsWhole found.entries × ReportsAddUp found.entries }
     ensures answered { (before middle next : Standing) (commands : List PlainCommand)
@@ -382,7 +395,7 @@ pub fn a_crash_keeps_what_was_answered()
         → IsBetween (FailsOnSent middle running answer) middle.history next image
         → StandsFor found image
         → slice_get commands place ≡ Some command → slice_get answers place ≡ Some (accepted_line n)
-        → n < 2 ^ 64 → length middle.history.entries < 2 ^ 64
+        → length middle.history.entries < 2 ^ 64
         → (e : EntryValue) × Sends before.history.currency command e × StandsAt found.entries n e }
     ensures answered_after { (before after : Standing) (commands : List PlainCommand)
         (answers : List (List ℕ)) (more : List EntryValue) (image : Image) (found : History)
@@ -390,7 +403,7 @@ pub fn a_crash_keeps_what_was_answered()
         → AnswersEach before commands answers after → StandsForEither after.history more image
         → StandsFor found image
         → slice_get commands place ≡ Some command → slice_get answers place ≡ Some (accepted_line n)
-        → n < 2 ^ 64 → length after.history.entries < 2 ^ 64
+        → length after.history.entries < 2 ^ 64
         → (e : EntryValue) × Sends before.history.currency command e × StandsAt found.entries n e }
     ensures prefix { (before after : Standing) (commands : List PlainCommand)
         (answers : List (List ℕ)) (image : Image) (found : History)

@@ -5,6 +5,7 @@
 //! group is on the volume, synced.
 //!
 //! [`reopen`] opens what a crash left of scripts that were served. Its contract says in one piece what is there, and what reports on it say.
+//! [`serve_and_reopen`] does both, with a stop between them.
 #![tactic(auto)]
 
 mod answering;
@@ -32,7 +33,7 @@ pub use laws::{
     what_the_store_refuses_has_its_cause,
 };
 pub use questions::answer_state;
-pub use recovery::reopen;
+pub use recovery::{reopen, serve_and_reopen};
 pub use refusals::{entry_reply, row_reply, verdict_reply};
 pub use reply::{Detail, Refusal, Reply};
 pub use server::serve;

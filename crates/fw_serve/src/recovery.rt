@@ -1,5 +1,5 @@
 //! Opening the warehouse that a crash left, with the promise for scripts as the contract.
-ghost use Rattle.std.specs.Prelude.{◌≡◌, ◌⊎◌, ◌∷◌, ◌++◌, [], ℕ, List, false, IfErr, IfOk, IsTrue};
+ghost use Rattle.std.specs.Prelude.{◌≡◌, ◌⊎◌, ◌≤◌, ◌∷◌, ◌++◌, [], ℕ, List, false, IfErr, IfOk, IsTrue};
 ghost use Rattle.fw_disk.specs.declared.volume.Side.{Side};
 ghost use Rattle.fw_disk.specs.Volume.{Calm, Rose, SameSizes};
 ghost use Rattle.fw_recover.specs.Corrupt.{CorruptAt};
@@ -7,11 +7,16 @@ ghost use Rattle.fw_recover.specs.Opening.{IsOpenFault};
 ghost use Rattle.fw_recover.specs.Stands.{EachStandsFor, StandsFor, StandsForNone};
 ghost use Rattle.fw_recover.specs.declared.fault.StoreFault.TheVariants.{Corrupt, Device, NoHouse, NoMemory};
 ghost use Rattle.fw_snapshot.specs.History.{History};
-ghost use Rattle.fw_serve.specs.Recovery.{IsPromised, ServedSession, WasLeft};
+ghost use Rattle.fw_serve.specs.Recovery.{IsPromised, KeepsPromise, ServedSession, WasLeft};
+ghost use Rattle.fw_serve.specs.Served.{most_workers};
 
-use fw_disk::Volume;
+use crate::fault::ServeFault;
+use crate::server::serve;
+use fw_disk::{Stoppable, Volume};
 use fw_recover::{Store, StoreFault};
 use std::alloc::Global;
+use std::io::{Read, Write};
+use std::thread::Threads;
 
 /// Opens the warehouse that stands on the volume, as [`Store::open`](fw_recover::Store::open) does, and says what it has where scripts were served on it.
 ///
@@ -49,4 +54,33 @@ pub fn reopen<V: Volume>(alloc: Global, volume: V) -> Result<Store<V>, (V, Store
     ensures which { IfErr result (λ e. IsOpenFault e.1) }
 {
     Store::open(alloc, volume)
+}
+
+/// Serves a script, is stopped as by a crash, and opens what is left: what [`serve`] promises and
+/// what [`reopen`] promises, of one run. It answers what serving answered, and then the warehouse.
+///
+/// The commands that were run come first in the script, and the writer got their answers, up to
+/// some place. What is opened is what is promised of them (`KeepsPromise`): the warehouse that the
+/// store had, and behind it what was accepted of the entries that these commands sent, in order,
+/// then at most the one that was in flight when the device failed. It is never missing or corrupt:
+/// it opens, unless a read or a sync fails or memory runs out.
+pub fn serve_and_reopen<R: Read, W: Write, V: Stoppable>(
+    rt: &(impl Threads + Sync),
+    alloc: Global,
+    reader: &mut R,
+    writer: &mut W,
+    store: Store<V>,
+    workers: u32,
+) -> (Result<(), ServeFault>, Result<Store<V>, (V, StoreFault)>)
+    requires some_worker { 1 ≤ workers }
+    requires few_workers { workers ≤ most_workers }
+    requires works { store.failed ≡ false }
+    ensures { IsTrue V.tells → KeepsPromise V.tells V.view result.0 (R.remaining reader.old) store
+        (W.contents writer.old) (W.contents writer.new) result.1 }
+{
+    let mut store = store;
+    store.keeps();
+    let served = serve(rt, alloc, reader, writer, &mut store, workers);
+    let volume = store.close().stop();
+    (served, reopen(alloc, volume))
 }

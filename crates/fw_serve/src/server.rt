@@ -3,7 +3,7 @@ ghost use Rattle.std.specs.Prelude.{◌≡◌, ◌≢◌, ◌<◌, ◌≤◌, Li
 ghost use Rattle.fw_disk.specs.Volume.{Image, Rose};
 ghost use Rattle.fw_entry.specs.Entry.{EntryValue};
 ghost use Rattle.fw_recover.specs.Stands.{EachStandsFor, StandsForEither};
-ghost use Rattle.fw_serve.specs.Flight.{CrashLeaves, IsOneRun, RunsByCommand, RunsTo};
+ghost use Rattle.fw_serve.specs.Flight.{IsOneRun, RunsTo};
 ghost use Rattle.fw_serve.specs.Served.{IsServed, IsServedInPart, Serves, ServesInPart, most_bytes, most_workers};
 ghost use Rattle.fw_serve.specs.Standings.{standing_of};
 
@@ -57,11 +57,6 @@ pub fn serve<R: Read, W: Write, V: Volume>(
         → (store.new ≡ store.old) × (writer.new ≡ writer.old)) }
     ensures too_long { result ≡ Err ServeFault.TooLong
         → IfSome (R.remaining reader.old) (λ bytes. most_bytes < length bytes) }
-    ensures any_moment { IsTrue V.tells → store.old.failed ≡ false
-        → CrashLeaves V.view (R.remaining reader.old) store.old store.new (W.contents writer.old)
-        (W.contents writer.new) }
-    ensures each_command { RunsByCommand V.tells V.view (R.remaining reader.old) store.old store.new
-        (W.contents writer.old) (W.contents writer.new) }
     ensures one_run { IsOneRun V.tells V.view result (R.remaining reader.old)
         store.old store.new (W.contents writer.old) (W.contents writer.new) }
     ensures each { IsTrue V.tells → store.new.failed ≡ false

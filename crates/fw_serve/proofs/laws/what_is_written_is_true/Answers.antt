@@ -2,7 +2,9 @@ use Rattle.fw_serve.proofs.WrittenFacts.{accepted_true, already_true, gap_true, 
 use Rattle.fw_serve.proofs.laws.what_is_written_is_true.Goals as goal
 
 pub returns-clause-accepted : goal.returns-clause-accepted
-returns-clause-accepted c = λ before after commands answers place n command given sent answered low few. accepted_true commands before after answers place n command given sent answered low few
+returns-clause-accepted c =
+    λ before after commands answers place n command given sent answered few. accepted_true commands
+    before after answers place n command given sent answered few
 
 pub returns-clause-stays : goal.returns-clause-stays
 returns-clause-stays c = stays_true

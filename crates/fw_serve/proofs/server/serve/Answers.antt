@@ -1,43 +1,8 @@
-use Rattle.std.proofs.Common.{[]}
 use Rattle.std.proofs.lemmas.Result.{err_from_is_err_and}
 use Rattle.fw_recover.proofs.Committing.{each_stands}
-use Rattle.fw_serve.proofs.FlightFacts.{IsOneRun-none, IsOneRun-of, IsRun-none, IsRun-of, turn_none}
-use Rattle.fw_serve.proofs.MoveFacts.{failed_stays, moved_at, moved_cause, moved_failed, not_both, stands_still}
+use Rattle.fw_serve.proofs.FlightFacts.{IsOneRun-none, IsOneRun-of}
+use Rattle.fw_serve.proofs.MoveFacts.{failed_stays, moved_cause}
 use Rattle.fw_serve.proofs.server.serve.Goals as goal
-
-pub returns-in_err-text-clause-any_moment : goal.returns-in_err-text-clause-any_moment
-returns-in_err-text-clause-any_moment g c = λ told works. record {
-  commands = [];
-  answers = [];
-  run = IsRun-none _ _ _;
-  any_moment = stands_still g.V.Volume.tells g.V.Volume.view _ c.args.store.now c.keeps.ensures (g.met.V.Volume.only_now c.args.store.now.volume) told works;
-  once_failed = λ fails. absurd (not_both _ fails works);
-}
-
-pub returns-clause-any_moment : goal.returns-clause-any_moment
-returns-clause-any_moment g c = λ told works.
-    let runs = c.answer_all-served.ensures.runs.runs in
-    record {
-      commands = runs.commands;
-      answers = runs.answers;
-      run = IsRun-of _ _ _ _ _ _ _ _ (c.in_ok-text.ensures.whole, c.in_ok-text.ensures.short) runs;
-      any_moment = moved_at g.V.Volume.tells g.V.Volume.view _ c.args.store.now c.answer_all-served.new.store c.keeps.ensures (g.met.V.Volume.only_now c.args.store.now.volume) runs.moves told works;
-      once_failed = moved_failed g.V.Volume.tells g.V.Volume.view _ c.args.store.now c.answer_all-served.new.store runs.moves told works;
-    }
-
-pub returns-in_err-text-clause-each_command : goal.returns-in_err-text-clause-each_command
-returns-in_err-text-clause-each_command g c =
-    record { commands = []; answers = []; run = IsRun-none _ _ _; in_turn = turn_none g.V.Volume.tells g.V.Volume.view c.args.store.now }
-
-pub returns-clause-each_command : goal.returns-clause-each_command
-returns-clause-each_command g c =
-    let runs = c.answer_all-served.ensures.runs.runs in
-    record {
-      commands = runs.commands;
-      answers = runs.answers;
-      run = IsRun-of _ _ _ _ _ _ _ _ (c.in_ok-text.ensures.whole, c.in_ok-text.ensures.short) runs;
-      in_turn = runs.in_turn;
-    }
 
 pub returns-in_err-text-clause-one_run : goal.returns-in_err-text-clause-one_run
 returns-in_err-text-clause-one_run g c =
