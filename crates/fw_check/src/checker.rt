@@ -17,9 +17,11 @@ use crate::located::{blank, line_ends};
 use crate::repair::repaired;
 use crate::statistics::{Statistics, count_text};
 use csv::ByteRecord;
+use fw_column_rows::{KnownTexts, read_columns_after};
+use fw_columns::Columns;
 use fw_cut::{Part, cut_off};
 use fw_explain::explain_fault;
-use fw_rows::{Column, Currency, RecordFault, Row, RowFault, read_rows, rows_read_as_one};
+use fw_rows::{Column, Currency, RecordFault, RowFault, read_rows, rows_read_as_one};
 use std::alloc::{AllocError, Global};
 
 /// How many faults of one record are looked for.
@@ -62,6 +64,8 @@ pub struct Checker {
     currency: Currency,
     // the byte that ends lines
     line_end: u8,
+    // what is known of texts of tags
+    known: KnownTexts,
     /// How many records were seen, the header not counted.
     pub records: u64,
     /// How many lines were seen.
@@ -84,6 +88,7 @@ impl Checker {
         Checker {
             currency,
             line_end: b'\n',
+            known: KnownTexts::new(alloc),
             records: 0,
             lines: 0,
             bad_records: 0,
@@ -257,9 +262,9 @@ impl Checker {
         rows_read_as_one(text, self.currency);
         let (head, body) = text.split_at(part.header.min(text.len()));
         let header = first_record(alloc, head)?;
-        match read_rows(alloc, text, self.currency) {
+        match self.read(alloc, text) {
             Ok(rows) => {
-                self.add_rows(alloc, rows.as_slice(), body)?;
+                self.add_rows(alloc, &rows, body)?;
                 Ok(())
             }
             Err(RowFault::NoRows) => Ok(()),
@@ -271,8 +276,16 @@ impl Checker {
         }
     }
 
+    // The rows of a text, or its first fault.
+    fn read(&mut self, alloc: Global, text: &[u8]) -> Result<Columns, RowFault>
+        ensures rows { RowsRead self.old.currency text.now result }
+        ensures same { checked self.new ≡ checked self.old }
+    {
+        read_columns_after(alloc, text, self.currency, &mut self.known)
+    }
+
     // Counts the rows of records without a fault.
-    fn add_rows(&mut self, alloc: Global, rows: &[Row], text: &[u8]) -> Result<(), AllocError>
+    fn add_rows(&mut self, alloc: Global, rows: &Columns, text: &[u8]) -> Result<(), AllocError>
         ensures { OnOk result (checked self.new ≡ with_read text.now rows.now (checked self.old)) }
     {
         let count = rows.len() as u64;
@@ -357,9 +370,9 @@ impl Checker {
         let mut text = Vec::new(alloc);
         text.extend_from_slice(head)?;
         text.extend_from_slice(piece)?;
-        match read_rows(alloc, &text, self.currency) {
+        match self.read(alloc, &text) {
             Ok(rows) => {
-                self.add_rows(alloc, rows.as_slice(), piece)?;
+                self.add_rows(alloc, &rows, piece)?;
                 Ok(())
             }
             Err(RowFault::NoMemory) => Err(RowFault::NoMemory),
@@ -506,8 +519,8 @@ impl Checker {
         let mut text = Vec::new(alloc);
         text.extend_from_slice(head)?;
         text.extend_from_slice(bytes)?;
-        match read_rows(alloc, &text, self.currency) {
-            Ok(rows) => self.pass_rows(alloc, rows.as_slice(), counts),
+        match self.read(alloc, &text) {
+            Ok(rows) => self.pass_rows(alloc, &rows, counts),
             Err(RowFault::Record { fault, .. }) => Ok(Some(fault)),
             Err(fault) => Err(fault),
         }
@@ -517,7 +530,7 @@ impl Checker {
     fn pass_rows(
         &mut self,
         alloc: Global,
-        rows: &[Row],
+        rows: &Columns,
         counts: bool,
     ) -> Result<Option<RecordFault>, RowFault>
         ensures { self.new.faults ≡ self.old.faults }

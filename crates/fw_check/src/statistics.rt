@@ -3,9 +3,11 @@ ghost use Rattle.std.specs.Prelude.{◌≡◌, ◌-◌, ◌<◌, map, nat_eq, On
 ghost use Rattle.fw_charge.specs.Codes.{category_code, category_count};
 ghost use Rattle.fw_check.specs.Counts.{counted, counted_all, text_counts};
 ghost use Rattle.fw_check.specs.Seen.{seen_in, nothing_seen, with_row, with_rows};
+ghost use Rattle.fw_row_table.specs.Lending.{tags_lent};
 ghost use Rattle.std.specs.Str.{bytes_eq};
 
-use fw_charge::{Category, Row, Tag};
+use fw_charge::Category;
+use fw_columns::{Columns, LentRow, LentTags};
 use indexmap::IndexMap;
 use std::alloc::{AllocError, Global};
 
@@ -45,9 +47,12 @@ pub(crate) fn count_text(
     ensures { OnOk result (text_counts counts.new.entries
         ≡ counted bytes_eq key.now times (text_counts counts.old.entries)) }
 {
-    let before = counts.get(key).copied().unwrap_or(0);
+    if let Some(place) = counts.get_index_of(key) {
+        counts[place] = counts[place].saturating_add(times);
+        return Ok(());
+    }
     let key = String::from_str(alloc, key)?;
-    counts.insert(key, before.saturating_add(times))?;
+    counts.insert(key, times)?;
     Ok(())
 }
 
@@ -55,8 +60,11 @@ pub(crate) fn count_text(
 fn count_hour(counts: &mut IndexMap<u32, u64>, hour: u32) -> Result<(), AllocError>
     ensures { OnOk result (counts.new.entries ≡ counted nat_eq hour 1 counts.old.entries) }
 {
-    let before = counts.get(&hour).copied().unwrap_or(0);
-    counts.insert(hour, before.saturating_add(1))?;
+    if let Some(place) = counts.get_index_of(&hour) {
+        counts[place] = counts[place].saturating_add(1);
+        return Ok(());
+    }
+    counts.insert(hour, 1)?;
     Ok(())
 }
 
@@ -64,13 +72,15 @@ fn count_hour(counts: &mut IndexMap<u32, u64>, hour: u32) -> Result<(), AllocErr
 fn count_tags(
     alloc: Global,
     counts: &mut IndexMap<String, u64>,
-    tags: &[Tag],
+    tags: LentTags<'_>,
 ) -> Result<(), AllocError>
     ensures { OnOk result (text_counts counts.new.entries
-        ≡ counted_all (map (λ t. t.key) tags.now) (text_counts counts.old.entries)) }
+        ≡ counted_all (map (λ t. t.key) (tags_lent tags.entry)) (text_counts counts.old.entries)) }
 {
-    for tag in tags {
-        count_text(alloc, counts, tag.key(), 1)?;
+    let mut rest = tags;
+    while let Some((tag, after)) = rest.split_first() {
+        count_text(alloc, counts, tag.key, 1)?;
+        rest = after;
     }
     Ok(())
 }
@@ -93,8 +103,8 @@ impl Statistics {
         }
     }
 
-    /// Counts a row.
-    pub(crate) fn add(&mut self, alloc: Global, row: &Row) -> Result<(), AllocError>
+    // Counts a row.
+    fn add(&mut self, alloc: Global, row: &LentRow<'_>) -> Result<(), AllocError>
         ensures { OnOk result (seen_in self.new ≡ with_row row.now (seen_in self.old)) }
     {
         self.rows = self.rows.saturating_add(1);
@@ -105,16 +115,16 @@ impl Statistics {
         let category = place_of(row.category());
         self.categories[category] = self.categories[category].saturating_add(1);
         count_hour(&mut self.hours, row.hour())?;
-        count_tags(alloc, &mut self.tags.keys, row.tags().as_slice())?;
+        count_tags(alloc, &mut self.tags.keys, row.tags())?;
         Ok(())
     }
 
     /// Counts rows.
-    pub(crate) fn add_all(&mut self, alloc: Global, rows: &[Row]) -> Result<(), AllocError>
+    pub(crate) fn add_all(&mut self, alloc: Global, rows: &Columns) -> Result<(), AllocError>
         ensures { OnOk result (seen_in self.new ≡ with_rows rows.now (seen_in self.old)) }
     {
-        for row in rows {
-            self.add(alloc, row)?;
+        for place in 0..rows.len() {
+            self.add(alloc, &rows.lent(place))?;
         }
         Ok(())
     }

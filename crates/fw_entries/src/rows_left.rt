@@ -8,7 +8,8 @@ use fw_columns::{Columns, ColumnsBuilder};
 use fw_persistent::Sequence;
 use std::alloc::{AllocError, Global};
 
-/// The rows of segments that aren't taken yet, in order. A row is made once it is taken: none is held here.
+/// The rows of segments that aren't taken yet, in order. A row goes from its segment into the columns of those that are taken: none
+/// is made on the way.
 #[derive(Clone, Copy, Drop)]
 pub(crate) struct RowsLeft<'a> {
     segments: &'a Sequence<Columns>,
@@ -46,8 +47,7 @@ impl<'a> RowsLeft<'a> {
             }
             let columns = self.segments.get(self.segment);
             if self.taken < columns.len() {
-                let row = columns.row(self.taken)?;
-                front.push_row(&row)?;
+                front.push_lent(&columns.lent(self.taken))?;
                 self.taken += 1;
             } else {
                 self.segment += 1;

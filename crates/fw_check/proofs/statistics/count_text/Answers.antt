@@ -1,19 +1,40 @@
-use Rattle.std.proofs.Common.{◌≡◌, ◌∙◌, ◌+◌, ap, sym, unwrap_or, string_bytes}
+use Rattle.std.proofs.Common.{◌≡◌, ◌∙◌, ◌+◌, ap, sym, unwrap_or, string_bytes, Some, None, arith, position}
+use Rattle.std.specs.Map.{keys_of, lookup}
 use Rattle.std.specs.String.{string_eq}
 use Rattle.std.specs.Str.{bytes_eq}
-use Rattle.indexmap.specs.IndexMap.{insert_entry, get_by_text}
+use Rattle.indexmap.specs.IndexMap.{insert_entry, set_value_at}
+use Rattle.indexmap.proofs.MapLemmas.{Found-position, Missing-position}
 use Rattle.fw_check.specs.Counts.{kept, counted, text_counts}
-use Rattle.fw_check.proofs.CountFacts.{next_count, counted_in}
+use Rattle.fw_check.proofs.CountFacts.{counted_at, counted_in, is_key, next_count}
 use Rattle.fw_check.proofs.statistics.count_text.Goals as goal
+
+pub returns-in-Some : goal.returns-in-Some
+returns-in-Some c =
+    let entries = c.args.counts.now.entries in
+    let key = c.args.key.now in
+    let times = c.args.times in
+    let place = c.in-Some.place in
+    let at : position (is_key string_bytes bytes_eq key times) (keys_of entries) ≡ Some place =
+    sym c.get_index_of.ensures.index ∙ c.in-Some.is in
+    let found = Found-position (is_key string_bytes bytes_eq key times) entries place at in
+    ap (λ w. text_counts (set_value_at entries place w)) c.saturating_add.ensures
+    ∙ counted_at string_bytes bytes_eq key times entries place c.index.result.now found.or_len
+    (found.value ∙ c.index.ensures)
 
 pub returns : goal.returns
 returns c =
-    let map = c.args.counts.now in
+    let entries = c.args.counts.now.entries in
     let key = c.in_ok-key.key in
+    let times = c.args.times in
     let text : string_bytes key ≡ c.args.key.now = c.in_ok-key.ensures.ok in
-    let before : c.unwrap_or-before.result ≡ unwrap_or (get_by_text map (string_bytes key)) 0 =
-    c.unwrap_or-before.ensures ∙ ap (λ o. unwrap_or o 0) (c.copied.ensures ∙ c.get.ensures.value ∙ ap (get_by_text map) (sym text)) in
-    let count : c.saturating_add.result ≡ next_count string_bytes bytes_eq key c.args.times map.entries = c.saturating_add.ensures ∙ ap (λ n. kept (n + c.args.times)) before in
-    ap text_counts (c.in_ok-insert.ensures.entries ∙ ap (insert_entry string_eq map.entries key) count)
-    ∙ counted_in string_bytes bytes_eq key c.args.times map.entries
-    ∙ ap (λ t. counted bytes_eq t c.args.times (text_counts map.entries)) text
+    let none : position (is_key string_bytes bytes_eq c.args.key.now times) (keys_of entries) ≡ None =
+    sym c.get_index_of.ensures.index ∙ c.in_default.is in
+    let missing : lookup (is_key string_bytes bytes_eq c.args.key.now times) entries ≡ None =
+    (Missing-position (is_key string_bytes bytes_eq c.args.key.now times) entries none).value in
+    let new : lookup (λ q. bytes_eq (string_bytes key) (string_bytes q)) entries ≡ None =
+    ap (λ t. lookup (λ q. bytes_eq t (string_bytes q)) entries) text ∙ missing in
+    let count : times ≡ next_count string_bytes bytes_eq key times entries =
+    omega (arith, ap (λ o. unwrap_or o 0) new) in
+    ap text_counts (c.in_ok-insert.ensures.entries ∙ ap (insert_entry string_eq entries key) count)
+    ∙ counted_in string_bytes bytes_eq key times entries
+    ∙ ap (λ t. counted bytes_eq t times (text_counts entries)) text

@@ -3,5 +3,5 @@ use Rattle.fw_check.specs.Seen.{seen_in, with_rows}
 use Rattle.fw_check.proofs.statistics.Statistics.add_all.Given as goal
 
 -- the rows that are left, counted after those so far, are all of them
-abbrev pub invariant-loop-row : goal.invariant-loop-row
-invariant-loop-row l = with_rows (drop l.row-index l.rows) (seen_in l.self) ≡ with_rows l.rows (seen_in l.fn.self)
+abbrev pub invariant-loop-place : goal.invariant-loop-place
+invariant-loop-place l = with_rows (drop l.place l.rows) (seen_in l.self) ≡ with_rows l.rows (seen_in l.fn.self)

@@ -11,25 +11,25 @@ returns-then-self-len c =
 pub loop-front-smaller-then-self-len-2 : goal.loop-front-smaller-then-self-len-2
 loop-front-smaller-then-self-len-2 c =
     let left = c.loop-front.self in
-    fewer_rows _ _ c.in_ok-row.row _ (one_taken left.taken left.segment left.segments.now _ _ c.get-columns.ensures c.in_ok-row.ensures)
+    fewer_rows _ _ c.lent.result _ (one_taken left.taken left.segment left.segments.now _ _ c.get-columns.ensures c.lent.ensures)
 
 pub loop-front-preserved-then-self-len-2 : goal.loop-front-preserved-then-self-len-2
 loop-front-preserved-then-self-len-2 c =
     let left = c.loop-front.self in
     let front = c.loop-front.front in
-    let row = c.in_ok-row.row in
-    let added : c.push_row.new.self ≡ front ++ row ∷ [] = c.in_ok-push_row.ensures.added in
-    let longer : length c.push_row.new.self ≡ length front + 1 = ap length added ∙ length-append front (row ∷ []) in
-    let few : length c.push_row.new.self ≤ c.args.count = omega (arith, longer, c.loop-front-test.true, c.len.ensures.count) in
-    let taken = one_taken left.taken left.segment left.segments.now _ row c.get-columns.ensures c.in_ok-row.ensures in
+    let row = c.lent.result in
+    let added : c.push_lent.new.self ≡ front ++ row ∷ [] = c.in_ok-push_lent.ensures.added in
+    let longer : length c.push_lent.new.self ≡ length front + 1 = ap length added ∙ length-append front (row ∷ []) in
+    let few : length c.push_lent.new.self ≤ c.args.count = omega (arith, longer, c.loop-front-test.true, c.len.ensures.count) in
+    let taken = one_taken left.taken left.segment left.segments.now _ row c.get-columns.ensures c.lent.ensures in
     (rw added (one_more _ front _ _ row c.loop-front.invariant.0 taken), few)
 
-pub push_row-requires : goal.push_row-requires
-push_row-requires c =
+pub push_lent-requires : goal.push_lent-requires
+push_lent-requires c =
     let left = c.loop-front.self in
-    let taken = one_taken left.taken left.segment left.segments.now _ c.in_ok-row.row c.get-columns.ensures c.in_ok-row.ensures in
+    let taken = one_taken left.taken left.segment left.segments.now _ c.lent.result c.get-columns.ensures c.lent.ensures in
     let fewer : length c.loop-front.front < c.args.count = omega (arith, c.loop-front-test.true, c.len.ensures.count) in
-    room_left _ c.loop-front.front _ _ c.in_ok-row.row c.args.count 65536 c.loop-front.invariant.0 taken fewer c.requires
+    room_left _ c.loop-front.front _ _ c.lent.result c.args.count 65536 c.loop-front.invariant.0 taken fewer c.requires
 
 pub loop-front-smaller : goal.loop-front-smaller
 loop-front-smaller c =
