@@ -12,13 +12,16 @@ import argparse
 import csv
 import datetime
 import decimal
+import errno
 import html.parser
 import io
 import json
 import os
 import pathlib
 import re
+import resource
 import shutil
+import signal
 import struct
 import subprocess
 import sys
@@ -40,6 +43,20 @@ TOO_LONG = "V16 LongRecord: expected a record of at most 4 MiB. Look for a quote
 LONG_HEADER = "H3 LongHeader: expected a header of at most 2 MiB. Look for a quote in the header that is not closed, and whether the file is a CSV at all.\n"
 
 
+def system(number):
+    """What the system says of an error."""
+    return f"{os.strerror(number)} (os error {number})"
+
+
+# What is said where standard output is on a full disk.
+FULL_OUTPUT = (
+    f"focusd: F2 Write\nstandard output: {system(errno.ENOSPC)}. What to do: "
+    "Look for a full disk. Send the entries again whose answers didn't come out: none counts twice.\n"
+)
+# Its name is that of a file, which opens, and of which no byte at the front can be read.
+UNREADABLE = "/proc/self/mem"
+
+
 def no_house(folder):
     """What a command says of a folder without a warehouse."""
     remedy = "Give the right folder, or make one by --create of focusd run, import or load."
@@ -50,6 +67,35 @@ def focusd(*words, given=b""):
     """The status, standard output and standard error of a run."""
     ran = subprocess.run([PROGRAM, *words], input=given, capture_output=True)
     return ran.returncode, ran.stdout.decode(), ran.stderr.decode()
+
+
+def full(*words, given=b""):
+    """The status and standard error of a run whose standard output is on a full disk."""
+    with open("/dev/full", "wb") as output:
+        ran = subprocess.run([PROGRAM, *words], input=given, stdout=output, stderr=subprocess.PIPE)
+    return ran.returncode, ran.stderr.decode()
+
+
+def at_a_terminal(lines, *words, **options):
+    """The status of a run, and the first so many lines that it writes to a terminal as its standard error."""
+    ours, terminal = os.openpty()
+    run = subprocess.run([PROGRAM, *words], stderr=terminal, **options)
+    os.close(terminal)
+    said = b""
+    while said.count(b"\n") < lines:
+        said += os.read(ours, 4096)
+    os.close(ours)
+    return run.returncode, said.decode().splitlines()
+
+
+def within(limit):
+    """Options of a run in which no file may grow past so many bytes: writing there is an error, and no signal."""
+
+    def set_limit():
+        signal.signal(signal.SIGXFSZ, signal.SIG_IGN)
+        resource.setrlimit(resource.RLIMIT_FSIZE, (limit, limit))
+
+    return {"preexec_fn": set_limit, "restore_signals": False}
 
 
 def with_no_reader(words):
@@ -518,10 +564,22 @@ class Commands(unittest.TestCase):
 
     def test_a_help_whose_reader_stops_early_and_one_that_is_full(self):
         for words in (("--version",), ("--help",), ("report", "--help")):
-            with open("/dev/full", "wb") as full:
-                ran = subprocess.run([PROGRAM, *words], stdout=full, stderr=subprocess.PIPE)
-            self.assertEqual((ran.returncode, ran.stderr), (1, b"focusd: F2 Write\n"))
+            self.assertEqual(full(*words), (1, FULL_OUTPUT), words)
             self.assertEqual(with_no_reader(words), (0, b""), words)
+
+    def test_what_the_system_said_of_the_streams_of_a_script(self):
+        """A script's standard error has one line, and where that is a terminal also what the system said."""
+        remedy = "Look at what feeds the pipe, or at the file that the message names: whether it is there, is a file and may be read. Then run the command again."
+        with open(UNREADABLE, "rb") as unreadable:
+            ran = subprocess.run([PROGRAM, "run"], stdin=unreadable, capture_output=True)
+            self.assertEqual((ran.returncode, ran.stdout, ran.stderr), (1, b"", b"focusd: F1 Read\n"))
+            found = at_a_terminal(2, "run", stdin=unreadable, stdout=subprocess.DEVNULL)
+        wanted = ["focusd: F1 Read", f"standard input: {system(errno.EIO)}. What to do: {remedy}"]
+        self.assertEqual(found, (1, wanted))
+        for words in (("run",), ("run", "--dir", self.folder)):
+            self.assertEqual(full(*words, given=b"state\n"), (1, "focusd: F2 Write\n"), words)
+            with open("/dev/full", "wb") as output:
+                self.assertEqual(at_a_terminal(2, *words, input=b"state\n", stdout=output), (1, FULL_OUTPUT.splitlines()), words)
 
     def test_arguments_that_are_not_utf8(self):
         for words, place in (([b"caf\xe9"], 1), (["check", "a.csv", b"caf\xe9.csv", b"\xff"], 3), (["status", "--dir", b"\xff"], 3)):
@@ -532,14 +590,8 @@ class Commands(unittest.TestCase):
     def test_a_currency_that_is_none(self):
         # The line that scripts know, and the option and what it takes, where nothing reads standard error.
         self.assertEqual(focusd("run", "--currency", "eu"), (2, "", "focusd: currency\n"))
-        ours, terminal = os.openpty()
-        run = subprocess.run([PROGRAM, "run", "--currency", "eu"], stdin=subprocess.DEVNULL, stderr=terminal)
-        os.close(terminal)
-        said = b""
-        while said.count(b"\n") < 2:
-            said += os.read(ours, 4096)
-        os.close(ours)
-        self.assertEqual((run.returncode, said.decode().splitlines()), (2, ["focusd: currency", '--currency: "eu" is not three capital letters, as USD']))
+        found = at_a_terminal(2, "run", "--currency", "eu", stdin=subprocess.DEVNULL)
+        self.assertEqual(found, (2, ["focusd: currency", '--currency: "eu" is not three capital letters, as USD']))
 
     def test_nothing_is_made_in_a_folder_without_a_warehouse(self):
         right = str(HERE / "focus-export.csv")
@@ -885,9 +937,48 @@ class Files(unittest.TestCase):
 
     def test_an_answer_that_cannot_be_printed(self):
         for words in (("import", "--quiet", "--dir", self.folder, "--origin", "aws", str(self.EXPORT)), ("check", str(self.EXPORT))):
-            with open("/dev/full", "w") as full:
-                ran = subprocess.run([PROGRAM, *words], stdout=full, stderr=subprocess.PIPE)
-            self.assertEqual((ran.returncode, ran.stderr), (1, b"focusd: F2 Write\n"), words)
+            self.assertEqual(full(*words), (1, FULL_OUTPUT), words)
+
+    def test_a_file_of_which_a_read_fails(self):
+        why, status = f"F1 Read: {system(errno.EIO)}\n", 1
+        for words, wanted in (
+            (("check",), f"focusd: {UNREADABLE}:1: from record 1 on: {why}"),
+            (("import", "--quiet", "--dir", self.folder, "--origin", "a"), f"focusd: {UNREADABLE}:1: from record 1 on: {why}"),
+            (("replace", "--quiet", "--dir", self.folder, "--origin", "a"), f"focusd: {UNREADABLE}:1: from record 1 on: {why}focusd: nothing was replaced\n"),
+            (("add", "--dir", self.folder, "--origin", "a"), f"{UNREADABLE}: {system(errno.EIO)} (F1 Read)\nfocusd: nothing was added\n"),
+            (("load", "--dir", self.folder), f"focusd: F1 Read\n{UNREADABLE}: {system(errno.EIO)}\n"),
+        ):
+            self.assertEqual(focusd(*words, UNREADABLE), (status, "", wanted), words)
+
+    def test_a_device_that_fails(self):
+        """Which file could not be written, and what the system said of it, is said by all commands, and of a script at a terminal."""
+        self.assertEqual(self.imported(self.EXPORT)[0], 0)
+        terms = self.file("cd.toml", (HERE / "commitment.toml").read_bytes())
+        again = self.file("again.csv", self.HEADER + self.ROW)
+        new = str(self.room / "new")
+        remedy = "Look for a full or failing disk. Then run again and send what wasn't accepted: none counts twice."
+        said = f"/(left|right): {re.escape(system(errno.EFBIG))}\\. What to do: {re.escape(remedy)}"
+        for folder, *words in (
+            (self.folder, "import", "--quiet", "--dir", self.folder, "--origin", "b", again),
+            (new, "import", "--quiet", "--dir", new, "--create", "--origin", "b", again),
+            (self.folder, "load", "--dir", self.folder, "--origin", "c", again),
+            (self.folder, "add", "--dir", self.folder, "--origin", "terms", terms),
+            (self.folder, "replace", "--quiet", "--dir", self.folder, "--origin", "aws", again),
+            (self.folder, "withdraw", "--dir", self.folder, "--origin", "aws", "--all", "--yes"),
+            (self.folder, "checkpoint", "--dir", self.folder),
+            (new, "compact", "--quiet", "--dir", self.folder, "--into", new),
+        ):
+            shutil.rmtree(new, ignore_errors=True)
+            ran = subprocess.run([PROGRAM, *words], stdin=subprocess.DEVNULL, capture_output=True, **within(16))
+            self.assertEqual(ran.returncode, 1, words)
+            self.assertRegex(ran.stderr.decode().split("\n", 1)[1], f"^{re.escape(folder)}{said}\n$", words)
+            self.assertTrue(ran.stderr.startswith(b"focusd: S3 Device\n"), words)
+        script = b"post d 1 2\n" + self.HEADER + self.ROW + b"state\n"
+        ran = subprocess.run([PROGRAM, "run", "--dir", self.folder], input=script, capture_output=True, **within(16))
+        self.assertEqual((ran.returncode, ran.stdout, ran.stderr), (0, b"store S3 Device\nstate 1 300 0 0\n", b""))
+        status, lines = at_a_terminal(1, "run", "--dir", self.folder, input=script, stdout=subprocess.DEVNULL, **within(16))
+        self.assertEqual((status, len(lines)), (0, 1), lines)
+        self.assertRegex(lines[0], f"^{re.escape(self.folder)}{said}$")
 
     def test_rows_that_do_not_fit_are_refused_before_the_first_post(self):
         posts, rows, row = 1024, 4096, b"0,0,USD,Tax,20240101T00Z,20240101T00Z\n"
@@ -1290,9 +1381,7 @@ class Loads(unittest.TestCase):
         self.assertEqual(with_no_reader(words), (0, b""))
         wanted = "1 already 1\nstale 0\nstate 1 1 0 0\n"
         self.assertEqual(focusd("load", "--dir", str(self.room / "costs"), self.right), (0, wanted, ""))
-        with open("/dev/full", "wb") as full:
-            ran = subprocess.run([PROGRAM, "load", self.right], stdout=full, stderr=subprocess.PIPE)
-        self.assertEqual((ran.returncode, ran.stderr), (1, b"focusd: F2 Write\n"))
+        self.assertEqual(full("load", self.right), (1, FULL_OUTPUT))
 
     def test_an_origin_that_is_none(self):
         wanted = "1 refused E1 Origin\nstale 0\nstate 0 0 0 0\n"
@@ -1723,9 +1812,7 @@ team.toml: policy by "team": it would be entry 4 (billing 3)
 
     def test_a_reader_that_stops_early_and_one_that_is_full(self):
         words = [PROGRAM, "add", "--dir", str(self.folder), "--origin", "billing", self.file("cd.toml", self.COMMITMENT)]
-        with open("/dev/full", "wb") as full:
-            ran = subprocess.run([*words, "--dry-run"], stdout=full, stderr=subprocess.PIPE)
-        self.assertEqual((ran.returncode, ran.stderr), (1, b"focusd: F2 Write\n"))
+        self.assertEqual(full(*words[1:], "--dry-run"), (1, FULL_OUTPUT))
         read, write = os.pipe()
         os.close(read)
         ran = subprocess.run(words, stdout=write, stderr=subprocess.PIPE)
@@ -1997,9 +2084,7 @@ class Dumps(unittest.TestCase):
             run.stdout.read(10)
             run.stdout.close()
             self.assertEqual((run.stderr.read(), run.wait()), (b"", 0))
-        with open("/dev/full", "wb") as full:
-            ran = subprocess.run([PROGRAM, "dump", "--dir", folder], stdout=full, stderr=subprocess.PIPE)
-            self.assertEqual((ran.returncode, ran.stderr), (1, b"focusd: F2 Write\n"))
+        self.assertEqual(full("dump", "--dir", folder), (1, FULL_OUTPUT))
 
 
 class Month(unittest.TestCase):

@@ -1,15 +1,17 @@
 //! `focusd load`: files are loaded side by side.
 use clap::ArgMatches;
 use fw_command_line::{ANALYSTS, CREATE, CURRENCY, DIR, FILES, ORIGIN};
-use fw_console::{Fault, WRONG_USE, advised, print_answer, read_currency};
-use fw_disk::{FileVolume, NullVolume, Volume};
+use fw_console::{
+    Creates, Fault, Heard, WRONG_USE, advised, closed, is_folder, let_go, open_folder,
+    print_answer, read_currency,
+};
+use fw_disk::{NullVolume, Volume};
 use fw_explain::explain_fault;
 use fw_load::{Job, LoadFault, Progress, load};
-use fw_recover::{Store, StoreFault};
-use fw_rows::Currency;
-use fw_serve::{ServeFault, read_within, reopen};
+use fw_recover::Store;
+use fw_serve::{ServeFault, read_within};
 use fw_table::shown_text;
-use std::fs;
+use std::fs::{self, File};
 use std::io::{self, IsTerminal};
 use std::process::ExitCode;
 use std::sync::Wait;
@@ -37,13 +39,21 @@ pub(crate) fn load_files<R: Threads + Wait + Sync>(
     };
     match options.get_str(DIR) {
         Some(folder) => {
-            let loaded = load_folder(rt, threads, folder, options.get_flag(CREATE), currency, job);
+            let creates = if options.get_flag(CREATE) {
+                Creates::New(currency)
+            } else {
+                Creates::OnlyFiles
+            };
+            let loaded = load_folder(rt, threads, folder, creates, job);
             Ok(advised(rt, folder, loaded))
         }
-        None => {
-            let created = Store::create(rt.alloc(), NullVolume::new(), currency);
-            load_into(rt, threads, created, job)
-        }
+        None => match Store::create(rt.alloc(), NullVolume::new(), currency) {
+            Ok(store) => {
+                let (store, loaded) = load_into(rt, threads, store, job);
+                let_go(store, loaded)
+            }
+            Err((_, fault)) => Err(Fault::Store(fault)),
+        },
     }
 }
 
@@ -69,43 +79,52 @@ fn texts_of(rt: &HostRuntime, files: &[&str]) -> Result<Option<Vec<Vec<u8>>>, Fa
 // The text of a file; none where it can't be read or is too long, which was said.
 fn text_of(rt: &HostRuntime, file: &str) -> Result<Option<Vec<u8>>, Fault> {
     match fs::open(rt, file) {
-        Ok(mut opened) => match read_within(rt.alloc(), &mut opened, MOST_BYTES) {
-            Ok(text) => Ok(Some(text)),
-            Err(ServeFault::NoMemory) => Err(Fault::NoMemory),
-            Err(fault) => {
-                say_why(rt, file, fault, reason_of(rt, file, fault))?;
-                Ok(None)
-            }
-        },
-        Err(error) if error.kind() == io::ErrorKind::OutOfMemory => Err(Fault::NoMemory),
-        Err(error) => {
-            let why = format!(in rt.alloc(); "{error}")?;
-            say_why(rt, file, ServeFault::Read, why.as_str())?;
-            Ok(None)
-        }
+        Ok(opened) => text_in(rt, file, opened),
+        Err(error) => unread(rt, file, error),
     }
 }
 
-// Why a file that was opened was not taken.
-fn reason_of(rt: &HostRuntime, file: &str, fault: ServeFault) -> &'static str {
-    match fs::metadata(rt, file) {
-        Ok(found) if found.is_dir() => "it is a folder, and not a file",
-        _ => match fault {
-            ServeFault::TooLong => {
-                "it has more than 2^30 bytes; focusd import takes files of any length"
-            }
-            _ => "a read failed",
-        },
+// The text of a file that is open; none where it can't be read or is too long, which was said.
+fn text_in(rt: &HostRuntime, file: &str, opened: File) -> Result<Option<Vec<u8>>, Fault> {
+    let mut heard = Heard::new(opened);
+    match (read_within(rt.alloc(), &mut heard, MOST_BYTES), heard.error) {
+        (Ok(text), _) => Ok(Some(text)),
+        (Err(ServeFault::NoMemory), _) => Err(Fault::NoMemory),
+        (Err(fault), _) if is_folder(rt, file) => {
+            say_why(rt, file, fault, "it is a folder, and not a file")
+        }
+        (Err(ServeFault::TooLong), _) => say_why(
+            rt,
+            file,
+            ServeFault::TooLong,
+            "it has more than 2^30 bytes; focusd import takes files of any length",
+        ),
+        (Err(_), Some(error)) => unread(rt, file, error),
+        (Err(fault), None) => say_why(rt, file, fault, "a read failed"),
     }
+}
+
+// Says what the system said of a file that can't be opened or read.
+fn unread(rt: &HostRuntime, file: &str, error: io::Error) -> Result<Option<Vec<u8>>, Fault> {
+    if error.kind() == io::ErrorKind::OutOfMemory {
+        return Err(Fault::NoMemory);
+    }
+    let why = format!(in rt.alloc(); "{error}")?;
+    say_why(rt, file, ServeFault::Read, why.as_str())
 }
 
 // Says why a file was not taken: the line of the fault, and one with the file.
-fn say_why(rt: &HostRuntime, file: &str, fault: ServeFault, why: &str) -> Result<(), Fault> {
+fn say_why(
+    rt: &HostRuntime,
+    file: &str,
+    fault: ServeFault,
+    why: &str,
+) -> Result<Option<Vec<u8>>, Fault> {
     let name = shown_text(rt.alloc(), file)?;
     let name = name.as_str();
     let _ = eprintln!(rt; "focusd: {fault}");
     let _ = eprintln!(rt; "{name}: {why}");
-    Ok(())
+    Ok(None)
 }
 
 // Loads the files into the warehouse of a folder.
@@ -113,36 +132,26 @@ fn load_folder<R: Threads + Wait + Sync>(
     rt: &HostRuntime,
     threads: &R,
     folder: &str,
-    creates: bool,
-    currency: Currency,
+    creates: Creates,
     job: Job<'_>,
 ) -> Result<ExitCode, Fault> {
-    let alloc = rt.alloc();
-    let volume = FileVolume::open(rt, folder)?;
-    let opened = if creates {
-        Store::create(alloc, volume, currency)
-    } else {
-        reopen(alloc, volume)
-    };
-    load_into(rt, threads, opened, job)
+    let store = open_folder(rt, folder, creates)?.into_store()?;
+    let (store, loaded) = load_into(rt, threads, store, job);
+    closed(store, loaded)
 }
 
-// Loads the files into a warehouse.
+// Loads the files into a warehouse, which comes back.
 fn load_into<R: Threads + Wait + Sync, V: Volume + Drop + Send>(
     rt: &HostRuntime,
     threads: &R,
-    opened: Result<Store<V>, (V, StoreFault)>,
+    store: Store<V>,
     job: Job<'_>,
-) -> Result<ExitCode, Fault> {
-    match opened {
-        Ok(store) => {
-            let mut progress = FileProgress::new(rt, job.texts.len());
-            let mut lines = Vec::new(rt.alloc());
-            let (_, fault) = load(threads, rt.alloc(), store, job, &mut lines, &mut progress);
-            print_loaded(rt, lines.as_slice(), fault)
-        }
-        Err((_, fault)) => Err(Fault::Store(fault)),
-    }
+) -> (Store<V>, Result<ExitCode, Fault>) {
+    let mut progress = FileProgress::new(rt, job.texts.len());
+    let mut lines = Vec::new(rt.alloc());
+    let (store, fault) = load(threads, rt.alloc(), store, job, &mut lines, &mut progress);
+    let loaded = print_loaded(rt, lines.as_slice(), fault);
+    (store, loaded)
 }
 
 // Prints the lines of a load, and the fault that ended it, if one did. The lines are in memory, so where they couldn't be written it ran out.

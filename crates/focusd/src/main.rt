@@ -16,10 +16,9 @@ use fw_commands::{
     make_checkpoint, print_coverage, print_dump, print_explanation, print_lines, print_report,
     print_status, serve_script, verify_folder,
 };
-use fw_console::{Fault, WRONG_USE, failed, wrong_use};
+use fw_console::{Fault, WRONG_USE, printed, stopped, wrong_use};
 use fw_correct_commands::{compact_folder, replace_rows, withdraw_posts};
 use fw_export_commands::{check_files, import_files};
-use fw_serve::ServeFault;
 use fw_table::shown_text;
 use load::load_files;
 use std::alloc::{AllocError, Global};
@@ -35,7 +34,7 @@ const LARGEST_KEPT: usize = 31 << 20;
 fn main(rt: HostRuntime) -> ExitCode {
     match start(&rt, &rt) {
         Ok(status) => status,
-        Err(fault) => failed(&rt, &fault),
+        Err(fault) => stopped(&rt, &fault),
     }
 }
 
@@ -125,12 +124,8 @@ fn refused(rt: &HostRuntime, error: &clap::Error) -> Result<ExitCode, Fault> {
         return Ok(ExitCode::from(WRONG_USE));
     }
     // A help that was asked for has to come out, unless its reader has had enough, as `head`.
-    match error.print(rt) {
-        Err(failure) if failure.kind() != io::ErrorKind::BrokenPipe => {
-            Err(Fault::Serve(ServeFault::Write))
-        }
-        _ => Ok(ExitCode::SUCCESS),
-    }
+    printed(error.print(rt))?;
+    Ok(ExitCode::SUCCESS)
 }
 
 // Prints what is wrong with the command line. It has words of the command line, which may be names of files, so it is shown as texts of others are.

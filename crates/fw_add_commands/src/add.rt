@@ -3,11 +3,11 @@ use crate::check::{Job, Trial, check_all, print_same};
 use crate::faults::say_refusal;
 use crate::matched::warn_unmatched;
 use crate::printing::print_line;
-use crate::texts::{name_text, replaced_text};
+use crate::texts::{Given, name_text, replaced_text};
 use clap::ArgMatches;
-use fw_adding::{AddFault, Outcome, add_document};
+use fw_adding::{Outcome, add_document};
 use fw_command_line::{DIR, DRY_RUN, FILES, ORIGIN, YES};
-use fw_console::{Fault, advised, open_warehouse, wrong_origin};
+use fw_console::{Fault, advised, closed, open_warehouse, wrong_origin};
 use fw_disk::Volume;
 use fw_documents::Document;
 use fw_entry::is_origin;
@@ -40,7 +40,8 @@ fn add_into(
     files: &[&str],
 ) -> Result<ExitCode, Fault> {
     let mut store = open_warehouse(rt, folder)?;
-    add_to(rt, &mut store, job, files)
+    let done = add_to(rt, &mut store, job, files);
+    closed(store, done)
 }
 
 // Checks files against a warehouse, and where none has a fault adds them, unless nothing is to be written.
@@ -91,33 +92,47 @@ fn add_one<V: Volume>(
     file: &str,
     document: &Document,
 ) -> Result<bool, Fault> {
-    let replaced = replaced_text(rt.alloc(), store.state().state(), document)?;
-    match add_document(rt.alloc(), store, job.origin, document, job.says_yes) {
+    let name = name_text(rt.alloc(), document)?;
+    let given = Given {
+        file,
+        document,
+        name: name.as_str(),
+    };
+    add_given(rt, store, job, &given)
+}
+
+// Adds a document, and says what became of it.
+fn add_given<V: Volume>(
+    rt: &HostRuntime,
+    store: &mut Store<V>,
+    job: &Job<'_>,
+    given: &Given<'_>,
+) -> Result<bool, Fault> {
+    let replaced = replaced_text(rt.alloc(), store.state().state(), given.document)?;
+    match add_document(rt.alloc(), store, job.origin, given.document, job.says_yes) {
         Ok(outcome) => {
             let state = store.state().state();
-            print_outcome(rt, state, job, file, document, outcome, replaced.as_str())
+            print_outcome(rt, state, job, given, outcome, replaced.as_str())
         }
-        Err(fault) => say_refusal(rt, store.state().state(), job.origin, file, document, fault),
+        Err(fault) => say_refusal(rt, store.state().state(), job.origin, given, fault),
     }
 }
 
-// Says what became of a document.
+// Says what became of a document. The answer is true.
 fn print_outcome(
     rt: &HostRuntime,
     state: &State,
     job: &Job<'_>,
-    file: &str,
-    document: &Document,
+    given: &Given<'_>,
     outcome: Outcome,
     replaced: &str,
 ) -> Result<bool, Fault> {
-    let name = name_text(rt.alloc(), document)?;
     match outcome {
         Outcome::Added => {
-            print_added(rt, state, job, file, name.as_str(), replaced)?;
-            warn_unmatched(rt, state, file, document)?;
+            print_added(rt, state, job, given, replaced)?;
+            warn_unmatched(rt, state, given)?;
         }
-        Outcome::Same => print_same(rt, file, document, name.as_str())?,
+        Outcome::Same => print_same(rt, given)?,
     }
     Ok(true)
 }
@@ -127,15 +142,15 @@ fn print_added(
     rt: &HostRuntime,
     state: &State,
     job: &Job<'_>,
-    file: &str,
-    name: &str,
+    given: &Given<'_>,
     replaced: &str,
 ) -> Result<(), Fault> {
+    let name = given.name;
     let entry = state.entries();
     let origin = job.origin;
     let number = last_number(state);
     let line = format!(in rt.alloc(); "{name}{replaced}: entry {entry} ({origin} {number})")?;
-    print_line(rt, file, line.as_str())
+    print_line(rt, given.file, line.as_str())
 }
 
 // The number of the last entry among those of its origin.

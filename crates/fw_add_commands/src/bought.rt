@@ -1,7 +1,7 @@
 //! What a commitment was bought for, in words.
 use crate::printing::print_line;
-use crate::texts::cost_text;
-use fw_adding::{Outcome, registered};
+use crate::texts::{Given, cost_text};
+use fw_adding::{Outcome, Tried, registered};
 use fw_charge::Currency;
 use fw_console::Fault;
 use fw_documents::Document;
@@ -14,18 +14,17 @@ use std::alloc::{AllocError, Global};
 /// what they cost together. Of other documents nothing is said.
 pub(crate) fn print_bought(
     rt: &HostRuntime,
-    after: &State,
-    file: &str,
-    document: &Document,
-    outcome: Outcome,
+    given: &Given<'_>,
+    tried: &Tried,
 ) -> Result<(), Fault> {
-    let Document::Purchase(added) = document else {
+    let Document::Purchase(added) = given.document else {
         return Ok(());
     };
+    let after = &tried.after;
     match registered(after.commitment_list(), added.id()) {
         Some(commitment) => {
-            let line = bought_text(rt.alloc(), after.currency(), commitment, outcome)?;
-            print_line(rt, file, line.as_str())
+            let line = bought_text(rt.alloc(), after.currency(), commitment, tried.outcome)?;
+            print_line(rt, given.file, line.as_str())
         }
         None => Ok(()),
     }
@@ -38,21 +37,17 @@ fn bought_text(
     commitment: &Commitment,
     outcome: Outcome,
 ) -> Result<String, AllocError> {
-    let id = shown_text(alloc, commitment.id())?;
     let verb = match outcome {
-        Outcome::Added => "would have",
-        Outcome::Same => "has",
+        Outcome::Added => " would have ",
+        Outcome::Same => " has ",
     };
-    let purchases = purchases_text(alloc, commitment)?;
-    let cost = cost_text(alloc, currency, commitment.cost())?;
-    format!(in alloc; "commitment {id} {verb} {purchases}, for {cost}")
-}
-
-// How many purchases a commitment has.
-fn purchases_text(alloc: Global, commitment: &Commitment) -> Result<String, AllocError> {
     let count = commitment.purchases().len();
     let word = if count == 1 { "purchase" } else { "purchases" };
-    format!(in alloc; "{count} {word}")
+    let mut text = String::from_str(alloc, "commitment ")?;
+    text.push_str(shown_text(alloc, commitment.id())?.as_str())?;
+    write!(text, "{verb}{count} {word}, for ")?;
+    text.push_str(cost_text(alloc, currency, commitment.cost())?.as_str())?;
+    Ok(text)
 }
 
 /// Why a commitment can't have a purchase too: it has as many as a commitment may have, or they would cost too much.

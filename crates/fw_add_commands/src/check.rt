@@ -4,7 +4,7 @@ use crate::faults::{say_fault, say_old_side, say_refusal};
 use crate::files::text_of;
 use crate::matched::print_matches;
 use crate::printing::print_line;
-use crate::texts::{document_text, name_text, replaced_text};
+use crate::texts::{Given, document_text, name_text, replaced_text};
 use fw_adding::{AddFault, Outcome, Tried, try_document};
 use fw_console::Fault;
 use fw_documents::{Document, read_document};
@@ -52,11 +52,11 @@ impl Trial {
         self.documents.as_slice()
     }
 
-    // One more file is checked, after which the warehouse would be this.
-    fn add(&mut self, document: Document, after: State) -> Result<(), AllocError> {
+    // One more file is checked, after which the warehouse would be this. The answer is true.
+    fn add(&mut self, document: Document, after: State) -> Result<bool, Fault> {
         self.documents.push(document)?;
         self.state = after;
-        Ok(())
+        Ok(true)
     }
 }
 
@@ -111,12 +111,10 @@ fn check_document(
     file: &str,
     document: Document,
 ) -> Result<bool, Fault> {
-    match tried(rt, job, trial, file, &document)? {
-        Some(after) => {
-            trial.add(document, after)?;
-            Ok(true)
-        }
-        None => Ok(false),
+    match tried(rt, job, trial, file, &document) {
+        Ok(Some(after)) => trial.add(document, after),
+        Ok(None) => Ok(false),
+        Err(fault) => Err(fault),
     }
 }
 
@@ -128,39 +126,80 @@ fn tried(
     file: &str,
     document: &Document,
 ) -> Result<Option<State>, Fault> {
-    let state = &trial.state;
-    if job.is_dry {
-        print_document(rt, state, file, document)?;
-    }
-    if !job.says_yes && changes_key(state, document) {
-        say_other_key(rt, state, file, document)?;
+    let name = name_text(rt.alloc(), document)?;
+    let given = Given {
+        file,
+        document,
+        name: name.as_str(),
+    };
+    try_given(rt, job, trial, &given)
+}
+
+// What a warehouse would become by a document; `None` where it is refused, which was said.
+fn try_given(
+    rt: &HostRuntime,
+    job: &Job<'_>,
+    trial: &Trial,
+    given: &Given<'_>,
+) -> Result<Option<State>, Fault> {
+    if !goes_in(rt, job, &trial.state, given)? {
         return Ok(None);
     }
-    match try_document(rt.alloc(), state, job.origin, document, job.says_yes) {
-        Ok(tried) => in_form(rt, job, trial, file, document, tried),
+    let document = given.document;
+    match try_document(rt.alloc(), &trial.state, job.origin, document, job.says_yes) {
+        Ok(tried) => kept(is_taken(rt, job, trial, given, &tried), tried),
         Err(AddFault::Store(fault)) => Err(Fault::Store(fault)),
         Err(fault) => {
-            let _said = say_refusal(rt, state, job.origin, file, document, fault)?;
+            say_refusal(rt, &trial.state, job.origin, given, fault)?;
             Ok(None)
         }
     }
 }
 
-// What a warehouse would become; `None` where its log is of a form that doesn't have what would be added, which was said.
-fn in_form(
+// Whether a document is tried; false where it is a policy whose key isn't asked for, which is said. Where nothing is to be
+// written, what it is is said first.
+fn goes_in(
+    rt: &HostRuntime,
+    job: &Job<'_>,
+    state: &State,
+    given: &Given<'_>,
+) -> Result<bool, Fault> {
+    if job.is_dry {
+        print_document(rt, state, given)?;
+    }
+    if job.says_yes || !changes_key(state, given.document) {
+        return Ok(true);
+    }
+    say_other_key(rt, state, given)
+}
+
+// What a warehouse would become, where that is taken.
+fn kept(is_taken: Result<bool, Fault>, tried: Tried) -> Result<Option<State>, Fault> {
+    match is_taken {
+        Ok(true) => Ok(Some(tried.after)),
+        Ok(false) => Ok(None),
+        Err(fault) => Err(fault),
+    }
+}
+
+// Whether a document that was tried is taken; false where the log is of a form that doesn't have what would be added, which is
+// said. Where nothing is to be written, what would become of it is said.
+fn is_taken(
     rt: &HostRuntime,
     job: &Job<'_>,
     trial: &Trial,
-    file: &str,
-    document: &Document,
-    tried: Tried,
-) -> Result<Option<State>, Fault> {
-    if tried.outcome == Outcome::Added && !has_form(trial.form, document) {
-        let name = name_text(rt.alloc(), document)?;
-        say_old_side(rt, file, name.as_str())?;
-        return Ok(None);
+    given: &Given<'_>,
+    tried: &Tried,
+) -> Result<bool, Fault> {
+    if tried.outcome == Outcome::Added && !has_form(trial.form, given.document) {
+        return say_old_side(rt, given);
     }
-    taken(rt, job, &trial.state, file, document, tried)
+    if job.is_dry {
+        print_tried(rt, job, &trial.state, given, tried)?;
+        print_matches(rt, &trial.state, given)?;
+        print_bought(rt, given, tried)?;
+    }
+    Ok(true)
 }
 
 // Whether a form has entries of a document.
@@ -171,23 +210,6 @@ fn has_form(form: Form, document: &Document) -> bool {
     }
 }
 
-// What a warehouse would become; where nothing is to be written, that is said.
-fn taken(
-    rt: &HostRuntime,
-    job: &Job<'_>,
-    state: &State,
-    file: &str,
-    document: &Document,
-    tried: Tried,
-) -> Result<Option<State>, Fault> {
-    if job.is_dry {
-        print_tried(rt, job, state, file, document, &tried)?;
-        print_matches(rt, state, file, document)?;
-        print_bought(rt, &tried.after, file, document, tried.outcome)?;
-    }
-    Ok(Some(tried.after))
-}
-
 // Whether a document is a policy by another key than that of the policy which holds.
 fn changes_key(state: &State, document: &Document) -> bool {
     match (document, state.policy()) {
@@ -196,46 +218,32 @@ fn changes_key(state: &State, document: &Document) -> bool {
     }
 }
 
-// Says that a policy takes the place of one by another key, which has to be asked for.
-fn say_other_key(
-    rt: &HostRuntime,
-    state: &State,
-    file: &str,
-    document: &Document,
-) -> Result<(), Fault> {
-    let name = name_text(rt.alloc(), document)?;
-    let replaced = replaced_text(rt.alloc(), state, document)?;
+// Says that a policy takes the place of one by another key, which has to be asked for. The answer is false.
+fn say_other_key(rt: &HostRuntime, state: &State, given: &Given<'_>) -> Result<bool, Fault> {
+    let (file, name) = (given.file, given.name);
+    let replaced = replaced_text(rt.alloc(), state, given.document)?;
     let remedy = explain_fault("A4 OtherKey").remedy;
     let _ = eprintln!(rt;
         "{file}: {name}{replaced}, whose key is another one. What to do: {remedy} (A4 OtherKey)"
     );
-    Ok(())
+    Ok(false)
 }
 
 // Says what a file is.
-fn print_document(
-    rt: &HostRuntime,
-    state: &State,
-    file: &str,
-    document: &Document,
-) -> Result<(), Fault> {
-    let text = document_text(rt.alloc(), state.currency(), document)?;
-    print_line(rt, file, text.as_str())
+fn print_document(rt: &HostRuntime, state: &State, given: &Given<'_>) -> Result<(), Fault> {
+    let text = document_text(rt.alloc(), state.currency(), given)?;
+    print_line(rt, given.file, text.as_str())
 }
 
 /// Says that a document is there already.
-pub(crate) fn print_same(
-    rt: &HostRuntime,
-    file: &str,
-    document: &Document,
-    name: &str,
-) -> Result<(), Fault> {
-    let more = match document {
+pub(crate) fn print_same(rt: &HostRuntime, given: &Given<'_>) -> Result<(), Fault> {
+    let name = given.name;
+    let more = match given.document {
         Document::Purchase(_) => "; give --yes to add it once more",
         Document::Commitment(_) | Document::Policy(_) => "",
     };
     let line = format!(in rt.alloc(); "{name} is there already, the same{more}")?;
-    print_line(rt, file, line.as_str())
+    print_line(rt, given.file, line.as_str())
 }
 
 // Says what would become of a file.
@@ -243,14 +251,12 @@ fn print_tried(
     rt: &HostRuntime,
     job: &Job<'_>,
     state: &State,
-    file: &str,
-    document: &Document,
+    given: &Given<'_>,
     tried: &Tried,
 ) -> Result<(), Fault> {
-    let name = name_text(rt.alloc(), document)?;
     match tried.outcome {
-        Outcome::Added => print_next(rt, job, state, file, document, tried),
-        Outcome::Same => print_same(rt, file, document, name.as_str()),
+        Outcome::Added => print_next(rt, job, state, given, tried),
+        Outcome::Same => print_same(rt, given),
     }
 }
 
@@ -259,18 +265,16 @@ fn print_next(
     rt: &HostRuntime,
     job: &Job<'_>,
     state: &State,
-    file: &str,
-    document: &Document,
+    given: &Given<'_>,
     tried: &Tried,
 ) -> Result<(), Fault> {
-    let alloc = rt.alloc();
-    let name = name_text(alloc, document)?;
-    let replaced = replaced_text(alloc, state, document)?;
+    let replaced = replaced_text(rt.alloc(), state, given.document)?;
+    let name = given.name;
     let entry = tried.after.entries();
     let origin = job.origin;
     let number = tried.number;
-    let line = format!(in alloc;
+    let line = format!(in rt.alloc();
         "{name}{replaced}: it would be entry {entry} ({origin} {number})"
     )?;
-    print_line(rt, file, line.as_str())
+    print_line(rt, given.file, line.as_str())
 }

@@ -1,6 +1,6 @@
 //! Faults of files, as a person reads them.
 use crate::bought::limit_text;
-use crate::texts::name_text;
+use crate::texts::Given;
 use fw_adding::{AddFault, agree_in, committed};
 use fw_commitment::{CommitmentFault, CommitmentField};
 use fw_console::{Fault, conflict_code, entry_code};
@@ -45,12 +45,6 @@ fn say_words(rt: &HostRuntime, about: &str, fault: &str) -> Result<bool, Fault> 
     let (meaning, remedy) = (words.meaning, words.remedy);
     let _ = eprintln!(rt; "{about}: {meaning}. What to do: {remedy} ({fault})");
     Ok(false)
-}
-
-// Says what a fault of what a file has means, and what to do. The answer is false.
-fn say_named(rt: &HostRuntime, file: &str, name: &str, fault: &str) -> Result<bool, Fault> {
-    let about = format!(in rt.alloc(); "{file}: {name}")?;
-    say_words(rt, about.as_str(), fault)
 }
 
 // What a field must be in a document of a kind that has it.
@@ -235,20 +229,17 @@ pub(crate) fn say_refusal(
     rt: &HostRuntime,
     state: &State,
     origin: &str,
-    file: &str,
-    document: &Document,
+    given: &Given<'_>,
     fault: AddFault,
 ) -> Result<bool, Fault> {
-    let name = name_text(rt.alloc(), document)?;
     match fault {
         AddFault::NoMemory | AddFault::Store(StoreFault::NoMemory) => Err(Fault::NoMemory),
-        AddFault::Store(StoreFault::OldSide) => say_old_side(rt, file, name.as_str()),
+        AddFault::Store(StoreFault::OldSide) => say_old_side(rt, given),
         AddFault::Store(fault) => Err(Fault::Store(fault)),
-        AddFault::Conflict(conflict) => {
-            say_conflict(rt, state, file, document, name.as_str(), conflict)
-        }
-        AddFault::Entry(fault) => say_named(rt, file, name.as_str(), entry_code(fault)?),
+        AddFault::Conflict(conflict) => say_conflict(rt, state, given, conflict),
+        AddFault::Entry(fault) => say_given(rt, given, entry_code(fault)?),
         AddFault::NoNumber => {
+            let (file, name) = (given.file, given.name);
             let _ = eprintln!(rt;
                 "{file}: {name}: the origin {origin} has no further number (E2 Seq)"
             );
@@ -258,48 +249,43 @@ pub(crate) fn say_refusal(
 }
 
 /// Says that the log of the warehouse has no such entries before the next checkpoint. The answer is false.
-pub(crate) fn say_old_side(rt: &HostRuntime, file: &str, name: &str) -> Result<bool, Fault> {
-    say_named(rt, file, name, "S8 OldSide")
+pub(crate) fn say_old_side(rt: &HostRuntime, given: &Given<'_>) -> Result<bool, Fault> {
+    say_given(rt, given, "S8 OldSide")
+}
+
+// Says what a fault of a document means, and what to do. The answer is false.
+fn say_given(rt: &HostRuntime, given: &Given<'_>, fault: &str) -> Result<bool, Fault> {
+    let (file, name) = (given.file, given.name);
+    let about = format!(in rt.alloc(); "{file}: {name}")?;
+    say_words(rt, about.as_str(), fault)
 }
 
 // Says why a document doesn't go with what was accepted before.
 fn say_conflict(
     rt: &HostRuntime,
     state: &State,
-    file: &str,
-    document: &Document,
-    name: &str,
+    given: &Given<'_>,
     conflict: Conflict,
 ) -> Result<bool, Fault> {
     match conflict {
-        Conflict::DoubleId => say_double(rt, state, file, document, name),
-        Conflict::PurchaseLimit => say_limit(rt, state, file, document, name),
-        other => say_named(rt, file, name, conflict_code(other)),
+        Conflict::DoubleId => say_double(rt, state, given),
+        Conflict::PurchaseLimit => say_limit(rt, state, given),
+        other => say_given(rt, given, conflict_code(other)),
     }
 }
 
 // Says that a commitment can't have a purchase too.
-fn say_limit(
-    rt: &HostRuntime,
-    state: &State,
-    file: &str,
-    document: &Document,
-    name: &str,
-) -> Result<bool, Fault> {
-    let reason = limit_text(rt.alloc(), state, document)?;
+fn say_limit(rt: &HostRuntime, state: &State, given: &Given<'_>) -> Result<bool, Fault> {
+    let (file, name) = (given.file, given.name);
+    let reason = limit_text(rt.alloc(), state, given.document)?;
     let _ = eprintln!(rt; "{file}: {name}: {reason}");
     Ok(false)
 }
 
 // Says that there is a commitment of the same id with other terms.
-fn say_double(
-    rt: &HostRuntime,
-    state: &State,
-    file: &str,
-    document: &Document,
-    name: &str,
-) -> Result<bool, Fault> {
-    let fields = match document {
+fn say_double(rt: &HostRuntime, state: &State, given: &Given<'_>) -> Result<bool, Fault> {
+    let (file, name) = (given.file, given.name);
+    let fields = match given.document {
         Document::Commitment(commitment) => other_fields(rt.alloc(), state, commitment)?,
         Document::Policy(_) | Document::Purchase(_) => String::new(rt.alloc()),
     };

@@ -1,9 +1,9 @@
 //! The files that the command line names.
-use fw_console::Fault;
+use fw_console::{Fault, Heard, is_folder};
 use fw_serve::{ServeFault, read_within};
 use fw_table::shown_text;
 use std::fs;
-use std::io::Read;
+use std::io::{self, Read};
 
 /// The most bytes of a file.
 const MOST_BYTES: usize = 1 << 26;
@@ -12,7 +12,7 @@ const MOST_BYTES: usize = 1 << 26;
 /// terminal may show it.
 pub(crate) fn text_of(rt: &HostRuntime, file: &str) -> Result<Option<Vec<u8>>, Fault> {
     if file == "-" {
-        return read_text(rt, "standard input", &mut rt.stdin());
+        return read_text(rt, "standard input", rt.stdin());
     }
     let name = shown_text(rt.alloc(), file)?;
     let name = name.as_str();
@@ -21,7 +21,7 @@ pub(crate) fn text_of(rt: &HostRuntime, file: &str) -> Result<Option<Vec<u8>>, F
         return Ok(None);
     }
     match fs::open(rt, file) {
-        Ok(mut opened) => read_text(rt, name, &mut opened),
+        Ok(opened) => read_text(rt, name, opened),
         Err(error) => {
             let _ = eprintln!(rt; "{name}: {error} (F1 Read)");
             Ok(None)
@@ -29,30 +29,33 @@ pub(crate) fn text_of(rt: &HostRuntime, file: &str) -> Result<Option<Vec<u8>>, F
     }
 }
 
-// Whether there is a folder of this name.
-fn is_folder(rt: &HostRuntime, name: &str) -> bool {
-    match fs::metadata(rt, name) {
-        Ok(found) => found.is_dir(),
-        Err(_) => false,
+// The text of a reader.
+fn read_text<R: Read + Drop>(
+    rt: &HostRuntime,
+    file: &str,
+    reader: R,
+) -> Result<Option<Vec<u8>>, Fault> {
+    let mut heard = Heard::new(reader);
+    match read_within(rt.alloc(), &mut heard, MOST_BYTES) {
+        Ok(text) => Ok(Some(text)),
+        Err(fault) => say_unread(rt, file, fault, heard.error),
     }
 }
 
-// The text of a reader.
-fn read_text<R: Read>(
+// Says why a reader's text could not be read.
+fn say_unread(
     rt: &HostRuntime,
     file: &str,
-    reader: &mut R,
+    fault: ServeFault,
+    error: Option<io::Error>,
 ) -> Result<Option<Vec<u8>>, Fault> {
-    match read_within(rt.alloc(), reader, MOST_BYTES) {
-        Ok(text) => Ok(Some(text)),
-        Err(ServeFault::NoMemory) => Err(Fault::NoMemory),
-        Err(ServeFault::TooLong) => {
-            let _ = eprintln!(rt; "{file}: it has more than 64 MiB (F3 TooLong)");
-            Ok(None)
+    let _ = match (fault, error) {
+        (ServeFault::NoMemory, _) => return Err(Fault::NoMemory),
+        (ServeFault::TooLong, _) => {
+            eprintln!(rt; "{file}: it has more than 64 MiB (F3 TooLong)")
         }
-        Err(_) => {
-            let _ = eprintln!(rt; "{file}: it can't be read (F1 Read)");
-            Ok(None)
-        }
-    }
+        (_, Some(error)) => eprintln!(rt; "{file}: {error} (F1 Read)"),
+        (_, None) => eprintln!(rt; "{file}: it can't be read (F1 Read)"),
+    };
+    Ok(None)
 }

@@ -1,5 +1,6 @@
 //! The rows that a commitment applies to, in words.
 use crate::printing::print_line;
+use crate::texts::Given;
 use fw_adding::{Matches, matches_of};
 use fw_console::Fault;
 use fw_documents::Document;
@@ -13,11 +14,10 @@ use std::alloc::{AllocError, Global};
 pub(crate) fn print_matches(
     rt: &HostRuntime,
     state: &State,
-    file: &str,
-    document: &Document,
+    given: &Given<'_>,
 ) -> Result<(), Fault> {
-    match document {
-        Document::Commitment(commitment) => print_matched(rt, state, file, commitment),
+    match given.document {
+        Document::Commitment(commitment) => print_matched(rt, state, given.file, commitment),
         Document::Policy(_) | Document::Purchase(_) => Ok(()),
     }
 }
@@ -29,26 +29,38 @@ fn print_matched(
     file: &str,
     commitment: &Commitment,
 ) -> Result<(), Fault> {
-    let alloc = rt.alloc();
-    let counting = state.counting_segments(alloc)?;
-    let segments = counting.references(alloc)?;
-    let matches = matches_of(alloc, commitment, segments.as_slice())?;
-    let lines = match_lines(alloc, commitment, &matches)?;
-    for line in lines.iter() {
+    let lines = lines_on(rt.alloc(), state, commitment)?;
+    print_lines(rt, file, &lines)
+}
+
+// Prints lines about a file.
+fn print_lines(rt: &HostRuntime, file: &str, lines: &[String]) -> Result<(), Fault> {
+    for line in lines {
         print_line(rt, file, line.as_str())?;
     }
     Ok(())
+}
+
+// The lines on how many rows of a warehouse a commitment applies to.
+fn lines_on(
+    alloc: Global,
+    state: &State,
+    commitment: &Commitment,
+) -> Result<Vec<String>, AllocError> {
+    let counting = state.counting_segments(alloc)?;
+    let segments = counting.references(alloc)?;
+    let matches = matches_of(alloc, commitment, segments.as_slice())?;
+    match_lines(alloc, commitment, &matches)
 }
 
 /// Warns on standard error where a commitment applies to no row, and rows of its SKUs are in another unit.
 pub(crate) fn warn_unmatched(
     rt: &HostRuntime,
     state: &State,
-    file: &str,
-    document: &Document,
+    given: &Given<'_>,
 ) -> Result<(), Fault> {
-    match document {
-        Document::Commitment(commitment) => warn_units(rt, state, file, commitment),
+    match given.document {
+        Document::Commitment(commitment) => warn_units(rt, state, given.file, commitment),
         Document::Policy(_) | Document::Purchase(_) => Ok(()),
     }
 }
@@ -60,15 +72,34 @@ fn warn_units(
     file: &str,
     commitment: &Commitment,
 ) -> Result<(), Fault> {
-    let alloc = rt.alloc();
-    let counting = state.counting_segments(alloc)?;
-    let segments = counting.references(alloc)?;
-    let matches = matches_of(alloc, commitment, segments.as_slice())?;
-    if matches.applies == 0 && is_in_other_units(&matches) {
-        let line = unit_line(alloc, commitment, &matches)?;
+    if let Some(line) = warning_on(rt.alloc(), state, commitment)? {
         let _ = eprintln!(rt; "{file}: {line}");
     }
     Ok(())
+}
+
+// What is warned of a commitment and the rows of a warehouse, if anything is.
+fn warning_on(
+    alloc: Global,
+    state: &State,
+    commitment: &Commitment,
+) -> Result<Option<String>, AllocError> {
+    let counting = state.counting_segments(alloc)?;
+    let segments = counting.references(alloc)?;
+    let matches = matches_of(alloc, commitment, segments.as_slice())?;
+    unit_warning(alloc, commitment, &matches)
+}
+
+// The warning that a commitment applies to no row, and that rows are in another unit; none where that isn't so.
+fn unit_warning(
+    alloc: Global,
+    commitment: &Commitment,
+    matches: &Matches<'_>,
+) -> Result<Option<String>, AllocError> {
+    if matches.applies > 0 || !is_in_other_units(matches) {
+        return Ok(None);
+    }
+    Ok(Some(unit_line(alloc, commitment, matches)?))
 }
 
 // Whether there are rows in another unit, or in none.
@@ -83,17 +114,33 @@ fn match_lines(
     matches: &Matches<'_>,
 ) -> Result<Vec<String>, AllocError> {
     let mut lines = Vec::new(alloc);
-    let rows = rows_text(alloc, matches.applies)?;
-    lines.push(format!(in alloc; "it applies to {rows}")?)?;
+    push_lines(alloc, &mut lines, commitment, matches)?;
+    Ok(lines)
+}
+
+// Adds the lines on how many rows a commitment applies to.
+fn push_lines(
+    alloc: Global,
+    lines: &mut Vec<String>,
+    commitment: &Commitment,
+    matches: &Matches<'_>,
+) -> Result<(), AllocError> {
+    lines.push(applies_line(alloc, matches.applies)?)?;
     if is_in_other_units(matches) {
         lines.push(unit_line(alloc, commitment, matches)?)?;
     }
-    push_reasons(alloc, &mut lines, commitment, matches)?;
+    push_reasons(alloc, lines, commitment, matches)?;
     if matches.applies == 0 && lines.len() == 1 {
         let skus = sku_words(commitment.terms());
         lines.push(format!(in alloc; "no row of the warehouse is of {skus}")?)?;
     }
-    Ok(lines)
+    Ok(())
+}
+
+// How many rows a commitment applies to.
+fn applies_line(alloc: Global, count: u64) -> Result<String, AllocError> {
+    let rows = rows_text(alloc, count)?;
+    format!(in alloc; "it applies to {rows}")
 }
 
 // Adds a line for each other reason why a commitment doesn't apply to rows of its SKUs.
@@ -141,36 +188,46 @@ fn unit_line(
     commitment: &Commitment,
     matches: &Matches<'_>,
 ) -> Result<String, AllocError> {
-    let unit = shown_text(alloc, unit_of(commitment.terms()))?;
-    let rows = rows_text(alloc, matches.applies)?;
-    let verb = if matches.applies == 1 {
-        "matches"
-    } else {
-        "match"
-    };
-    let mut line = format!(in alloc; "{rows} {verb} unit \"{unit}\"")?;
-    push_units(alloc, &mut line, sku_words(commitment.terms()), matches)?;
+    let mut line = rows_text(alloc, matches.applies)?;
+    put_unit(alloc, &mut line, commitment.terms(), matches.applies)?;
+    put_units(alloc, &mut line, sku_words(commitment.terms()), matches)?;
     Ok(line)
 }
 
-// Adds how many rows are in which other units.
-fn push_units(
+// Writes the unit of so many rows, which is that of a commitment's terms.
+fn put_unit(alloc: Global, line: &mut String, terms: &Terms, rows: u64) -> Result<(), AllocError> {
+    line.push_str(if rows == 1 { " matches" } else { " match" })?;
+    line.push_str(" unit \"")?;
+    line.push_str(shown_text(alloc, unit_of(terms))?.as_str())?;
+    line.push_str("\"")
+}
+
+// Writes how many rows are in which other units.
+fn put_units(
     alloc: Global,
     line: &mut String,
     skus: &str,
     matches: &Matches<'_>,
 ) -> Result<(), AllocError> {
     for (unit, count) in matches.other_units.iter() {
-        let rows = rows_text(alloc, *count)?;
-        let verb = have(*count);
-        let unit = shown_text(alloc, unit)?;
-        line.push_str(format!(in alloc; "; {rows} of {skus} {verb} \"{unit}\"")?.as_str())?;
+        put_rows(alloc, line, skus, *count)?;
+        line.push_str(" \"")?;
+        line.push_str(shown_text(alloc, unit)?.as_str())?;
+        line.push_str("\"")?;
     }
     if matches.no_unit > 0 {
-        let rows = rows_text(alloc, matches.no_unit)?;
-        let verb = have(matches.no_unit);
-        line.push_str(format!(in alloc; "; {rows} of {skus} {verb} no unit")?.as_str())?;
+        put_rows(alloc, line, skus, matches.no_unit)?;
+        line.push_str(" no unit")?;
     }
+    Ok(())
+}
+
+// Writes how many rows of these SKUs have what follows.
+fn put_rows(alloc: Global, line: &mut String, skus: &str, count: u64) -> Result<(), AllocError> {
+    let verb = have(count);
+    line.push_str("; ")?;
+    line.push_str(rows_text(alloc, count)?.as_str())?;
+    write!(line, " of {skus} {verb}")?;
     Ok(())
 }
 

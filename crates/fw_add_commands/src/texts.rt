@@ -9,23 +9,30 @@ use fw_table::{count_text, shown_text};
 use fw_terms::{AddedPurchase, Commitment, Policy, Terms};
 use std::alloc::{AllocError, Global};
 
+/// A document of a file, and what messages call both.
+#[derive(Drop)]
+pub(crate) struct Given<'a> {
+    /// The name of the file, as a terminal may show it.
+    pub(crate) file: &'a str,
+    pub(crate) document: &'a Document,
+    /// The name of the document.
+    pub(crate) name: &'a str,
+}
+
 /// The name of a document: what it is, and the id of a commitment, the key of a policy or the id of the commitment that a
 /// purchase is added to.
 pub(crate) fn name_text(alloc: Global, document: &Document) -> Result<String, AllocError> {
     match document {
-        Document::Commitment(commitment) => {
-            let id = shown_text(alloc, commitment.id())?;
-            format!(in alloc; "commitment {id}")
-        }
-        Document::Policy(policy) => {
-            let key = shown_text(alloc, policy.key())?;
-            format!(in alloc; "policy by \"{key}\"")
-        }
-        Document::Purchase(added) => {
-            let id = shown_text(alloc, added.id())?;
-            format!(in alloc; "purchase for commitment {id}")
-        }
+        Document::Commitment(commitment) => named(alloc, "commitment ", commitment.id(), ""),
+        Document::Policy(policy) => named(alloc, "policy by \"", policy.key(), "\""),
+        Document::Purchase(added) => named(alloc, "purchase for commitment ", added.id(), ""),
     }
+}
+
+// A name of others between two texts.
+fn named(alloc: Global, before: &str, name: &str, behind: &str) -> Result<String, AllocError> {
+    let shown = shown_text(alloc, name)?;
+    format!(in alloc; "{before}{shown}{behind}")
 }
 
 /// What is added to the name of a policy where one holds, whose place it takes; else the empty text.
@@ -43,30 +50,36 @@ pub(crate) fn replaced_text(
     }
 }
 
-/// What a document is: of a commitment the id, the category, the term, the capacity and what it was bought for, of a
-/// policy the key and the number of its rules, of a purchase the id of the commitment, and how much was paid when.
+/// What a document is: its name, and of a commitment the category, the term, the capacity and what it was bought for, of a
+/// policy the number of its rules, of a purchase how much was paid when.
 pub(crate) fn document_text(
     alloc: Global,
     currency: Currency,
-    document: &Document,
+    given: &Given<'_>,
 ) -> Result<String, AllocError> {
-    match document {
-        Document::Commitment(commitment) => commitment_text(alloc, currency, commitment),
-        Document::Policy(policy) => policy_text(alloc, policy),
-        Document::Purchase(added) => purchase_text(alloc, currency, added),
+    let mut text = String::from_str(alloc, given.name)?;
+    match given.document {
+        Document::Commitment(commitment) => {
+            put_commitment(alloc, &mut text, currency, commitment)?;
+        }
+        Document::Policy(policy) => put_policy(&mut text, policy)?,
+        Document::Purchase(added) => put_purchase(alloc, &mut text, currency, added)?,
     }
+    Ok(text)
 }
 
-// What a purchase is.
-fn purchase_text(
+// Writes what a purchase is, behind its name.
+fn put_purchase(
     alloc: Global,
+    text: &mut String,
     currency: Currency,
     added: &AddedPurchase,
-) -> Result<String, AllocError> {
-    let id = shown_text(alloc, added.id())?;
-    let cost = cost_text(alloc, currency, added.purchase().billed())?;
-    let at = instant_text(alloc, added.purchase().at())?;
-    format!(in alloc; "purchase for commitment {id}: {cost} paid at {at}")
+) -> Result<(), AllocError> {
+    text.push_str(": ")?;
+    text.push_str(cost_text(alloc, currency, added.purchase().billed())?.as_str())?;
+    text.push_str(" paid at ")?;
+    text.push_str(instant_text(alloc, added.purchase().at())?.as_str())?;
+    Ok(())
 }
 
 /// An amount and its currency.
@@ -92,30 +105,43 @@ fn instant_text(alloc: Global, second: u64) -> Result<String, AllocError> {
     }
 }
 
-// What a policy is.
-fn policy_text(alloc: Global, policy: &Policy) -> Result<String, AllocError> {
-    let key = shown_text(alloc, policy.key())?;
+// Writes what a policy is, behind its name.
+fn put_policy(text: &mut String, policy: &Policy) -> Result<(), AllocError> {
     let count = policy.rules().len();
     let rules = if count == 1 { "rule" } else { "rules" };
-    format!(in alloc; "policy by \"{key}\", {count} {rules}")
+    write!(text, ", {count} {rules}")?;
+    Ok(())
 }
 
-// What a commitment is.
-fn commitment_text(
+// Writes what a commitment is, behind its name.
+fn put_commitment(
     alloc: Global,
+    text: &mut String,
     currency: Currency,
     commitment: &Commitment,
-) -> Result<String, AllocError> {
-    let id = shown_text(alloc, commitment.id())?;
+) -> Result<(), AllocError> {
     let category = commitment.kind().word();
-    let term = term_text(alloc, commitment)?;
+    write!(text, " ({category}): ")?;
+    put_term(alloc, text, commitment)?;
+    text.push_str("; ")?;
+    put_capacity(alloc, text, currency, commitment)?;
+    text.push_str(" each hour; bought for ")?;
+    text.push_str(cost_text(alloc, currency, commitment.cost())?.as_str())?;
+    Ok(())
+}
+
+// Writes the capacity of a commitment, and what it is counted in.
+fn put_capacity(
+    alloc: Global,
+    text: &mut String,
+    currency: Currency,
+    commitment: &Commitment,
+) -> Result<(), AllocError> {
     let code = str::from_utf8(currency.code()).unwrap_or("");
-    let capacity = exact_text(alloc, commitment.capacity())?;
-    let unit = shown_text(alloc, unit_of(commitment.terms(), code))?;
-    let cost = cost_text(alloc, currency, commitment.cost())?;
-    format!(in alloc;
-        "commitment {id} ({category}): {term}; {capacity} {unit} each hour; bought for {cost}"
-    )
+    text.push_str(exact_text(alloc, commitment.capacity())?.as_str())?;
+    text.push_str(" ")?;
+    text.push_str(shown_text(alloc, unit_of(commitment.terms(), code))?.as_str())?;
+    Ok(())
 }
 
 // What the capacity of terms is counted in: their unit, or the currency.
@@ -126,15 +152,17 @@ fn unit_of<'t>(terms: &'t Terms, currency: &'t str) -> &'t str {
     }
 }
 
-// The first hour of a term, the hour after its last one, and how many hours it has.
-fn term_text(alloc: Global, commitment: &Commitment) -> Result<String, AllocError> {
+// Writes the first hour of a term, the hour after its last one, and how many hours it has.
+fn put_term(alloc: Global, text: &mut String, commitment: &Commitment) -> Result<(), AllocError> {
     let start = u64::from(commitment.start());
     let count = u64::from(commitment.hours());
-    let from = hour_text(alloc, start)?;
-    let to = hour_text(alloc, start.saturating_add(count))?;
-    let hours = count_text(alloc, count)?;
-    let word = if count == 1 { "hour" } else { "hours" };
-    format!(in alloc; "{from} to {to}, {hours} {word}")
+    let word = if count == 1 { " hour" } else { " hours" };
+    text.push_str(hour_text(alloc, start)?.as_str())?;
+    text.push_str(" to ")?;
+    text.push_str(hour_text(alloc, start.saturating_add(count))?.as_str())?;
+    text.push_str(", ")?;
+    text.push_str(count_text(alloc, count)?.as_str())?;
+    text.push_str(word)
 }
 
 // An amount, exact and without the zeros at its end.

@@ -1,7 +1,9 @@
 //! Questions to the warehouse of a folder.
 use clap::ArgMatches;
 use fw_command_line::DIR;
-use fw_console::{Fault, advised, open_warehouse, print_answer, warn_unfinished};
+use fw_console::{Fault, advised, let_go, open_warehouse, print_answer, warn_unfinished};
+use fw_disk::FileVolume;
+use fw_recover::Store;
 use fw_views::{Question, answer};
 use std::process::ExitCode;
 
@@ -16,6 +18,17 @@ pub(crate) fn ask(rt: &HostRuntime, options: &ArgMatches<'_>, question: &Questio
 // The answer of the warehouse of a folder.
 fn answer_in(rt: &HostRuntime, folder: &str, question: &Question<'_>) -> Result<Vec<u8>, Fault> {
     let store = open_warehouse(rt, folder)?;
+    let answered = answer_of(rt, folder, &store, question);
+    let_go(store, answered)
+}
+
+// The answer of a warehouse.
+fn answer_of(
+    rt: &HostRuntime,
+    folder: &str,
+    store: &Store<FileVolume>,
+    question: &Question<'_>,
+) -> Result<Vec<u8>, Fault> {
     warn_unfinished(rt, folder)?;
-    Ok(answer(rt.alloc(), &store, question)?)
+    Ok(answer(rt.alloc(), store, question)?)
 }

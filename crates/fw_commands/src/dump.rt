@@ -4,13 +4,12 @@ ghost use Rattle.std.specs.Process.{exit_status};
 
 use clap::ArgMatches;
 use fw_command_line::DIR;
-use fw_console::{Fault, advised, open_warehouse};
+use fw_console::{Fault, Heard, advised, let_go, open_warehouse, printed};
 use fw_dump::{DumpFault, TextFault, dump};
 use fw_explain::explain_fault;
-use fw_serve::ServeFault;
 use fw_snapshot::State;
 use fw_table::shown_text;
-use std::io::ErrorKind;
+use std::io;
 use std::process::ExitCode;
 
 /// Prints the script of the warehouse.
@@ -22,15 +21,19 @@ pub fn print_dump(rt: &HostRuntime, options: &ArgMatches<'_>) -> ExitCode {
 // Prints the script of the warehouse of a folder.
 fn dump_folder(rt: &HostRuntime, folder: &str) -> Result<ExitCode, Fault> {
     let store = open_warehouse(rt, folder)?;
-    dump_state(rt, folder, store.state().state())
+    let dumped = dump_state(rt, folder, store.state().state());
+    let_go(store, dumped)
 }
 
-// Prints the script of a warehouse. A reader that has had enough, as `head`, is no fault.
+// Prints the script of a warehouse.
 fn dump_state(rt: &HostRuntime, folder: &str, state: &State) -> Result<ExitCode, Fault> {
-    match dump(rt.alloc(), state, &mut rt.stdout()) {
+    let mut output = Heard::new(rt.stdout());
+    match dump(rt.alloc(), state, &mut output) {
         Ok(()) => Ok(ExitCode::SUCCESS),
-        Err(DumpFault::Write(ErrorKind::BrokenPipe)) => Ok(ExitCode::SUCCESS),
-        Err(DumpFault::Write(_)) => Err(Fault::Serve(ServeFault::Write)),
+        Err(DumpFault::Write(kind)) => {
+            printed(Err(output.error.unwrap_or(io::Error::from(kind))))?;
+            Ok(ExitCode::SUCCESS)
+        }
         Err(DumpFault::Entry { number, why }) => {
             let name = shown_text(rt.alloc(), folder)?;
             Ok(stopped(rt, name.as_str(), number, why))

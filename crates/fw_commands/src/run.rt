@@ -6,12 +6,15 @@ ghost use Rattle.fw_serve.specs.Served.{most_workers};
 
 use clap::ArgMatches;
 use fw_command_line::{CREATE, CURRENCY, DIR, WORKERS};
-use fw_console::{Fault, advised_on_terminal, read_currency, wrong_use};
-use fw_disk::{FileVolume, NullVolume, Volume};
-use fw_recover::{Store, StoreFault};
+use fw_console::{
+    Creates, Fault, Heard, advised_on_terminal, let_go, open_folder, read_currency, tell_failure,
+    wrong_use,
+};
+use fw_disk::{NullVolume, Volume};
+use fw_recover::Store;
 use fw_rows::Currency;
-use fw_serve::{reopen, serve};
-use std::io::{BufWriter, IsTerminal, LineWriter, Write};
+use fw_serve::{ServeFault, serve};
+use std::io::{self, BufWriter, IsTerminal, LineWriter, Write};
 use std::process::ExitCode;
 use std::thread::Threads;
 
@@ -28,20 +31,17 @@ pub fn serve_script(
         return Ok(wrong_currency(rt, options));
     };
     let workers = read_workers(options);
-    match options.get_str(DIR) {
-        Some(folder) => {
-            let served = serve_folder(
-                rt,
-                threads,
-                folder,
-                options.get_flag(CREATE),
-                currency,
-                workers,
-            );
-            Ok(advised_on_terminal(rt, folder, served))
-        }
-        None => serve_memory(rt, threads, currency, workers),
-    }
+    let Some(folder) = options.get_str(DIR) else {
+        let served = serve_memory(rt, threads, currency, workers);
+        return Ok(advised_on_terminal(rt, "", served));
+    };
+    let creates = if options.get_flag(CREATE) {
+        Creates::New(currency)
+    } else {
+        Creates::OnlyFiles
+    };
+    let served = serve_folder(rt, threads, folder, creates, workers);
+    Ok(advised_on_terminal(rt, folder, served))
 }
 
 // Says that the currency is none: the line that scripts know and, for a person at a terminal, what is wrong.
@@ -70,24 +70,20 @@ fn serve_folder(
     rt: &HostRuntime,
     threads: &(impl Threads + Sync),
     folder: &str,
-    creates: bool,
-    currency: Currency,
+    creates: Creates,
     workers: u32,
 ) -> Result<ExitCode, Fault>
     requires some_workers { 1 ≤ workers }
     requires few_workers { workers ≤ most_workers }
 {
-    let alloc = rt.alloc();
-    let Ok(mut output) = LineWriter::with_capacity(alloc, OUTPUT_BUFFER, rt.stdout()) else {
+    let Ok(output) = LineWriter::with_capacity(rt.alloc(), OUTPUT_BUFFER, rt.stdout()) else {
         return Err(Fault::NoMemory);
     };
-    let volume = FileVolume::open(rt, folder)?;
-    let opened = if creates {
-        Store::create(alloc, volume, currency)
-    } else {
-        reopen(alloc, volume)
-    };
-    serve_streams(rt, threads, &mut output, opened, workers)
+    let mut store = open_folder(rt, folder, creates)?.into_store()?;
+    let mut output = Heard::new(output);
+    let served = serve_streams(rt, threads, &mut output, &mut store, workers);
+    tell_failure(rt, folder, store);
+    served
 }
 
 // Serves the script from an empty warehouse in memory. It can't be opened again, so no byte of its log is kept.
@@ -100,37 +96,42 @@ fn serve_memory(
     requires some_workers { 1 ≤ workers }
     requires few_workers { workers ≤ most_workers }
 {
-    let alloc = rt.alloc();
-    let Ok(mut output) = BufWriter::with_capacity(alloc, OUTPUT_BUFFER, rt.stdout()) else {
+    let Ok(output) = BufWriter::with_capacity(rt.alloc(), OUTPUT_BUFFER, rt.stdout()) else {
         return Err(Fault::NoMemory);
     };
-    let created = Store::create(alloc, NullVolume::new(), currency);
-    serve_streams(rt, threads, &mut output, created, workers)
+    match Store::create(rt.alloc(), NullVolume::new(), currency) {
+        Ok(mut store) => {
+            let mut output = Heard::new(output);
+            let served = serve_streams(rt, threads, &mut output, &mut store, workers);
+            let_go(store, served)
+        }
+        Err((_, fault)) => Err(Fault::Store(fault)),
+    }
 }
 
 // Serves the script on standard input from a store.
-fn serve_streams<W: Write, V: Volume + Drop>(
+fn serve_streams<W: Write, V: Volume>(
     rt: &HostRuntime,
     threads: &(impl Threads + Sync),
-    output: &mut W,
-    opened: Result<Store<V>, (V, StoreFault)>,
+    output: &mut Heard<W>,
+    store: &mut Store<V>,
     workers: u32,
 ) -> Result<ExitCode, Fault>
     requires some_workers { 1 ≤ workers }
     requires few_workers { workers ≤ most_workers }
 {
-    match opened {
-        Ok(mut store) => {
-            serve(
-                threads,
-                rt.alloc(),
-                &mut rt.stdin(),
-                output,
-                &mut store,
-                workers,
-            )?;
-            Ok(ExitCode::SUCCESS)
-        }
-        Err((_, fault)) => Err(Fault::Store(fault)),
+    let mut input = Heard::new(rt.stdin());
+    match serve(threads, rt.alloc(), &mut input, output, store, workers) {
+        Ok(()) => Ok(ExitCode::SUCCESS),
+        Err(fault) => Err(heard(fault, input.error, output.error)),
+    }
+}
+
+// The fault of a script that was not served to its end, with what the system said to its reader or its writer.
+fn heard(fault: ServeFault, input: Option<io::Error>, output: Option<io::Error>) -> Fault {
+    match (fault, input, output) {
+        (ServeFault::Read, Some(error), _) => Fault::Input(error),
+        (ServeFault::Write, _, Some(error)) => Fault::Output(error),
+        _ => Fault::Serve(fault),
     }
 }

@@ -3,10 +3,11 @@ ghost use Rattle.std.specs.Prelude.{◌≡◌, IfOk, IfErr};
 ghost use Rattle.std.specs.Process.{exit_status};
 ghost use Rattle.fw_console.specs.Statuses.{status_of};
 
-use crate::fault::{Fault, failed};
-use fw_disk::{FolderFault, Side};
+use crate::fault::{Fault, FileFailure, failed};
+use crate::folder::file_failure;
+use fw_disk::{FileVolume, FolderFault, Side};
 use fw_explain::explain_fault;
-use fw_recover::StoreFault;
+use fw_recover::{Store, StoreFault};
 use fw_table::shown_text;
 use std::io::{self, IsTerminal};
 use std::process::ExitCode;
@@ -29,6 +30,25 @@ pub fn advised_on_terminal(
     ensures fault { IfErr done (λ fault. exit_status result ≡ status_of fault) }
 {
     ended(rt, folder, done, rt.stderr().is_terminal())
+}
+
+/// The status of a fault that no folder has: it is printed and, of a standard stream, what the system said.
+pub fn stopped(rt: &HostRuntime, fault: &Fault) -> ExitCode
+    ensures { exit_status result ≡ status_of fault.now }
+{
+    let status = failed(rt, fault);
+    if let Fault::Output(_) = fault {
+        let _ = print_advice(rt, "", fault);
+    }
+    status
+}
+
+/// Says at a terminal which file of a folder could not be written, where that was so in a script. The warehouse is closed.
+pub fn tell_failure(rt: &HostRuntime, folder: &str, store: Store<FileVolume>) {
+    let volume = store.close();
+    if let (Some(failure), true) = (file_failure(&volume), rt.stderr().is_terminal()) {
+        advise(rt, folder, &Fault::File(failure));
+    }
 }
 
 // The status of what was done with a folder. A fault is printed, and also what helps, where that is wanted.
@@ -70,8 +90,25 @@ fn print_advice(rt: &HostRuntime, folder: &str, fault: &Fault) -> io::Result<()>
         }
         Fault::Store(StoreFault::NoMemory) => Ok(()),
         Fault::Store(fault) => print_words(rt, folder, fault),
+        Fault::File(failure) => print_failure(rt, folder, failure),
+        Fault::Input(error) => print_stream(rt, "standard input", error, "F1 Read"),
+        Fault::Output(error) => print_stream(rt, "standard output", error, "F2 Write"),
         _ => Ok(()),
     }
+}
+
+// Prints which file of a folder could not be written, what the system said of it, and what helps.
+fn print_failure(rt: &HostRuntime, folder: &str, failure: &FileFailure) -> io::Result<()> {
+    let name = file_name(failure.side);
+    let error = failure.error;
+    let remedy = explain_fault("S3 Device").remedy;
+    eprintln!(rt; "{folder}/{name}: {error}. What to do: {remedy}")
+}
+
+// Prints what the system said of a standard stream, and what helps against the fault.
+fn print_stream(rt: &HostRuntime, stream: &str, error: &io::Error, fault: &str) -> io::Result<()> {
+    let remedy = explain_fault(fault).remedy;
+    eprintln!(rt; "{stream}: {error}. What to do: {remedy}")
 }
 
 // Prints what a fault of a warehouse means, and what to do. Where memory for that is refused, nothing is said.

@@ -8,3 +8,8 @@ pub fn read_currency(options: &ArgMatches<'_>) -> Option<Currency> {
     let text = options.get_str(CURRENCY).unwrap_or("USD");
     Currency::new(text.as_bytes())
 }
+
+/// The letters of a currency.
+pub fn letters(currency: &Currency) -> &str {
+    str::from_utf8(currency.code()).unwrap_or("")
+}

@@ -3,13 +3,23 @@ ghost use Rattle.std.specs.Prelude.{◌≡◌};
 ghost use Rattle.std.specs.Process.{exit_status};
 ghost use Rattle.fw_console.specs.Statuses.{status_of, wrong_use_status};
 
-use fw_disk::FolderFault;
+use fw_disk::{FolderFault, Side};
 use fw_explain::explain_fault;
 use fw_query::QueryFault;
 use fw_recover::StoreFault;
 use fw_serve::ServeFault;
 use std::alloc::{AllocError, AllocFailed};
+use std::io;
 use std::process::ExitCode;
+
+/// A write or a sync of a file of a warehouse that failed.
+#[derive(Clone, Copy, Debug, Drop)]
+pub struct FileFailure {
+    /// Whose file it is.
+    pub side: Side,
+    /// What the system said.
+    pub error: io::Error,
+}
 
 /// Why the program ended with a status that isn't 0. The text of each is its code and its name, or `NoMemory`, and fits on one line.
 #[derive(Clone, Copy, Debug, Drop, thiserror::Error)]
@@ -20,9 +30,18 @@ pub enum Fault {
     /// The warehouse could not be opened or created.
     #[error("{0}")]
     Store(StoreFault),
+    /// A write or a sync of a file of the warehouse failed.
+    #[error("S3 Device")]
+    File(FileFailure),
     /// The script was not served to its end.
     #[error("{0}")]
     Serve(ServeFault),
+    /// Standard input could not be read, as the system said.
+    #[error("F1 Read")]
+    Input(io::Error),
+    /// Standard output could not be written, as the system said.
+    #[error("F2 Write")]
+    Output(io::Error),
     /// The range of a question has no hour, or more than 26,304.
     #[error("Q1 Range")]
     Range,
@@ -87,7 +106,9 @@ impl Fault {
             Fault::Range => WRONG_USE,
             Fault::Folder(_) => 1,
             Fault::Store(_) => 1,
+            Fault::File(_) => 1,
             Fault::Serve(_) => 1,
+            Fault::Input(_) | Fault::Output(_) => 1,
             Fault::TotalTooLarge | Fault::NoMemory => 1,
         }
     }
@@ -104,7 +125,7 @@ fn say_range(rt: &HostRuntime) {
 }
 
 /// Prints the line of a fault. A closed standard error leaves nobody to tell.
-pub fn failed(rt: &HostRuntime, fault: &Fault) -> ExitCode
+pub(crate) fn failed(rt: &HostRuntime, fault: &Fault) -> ExitCode
     ensures { exit_status result ≡ status_of fault.now }
 {
     if let Fault::Range = fault {

@@ -3,7 +3,7 @@ use fw_console::Fault;
 use std::io::{self, BufRead, IsTerminal};
 
 /// What was answered to a question.
-#[derive(Clone, Copy, Debug, Drop, PartialEq, Eq)]
+#[derive(Clone, Copy, Drop)]
 pub(crate) enum Answer {
     /// To go on.
     Yes,

@@ -10,14 +10,14 @@ use std::alloc::Global;
 use std::process::ExitCode;
 
 /// A range of hours since 1970: from the first one up to the one behind the last.
-#[derive(Clone, Copy, Debug, Drop, PartialEq, Eq)]
+#[derive(Clone, Copy, Drop)]
 pub(crate) struct Hours {
     pub(crate) from: u64,
     pub(crate) to: u64,
 }
 
 /// Which posts of an origin are meant.
-#[derive(Clone, Copy, Debug, Drop, PartialEq, Eq)]
+#[derive(Clone, Copy, Drop)]
 pub(crate) enum Choice {
     /// The one of this number.
     Number(u64),
@@ -28,7 +28,7 @@ pub(crate) enum Choice {
 }
 
 /// What is wrong with the options that say which posts are meant.
-#[derive(Clone, Copy, Debug, Drop, PartialEq, Eq)]
+#[derive(Clone, Copy, Drop)]
 pub(crate) enum WrongChoice {
     /// None of them is there, or more than one.
     NotOne,

@@ -4,11 +4,10 @@ use crate::texts::{entries_of_text, print_line};
 use clap::ArgMatches;
 use fw_command_line::{DIR, INTO, QUIET};
 use fw_compact::EntriesThatCount;
-use fw_console::{Fault, advised, open_warehouse};
-use fw_disk::{FileVolume, FolderFault, Volume};
+use fw_console::{Creates, Fault, advised, closed, let_go, open_folder, open_warehouse};
+use fw_disk::{FolderFault, Volume};
 use fw_entry::Entry;
 use fw_recover::Store;
-use fw_rows::Currency;
 use fw_snapshot::State;
 use std::alloc::{AllocError, Global};
 use std::fs;
@@ -24,26 +23,66 @@ pub fn compact_folder(rt: &HostRuntime, options: &ArgMatches<'_>) -> ExitCode {
     let into = options.get_str(INTO).unwrap_or("");
     let shows = !options.get_flag(QUIET) && rt.stderr().is_terminal();
     match open_warehouse(rt, folder) {
-        Ok(store) => advised(rt, into, compact(rt, store.state().state(), into, shows)),
+        Ok(store) => {
+            let done = compact(rt, store.state().state(), into, shows);
+            advised(rt, into, let_go(store, done))
+        }
         Err(fault) => advised(rt, folder, Err(fault)),
     }
 }
 
 // Makes a warehouse of the entries of a state that count, and says how many these are.
 fn compact(rt: &HostRuntime, state: &State, into: &str, shows: bool) -> Result<ExitCode, Fault> {
-    let mut store = create_in(rt, into, state.currency())?;
+    make_folder(rt, into)?;
+    let mut store = open_folder(rt, into, Creates::New(state.currency()))?.into_store()?;
+    let done = fill(rt, state, &mut store, shows);
+    closed(store, done)
+}
+
+// Adds the entries of a state that count to a warehouse.
+fn fill<V: Volume>(
+    rt: &HostRuntime,
+    state: &State,
+    store: &mut Store<V>,
+    shows: bool,
+) -> Result<ExitCode, Fault> {
     let mut counting = EntriesThatCount::of(state);
     for _ in 0..u64::MAX {
-        let entries = next_group(rt.alloc(), &mut counting)?;
-        if entries.is_empty() {
-            break;
+        match add_next(rt, &mut counting, store, shows)? {
+            Next::Group => {}
+            Next::None => break,
+            Next::Refused => return Ok(ExitCode::FAILURE),
         }
-        if !add_entries(rt, &mut store, &entries)? {
-            return Ok(ExitCode::FAILURE);
-        }
-        show(rt, &store, shows);
     }
-    end(rt, state, &mut store, shows)
+    end(rt, state, store, shows)
+}
+
+// What became of the next entries.
+enum Next {
+    // They were added, and more may follow.
+    Group,
+    // No one is left.
+    None,
+    // One was refused, which was said.
+    Refused,
+}
+
+// Adds the next entries.
+fn add_next<V: Volume>(
+    rt: &HostRuntime,
+    counting: &mut EntriesThatCount<'_>,
+    store: &mut Store<V>,
+    shows: bool,
+) -> Result<Next, Fault> {
+    let entries = next_group(rt.alloc(), counting)?;
+    if entries.is_empty() {
+        return Ok(Next::None);
+    }
+    if !add_entries(rt, store, &entries)? {
+        return Ok(Next::Refused);
+    }
+    show(rt, store, shows);
+    Ok(Next::Group)
 }
 
 // Ends a warehouse that has all entries, and says how many these are.
@@ -83,19 +122,6 @@ fn next_group(
         }
     }
     Ok(group)
-}
-
-// A new warehouse in a folder, which is made where it isn't there.
-fn create_in(
-    rt: &HostRuntime,
-    folder: &str,
-    currency: Currency,
-) -> Result<Store<FileVolume>, Fault> {
-    make_folder(rt, folder)?;
-    match Store::create(rt.alloc(), FileVolume::open(rt, folder)?, currency) {
-        Ok(store) => Ok(store),
-        Err((_, fault)) => Err(Fault::Store(fault)),
-    }
 }
 
 // Makes a folder, unless it is there.

@@ -7,7 +7,7 @@ use fw_snapshot::Snapshot;
 use std::alloc::{AllocError, Global};
 
 /// The costs of all lines of some hours, in nanos.
-#[derive(Clone, Copy, Debug, Drop, PartialEq, Eq)]
+#[derive(Clone, Copy, Drop)]
 struct Costs {
     billed: i128,
     effective: i128,

@@ -16,43 +16,113 @@ pub(crate) fn withdrawals_of(
     origin: &str,
     numbers: &[u64],
 ) -> Result<Option<Vec<Entry>>, Fault> {
-    let alloc = rt.alloc();
-    let Some(mut next) = next_number(alloc, state, origin)? else {
+    let Some(first) = next_number(rt.alloc(), state, origin)? else {
         return none_left(rt, origin);
     };
-    let mut entries = Vec::new(alloc);
-    for number in numbers {
-        match entry_of(alloc, origin, next, Command::Withdraw(*number)) {
-            Ok(entry) => entries.push(entry)?,
-            Err(fault) => return no_entry(rt, origin, fault),
-        }
-        next = next.saturating_add(1);
+    let mut entries = Vec::new(rt.alloc());
+    match put_withdrawals(rt.alloc(), &mut entries, origin, first, numbers) {
+        Ok(()) => Ok(Some(entries)),
+        Err(fault) => no_entry(rt, origin, fault),
     }
-    Ok(Some(entries))
 }
 
-/// What posts these rows, as entries of an origin behind its next so many ones; `None` where there are no such entries, which was said.
-pub(crate) fn posts_behind(
+// Adds what withdraws the posts of these numbers, as entries of an origin from a number on.
+fn put_withdrawals(
+    alloc: Global,
+    entries: &mut Vec<Entry>,
+    origin: &str,
+    first: u64,
+    numbers: &[u64],
+) -> Result<(), EntryFault> {
+    let mut next = first;
+    for number in numbers {
+        put_entry(alloc, entries, origin, next, Command::Withdraw(*number))?;
+        next = next.saturating_add(1);
+    }
+    Ok(())
+}
+
+/// Adds what posts those of these rows that aren't there, as entries of an origin behind its next ones, which the list has; false where there are
+/// no such entries, which was said.
+pub(crate) fn add_posts(
     rt: &HostRuntime,
     state: &State,
     origin: &str,
-    before: usize,
-    rows: &[Columns],
-) -> Result<Option<Vec<Entry>>, Fault> {
-    let alloc = rt.alloc();
-    let Some(first) = next_number(alloc, state, origin)? else {
-        return none_left(rt, origin);
+    entries: &mut Vec<Entry>,
+    rows: Missing<'_>,
+) -> Result<bool, Fault> {
+    let Some(first) = next_number(rt.alloc(), state, origin)? else {
+        let _ = none_left(rt, origin)?;
+        return Ok(false);
     };
-    let mut next = first.saturating_add(before as u64);
-    let mut entries = Vec::new(alloc);
-    for part in rows {
-        match post_of(alloc, origin, next, part.copy()?) {
-            Ok(entry) => entries.push(entry)?,
-            Err(fault) => return no_entry(rt, origin, fault),
+    let next = first.saturating_add(entries.len() as u64);
+    match put_posts(rt.alloc(), entries, origin, next, rows) {
+        Ok(()) => Ok(true),
+        Err(fault) => {
+            let _ = no_entry(rt, origin, fault)?;
+            Ok(false)
         }
-        next = next.saturating_add(1);
     }
-    Ok(Some(entries))
+}
+
+/// The rows of posts, and for each whether they are there already.
+#[derive(Clone, Copy, Drop)]
+pub(crate) struct Missing<'a> {
+    pub(crate) parts: &'a [Columns],
+    pub(crate) is_there: &'a [bool],
+}
+
+// Adds what posts those rows that aren't there, as entries of an origin from a number on.
+fn put_posts(
+    alloc: Global,
+    entries: &mut Vec<Entry>,
+    origin: &str,
+    first: u64,
+    rows: Missing<'_>,
+) -> Result<(), EntryFault> {
+    let mut next = first;
+    for (part, is_there) in rows.parts.iter().zip(rows.is_there) {
+        if !*is_there {
+            put_post(alloc, entries, origin, next, part)?;
+            next = next.saturating_add(1);
+        }
+    }
+    Ok(())
+}
+
+// Adds a post of an origin.
+fn put_post(
+    alloc: Global,
+    entries: &mut Vec<Entry>,
+    origin: &str,
+    number: u64,
+    rows: &Columns,
+) -> Result<(), EntryFault> {
+    let Ok(rows) = rows.copy() else {
+        return Err(EntryFault::NoMemory);
+    };
+    keep(entries, post_of(alloc, origin, number, rows)?)
+}
+
+// Adds an entry of an origin.
+fn put_entry(
+    alloc: Global,
+    entries: &mut Vec<Entry>,
+    origin: &str,
+    number: u64,
+    command: Command,
+) -> Result<(), EntryFault>
+    requires { HasRowCount (command_view command) }
+{
+    keep(entries, entry_of(alloc, origin, number, command)?)
+}
+
+// Adds an entry to others.
+fn keep(entries: &mut Vec<Entry>, entry: Entry) -> Result<(), EntryFault> {
+    match entries.push(entry) {
+        Ok(()) => Ok(()),
+        Err(_) => Err(EntryFault::NoMemory),
+    }
 }
 
 // A post of an origin.

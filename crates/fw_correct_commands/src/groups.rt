@@ -82,13 +82,19 @@ fn add_group<V: Volume>(
     entries: &[Entry],
 ) -> Result<bool, Fault> {
     let group = group_of(rt.alloc(), entries)?;
-    for verdict in store.commit_group(rt.alloc(), &group)? {
+    let verdicts = store.commit_group(rt.alloc(), &group)?;
+    Ok(are_accepted(rt, &verdicts))
+}
+
+// Whether each verdict accepts; the first one that doesn't is said.
+fn are_accepted(rt: &HostRuntime, verdicts: &[Verdict]) -> bool {
+    for verdict in verdicts {
         if !verdict.is_accept() {
-            say_verdict(rt, verdict);
-            return Ok(false);
+            say_verdict(rt, *verdict);
+            return false;
         }
     }
-    Ok(true)
+    true
 }
 
 // Entries as a group: read back from their bytes, so a group by the rules that files are read by.

@@ -1,9 +1,9 @@
 //! `focusd replace`: what an origin sent is replaced by an export that was sent again.
 use crate::choice::{Hours, read_hours, wrong_choice};
 use crate::costs::change_between;
-use crate::entries::{posts_behind, withdrawals_of};
+use crate::entries::{Missing, add_posts, withdrawals_of};
 use crate::groups::{add_entries, group_len, state_with};
-use crate::reading::Reading;
+use crate::reading::read_files;
 use crate::texts::{hours_text, print_line, rows_text};
 use crate::withdraw::say_across;
 use clap::ArgMatches;
@@ -11,7 +11,7 @@ use fw_charge::hour_of;
 use fw_columns::Columns;
 use fw_command_line::{DIR, DRY_RUN, FILES, ORIGIN, QUIET};
 use fw_console::{
-    Fault, advised, begin_replacement, end_replacement, open_warehouse, say_fault,
+    Fault, advised, begin_replacement, closed, end_replacement, open_warehouse, say_fault,
     unfinished_origin, wrong_origin,
 };
 use fw_disk::Volume;
@@ -70,15 +70,25 @@ pub fn replace_rows(rt: &HostRuntime, options: &ArgMatches<'_>) -> Result<ExitCo
 // Replaces rows of the warehouse of a folder.
 fn replace_in(rt: &HostRuntime, job: &Job<'_>, files: &[&str]) -> Result<ExitCode, Fault> {
     let mut store = open_warehouse(rt, job.folder)?;
+    let done = replace_by(rt, &mut store, job, files);
+    closed(store, done)
+}
+
+// Replaces rows of a warehouse by those of files.
+fn replace_by<V: Volume>(
+    rt: &HostRuntime,
+    store: &mut Store<V>,
+    job: &Job<'_>,
+    files: &[&str],
+) -> Result<ExitCode, Fault> {
     if is_another_unfinished(rt, job)? {
         return Ok(ExitCode::FAILURE);
     }
     let currency = store.state().state().currency();
-    let mut reading = Reading::new(rt, currency, job.is_quiet, files);
-    if !reading.read_files(rt, files)? {
-        return Ok(nothing_done(rt));
+    match read_files(rt, currency, job.is_quiet, files)? {
+        Some(parts) => replace(rt, store, job, parts),
+        None => Ok(nothing_done(rt)),
     }
-    replace(rt, &mut store, job, reading.into_parts())
 }
 
 // Whether a replacement of another origin's rows is unfinished, which is said.
@@ -106,20 +116,37 @@ fn replace<V: Volume>(
     job: &Job<'_>,
     parts: Vec<Columns>,
 ) -> Result<ExitCode, Fault> {
-    let Some(plan) = plan_of(rt, store.state().state(), job, parts)? else {
-        return Ok(nothing_done(rt));
-    };
-    let Some(change) = change_of(rt, store.state(), &plan)? else {
-        return Ok(nothing_done(rt));
-    };
-    if job.is_dry {
-        print_line(rt, change.as_str())?;
-        return Ok(ExitCode::SUCCESS);
+    match planned(rt, store.state().state(), job, parts)? {
+        Some(plan) => replace_as(rt, store, job, &plan),
+        None => Ok(nothing_done(rt)),
     }
-    if !carry_out(rt, store, job, &plan)? {
+}
+
+// Replaces rows of a warehouse as a plan says.
+fn replace_as<V: Volume>(
+    rt: &HostRuntime,
+    store: &mut Store<V>,
+    job: &Job<'_>,
+    plan: &Plan,
+) -> Result<ExitCode, Fault> {
+    match change_of(rt, store.state(), plan)? {
+        Some(change) => carry_through(rt, store, job, plan, change.as_str()),
+        None => Ok(nothing_done(rt)),
+    }
+}
+
+// Carries out a plan, unless nothing is to be written, and prints what it changes.
+fn carry_through<V: Volume>(
+    rt: &HostRuntime,
+    store: &mut Store<V>,
+    job: &Job<'_>,
+    plan: &Plan,
+    change: &str,
+) -> Result<ExitCode, Fault> {
+    if !job.is_dry && !carry_out(rt, store, job, plan)? {
         return Ok(ExitCode::FAILURE);
     }
-    print_line(rt, change.as_str())?;
+    print_line(rt, change)?;
     Ok(ExitCode::SUCCESS)
 }
 
@@ -177,32 +204,65 @@ fn carry_out<V: Volume>(
     Ok(true)
 }
 
-// What a replacement does; `None` where a row lies outside of the range or an entry can't be, which was said.
-fn plan_of(
+// What a replacement by the rows of posts does, which are let go of then.
+fn planned(
     rt: &HostRuntime,
     state: &State,
     job: &Job<'_>,
     parts: Vec<Columns>,
 ) -> Result<Option<Plan>, Fault> {
+    plan_of(rt, state, job, &parts)
+}
+
+// What a replacement does; `None` where a row lies outside of the range or an entry can't be, which was said.
+fn plan_of(
+    rt: &HostRuntime,
+    state: &State,
+    job: &Job<'_>,
+    parts: &[Columns],
+) -> Result<Option<Plan>, Fault> {
     let rows = StoredRows::of(rt.alloc(), state.segments())?;
-    let Some(replaced) = replaced_posts(rt, state, &rows, job)? else {
-        return Ok(None);
-    };
-    if !are_inside(rt, job, &parts)? {
+    match replaced_posts(rt, state, &rows, job)? {
+        Some(replaced) => plan_over(rt, state, job, &rows, &replaced, parts),
+        None => Ok(None),
+    }
+}
+
+// What a replacement of posts does.
+fn plan_over(
+    rt: &HostRuntime,
+    state: &State,
+    job: &Job<'_>,
+    rows: &StoredRows,
+    replaced: &[Post],
+    parts: &[Columns],
+) -> Result<Option<Plan>, Fault> {
+    if !are_inside(rt, job, parts)? {
         return Ok(None);
     }
-    let matching = matched(rt.alloc(), &rows, &replaced, &parts)?;
-    let Size { rows: after, hours } = size_of(&parts);
-    let before = replaced_size(&rows, &replaced, hours);
-    let Some(entries) = entries_of(rt, state, job, &matching, parts)? else {
-        return Ok(None);
-    };
-    Ok(Some(Plan {
-        rows_before: before.rows,
-        rows_after: after,
-        hours: before.hours,
-        entries,
-    }))
+    let after = size_of(parts);
+    let before = replaced_size(rows, replaced, after.hours);
+    let matching = matched(rt.alloc(), rows, replaced, parts)?;
+    let entries = entries_of(rt, state, job, &matching, parts);
+    plan_with(entries, before, after.rows)
+}
+
+// The plan of entries, if there are such, over the rows that count before, and so many after.
+fn plan_with(
+    entries: Result<Option<Vec<Entry>>, Fault>,
+    before: Size,
+    rows_after: u64,
+) -> Result<Option<Plan>, Fault> {
+    match entries {
+        Ok(Some(entries)) => Ok(Some(Plan {
+            rows_before: before.rows,
+            rows_after,
+            hours: before.hours,
+            entries,
+        })),
+        Ok(None) => Ok(None),
+        Err(fault) => Err(fault),
+    }
 }
 
 // The entries of a replacement: what withdraws the posts that go, and then the parts that aren't there.
@@ -211,41 +271,23 @@ fn entries_of(
     state: &State,
     job: &Job<'_>,
     matching: &Matching,
-    parts: Vec<Columns>,
+    parts: &[Columns],
 ) -> Result<Option<Vec<Entry>>, Fault> {
-    let alloc = rt.alloc();
-    let numbers = numbers_of(alloc, &matching.left)?;
+    let numbers = numbers_of(rt.alloc(), &matching.left)?;
     let Some(mut entries) = withdrawals_of(rt, state, job.origin, &numbers)? else {
         return Ok(None);
     };
-    let missing = missing_parts(alloc, &matching.is_there, parts)?;
-    let Some(posts) = posts_behind(rt, state, job.origin, entries.len(), &missing)? else {
-        return Ok(None);
+    let missing = Missing {
+        parts,
+        is_there: &matching.is_there,
     };
-    for post in posts {
-        entries.push(post)?;
-    }
-    Ok(Some(entries))
+    let are_added = add_posts(rt, state, job.origin, &mut entries, missing)?;
+    Ok(if are_added { Some(entries) } else { None })
 }
 
 // The numbers of posts.
 fn numbers_of(alloc: Global, posts: &[Post]) -> Result<Vec<u64>, AllocError> {
     posts.iter().map(|post| post.number).collect(alloc)
-}
-
-// The parts that aren't there.
-fn missing_parts(
-    alloc: Global,
-    is_there: &[bool],
-    parts: Vec<Columns>,
-) -> Result<Vec<Columns>, AllocError> {
-    let mut missing = Vec::new(alloc);
-    for (part, is_there) in parts.into_iter().zip(is_there) {
-        if !*is_there {
-            missing.push(part)?;
-        }
-    }
-    Ok(missing)
 }
 
 // The posts that are replaced; `None` where one has rows both in the range and outside of it, which was said.
@@ -300,7 +342,7 @@ fn are_inside(rt: &HostRuntime, job: &Job<'_>, parts: &[Columns]) -> Result<bool
 }
 
 /// How many rows there are, and the hours from the first one in which a row begins to the last.
-#[derive(Clone, Copy, Debug, Drop, PartialEq, Eq)]
+#[derive(Clone, Copy, Drop)]
 struct Size {
     rows: u64,
     hours: Option<Hours>,

@@ -1,11 +1,9 @@
 //! Counts, costs and hours in words, and lines on standard output.
 use fw_calendar::hour_text;
-use fw_console::Fault;
-use fw_serve::ServeFault;
+use fw_console::{Fault, printed};
 use fw_snapshot::State;
 use fw_table::{cents_text, count_text};
 use std::alloc::{AllocError, Global};
-use std::io;
 
 /// So many rows, in words.
 pub(crate) fn rows_text(alloc: Global, count: u64) -> Result<String, AllocError> {
@@ -52,13 +50,9 @@ pub(crate) fn hours_text(alloc: Global, first: u64, last: u64) -> Result<String,
     format!(in alloc; "{from} to {to}")
 }
 
-/// Prints a text on standard output. A reader that has had enough, as `head`, is no fault.
+/// Prints a text on standard output.
 pub(crate) fn print_text(rt: &HostRuntime, text: &str) -> Result<(), Fault> {
-    match print!(rt; "{text}") {
-        Ok(()) => Ok(()),
-        Err(error) if error.kind() == io::ErrorKind::BrokenPipe => Ok(()),
-        Err(_) => Err(Fault::Serve(ServeFault::Write)),
-    }
+    printed(print!(rt; "{text}"))
 }
 
 /// Prints a line on standard output.

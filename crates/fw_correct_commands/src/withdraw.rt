@@ -6,7 +6,7 @@ use crate::groups::{add_entries, state_with};
 use crate::texts::{hours_text, posts_text, print_line, print_text, rows_text};
 use clap::ArgMatches;
 use fw_command_line::{DIR, DRY_RUN, ORIGIN, YES};
-use fw_console::{Fault, WRONG_USE, advised, open_warehouse, say_fault, wrong_origin};
+use fw_console::{Fault, WRONG_USE, advised, closed, open_warehouse, say_fault, wrong_origin};
 use fw_disk::Volume;
 use fw_entry::{Entry, is_origin};
 use fw_recover::Store;
@@ -55,7 +55,8 @@ pub fn withdraw_posts(rt: &HostRuntime, options: &ArgMatches<'_>) -> Result<Exit
 // Withdraws posts of the warehouse of a folder.
 fn withdraw_from(rt: &HostRuntime, folder: &str, job: &Job<'_>) -> Result<ExitCode, Fault> {
     let mut store = open_warehouse(rt, folder)?;
-    withdraw(rt, &mut store, job)
+    let done = withdraw(rt, &mut store, job);
+    closed(store, done)
 }
 
 // Withdraws posts of a warehouse, once they were listed and that is wanted.
@@ -64,18 +65,28 @@ fn withdraw<V: Volume>(
     store: &mut Store<V>,
     job: &Job<'_>,
 ) -> Result<ExitCode, Fault> {
-    let Some(chosen) = chosen_posts(rt, store.state().state(), job)? else {
-        return Ok(ExitCode::FAILURE);
-    };
+    match chosen_posts(rt, store.state().state(), job)? {
+        Some(chosen) => withdraw_chosen(rt, store, job, &chosen),
+        None => Ok(ExitCode::FAILURE),
+    }
+}
+
+// Withdraws posts, once they were listed and that is wanted.
+fn withdraw_chosen<V: Volume>(
+    rt: &HostRuntime,
+    store: &mut Store<V>,
+    job: &Job<'_>,
+    chosen: &[Chosen],
+) -> Result<ExitCode, Fault> {
     if chosen.is_empty() {
         return nothing(rt, store.state().state(), job);
     }
-    print_text(rt, chosen_text(rt.alloc(), &chosen)?.as_str())?;
+    print_text(rt, chosen_text(rt.alloc(), chosen)?.as_str())?;
     if job.is_dry {
         return Ok(ExitCode::SUCCESS);
     }
-    match wanted(rt, job, &chosen)? {
-        Answer::Yes => withdraw_all(rt, store, job, &chosen),
+    match wanted(rt, job, chosen)? {
+        Answer::Yes => withdraw_all(rt, store, job, chosen),
         Answer::No => Ok(ExitCode::FAILURE),
         Answer::Nobody => Ok(unanswered(rt)),
     }
@@ -117,22 +128,37 @@ fn chosen_posts(
     state: &State,
     job: &Job<'_>,
 ) -> Result<Option<Vec<Chosen>>, Fault> {
-    let alloc = rt.alloc();
-    let rows = StoredRows::of(alloc, state.segments())?;
-    let mut chosen = Vec::new(alloc);
-    let mut is_whole = true;
-    for post in posts_of(alloc, state, job.origin)? {
-        let summary = summary_of(&rows, &post);
-        match reach_in(&rows, &post, job.choice) {
-            Reach::Inside => chosen.push(Chosen { post, summary })?,
+    let rows = StoredRows::of(rt.alloc(), state.segments())?;
+    let posts = posts_of(rt.alloc(), state, job.origin)?;
+    let mut chosen = Vec::new(rt.alloc());
+    let are_whole = choose(rt, &rows, job, &posts, &mut chosen)?;
+    Ok(if are_whole { Some(chosen) } else { None })
+}
+
+// Chooses the posts that are meant; false where one has rows both in the range and outside of it, which is said.
+fn choose(
+    rt: &HostRuntime,
+    rows: &StoredRows,
+    job: &Job<'_>,
+    posts: &[Post],
+    chosen: &mut Vec<Chosen>,
+) -> Result<bool, Fault> {
+    let mut are_whole = true;
+    for post in posts {
+        let summary = summary_of(rows, post);
+        match reach_in(rows, post, job.choice) {
+            Reach::Inside => chosen.push(Chosen {
+                post: *post,
+                summary,
+            })?,
             Reach::Outside => {}
             Reach::Across => {
-                is_whole = false;
+                are_whole = false;
                 say_across(rt, job.origin, post.number, &summary)?;
             }
         }
     }
-    Ok(if is_whole { Some(chosen) } else { None })
+    Ok(are_whole)
 }
 
 // Whether a post is meant.
@@ -200,23 +226,35 @@ fn withdraw_all<V: Volume>(
     job: &Job<'_>,
     chosen: &[Chosen],
 ) -> Result<ExitCode, Fault> {
-    let alloc = rt.alloc();
-    let numbers = numbers_of(alloc, chosen)?;
-    let Some(entries) = withdrawals_of(rt, store.state().state(), job.origin, &numbers)? else {
-        return Ok(ExitCode::FAILURE);
-    };
-    if state_with(rt, store.state().state(), &entries)?.is_none()
-        || !add_entries(rt, store, &entries)?
+    let numbers = numbers_of(rt.alloc(), chosen)?;
+    match withdrawals_of(rt, store.state().state(), job.origin, &numbers)? {
+        Some(entries) => add_all(rt, store, chosen, &entries),
+        None => Ok(ExitCode::FAILURE),
+    }
+}
+
+// Adds the entries that withdraw posts, and says how many these are.
+fn add_all<V: Volume>(
+    rt: &HostRuntime,
+    store: &mut Store<V>,
+    chosen: &[Chosen],
+    entries: &[Entry],
+) -> Result<ExitCode, Fault> {
+    if state_with(rt, store.state().state(), entries)?.is_none()
+        || !add_entries(rt, store, entries)?
     {
         return Ok(ExitCode::FAILURE);
     }
+    let text = withdrawn_text(rt.alloc(), chosen)?;
+    print_line(rt, text.as_str())?;
+    Ok(ExitCode::SUCCESS)
+}
+
+// What was withdrawn, in words.
+fn withdrawn_text(alloc: Global, chosen: &[Chosen]) -> Result<String, AllocError> {
     let posts = posts_text(alloc, chosen.len() as u64)?;
     let rows = rows_text(alloc, rows_in(chosen))?;
-    print_line(
-        rt,
-        format!(in alloc; "withdrawn: {posts}, {rows}")?.as_str(),
-    )?;
-    Ok(ExitCode::SUCCESS)
+    format!(in alloc; "withdrawn: {posts}, {rows}")
 }
 
 // The numbers of the posts.

@@ -1,33 +1,29 @@
 //! Whether the rows of files fit into a warehouse, before the first of them is posted.
-use crate::house::House;
-use fw_console::{Fault, bytes_of};
+use crate::importing::Import;
+use fw_console::{Fault, House, bytes_of};
 use fw_cut::{CutFault, Cutter};
 use fw_import::{fits, surely_fits};
+use std::alloc::{AllocError, Global};
 use std::fs;
 
-/// Whether the rows of files fit into a warehouse, as the posts of an origin; where they don't, that is said. Files that are no plain files, or so short that
+/// Whether the rows of files fit into the warehouse of an import; where they don't, that is said. Files that are no plain files, or so short that
 /// their rows fit in any case, aren't read.
-pub(crate) fn do_fit(
-    rt: &HostRuntime,
-    house: &House,
-    origin: &str,
-    files: &[&str],
-) -> Result<bool, Fault> {
+pub(crate) fn do_fit(rt: &HostRuntime, import: &Import<'_>, files: &[&str]) -> Result<bool, Fault> {
     let Some(bytes) = plain_bytes(rt, files) else {
         return Ok(true);
     };
-    let posted = house.rows_posted();
+    let posted = import.house.rows_posted();
     if surely_fits(posted, bytes) {
         return Ok(true);
     }
     let Some(rows) = count_rows(rt, files)? else {
         return Ok(true);
     };
-    let sent = rows_sent(rt, house, origin)?;
+    let sent = rows_sent(rt.alloc(), import)?;
     if fits(posted, sent, rows) {
         return Ok(true);
     }
-    say_too_many(rt, house, origin, files.len(), rows, sent);
+    say_too_many(rt, import, files.len(), rows, sent);
     Ok(false)
 }
 
@@ -75,25 +71,26 @@ fn counted(count: Result<u64, CutFault>) -> Result<Option<u64>, Fault> {
     }
 }
 
-// How many rows an origin has posted, also those of posts that were withdrawn: its posts stand for the first records of the files.
-fn rows_sent(rt: &HostRuntime, house: &House, origin: &str) -> Result<u64, Fault> {
+// How many rows the origin has posted, also those of posts that were withdrawn: its posts stand for the first records of the files.
+fn rows_sent(alloc: Global, import: &Import<'_>) -> Result<u64, AllocError> {
     let mut rows: u64 = 0;
-    for post in house.posts_of(rt.alloc(), origin)?.as_slice() {
+    for post in import.posts(alloc)?.as_slice() {
         rows = rows.saturating_add(post.rows);
     }
     Ok(rows)
 }
 
 // Says that the rows of so many files are too many, and what to do.
-fn say_too_many(rt: &HostRuntime, house: &House, origin: &str, files: usize, rows: u64, sent: u64) {
-    let posted = house.rows_posted();
+fn say_too_many(rt: &HostRuntime, import: &Import<'_>, files: usize, rows: u64, sent: u64) {
+    let origin = import.origin;
+    let posted = import.house.rows_posted();
     let files_have = if files == 1 { "file has" } else { "files have" };
     let more = if rows == 1 { "row" } else { "rows" };
     let rows_were = if posted == 1 { "row was" } else { "rows were" };
     let _ = eprintln!(rt;
         "focusd: the rows don't fit: {files} {files_have} {rows} {more}, {posted} {rows_were} posted before, {sent} of them by {origin}, and a warehouse takes at most 4194304 rows (J1 Full). Nothing was imported."
     );
-    say_how_to_fit(rt, house, rows.saturating_sub(sent));
+    say_how_to_fit(rt, &import.house, rows.saturating_sub(sent));
 }
 
 /// Says what to do where so many more rows don't fit.

@@ -1,15 +1,15 @@
 //! `focusd import`: CSV exports of any length are taken into a warehouse.
 use crate::fitting::do_fit;
-use crate::house::House;
+use crate::importing::Import;
 use crate::messages::{warn_of_posts_behind, wrong_currency};
-use crate::others::Others;
-use crate::parts::import_named;
-use crate::standing::Standing;
 use clap::ArgMatches;
 use clap::parser::ValueSource;
 use fw_command_line::{CREATE, CURRENCY, DIR, FILES, ORIGIN, QUIET};
-use fw_console::{Fault, Progress, advised, print_answer, read_currency, wrong_origin, wrong_use};
+use fw_console::{
+    Creates, Fault, advised, open_folder, print_answer, read_currency, wrong_origin, wrong_use,
+};
 use fw_entry::is_origin;
+use fw_export_files::{Walk, walk_files};
 use fw_rows::Currency;
 use std::alloc::{AllocError, Global};
 use std::process::ExitCode;
@@ -28,7 +28,7 @@ pub fn import_files(rt: &HostRuntime, options: &ArgMatches<'_>) -> Result<ExitCo
     Ok(advised(rt, folder, done))
 }
 
-// Imports the files into the warehouse of a folder, if it has the currency that was named.
+// Imports the files into the warehouse of a folder.
 fn import_into(
     rt: &HostRuntime,
     folder: &str,
@@ -36,11 +36,31 @@ fn import_into(
     origin: &str,
     options: &ArgMatches<'_>,
 ) -> Result<ExitCode, Fault> {
-    let mut house = House::open(rt, folder, options.get_flag(CREATE), currency)?;
-    if is_named(options) && house.currency() != currency {
-        return wrong_currency(rt, folder, currency, house.currency());
+    let creates = if options.get_flag(CREATE) {
+        Creates::IfMissing(currency)
+    } else {
+        Creates::Never
+    };
+    let house = open_folder(rt, folder, creates)?;
+    let mut import = Import::new(rt.alloc(), house, origin);
+    let done = import_named(rt, &mut import, folder, currency, options);
+    import.close(done)
+}
+
+// Imports the files, if the warehouse has the currency that was named.
+fn import_named(
+    rt: &HostRuntime,
+    import: &mut Import<'_>,
+    folder: &str,
+    currency: Currency,
+    options: &ArgMatches<'_>,
+) -> Result<ExitCode, Fault> {
+    let own = import.house.currency();
+    if is_named(options) && own != currency {
+        return wrong_currency(rt, folder, currency, own);
     }
-    import_files_into(rt, &mut house, origin, options)
+    let files = options.get_strs(FILES).unwrap_or(&[]);
+    import_all(rt, import, files, options.get_flag(QUIET))
 }
 
 // Whether the command line names a currency.
@@ -51,67 +71,55 @@ fn is_named(options: &ArgMatches<'_>) -> bool {
     }
 }
 
-// Imports the files into a warehouse, if their rows fit.
-fn import_files_into(
+// Imports files, if their rows fit.
+fn import_all(
     rt: &HostRuntime,
-    house: &mut House,
-    origin: &str,
-    options: &ArgMatches<'_>,
+    import: &mut Import<'_>,
+    files: &[&str],
+    is_quiet: bool,
 ) -> Result<ExitCode, Fault> {
-    let files = options.get_strs(FILES).unwrap_or(&[]);
-    if !do_fit(rt, house, origin, files)? {
+    if !do_fit(rt, import, files)? {
         return Ok(ExitCode::FAILURE);
     }
-    let others = others_of(rt.alloc(), house, origin)?;
-    let mut standing = Standing::new(rt.alloc(), origin, others);
-    let mut progress = Progress::new(rt, options.get_flag(QUIET), files);
-    for file in files {
-        if !import_named(rt, house, &mut standing, &mut progress, file)? {
-            return Ok(ExitCode::FAILURE);
-        }
+    import.watch_others(rt.alloc())?;
+    let mut walk = Walk::new(rt, is_quiet, files);
+    if walk_files(rt, files, &mut walk, import)? {
+        print_imported(rt, import)
+    } else {
+        Ok(ExitCode::FAILURE)
     }
-    progress.end(rt);
-    look_behind(rt, house, &standing)?;
-    let answer = imported_text(rt.alloc(), &standing)?;
+}
+
+// Says what was imported, and warns where the origin has posts that count behind those of the files.
+fn print_imported(rt: &HostRuntime, import: &Import<'_>) -> Result<ExitCode, Fault> {
+    look_behind(rt, import)?;
+    let answer = imported_text(rt.alloc(), import)?;
     print_answer(rt, answer.as_bytes())
 }
 
-// The rows of other origins, where there are some.
-fn others_of(alloc: Global, house: &House, origin: &str) -> Result<Option<Others>, AllocError> {
-    let Some(state) = house.state() else {
-        return Ok(None);
-    };
-    let others = Others::of(alloc, state, origin)?;
-    Ok(if others.are_none() {
-        None
-    } else {
-        Some(others)
-    })
-}
-
 // Warns where the origin has posts that count behind those of the files.
-fn look_behind(rt: &HostRuntime, house: &House, standing: &Standing<'_>) -> Result<(), Fault> {
+fn look_behind(rt: &HostRuntime, import: &Import<'_>) -> Result<(), AllocError> {
     let mut first = None;
     let mut count: u64 = 0;
     let mut rows: u64 = 0;
-    for post in house.posts_of(rt.alloc(), standing.origin)?.as_slice() {
-        if post.counts && post.number >= standing.number {
+    for post in import.posts(rt.alloc())?.as_slice() {
+        if post.counts && post.number >= import.number {
             first = first.or(Some(post.number));
             count = count.saturating_add(1);
             rows = rows.saturating_add(post.rows);
         }
     }
     if let Some(first) = first {
-        warn_of_posts_behind(rt, standing.origin, first, count, rows);
+        warn_of_posts_behind(rt, import.origin, first, count, rows);
     }
     Ok(())
 }
 
 // What was imported.
-fn imported_text(alloc: Global, standing: &Standing<'_>) -> Result<String, AllocError> {
-    let added = standing.added;
-    let same = standing.same;
-    let posts = standing.number.saturating_sub(1);
+fn imported_text(alloc: Global, import: &Import<'_>) -> Result<String, AllocError> {
+    let added = import.added;
+    let same = import.same;
+    let posts = import.number.saturating_sub(1);
     let rows = if added == 1 { "row" } else { "rows" };
     let were = if same == 1 { "was" } else { "were" };
     let entries = if posts == 1 { "post" } else { "posts" };

@@ -5,16 +5,10 @@
 
 mod check;
 mod fitting;
-mod house;
 mod import;
+mod importing;
 mod messages;
-mod opening;
 mod others;
-mod parts;
-mod standing;
 
 pub use check::check_files;
 pub use import::import_files;
-pub use messages::{say_cut_fault, say_row_fault};
-pub use opening::open_export;
-pub use standing::Place;

@@ -1,18 +1,19 @@
-//! What an import says, and why a file or a part was refused.
+//! What an import says, and why a part was refused.
 use crate::fitting::say_how_to_fit;
-use crate::house::House;
+use crate::importing::Import;
 use crate::others::Shared;
-use crate::standing::{Place, Standing};
 use fw_calendar::hour_text;
 use fw_check::locate;
-use fw_console::{Fault, WRONG_USE, conflict_code, entry_code, say_fault};
-use fw_cut::{CutFault, Part};
+use fw_console::{Fault, House, WRONG_USE, conflict_code, entry_code, letters, say_fault};
+use fw_cut::Part;
 use fw_explain::explain_fault;
+use fw_export_files::Walk;
 use fw_import::ImportFault;
 use fw_recover::StoreFault;
 use fw_rows::{Currency, RecordFault, Row, RowFault, read_rows};
 use fw_snapshot::{Conflict, State};
 use fw_table::shown_text;
+use std::alloc::{AllocError, Global};
 use std::process::ExitCode;
 
 /// Says that the currency that was named is not that of the warehouse.
@@ -32,149 +33,111 @@ pub(crate) fn wrong_currency(
     Ok(ExitCode::from(WRONG_USE))
 }
 
-// The letters of a currency.
-fn letters(currency: &Currency) -> &str {
-    str::from_utf8(currency.code()).unwrap_or("")
-}
-
-/// Says why a file can't be cut from a line and a record on. The error says that memory ran out. Where it is another
-/// fault, the caller chooses the status.
-pub fn say_cut_fault(
-    rt: &HostRuntime,
-    name: &str,
-    line: u64,
-    record: u64,
-    fault: CutFault,
-) -> Result<(), Fault> {
-    let name = shown_text(rt.alloc(), name)?;
-    let name = name.as_str();
-    match fault {
-        CutFault::NoMemory => return Err(Fault::NoMemory),
-        CutFault::Read(why) => {
-            let _ = eprintln!(rt; "focusd: {name}:{line}: from record {record} on: F1 Read: {why}");
-        }
-        CutFault::NoRecord => {
-            let meaning = explain_fault("V14 NoRows").meaning;
-            let _ = eprintln!(rt; "focusd: {name}: V14 NoRows: {meaning}");
-        }
-        CutFault::TooLong => {
-            let what = format!(in rt.alloc(); "record {record}")?;
-            say_too_long(rt, name, line, what.as_str(), "V16 LongRecord");
-        }
-        CutFault::LongHeader => say_too_long(rt, name, 1, "the header", "H3 LongHeader"),
-    }
-    Ok(())
-}
-
-// Says that a record or a header is too long.
-fn say_too_long(rt: &HostRuntime, name: &str, line: u64, what: &str, fault: &str) {
-    let words = explain_fault(fault);
-    let (expected, remedy) = (words.expected, words.remedy);
-    let _ = eprintln!(rt; "focusd: {name}:{line}: {what}: {fault}: expected {expected}. {remedy}");
-}
-
-/// Says why a part was not imported, and how to go on.
+/// Says why a part was not imported, and how to go on. The answer is false.
 pub(crate) fn explain(
     rt: &HostRuntime,
-    house: &House,
-    name: &str,
+    import: &Import<'_>,
+    walk: &mut Walk<'_>,
     part: &Part,
-    place: &Place,
-    standing: &Standing<'_>,
     fault: ImportFault,
-) -> Result<(), Fault> {
+) -> Result<bool, Fault> {
     match fault {
-        ImportFault::NoMemory
-        | ImportFault::Rows(RowFault::NoMemory)
-        | ImportFault::Store(StoreFault::NoMemory) => Err(Fault::NoMemory),
+        ImportFault::NoMemory | ImportFault::Store(StoreFault::NoMemory) => Err(Fault::NoMemory),
         ImportFault::Store(fault) => Err(Fault::Store(fault)),
-        ImportFault::Rows(fault) => explain_rows(rt, house, name, part, place, fault),
-        ImportFault::Conflict(conflict) => explain_conflict(rt, house, name, part, place, conflict),
-        ImportFault::Entry(fault) => say_post(rt, name, place, entry_code(fault)?),
-        ImportFault::Differs => say_entry(rt, name, place, standing, standing.number, "R1 Differs"),
-        ImportFault::Withdrawn => {
-            say_entry(rt, name, place, standing, standing.number, "R2 Withdrawn")
+        ImportFault::Rows(fault) => explain_rows(rt, &import.house, walk, part, fault),
+        ImportFault::Conflict(conflict) => {
+            explain_conflict(rt, &import.house, walk, part, conflict)
         }
-        ImportFault::Gap { expected } => {
-            say_entry(rt, name, place, standing, expected, "R3 Gap")
-        }
+        ImportFault::Entry(fault) => say_post(rt, walk, entry_code(fault)?),
+        ImportFault::Differs => say_entry(rt, walk, import.origin, import.number, "R1 Differs"),
+        ImportFault::Withdrawn => say_entry(rt, walk, import.origin, import.number, "R2 Withdrawn"),
+        ImportFault::Gap { expected } => say_entry(rt, walk, import.origin, expected, "R3 Gap"),
     }
 }
 
-// Says what is wrong with the post that begins at a place of a file.
-fn say_post(rt: &HostRuntime, name: &str, place: &Place, fault: &str) -> Result<(), Fault> {
-    let (line, record) = (place.line, place.record);
+// Says what is wrong with the post that begins here.
+fn say_post(rt: &HostRuntime, walk: &Walk<'_>, fault: &str) -> Result<bool, Fault> {
+    let (name, line, record) = (walk.shown.as_str(), walk.line, walk.record);
     let about = format!(in rt.alloc(); "{name}:{line}: the post from record {record} on")?;
     say_fault(rt, about.as_str(), fault);
-    Ok(())
+    Ok(false)
 }
 
 // Says what is wrong with an entry of the origin, and from where on a file has its rows.
 fn say_entry(
     rt: &HostRuntime,
-    name: &str,
-    place: &Place,
-    standing: &Standing<'_>,
+    walk: &Walk<'_>,
+    origin: &str,
     number: u64,
     fault: &str,
-) -> Result<(), Fault> {
-    let (line, record) = (place.line, place.record);
-    let origin = standing.origin;
+) -> Result<bool, Fault> {
+    let (name, line, record) = (walk.shown.as_str(), walk.line, walk.record);
     let about = format!(in rt.alloc();
         "{name}:{line}: entry {number} of {origin}, from record {record} on"
     )?;
     say_fault(rt, about.as_str(), fault);
-    Ok(())
+    Ok(false)
 }
 
 // Says why the rows of a part don't go with what is in the warehouse.
 fn explain_conflict(
     rt: &HostRuntime,
     house: &House,
-    name: &str,
+    walk: &Walk<'_>,
     part: &Part,
-    place: &Place,
     conflict: Conflict,
-) -> Result<(), Fault> {
-    let line = place.line;
-    let record = place.record;
+) -> Result<bool, Fault> {
     match conflict {
         Conflict::Full => {
-            let posted = house.rows_posted();
-            let _ = eprintln!(rt;
-                "focusd: {name}:{line}: the post from record {record} on: J1 Full: {posted} rows were posted to the warehouse, and it takes at most 4194304. Those before it stay."
-            );
-            say_how_to_fit(rt, house, 1);
-            Ok(())
+            say_full(rt, house, walk);
+            Ok(false)
         }
-        Conflict::OwnCommitment => explain_own(rt, house, name, part, place),
-        other => say_post(rt, name, place, conflict_code(other)),
+        Conflict::OwnCommitment => explain_own(rt, house, walk, part),
+        other => say_post(rt, walk, conflict_code(other)),
     }
+}
+
+// Says that the warehouse takes no more rows.
+fn say_full(rt: &HostRuntime, house: &House, walk: &Walk<'_>) {
+    let (name, line, record) = (walk.shown.as_str(), walk.line, walk.record);
+    let posted = house.rows_posted();
+    let _ = eprintln!(rt;
+        "focusd: {name}:{line}: the post from record {record} on: J1 Full: {posted} rows were posted to the warehouse, and it takes at most 4194304. Those before it stay."
+    );
+    say_how_to_fit(rt, house, 1);
 }
 
 // Says which row of a part carries the id of a commitment of the warehouse.
 fn explain_own(
     rt: &HostRuntime,
     house: &House,
-    name: &str,
+    walk: &Walk<'_>,
     part: &Part,
-    place: &Place,
-) -> Result<(), Fault> {
+) -> Result<bool, Fault> {
     let Some(state) = house.state() else {
-        return Ok(());
+        return Ok(false);
     };
     match read_rows(rt.alloc(), part.text.as_slice(), state.currency()) {
-        Ok(rows) => {
-            for (before, row) in rows.iter().enumerate() {
-                if let Some(id) = own_id(state, row) {
-                    return say_own(rt, name, part, place, before, id);
-                }
-            }
-            Ok(())
-        }
+        Ok(rows) => say_first_own(rt, walk, part, state, rows.as_slice()),
         Err(RowFault::NoMemory) => Err(Fault::NoMemory),
-        Err(_) => Ok(()),
+        Err(_) => Ok(false),
     }
+}
+
+// Says which is the first of the rows of a part that carries the id of a commitment of the warehouse.
+fn say_first_own(
+    rt: &HostRuntime,
+    walk: &Walk<'_>,
+    part: &Part,
+    state: &State,
+    rows: &[Row],
+) -> Result<bool, Fault> {
+    for (before, row) in rows.iter().enumerate() {
+        if let Some(id) = own_id(state, row) {
+            return say_own(rt, walk, part, before, id);
+        }
+    }
+    Ok(false)
 }
 
 // The id of a commitment of the warehouse, if a row carries it.
@@ -191,156 +154,60 @@ fn own_id<'a>(state: &State, row: &'a Row) -> Option<&'a str> {
 // Says that the row behind so many rows of a part carries the id of a commitment of the warehouse.
 fn say_own(
     rt: &HostRuntime,
-    name: &str,
+    walk: &Walk<'_>,
     part: &Part,
-    place: &Place,
     before: usize,
     id: &str,
-) -> Result<(), Fault> {
+) -> Result<bool, Fault> {
     let number = u32::try_from(before).unwrap_or(0).saturating_add(1);
     // Where the record stands; in which column a fault is doesn't matter.
     let at = locate(
         rt.alloc(),
         part,
-        place.line_end,
+        walk.line_end,
         number,
         RecordFault::Commitment,
     )?;
-    let line = place.line.saturating_add(at.lines_before);
-    let record = place.record.saturating_add(before as u64);
+    let name = walk.shown.as_str();
+    let line = walk.line.saturating_add(at.lines_before);
+    let record = walk.record.saturating_add(before as u64);
     let words = explain_fault("J4 OwnCommitment");
     let (expected, remedy) = (words.expected, words.remedy);
     let _ = eprintln!(rt;
         "focusd: {name}:{line}: record {record}, CommitmentDiscountId: {id:?}: J4 OwnCommitment: expected {expected}"
     );
     let _ = eprintln!(rt; "No row of its post was imported; those before it stay. {remedy}");
-    Ok(())
+    Ok(false)
 }
 
 // Says which value of a file is wrong, and how to go on.
 fn explain_rows(
     rt: &HostRuntime,
     house: &House,
-    name: &str,
+    walk: &mut Walk<'_>,
     part: &Part,
-    place: &Place,
     fault: RowFault,
-) -> Result<(), Fault> {
-    let currency = wanted_currency(rt, house)?;
-    say_row_fault(rt, name, part, place, fault, &currency)?;
+) -> Result<bool, Fault> {
+    let currency = wanted_currency(rt.alloc(), house)?;
+    let is_taken = walk.refuse(rt, part, fault, currency.as_str())?;
     if let RowFault::Record { .. } = fault {
         let _ = eprintln!(rt;
             "No row of its post was imported; those before it stay. Correct the file and run the command again: it goes on from there. `focusd check` lists all faults."
         );
     }
-    Ok(())
-}
-
-/// Says which value of a part is wrong, or what is wrong with its header. The part stands at this place of its file. `currency` says which
-/// currency is expected.
-pub fn say_row_fault(
-    rt: &HostRuntime,
-    name: &str,
-    part: &Part,
-    place: &Place,
-    fault: RowFault,
-    currency: &str,
-) -> Result<(), Fault> {
-    let name = shown_text(rt.alloc(), name)?;
-    let name = name.as_str();
-    match fault {
-        RowFault::Record { number, fault } => {
-            say_record_fault(rt, name, part, place, number, fault, currency)
-        }
-        RowFault::NoMemory => Err(Fault::NoMemory),
-        other => {
-            say_header_fault(rt, name, other);
-            Ok(())
-        }
-    }
-}
-
-// Says what is wrong with a header, or that no record is behind it.
-fn say_header_fault(rt: &HostRuntime, name: &str, fault: RowFault) {
-    let code = code_of(fault);
-    let column = column_of(fault);
-    let comma = if column.is_empty() { "" } else { ", " };
-    let expected = explain_fault(code).expected;
-    let _ = eprintln!(rt;
-        "focusd: {name}:1: the header{comma}{column}: {code}: expected {expected}. `focusd check` lists all faults."
-    );
-}
-
-// The column of a fault that is of a header; the empty text where it is of none.
-fn column_of(fault: RowFault) -> &'static str {
-    match fault {
-        RowFault::MissingColumn(column) | RowFault::DoubleColumn(column) => column.name(),
-        RowFault::Record { .. } | RowFault::NoRows | RowFault::TooManyRows | RowFault::NoMemory => {
-            ""
-        }
-    }
-}
-
-// Says which value of a record is wrong.
-fn say_record_fault(
-    rt: &HostRuntime,
-    name: &str,
-    part: &Part,
-    place: &Place,
-    number: u32,
-    fault: RecordFault,
-    currency: &str,
-) -> Result<(), Fault> {
-    let at = locate(rt.alloc(), part, place.line_end, number, fault)?;
-    let line = place.line.saturating_add(at.lines_before);
-    let record = place
-        .record
-        .saturating_add(u64::from(number).saturating_sub(1));
-    let column = at.column;
-    let value = at.value.as_str();
-    let code = at.code;
-    let expected = match fault {
-        RecordFault::Currency => currency,
-        _ => at.expected,
-    };
-    if !column.is_empty() {
-        let _ = eprintln!(rt;
-            "focusd: {name}:{line}: record {record}, {column}: {value:?}: {code}: expected {expected}"
-        );
-    } else if value.is_empty() {
-        let _ = eprintln!(rt;
-            "focusd: {name}:{line}: record {record}: {code}: expected {expected}"
-        );
-    } else {
-        let _ = eprintln!(rt;
-            "focusd: {name}:{line}: record {record}: {value}: {code}: expected {expected}"
-        );
-    }
-    Ok(())
+    Ok(is_taken)
 }
 
 // Which currency is expected, in words.
-fn wanted_currency(rt: &HostRuntime, house: &House) -> Result<String, Fault> {
+fn wanted_currency(alloc: Global, house: &House) -> Result<String, AllocError> {
     let currency = house.currency();
     let letters = letters(&currency);
     if house.is_new() {
-        return Ok(format!(in rt.alloc();
+        return format!(in alloc;
             "{letters}, the currency of the warehouse that would be made; --currency names another"
-        )?);
+        );
     }
-    Ok(format!(in rt.alloc(); "{letters}, the currency of the warehouse")?)
-}
-
-/// The code and the name of a fault.
-pub(crate) fn code_of(fault: RowFault) -> &'static str {
-    match fault {
-        RowFault::MissingColumn(_) => "H1 MissingColumn",
-        RowFault::DoubleColumn(_) => "H2 DoubleColumn",
-        RowFault::Record { fault, .. } => fault.name(),
-        RowFault::NoRows => "V14 NoRows",
-        RowFault::TooManyRows => "V15 TooManyRows",
-        RowFault::NoMemory => "NoMemory",
-    }
+    format!(in alloc; "{letters}, the currency of the warehouse")
 }
 
 /// Warns of rows that another origin has too.
@@ -348,7 +215,7 @@ pub(crate) fn warn_of_shared(
     rt: &HostRuntime,
     name: &str,
     shared: &Shared<'_>,
-) -> Result<(), Fault> {
+) -> Result<(), AllocError> {
     let hour = hour_text(rt.alloc(), u64::from(shared.hour))?;
     let origin = shared.origin;
     let account = shared.account;

@@ -1,0 +1,175 @@
+//! The parts of exports as posts of a warehouse.
+use crate::messages::{explain, warn_of_shared};
+use crate::others::Others;
+use fw_columns::Columns;
+use fw_console::{Fault, House};
+use fw_cut::Part;
+use fw_export_files::{Taker, Walk};
+use fw_import::{ImportFault, Importer, Outcome, Sent, Taken, import_part, posts_of, read_part};
+use fw_recover::StoreFault;
+use fw_rows::RowFault;
+use std::alloc::{AllocError, Global};
+use std::process::ExitCode;
+
+/// An import into a warehouse, and where it stands.
+pub(crate) struct Import<'a> {
+    pub(crate) house: House,
+    pub(crate) origin: &'a str,
+    /// The number of the next post.
+    pub(crate) number: u64,
+    /// Rows that were added.
+    pub(crate) added: u64,
+    /// Rows that were there already.
+    pub(crate) same: u64,
+    // what is kept of the origin from one part to the next
+    importer: Importer<'a>,
+    // the rows of other origins, until rows were found that one of these has too
+    others: Option<Others>,
+}
+
+impl<'a> Import<'a> {
+    /// Nothing was imported yet.
+    pub(crate) fn new(alloc: Global, house: House, origin: &'a str) -> Import<'a> {
+        Import {
+            house,
+            origin,
+            number: 1,
+            added: 0,
+            same: 0,
+            importer: Importer::new(alloc, origin),
+            others: None,
+        }
+    }
+
+    /// What was done by the import. The warehouse is closed.
+    pub(crate) fn close(self, done: Result<ExitCode, Fault>) -> Result<ExitCode, Fault> {
+        let Import {
+            house,
+            origin: _origin,
+            number: _number,
+            added: _added,
+            same: _same,
+            importer: _importer,
+            others: _others,
+        } = self;
+        house.close(done)
+    }
+
+    /// Looks for rows that other origins have too from here on.
+    pub(crate) fn watch_others(&mut self, alloc: Global) -> Result<(), AllocError> {
+        if let Some(state) = self.house.state() {
+            let others = Others::of(alloc, state, self.origin)?;
+            self.others = if others.are_none() {
+                None
+            } else {
+                Some(others)
+            };
+        }
+        Ok(())
+    }
+
+    /// The posts of the origin that the warehouse has.
+    pub(crate) fn posts(&self, alloc: Global) -> Result<Vec<Sent>, AllocError> {
+        match self.house.state() {
+            Some(state) => posts_of(alloc, state, self.origin),
+            None => Ok(Vec::new(alloc)),
+        }
+    }
+
+    // Posts a part. Where there is no warehouse yet, it is made once the part is known to be right.
+    fn post(&mut self, rt: &HostRuntime, part: &Part) -> Result<Result<Taken, ImportFault>, Fault> {
+        if self.house.is_new() {
+            if let Err(fault) = self.read(rt.alloc(), part) {
+                return Ok(Err(fault));
+            }
+            self.house.make(rt)?;
+        }
+        let Some(store) = self.house.store() else {
+            return Err(Fault::Store(StoreFault::NoHouse));
+        };
+        Ok(import_part(
+            rt.alloc(),
+            store,
+            &mut self.importer,
+            self.number,
+            &part.text,
+        ))
+    }
+
+    // Reads a part, as the next post of a warehouse that is to be made.
+    fn read(&mut self, alloc: Global, part: &Part) -> Result<(), ImportFault> {
+        let currency = self.house.currency();
+        let _ = read_part(alloc, &mut self.importer, currency, self.number, &part.text)?;
+        Ok(())
+    }
+
+    // A part was taken, and counts.
+    fn count(
+        &mut self,
+        rt: &HostRuntime,
+        walk: &mut Walk<'_>,
+        part: &Part,
+        taken: Taken,
+    ) -> Result<bool, Fault> {
+        walk.took(rt, part, taken.rows);
+        self.number = self.number.saturating_add(1);
+        match taken.outcome {
+            Outcome::Added => {
+                self.added = self.added.saturating_add(taken.rows);
+                self.look_for_shared(rt, walk)?;
+            }
+            Outcome::Same => self.same = self.same.saturating_add(taken.rows),
+        }
+        self.make_checkpoint(rt.alloc())?;
+        Ok(true)
+    }
+
+    // Warns, once, where the rows of the last post are of an hour and a sub-account that another origin has rows of.
+    fn look_for_shared(&mut self, rt: &HostRuntime, walk: &mut Walk<'_>) -> Result<(), Fault> {
+        let (Some(others), Some(columns)) = (&self.others, last_post(&self.house)) else {
+            return Ok(());
+        };
+        let Some(shared) = others.first_shared(columns) else {
+            return Ok(());
+        };
+        walk.progress.end(rt);
+        warn_of_shared(rt, walk.shown.as_str(), &shared)?;
+        self.others = None;
+        Ok(())
+    }
+
+    // Makes a checkpoint where it pays. It joins segments, so those that the importer keeps are let go of.
+    fn make_checkpoint(&mut self, alloc: Global) -> Result<(), StoreFault> {
+        if let Some(store) = self.house.store() {
+            if store.checkpoint_pays() {
+                store.checkpoint(alloc)?;
+                self.importer.forget_posts();
+            }
+        }
+        Ok(())
+    }
+}
+
+impl Taker for Import<'_> {
+    fn take(&mut self, rt: &HostRuntime, walk: &mut Walk<'_>, part: &Part) -> Result<bool, Fault> {
+        match self.post(rt, part)? {
+            Ok(taken) => self.count(rt, walk, part, taken),
+            // What follows the last record, as a line feed, is no post.
+            Err(ImportFault::Rows(RowFault::NoRows)) if walk.record > 1 => Ok(true),
+            Err(fault) => {
+                walk.progress.end(rt);
+                explain(rt, self, walk, part, fault)
+            }
+        }
+    }
+}
+
+// The rows of the segment that came last: those of the last post, until a checkpoint joins segments.
+fn last_post(house: &House) -> Option<&Columns> {
+    let segments = house.state()?.segments();
+    let count = segments.len();
+    if count == 0 {
+        return None;
+    }
+    Some(segments.get(count - 1))
+}

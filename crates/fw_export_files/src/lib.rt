@@ -1,0 +1,13 @@
+//! CSV exports that the command line names: they are opened, cut into parts and walked in order. What a command does with them is a [`Taker`].
+#![tactic(auto)]
+
+mod faults;
+mod opening;
+mod taker;
+mod walk;
+mod walking;
+
+pub use faults::code_of;
+pub use taker::Taker;
+pub use walk::Walk;
+pub use walking::walk_files;

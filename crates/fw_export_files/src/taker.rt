@@ -1,0 +1,35 @@
+//! What a command does with exports.
+use crate::walk::Walk;
+use fw_console::Fault;
+use fw_cut::{CutFault, Part};
+
+/// What a command does with the exports that the command line names, each part by part.
+pub trait Taker {
+    /// Whether the exports behind one with a fault are taken too.
+    fn goes_on(&self) -> bool {
+        false
+    }
+
+    /// An export begins with this header, and this byte ends its lines. Whether its parts are to be taken.
+    fn begin(&mut self, _rt: &HostRuntime, _header: &[u8], _line_end: u8) -> Result<bool, Fault> {
+        Ok(true)
+    }
+
+    /// Takes the part at which the walk stands; false where it was refused, which was said.
+    fn take(&mut self, rt: &HostRuntime, walk: &mut Walk<'_>, part: &Part) -> Result<bool, Fault>;
+
+    /// An export ends, or as far as it could be taken. Whether it has no fault.
+    fn end(
+        &mut self,
+        _rt: &HostRuntime,
+        _walk: &mut Walk<'_>,
+        is_whole: bool,
+    ) -> Result<bool, Fault> {
+        Ok(is_whole)
+    }
+
+    /// An export has no record behind its header. Whether that is no fault.
+    fn take_none(&mut self, rt: &HostRuntime, walk: &mut Walk<'_>) -> Result<bool, Fault> {
+        walk.not_cut(rt, CutFault::NoRecord)
+    }
+}

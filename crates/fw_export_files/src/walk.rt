@@ -1,0 +1,174 @@
+//! Where a walk over exports stands, and what it says of them.
+use crate::faults::{code_of, column_of};
+use fw_check::{Located, line_ends, locate};
+use fw_console::{Fault, Progress};
+use fw_cut::{CutFault, Part};
+use fw_explain::explain_fault;
+use fw_rows::{RecordFault, RowFault};
+use fw_table::shown_text;
+
+/// Where a walk over exports stands.
+#[derive(Drop)]
+pub struct Walk<'a> {
+    /// The name of the export.
+    pub name: &'a str,
+    /// The name as messages have it: as a terminal may show it.
+    pub shown: String,
+    /// The line in which the next part begins, counted from 1.
+    pub line: u64,
+    /// The number of its first record, counted from 1.
+    pub record: u64,
+    /// The byte that ends lines.
+    pub line_end: u8,
+    /// How far all exports are read.
+    pub progress: Progress,
+}
+
+impl<'a> Walk<'a> {
+    /// A walk over files that stands before the first one.
+    pub fn new(rt: &HostRuntime, is_quiet: bool, files: &[&str]) -> Walk<'a> {
+        Walk {
+            name: "",
+            shown: String::new(rt.alloc()),
+            line: 1,
+            record: 1,
+            line_end: b'\n',
+            progress: Progress::new(rt, is_quiet, files),
+        }
+    }
+
+    // It stands at the beginning of a file.
+    pub(crate) fn go_to(&mut self, rt: &HostRuntime, file: &'a str) -> Result<(), Fault> {
+        self.name = if file == "-" { "standard input" } else { file };
+        self.shown = shown_text(rt.alloc(), self.name)?;
+        self.line = 1;
+        self.record = 1;
+        Ok(())
+    }
+
+    // It stands behind a header.
+    pub(crate) fn pass_header(&mut self, rt: &HostRuntime, header: &[u8], line_end: u8) {
+        self.line = line_ends(header, line_end).saturating_add(1);
+        self.line_end = line_end;
+        self.progress.took(rt, 0, header.len());
+    }
+
+    /// It stands behind a part, which has so many rows.
+    pub fn took(&mut self, rt: &HostRuntime, part: &Part, rows: u64) {
+        let body = body_of(part);
+        self.line = self.line.saturating_add(line_ends(body, self.line_end));
+        self.record = self.record.saturating_add(rows);
+        self.progress.took(rt, rows, body.len());
+    }
+
+    // Says why the file was not opened, behind the line of progress.
+    pub(crate) fn not_opened(&mut self, rt: &HostRuntime, why: &str) {
+        self.progress.end(rt);
+        let name = self.shown.as_str();
+        let _ = eprintln!(rt; "focusd: {name}: F1 Read: {why}");
+    }
+
+    // Says why the export can't be cut from here on. The answer is false. The error says that memory ran out.
+    pub(crate) fn not_cut(&mut self, rt: &HostRuntime, fault: CutFault) -> Result<bool, Fault> {
+        self.progress.end(rt);
+        let name = self.shown.as_str();
+        let (line, record) = (self.line, self.record);
+        match fault {
+            CutFault::NoMemory => return Err(Fault::NoMemory),
+            CutFault::Read(why) => {
+                let _ = eprintln!(rt;
+                    "focusd: {name}:{line}: from record {record} on: F1 Read: {why}"
+                );
+            }
+            CutFault::NoRecord => {
+                let meaning = explain_fault("V14 NoRows").meaning;
+                let _ = eprintln!(rt; "focusd: {name}: V14 NoRows: {meaning}");
+            }
+            CutFault::TooLong => {
+                let what = format!(in rt.alloc(); "record {record}")?;
+                say_too_long(rt, name, line, what.as_str(), "V16 LongRecord");
+            }
+            CutFault::LongHeader => say_too_long(rt, name, 1, "the header", "H3 LongHeader"),
+        }
+        Ok(false)
+    }
+
+    /// Says which value of the part here is wrong, or what is wrong with its header. `currency` says which currency is expected. The answer is
+    /// false. The error says that memory ran out.
+    pub fn refuse(
+        &mut self,
+        rt: &HostRuntime,
+        part: &Part,
+        fault: RowFault,
+        currency: &str,
+    ) -> Result<bool, Fault> {
+        self.progress.end(rt);
+        match fault {
+            RowFault::Record { number, fault } => {
+                let at = locate(rt.alloc(), part, self.line_end, number, fault)?;
+                self.say_record(rt, number, &at, expected_of(fault, &at, currency));
+                Ok(false)
+            }
+            RowFault::NoMemory => Err(Fault::NoMemory),
+            other => {
+                say_header(rt, self.shown.as_str(), other);
+                Ok(false)
+            }
+        }
+    }
+
+    // Says which value of a record is wrong, of a part that begins here.
+    fn say_record(&self, rt: &HostRuntime, number: u32, at: &Located, expected: &str) {
+        let name = self.shown.as_str();
+        let line = self.line.saturating_add(at.lines_before);
+        let before = u64::from(number).saturating_sub(1);
+        let record = self.record.saturating_add(before);
+        let (column, value, code) = (at.column, at.value.as_str(), at.code);
+        if !column.is_empty() {
+            let _ = eprintln!(rt;
+                "focusd: {name}:{line}: record {record}, {column}: {value:?}: {code}: expected {expected}"
+            );
+        } else if value.is_empty() {
+            let _ = eprintln!(rt;
+                "focusd: {name}:{line}: record {record}: {code}: expected {expected}"
+            );
+        } else {
+            let _ = eprintln!(rt;
+                "focusd: {name}:{line}: record {record}: {value}: {code}: expected {expected}"
+            );
+        }
+    }
+}
+
+// What is expected in the place of a value that is wrong.
+fn expected_of<'a>(fault: RecordFault, at: &Located, currency: &'a str) -> &'a str {
+    match fault {
+        RecordFault::Currency => currency,
+        _ => at.expected,
+    }
+}
+
+// Says that a record or a header is too long.
+fn say_too_long(rt: &HostRuntime, name: &str, line: u64, what: &str, fault: &str) {
+    let words = explain_fault(fault);
+    let (expected, remedy) = (words.expected, words.remedy);
+    let _ = eprintln!(rt; "focusd: {name}:{line}: {what}: {fault}: expected {expected}. {remedy}");
+}
+
+// Says what is wrong with a header, or that no record is behind it.
+fn say_header(rt: &HostRuntime, name: &str, fault: RowFault) {
+    let code = code_of(fault);
+    let column = column_of(fault);
+    let comma = if column.is_empty() { "" } else { ", " };
+    let expected = explain_fault(code).expected;
+    let _ = eprintln!(rt;
+        "focusd: {name}:1: the header{comma}{column}: {code}: expected {expected}. `focusd check` lists all faults."
+    );
+}
+
+// The bytes of a part behind its header.
+fn body_of(part: &Part) -> &[u8] {
+    let text = part.text.as_slice();
+    let (_, body) = text.split_at(part.header.min(text.len()));
+    body
+}

@@ -1,0 +1,125 @@
+//! A walk over exports and their parts.
+use crate::opening::{Source, open_export};
+use crate::taker::Taker;
+use crate::walk::Walk;
+use fw_console::Fault;
+use fw_cut::{CutFault, Cutter, Part};
+
+/// Walks over files in order, and has their parts taken; false where one has a fault, which was said.
+pub fn walk_files<'a, T: Taker>(
+    rt: &HostRuntime,
+    files: &[&'a str],
+    walk: &mut Walk<'a>,
+    taker: &mut T,
+) -> Result<bool, Fault> {
+    let mut are_sound = true;
+    for file in files {
+        walk.go_to(rt, *file)?;
+        are_sound = walk_file(rt, *file, walk, taker)? && are_sound;
+        if !are_sound && !taker.goes_on() {
+            break;
+        }
+    }
+    walk.progress.end(rt);
+    Ok(are_sound)
+}
+
+// Walks over a file, or standard input.
+fn walk_file<T: Taker>(
+    rt: &HostRuntime,
+    file: &str,
+    walk: &mut Walk<'_>,
+    taker: &mut T,
+) -> Result<bool, Fault> {
+    match open_export(rt, file, walk)? {
+        Some(source) => walk_source(rt, source, walk, taker),
+        None => Ok(false),
+    }
+}
+
+// Walks over what a source has.
+fn walk_source<T: Taker>(
+    rt: &HostRuntime,
+    source: Source,
+    walk: &mut Walk<'_>,
+    taker: &mut T,
+) -> Result<bool, Fault> {
+    match Cutter::open(rt.alloc(), source) {
+        Ok(mut cutter) => walk_export(rt, &mut cutter, walk, taker),
+        Err(CutFault::NoRecord) => taker.take_none(rt, walk),
+        Err(fault) => walk.not_cut(rt, fault),
+    }
+}
+
+// Walks over an export.
+fn walk_export<T: Taker>(
+    rt: &HostRuntime,
+    cutter: &mut Cutter<Source>,
+    walk: &mut Walk<'_>,
+    taker: &mut T,
+) -> Result<bool, Fault> {
+    let takes = taker.begin(rt, cutter.header(), cutter.line_end())?;
+    walk.pass_header(rt, cutter.header(), cutter.line_end());
+    let is_whole = !takes || walk_parts(rt, cutter, walk, taker)?;
+    taker.end(rt, walk, is_whole)
+}
+
+// What became of a part.
+enum Taken {
+    // More parts follow it.
+    Part,
+    // It is the last one.
+    Last,
+    // It was refused, which was said.
+    Refused,
+}
+
+// Walks over the parts of an export in order; false where one was refused, which was said.
+fn walk_parts<T: Taker>(
+    rt: &HostRuntime,
+    cutter: &mut Cutter<Source>,
+    walk: &mut Walk<'_>,
+    taker: &mut T,
+) -> Result<bool, Fault> {
+    for _ in 0..u64::MAX {
+        match take_next(rt, cutter, walk, taker)? {
+            Taken::Part => {}
+            Taken::Last => return Ok(true),
+            Taken::Refused => return Ok(false),
+        }
+    }
+    Ok(true)
+}
+
+// Has the next part taken.
+fn take_next<T: Taker>(
+    rt: &HostRuntime,
+    cutter: &mut Cutter<Source>,
+    walk: &mut Walk<'_>,
+    taker: &mut T,
+) -> Result<Taken, Fault> {
+    match cutter.next_part(rt.alloc()) {
+        Ok(part) => take_part(rt, &part, walk, taker),
+        Err(fault) => {
+            walk.not_cut(rt, fault)?;
+            Ok(Taken::Refused)
+        }
+    }
+}
+
+// Has a part taken.
+fn take_part<T: Taker>(
+    rt: &HostRuntime,
+    part: &Part,
+    walk: &mut Walk<'_>,
+    taker: &mut T,
+) -> Result<Taken, Fault> {
+    if !taker.take(rt, walk, part)? {
+        return Ok(Taken::Refused);
+    }
+    Ok(if part.is_last {
+        Taken::Last
+    } else {
+        Taken::Part
+    })
+}
