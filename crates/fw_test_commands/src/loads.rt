@@ -7,7 +7,6 @@ use fw_recover::{Store, StoreFault};
 use fw_threads::SplitFault;
 use std::alloc::{AllocError, Global};
 use std::sync::Wait;
-use std::test::Fail;
 use std::thread::Threads;
 
 /// How many bytes a volume needs for an empty warehouse and no entry more.
@@ -148,8 +147,8 @@ const REFUSED: Load = Load {
 
 /// A file with one right row is accepted beside one whose second record lacks a field.
 #[test]
-fn a_file_that_is_refused(rt: HostRuntime) -> Result<(), Fail> {
-    check(&rt, is_loaded(&rt, rt.alloc(), ROOM, NEVER, &REFUSED))
+fn a_file_that_is_refused(rt: HostRuntime) {
+    check(&rt, is_loaded(&rt, rt.alloc(), ROOM, NEVER, &REFUSED));
 }
 
 const TWICE: Load = Load {
@@ -168,8 +167,8 @@ const AGAIN: Load = Load {
 
 /// The same file under another number is another entry; the same files again are none.
 #[test]
-fn files_that_are_loaded_again(rt: HostRuntime) -> Result<(), Fail> {
-    check(&rt, are_loaded(&rt, rt.alloc(), &TWICE, &AGAIN))
+fn files_that_are_loaded_again(rt: HostRuntime) {
+    check(&rt, are_loaded(&rt, rt.alloc(), &TWICE, &AGAIN));
 }
 
 const NO_ORIGIN: Load = Load {
@@ -181,8 +180,8 @@ const NO_ORIGIN: Load = Load {
 
 /// An origin has no blank.
 #[test]
-fn an_origin_that_is_none(rt: HostRuntime) -> Result<(), Fail> {
-    check(&rt, is_loaded(&rt, rt.alloc(), ROOM, NEVER, &NO_ORIGIN))
+fn an_origin_that_is_none(rt: HostRuntime) {
+    check(&rt, is_loaded(&rt, rt.alloc(), ROOM, NEVER, &NO_ORIGIN));
 }
 
 const UNKNOWN: Load = Load {
@@ -194,8 +193,8 @@ const UNKNOWN: Load = Load {
 
 /// The device fails in the first commit, and the importer is answered `unknown`.
 #[test]
-fn a_device_that_fails(rt: HostRuntime) -> Result<(), Fail> {
-    check(&rt, is_loaded(&rt, rt.alloc(), ROOM, CREATING, &UNKNOWN))
+fn a_device_that_fails(rt: HostRuntime) {
+    check(&rt, is_loaded(&rt, rt.alloc(), ROOM, CREATING, &UNKNOWN));
 }
 
 const FULL: Load = Load {
@@ -207,8 +206,8 @@ const FULL: Load = Load {
 
 /// A volume without room takes no entry, and each importer is answered `closed`.
 #[test]
-fn a_volume_that_is_full(rt: HostRuntime) -> Result<(), Fail> {
-    check(&rt, is_loaded(&rt, rt.alloc(), NO_ROOM, NEVER, &FULL))
+fn a_volume_that_is_full(rt: HostRuntime) {
+    check(&rt, is_loaded(&rt, rt.alloc(), NO_ROOM, NEVER, &FULL));
 }
 
 const TOO_MANY: Load = Load {
@@ -227,6 +226,6 @@ const ALL_REFUSED: Load = Load {
 
 /// There are at most 64 files.
 #[test]
-fn more_files_than_importers(rt: HostRuntime) -> Result<(), Fail> {
-    check(&rt, are_loaded(&rt, rt.alloc(), &TOO_MANY, &ALL_REFUSED))
+fn more_files_than_importers(rt: HostRuntime) {
+    check(&rt, are_loaded(&rt, rt.alloc(), &TOO_MANY, &ALL_REFUSED));
 }

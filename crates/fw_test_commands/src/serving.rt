@@ -8,7 +8,6 @@ use fw_serve::{ServeFault, serve};
 use std::alloc::Global;
 use std::io;
 use std::io::{ErrorKind, Read, Write};
-use std::test::Fail;
 use std::thread::Threads;
 
 // Gives the text, at most `piece` bytes at a time, and ends there or fails.
@@ -202,8 +201,8 @@ const EARLY_END: &[Case] = &[Case {
 }];
 
 #[test]
-fn a_post_that_ends_early_keeps_nothing(rt: HostRuntime) -> Result<(), Fail> {
-    check_all(&rt, first_wrong(&rt, rt.alloc(), EARLY_END))
+fn a_post_that_ends_early_keeps_nothing(rt: HostRuntime) {
+    check_all(&rt, first_wrong(&rt, rt.alloc(), EARLY_END));
 }
 
 const POST: &str = "post a 1 2
@@ -232,8 +231,8 @@ const UNREAD: &[Case] = &[
 ];
 
 #[test]
-fn a_reader_that_fails_runs_no_command(rt: HostRuntime) -> Result<(), Fail> {
-    check_all(&rt, first_wrong(&rt, rt.alloc(), UNREAD))
+fn a_reader_that_fails_runs_no_command(rt: HostRuntime) {
+    check_all(&rt, first_wrong(&rt, rt.alloc(), UNREAD));
 }
 
 const TWO_POSTS: &str = "post a 1 2
@@ -287,8 +286,8 @@ const UNWRITTEN: &[Case] = &[
 ];
 
 #[test]
-fn a_writer_that_fails_leaves_what_is_done(rt: HostRuntime) -> Result<(), Fail> {
-    check_all(&rt, first_wrong(&rt, rt.alloc(), UNWRITTEN))
+fn a_writer_that_fails_leaves_what_is_done(rt: HostRuntime) {
+    check_all(&rt, first_wrong(&rt, rt.alloc(), UNWRITTEN));
 }
 
 // A writer with just the room for an answer, and as many workers as there may be.
@@ -301,8 +300,8 @@ const WRITTEN: &[Case] = &[Case {
 }];
 
 #[test]
-fn a_writer_that_takes_all(rt: HostRuntime) -> Result<(), Fail> {
-    check_all(&rt, first_wrong(&rt, rt.alloc(), WRITTEN))
+fn a_writer_that_takes_all(rt: HostRuntime) {
+    check_all(&rt, first_wrong(&rt, rt.alloc(), WRITTEN));
 }
 
 // An entry whose frame ends at 77, on a volume of one byte less and on one of just so many.
@@ -324,8 +323,8 @@ const FULL: &[Case] = &[
 ];
 
 #[test]
-fn a_full_volume_takes_no_entry(rt: HostRuntime) -> Result<(), Fail> {
-    check_all(&rt, first_wrong(&rt, rt.alloc(), FULL))
+fn a_full_volume_takes_no_entry(rt: HostRuntime) {
+    check_all(&rt, first_wrong(&rt, rt.alloc(), FULL));
 }
 
 const CHECKPOINT: &[Case] = &[Case {
@@ -337,8 +336,8 @@ const CHECKPOINT: &[Case] = &[Case {
 }];
 
 #[test]
-fn a_checkpoint_changes_no_answer(rt: HostRuntime) -> Result<(), Fail> {
-    check_all(&rt, first_wrong(&rt, rt.alloc(), CHECKPOINT))
+fn a_checkpoint_changes_no_answer(rt: HostRuntime) {
+    check_all(&rt, first_wrong(&rt, rt.alloc(), CHECKPOINT));
 }
 
 // One call of the device fails, in the first entry. It would pass the next ones.
@@ -351,6 +350,6 @@ const FAILED: &[Case] = &[Case {
 }];
 
 #[test]
-fn a_device_that_failed_takes_no_entry(rt: HostRuntime) -> Result<(), Fail> {
-    check_all(&rt, first_wrong(&rt, rt.alloc(), FAILED))
+fn a_device_that_failed_takes_no_entry(rt: HostRuntime) {
+    check_all(&rt, first_wrong(&rt, rt.alloc(), FAILED));
 }

@@ -3,7 +3,6 @@ use crate::calls::{Answer, Call, DONE, FAILS, Round, TOO_LARGE, are_answered, pr
 use crate::ended::{check, check_all};
 use fw_disk::*;
 use std::alloc::{AllocError, Global};
-use std::test::Fail;
 
 /// A byte that none of the tables writes.
 const MARK: u8 = 170;
@@ -137,8 +136,8 @@ const STOPS: &[Case] = &[
 ];
 
 #[test]
-fn a_stop_leaves_its_choice(rt: HostRuntime) -> Result<(), Fail> {
-    check_all(&rt, first_wrong(rt.alloc(), STOPS))
+fn a_stop_leaves_its_choice(rt: HostRuntime) {
+    check_all(&rt, first_wrong(rt.alloc(), STOPS));
 }
 
 /// A gate of one byte, synced as 0, then opened by a 1 that no sync follows.
@@ -165,8 +164,8 @@ const GATES: &[Case] = &[
 ];
 
 #[test]
-fn a_gate_is_shut_or_open_or_torn(rt: HostRuntime) -> Result<(), Fail> {
-    check_all(&rt, first_wrong(rt.alloc(), GATES))
+fn a_gate_is_shut_or_open_or_torn(rt: HostRuntime) {
+    check_all(&rt, first_wrong(rt.alloc(), GATES));
 }
 
 /// Writes of up to 4 bytes in a file of at most 3.
@@ -191,8 +190,8 @@ const LIMITED: Round = (
 const LIMITS: &[Case] = &[(Plan::Limited(3), Choice::New, LIMITED, NO_CALL, NO_CALL)];
 
 #[test]
-fn a_write_ends_at_the_limit_or_is_too_large(rt: HostRuntime) -> Result<(), Fail> {
-    check_all(&rt, first_wrong(rt.alloc(), LIMITS))
+fn a_write_ends_at_the_limit_or_is_too_large(rt: HostRuntime) {
+    check_all(&rt, first_wrong(rt.alloc(), LIMITS));
 }
 
 /// A write, a sync, a read, a write that is no call of a plan since it is too large, and a sync.
@@ -295,8 +294,8 @@ const PLANS: &[Case] = &[
 ];
 
 #[test]
-fn a_plan_fails_its_calls(rt: HostRuntime) -> Result<(), Fail> {
-    check_all(&rt, first_wrong(rt.alloc(), PLANS))
+fn a_plan_fails_its_calls(rt: HostRuntime) {
+    check_all(&rt, first_wrong(rt.alloc(), PLANS));
 }
 
 const WRITTEN: &[Call] = &[Call::WriteSynced(Side::Left, &[5])];
@@ -352,8 +351,8 @@ const FAILED: &[Case] = &[
 ];
 
 #[test]
-fn a_failed_call_reaches_the_volume_below_or_not(rt: HostRuntime) -> Result<(), Fail> {
-    check_all(&rt, first_wrong(rt.alloc(), FAILED))
+fn a_failed_call_reaches_the_volume_below_or_not(rt: HostRuntime) {
+    check_all(&rt, first_wrong(rt.alloc(), FAILED));
 }
 
 /// What is written to Right and not synced stays pending through a read and a sync of Left, and through a sync that fails.
@@ -406,8 +405,8 @@ const SIDES: &[Case] = &[
 ];
 
 #[test]
-fn a_side_stays_pending_through_calls_on_the_other(rt: HostRuntime) -> Result<(), Fail> {
-    check_all(&rt, first_wrong(rt.alloc(), SIDES))
+fn a_side_stays_pending_through_calls_on_the_other(rt: HostRuntime) {
+    check_all(&rt, first_wrong(rt.alloc(), SIDES));
 }
 
 const SYNCS: &[Call] = &[Call::Sync(Side::Left); 6];
@@ -469,8 +468,8 @@ const SERIES: &[Case] = &[
 ];
 
 #[test]
-fn a_series_fails_the_call_after_each_number(rt: HostRuntime) -> Result<(), Fail> {
-    check_all(&rt, first_wrong(rt.alloc(), SERIES))
+fn a_series_fails_the_call_after_each_number(rt: HostRuntime) {
+    check_all(&rt, first_wrong(rt.alloc(), SERIES));
 }
 
 /// Whether both faults print as sentences.
@@ -483,6 +482,6 @@ fn are_sentences(alloc: Global) -> Result<bool, AllocError> {
 }
 
 #[test]
-fn faults_read_as_sentences(rt: HostRuntime) -> Result<(), Fail> {
-    check(&rt, are_sentences(rt.alloc()))
+fn faults_read_as_sentences(rt: HostRuntime) {
+    check(&rt, are_sentences(rt.alloc()));
 }

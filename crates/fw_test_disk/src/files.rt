@@ -6,7 +6,6 @@ use fw_journal::{Log, LogFault, replay};
 use std::alloc::{AllocError, Global};
 use std::fs::OpenOptions;
 use std::os::unix::fs::symlink;
-use std::test::Fail;
 use std::{fs, io};
 
 /// Makes an empty folder, in place of what an earlier run may have left.
@@ -75,8 +74,8 @@ fn are_kept(rt: &HostRuntime) -> Result<bool, FolderFault> {
 }
 
 #[test]
-fn files_are_made_and_keep_their_bytes(rt: HostRuntime) -> Result<(), Fail> {
-    check(&rt, are_kept(&rt))
+fn files_are_made_and_keep_their_bytes(rt: HostRuntime) {
+    check(&rt, are_kept(&rt));
 }
 
 /// Writes a log of one payload.
@@ -124,8 +123,8 @@ fn is_logged(rt: &HostRuntime) -> Result<bool, FolderFault> {
 }
 
 #[test]
-fn a_log_is_there_after_the_folder_is_opened_again(rt: HostRuntime) -> Result<(), Fail> {
-    check(&rt, is_logged(&rt))
+fn a_log_is_there_after_the_folder_is_opened_again(rt: HostRuntime) {
+    check(&rt, is_logged(&rt));
 }
 
 /// Whether a folder is in use while its volume is open.
@@ -147,8 +146,8 @@ fn is_in_use_once(rt: &HostRuntime) -> Result<bool, FolderFault> {
 }
 
 #[test]
-fn an_open_folder_is_in_use(rt: HostRuntime) -> Result<(), Fail> {
-    check(&rt, is_in_use_once(&rt))
+fn an_open_folder_is_in_use(rt: HostRuntime) {
+    check(&rt, is_in_use_once(&rt));
 }
 
 const THREE_BYTES: Round = (
@@ -189,8 +188,8 @@ fn is_short_read(rt: &HostRuntime) -> Result<bool, FolderFault> {
 }
 
 #[test]
-fn a_read_that_comes_short_fails(rt: HostRuntime) -> Result<(), Fail> {
-    check(&rt, is_short_read(&rt))
+fn a_read_that_comes_short_fails(rt: HostRuntime) {
+    check(&rt, is_short_read(&rt));
 }
 
 /// Makes a file of this length, which takes no room on the disk.
@@ -236,8 +235,8 @@ fn is_limited(rt: &HostRuntime) -> Result<bool, FolderFault> {
 }
 
 #[test]
-fn a_file_past_the_limit_is_refused(rt: HostRuntime) -> Result<(), Fail> {
-    check(&rt, is_limited(&rt))
+fn a_file_past_the_limit_is_refused(rt: HostRuntime) {
+    check(&rt, is_limited(&rt));
 }
 
 /// Whether a folder is refused by a call of the system.
@@ -279,8 +278,8 @@ fn are_others_refused(rt: &HostRuntime) -> Result<bool, FolderFault> {
 }
 
 #[test]
-fn what_is_no_folder_and_no_file_is_refused(rt: HostRuntime) -> Result<(), Fail> {
-    check(&rt, are_others_refused(&rt))
+fn what_is_no_folder_and_no_file_is_refused(rt: HostRuntime) {
+    check(&rt, are_others_refused(&rt));
 }
 
 /// The faults of a folder that are no system's, and what they print.
@@ -301,6 +300,6 @@ fn wrong_sentence(alloc: Global) -> Result<Option<usize>, AllocError> {
 }
 
 #[test]
-fn folder_faults_read_as_sentences(rt: HostRuntime) -> Result<(), Fail> {
-    check_all(&rt, wrong_sentence(rt.alloc()))
+fn folder_faults_read_as_sentences(rt: HostRuntime) {
+    check_all(&rt, wrong_sentence(rt.alloc()));
 }

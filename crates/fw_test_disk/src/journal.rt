@@ -9,7 +9,6 @@ use crate::ended::{check, check_all};
 use fw_disk::{Choice, FaultVolume, MemVolume, Mode, Side, Stoppable, Volume};
 use fw_journal::*;
 use std::alloc::Global;
-use std::test::Fail;
 
 /// A side's header and its body, and behind them a closed gate at 44.
 const EMPTY_LOG: [u8; 45] = [
@@ -58,8 +57,8 @@ fn does_the_limit_bound(alloc: Global) -> Result<bool, LogFault> {
 }
 
 #[test]
-fn the_limit_bounds_a_payload(rt: HostRuntime) -> Result<(), Fail> {
-    check(&rt, does_the_limit_bound(rt.alloc()))
+fn the_limit_bounds_a_payload(rt: HostRuntime) {
+    check(&rt, does_the_limit_bound(rt.alloc()));
 }
 
 /// What stands in the left file, the first gate, and where the frames break.
@@ -119,8 +118,8 @@ fn first_unbroken(alloc: Global) -> Result<Option<usize>, LogFault> {
 }
 
 #[test]
-fn each_break_has_its_place(rt: HostRuntime) -> Result<(), Fail> {
-    check_all(&rt, first_unbroken(rt.alloc()))
+fn each_break_has_its_place(rt: HostRuntime) {
+    check_all(&rt, first_unbroken(rt.alloc()));
 }
 
 /// Whether an empty log ends at 44, and the left file at 77 after the payload was added.
@@ -154,8 +153,8 @@ fn both(first: Result<bool, LogFault>, second: Result<bool, LogFault>) -> Result
 }
 
 #[test]
-fn a_frame_has_its_bytes(rt: HostRuntime) -> Result<(), Fail> {
-    check(&rt, is_framed(rt.alloc()))
+fn a_frame_has_its_bytes(rt: HostRuntime) {
+    check(&rt, is_framed(rt.alloc()));
 }
 
 /// Whether a payload and a next gate are these.
@@ -218,8 +217,8 @@ fn are_frames_read(alloc: Global) -> Result<bool, LogFault> {
 }
 
 #[test]
-fn a_frame_is_read_before_the_next_gate(rt: HostRuntime) -> Result<(), Fail> {
-    check(&rt, are_frames_read(rt.alloc()))
+fn a_frame_is_read_before_the_next_gate(rt: HostRuntime) {
+    check(&rt, are_frames_read(rt.alloc()));
 }
 
 /// Whether a log has these payloads.
@@ -291,8 +290,8 @@ fn are_replayed(alloc: Global) -> Result<bool, LogFault> {
 
 // Without a fault or a crash, the old payloads and then the new one.
 #[test]
-fn what_is_appended_is_replayed(rt: HostRuntime) -> Result<(), Fail> {
-    check(&rt, are_replayed(rt.alloc()))
+fn what_is_appended_is_replayed(rt: HostRuntime) {
+    check(&rt, are_replayed(rt.alloc()));
 }
 
 /// The calls until an empty log is open: a write, a sync, and the read of its gate.
@@ -343,8 +342,8 @@ fn are_told(alloc: Global) -> Result<bool, LogFault> {
 }
 
 #[test]
-fn a_failed_device_is_told(rt: HostRuntime) -> Result<(), Fail> {
-    check(&rt, are_told(rt.alloc()))
+fn a_failed_device_is_told(rt: HostRuntime) {
+    check(&rt, are_told(rt.alloc()));
 }
 
 /// Whether an append is acknowledged.
@@ -416,6 +415,6 @@ fn wrong_stop(alloc: Global) -> Result<Option<usize>, LogFault> {
 }
 
 #[test]
-fn a_stop_leaves_a_payload_or_not(rt: HostRuntime) -> Result<(), Fail> {
-    check_all(&rt, wrong_stop(rt.alloc()))
+fn a_stop_leaves_a_payload_or_not(rt: HostRuntime) {
+    check_all(&rt, wrong_stop(rt.alloc()));
 }

@@ -1,10 +1,10 @@
 //! A view goes on while a commit is held in its sync.
 ghost use Rattle.std.specs.Prelude.{◌≡◌};
-ghost use Rattle.fw_test_threads.specs.Gate.{one_more};
+ghost use Rattle.fw_gate.specs.Gate.{one_more};
 
 use crate::ends::{Held, Left, Told, created, ends_of, memory, outcome_of, post};
-use crate::gate::{Gate, GateVolume};
 use fw_disk::{MemVolume, Volume};
+use fw_gate::{Gate, GateVolume};
 use fw_group::Answer;
 use fw_recover::StoreFault;
 use fw_threads::{Analyst, Importer, Naming, Opened};

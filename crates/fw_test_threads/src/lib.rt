@@ -6,7 +6,6 @@
 #[cfg(test)]
 mod answered;
 mod ends;
-mod gate;
 #[cfg(test)]
 mod gated;
 #[cfg(test)]

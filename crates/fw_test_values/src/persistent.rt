@@ -41,8 +41,8 @@ fn first_wrong_length(alloc: Global) -> Result<Option<u32>, AllocError> {
 }
 
 #[test]
-fn each_item_is_at_its_place(rt: HostRuntime) -> Result<(), Fail> {
-    check_all(&rt, first_wrong_length(rt.alloc()))
+fn each_item_is_at_its_place(rt: HostRuntime) {
+    check_all(&rt, first_wrong_length(rt.alloc()));
 }
 
 /// Whether a sequence stays as it was beside one that was made of it.
@@ -59,8 +59,8 @@ fn old_stays(alloc: Global) -> Result<bool, AllocError> {
 }
 
 #[test]
-fn a_push_leaves_the_sequence_as_it_was(rt: HostRuntime) -> Result<(), Fail> {
-    check(&rt, old_stays(rt.alloc()))
+fn a_push_leaves_the_sequence_as_it_was(rt: HostRuntime) {
+    check(&rt, old_stays(rt.alloc()));
 }
 
 /// Takes what threads may share.
@@ -107,8 +107,8 @@ fn first_miscounted(alloc: Global) -> Result<Option<&'static str>, AllocError> {
 }
 
 #[test]
-fn each_text_has_its_count(rt: HostRuntime) -> Result<(), Fail> {
-    check_all(&rt, first_miscounted(rt.alloc()))
+fn each_text_has_its_count(rt: HostRuntime) {
+    check_all(&rt, first_miscounted(rt.alloc()));
 }
 
 /// Whether the new counters have `c` once and the old ones don't, and a copy of the new ones has `b` once.
@@ -121,8 +121,8 @@ fn old_ones_stay(alloc: Global) -> Result<bool, AllocError> {
 }
 
 #[test]
-fn raised_counters_leave_the_old_ones(rt: HostRuntime) -> Result<(), Fail> {
-    check(&rt, old_ones_stay(rt.alloc()))
+fn raised_counters_leave_the_old_ones(rt: HostRuntime) {
+    check(&rt, old_ones_stay(rt.alloc()));
 }
 
 /// Whether counters lend a text that equals this one.
@@ -142,8 +142,8 @@ fn shares_its_texts(alloc: Global) -> Result<bool, AllocError> {
 }
 
 #[test]
-fn texts_are_shared(rt: HostRuntime) -> Result<(), Fail> {
-    check(&rt, shares_its_texts(rt.alloc()))
+fn texts_are_shared(rt: HostRuntime) {
+    check(&rt, shares_its_texts(rt.alloc()));
 }
 
 /// Adds the text of a number.
@@ -220,6 +220,6 @@ fn wrong_longest_way(alloc: Global) -> Result<Option<usize>, AllocError> {
 }
 
 #[test]
-fn rising_texts_make_no_high_tree(rt: HostRuntime) -> Result<(), Fail> {
-    check_all(&rt, wrong_longest_way(rt.alloc()))
+fn rising_texts_make_no_high_tree(rt: HostRuntime) {
+    check_all(&rt, wrong_longest_way(rt.alloc()));
 }

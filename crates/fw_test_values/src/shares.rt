@@ -2,7 +2,6 @@
 use crate::ended::check;
 use fw_shares::{share, share_counts};
 use std::alloc::{AllocError, Global};
-use std::test::Fail;
 
 /// Whether the shares of 100 and of -100 over equal weights are these.
 fn are_even(alloc: Global) -> Result<bool, AllocError> {
@@ -28,6 +27,6 @@ fn are_as_worked(alloc: Global) -> Result<bool, AllocError> {
 }
 
 #[test]
-fn worked_shares(rt: HostRuntime) -> Result<(), Fail> {
-    check(&rt, are_as_worked(rt.alloc()))
+fn worked_shares(rt: HostRuntime) {
+    check(&rt, are_as_worked(rt.alloc()));
 }

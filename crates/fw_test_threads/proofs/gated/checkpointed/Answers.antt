@@ -5,9 +5,9 @@ use denote.Ref.{ShrRef}
 use Rattle.fw_disk.specs.contracts.memory.MemVolume as MemVolume
 use Rattle.fw_disk.specs.contracts.memory.MemVolumeVolume.TheImpl as memory_volume
 use Rattle.fw_disk.proofs.memory.MemVolume.TheSendSync as memory
-use Rattle.fw_test_threads.specs.contracts.gate.GateVolume as GateVolume
-use Rattle.fw_test_threads.specs.contracts.gate.GateVolumeVolume.TheImpl as gate_volume
-use Rattle.fw_test_threads.proofs.gate.GateVolume.TheSendSync as gate
+use Rattle.fw_gate.specs.contracts.gate.GateVolume as GateVolume
+use Rattle.fw_gate.specs.contracts.gate.GateVolumeVolume.TheImpl as gate_volume
+use Rattle.fw_gate.proofs.gate.GateVolume.TheSendSync as gate
 use Rattle.fw_test_threads.proofs.Sent.{held_closure_send}
 use Rattle.fw_test_threads.specs.contracts.gated.Waits as Waits
 use Rattle.fw_test_threads.specs.contracts.gated.WaitsGate.TheImpl as waits_gate

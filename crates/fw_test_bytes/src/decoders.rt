@@ -16,7 +16,6 @@ use fw_terms::{AddedPurchase, Commitment, Policy, added_len, commitment_len, pol
 use fw_terms_bytes::{added_of, commitment_of, policy_of, put_added, put_commitment, put_policy};
 use std::alloc::{AllocError, Global};
 use std::fmt::Debug;
-use std::test::Fail;
 
 /// What bytes are read as.
 #[derive(Clone, Copy, Drop)]
@@ -262,8 +261,8 @@ fn wrong_value(alloc: Global) -> Result<Option<&'static str>, ReadError> {
 }
 
 #[test]
-fn values_are_read_and_written(rt: HostRuntime) -> Result<(), Fail> {
-    check_all(&rt, wrong_value(rt.alloc()))
+fn values_are_read_and_written(rt: HostRuntime) {
+    check_all(&rt, wrong_value(rt.alloc()));
 }
 
 /// The place of a decoder's fault in these bytes; `None` where it read a value. A fault before the bytes is at no place of a table.
@@ -354,8 +353,8 @@ fn wrong_change_of_all(alloc: Global) -> Result<Option<(usize, Change)>, AllocEr
 }
 
 #[test]
-fn changes_have_their_faults(rt: HostRuntime) -> Result<(), Fail> {
-    check_all(&rt, wrong_change_of_all(rt.alloc()))
+fn changes_have_their_faults(rt: HostRuntime) {
+    check_all(&rt, wrong_change_of_all(rt.alloc()));
 }
 
 /// The first front that has no fault or has it elsewhere.
@@ -392,8 +391,8 @@ fn wrong_front_of_all(alloc: Global) -> Result<Option<(usize, Front)>, AllocErro
 }
 
 #[test]
-fn fronts_have_their_faults(rt: HostRuntime) -> Result<(), Fail> {
-    check_all(&rt, wrong_front_of_all(rt.alloc()))
+fn fronts_have_their_faults(rt: HostRuntime) {
+    check_all(&rt, wrong_front_of_all(rt.alloc()));
 }
 
 /// Whether the bytes that the parts make have their fault at this place, or none.
@@ -417,6 +416,6 @@ fn wrong_fault(alloc: Global) -> Result<Option<usize>, AllocError> {
 }
 
 #[test]
-fn faults_have_their_places(rt: HostRuntime) -> Result<(), Fail> {
-    check_all(&rt, wrong_fault(rt.alloc()))
+fn faults_have_their_places(rt: HostRuntime) {
+    check_all(&rt, wrong_fault(rt.alloc()));
 }

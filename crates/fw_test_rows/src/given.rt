@@ -21,7 +21,7 @@ pub(crate) struct Given {
 }
 
 /// The dollar.
-pub(crate) fn dollar() -> Result<Currency, AllocError> {
+fn dollar() -> Result<Currency, AllocError> {
     Currency::new(b"USD").ok_or(AllocError)
 }
 

@@ -4,7 +4,6 @@ use crate::ended::check_all;
 use crate::lines::commitment_line;
 use fw_commitment::{AddedPurchase, CommitmentFault, read_commitment, read_purchase};
 use std::alloc::{AllocError, Global};
-use std::test::Fail;
 
 /// A purchase of 2 nanos.
 const TWO_NANOS: &str = "id = \"cd-1\"
@@ -98,8 +97,8 @@ fn first_misread(alloc: Global) -> Result<Option<&'static str>, CommitmentFault>
 }
 
 #[test]
-fn texts_read_as_added_purchases(rt: HostRuntime) -> Result<(), Fail> {
-    check_all(&rt, first_misread(rt.alloc()))
+fn texts_read_as_added_purchases(rt: HostRuntime) {
+    check_all(&rt, first_misread(rt.alloc()));
 }
 
 /// The line of the commitment of a text with 2 nanos paid more, where it takes them.
@@ -124,6 +123,6 @@ fn first_misgrown(alloc: Global) -> Result<Option<&'static str>, CommitmentFault
 }
 
 #[test]
-fn commitments_grow_by_purchases(rt: HostRuntime) -> Result<(), Fail> {
-    check_all(&rt, first_misgrown(rt.alloc()))
+fn commitments_grow_by_purchases(rt: HostRuntime) {
+    check_all(&rt, first_misgrown(rt.alloc()));
 }

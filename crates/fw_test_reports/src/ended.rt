@@ -1,0 +1,17 @@
+//! How a test ends.
+use std::fmt::Debug;
+use std::process::Abort;
+
+/// Ends a test: what it looked at has to hold. Memory that ran out is an error of the test, and so is any other fault.
+pub(crate) fn check<E: Debug + Drop>(rt: &(impl Abort + Eprint), holds: Result<bool, E>) {
+    match holds {
+        Ok(holds) => assert!(rt; holds),
+        Err(fault) => end(rt, fault),
+    }
+}
+
+/// Ends a test by a fault, as one ends that answers it. A test that answers nothing is proved in half the time.
+fn end<E: Debug + Drop>(rt: &(impl Abort + Eprint), fault: E) {
+    let _ = eprintln!(rt; "error: {fault:?}");
+    rt.exit(1)
+}
