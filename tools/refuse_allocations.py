@@ -6,8 +6,8 @@
 
 The tests are those that the gate built into out/tests (NAME: a crate, `program` or `fw_simulate`). A test whose allocation
 is refused has to end in one of two ways: it passes (it looked at the answer, and at what stands after it), or it ends
-with an error that says that memory ran out. An assertion that fails is an answer that changed in place of the error, and
-so is a crash.
+with an error that says that memory ran out: the test answers it, or stops after printing it, in its crate's src/ended.rt.
+An assertion that fails is an answer that changed in place of the error, and so is a crash.
 
 The program, out/focusd, is run on the scripts of examples/cases. It has to end in one of three ways: with the answers
 that stand beside the script; with one answer `no memory`, and all others as if that command did not stand in the
@@ -25,6 +25,7 @@ Exit status: 0 where every run was as it has to be, 1 where one wasn't, 2 where 
 import os
 import re
 import shutil
+import signal
 import struct
 import subprocess
 import sys
@@ -43,6 +44,8 @@ SHIM = os.path.join(TOP, "tools", "refuse_allocation.c")
 # The errors by which a test may end under a refused allocation: those that say that memory ran out, and a device that
 # failed because a volume in memory could not grow.
 OUT_OF_MEMORY = {"AllocError", "AllocFailed", "NoMemory", "Io", "Device", "OutOfMemory"}
+# What a test prints that stops in its crate's src/ended.rt. Its process is then ended by SIGABRT.
+STOPPED = re.compile(r"^test stopped at src/ended\.rt:\d+:\d+$", re.M)
 # How the program ends where memory runs out before the first command.
 NOT_BEGUN = b"focusd: NoMemory\n"
 # What a command is answered that ran out of memory.
@@ -83,7 +86,10 @@ def run(words, given, number, shim, room):
 def is_right(status, said):
     """Whether a test under a refused allocation ended as it has to."""
     error = re.search(r"^error: (\w+)", said, re.M)
-    return status == 0 or status is not None and status > 0 and error is not None and error.group(1) in OUT_OF_MEMORY
+    if status is None or status == 0 or error is None:
+        return status == 0
+    is_answered, is_stopped = status > 0, status == -signal.SIGABRT and STOPPED.search(said) is not None
+    return (is_answered or is_stopped) and error.group(1) in OUT_OF_MEMORY
 
 
 def sweep_test(program, name, test, most, shim, room):

@@ -426,6 +426,8 @@ class Driver(unittest.TestCase):
                 folder_oracle.opened(*make(20_000))
             except folder_oracle.Corrupt as corrupt:
                 self.assertEqual(corrupt.args[0], "left", name)
+        for name in ("tiny segments", "tiny posts that share segments", "a log of tiny groups", "names of 1,024 bytes", "256 tags in each row"):
+            self.assertTrue(folder_oracle.opened(*aims.FOLDERS[name](20_000)).kinds, name)
 
 
 if __name__ == "__main__":

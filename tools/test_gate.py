@@ -227,6 +227,25 @@ class Refusals(unittest.TestCase):
         self.assertEqual(len(set(chosen)), 15)
         self.assertLessEqual(chosen[-1], 1000)
 
+    def test_a_test_ends_by_an_error_that_says_that_memory_ran_out(self):
+        stopped, answered = "test stopped at src/ended.rt:32:5\nerror: AllocError\n", "error: AllocError\n"
+        failed = "test stopped at src/ended.rt:15:5\n"
+        right = [(0, ""), (1, answered), (-6, stopped)]
+        wrong = [
+            (None, stopped),
+            (1, ""),
+            (1, "error: Corrupt\n"),
+            (-6, failed),
+            (-6, answered),
+            (-6, stopped.replace("AllocError", "Corrupt")),
+            (-6, stopped.replace("ended.rt", "decoders.rt")),
+            (-11, stopped),
+        ]
+        for status, said in right:
+            self.assertTrue(refuse_allocations.is_right(status, said), (status, said))
+        for status, said in wrong:
+            self.assertFalse(refuse_allocations.is_right(status, said), (status, said))
+
     def test_a_script_is_cut_into_commands_and_its_answers_likewise(self):
         script = b"post a 1 2\nx\ny\nstate\npost a 1\nreport t f t"
         self.assertEqual(refuse_allocations.commands_of(script), [b"post a 1 2\nx\ny\n", b"state\n", b"post a 1\n", b"report t f t"])

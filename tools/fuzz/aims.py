@@ -177,6 +177,116 @@ def heads(n):
     return body_of(CURRENCY + number(max(1, n // 22), 8) + found + number(0, 4)), NO_FILE
 
 
+# Rows that differ in their tags alone: 1 USD, usage of the first hour of 2024.
+COST, START, END = number(10**9, 8), number(1_704_067_200, 8), number(1_704_070_800, 8)
+PIECES = (COST, COST, b"\1", b"\0", START, END, bytes(4), b"\0", b"\0", b"\0", bytes(8), bytes(4), bytes(4), bytes(4))
+PLAIN_ROW = COST + COST + b"\1\0" + START + END + bytes(11)
+POST = b"\1"
+# How many rows a segment may have, and so many of a post that it is within 4 MiB whatever they hold.
+MOST_ROWS = 65_536
+FEW_ROWS = 1_024
+
+
+def segment(tags, names=()):
+    """A segment by column: the bytes of each row's tags, and the names."""
+    spelled = b"".join(number(len(name), 4) + name for name in names)
+    columns = b"".join(piece * len(tags) for piece in PIECES)
+    return b"\2" + number(len(tags), 4) + number(len(names), 4) + spelled + columns + b"".join(tags)
+
+
+ONE_ROW = segment([bytes(4)])
+ONE_TAG = number(1, 4) + number(1, 4) + number(2, 4)
+
+
+def post_heads(counts):
+    """The heads of posts of so many rows each."""
+    return number(len(counts), 8) + b"".join(HEAD + number(i + 1, 8) + POST + number(rows, 4) for i, rows in enumerate(counts))
+
+
+def body_of_posts(counts, segments):
+    return body_of(CURRENCY + post_heads(counts) + number(len(segments), 4) + b"".join(segments)), NO_FILE
+
+
+def parts_of(count, size):
+    """A number in parts of this size, and what is left."""
+    return [size] * (count // size) + ([count % size] if count % size else [])
+
+
+def tiny_segments(n, last=ONE_ROW):
+    """Posts of one row, each with a segment of its own."""
+    count = max(2, n // (18 + len(ONE_ROW)))
+    return body_of_posts([1] * count, [ONE_ROW] * (count - 1) + [last])
+
+
+def tiny_posts(n):
+    """Posts of one row, whose rows share segments."""
+    count = max(2, n // (18 + len(ONE_ROW) - 9))
+    return body_of_posts([1] * count, [segment([bytes(4)] * rows) for rows in parts_of(count, MOST_ROWS)])
+
+
+def tagged(n, row_bytes, names_of, tags_of):
+    """Posts of rows with tags: of each segment the names, and the bytes of each row's tags, by the number of its rows."""
+    counts = parts_of(max(2, n // row_bytes), MOST_ROWS)
+    segments = [segment(tags_of(rows), names_of(rows)) for rows in counts]
+    return body_of_posts([part for rows in counts for part in parts_of(rows, FEW_ROWS)], segments)
+
+
+def another_text_each(n, width):
+    """Each row has another text of so many bytes under one key."""
+    return tagged(
+        n, 74 + 4 + width, lambda rows: [b"k", *(b"%0*d" % (width, i) for i in range(rows))],
+        lambda rows: [number(1, 4) + number(1, 4) + number(i + 2, 4) for i in range(rows)],
+    )  # fmt: skip
+
+
+def many_tags_each(n):
+    """Each row has the same 256 tags."""
+    names = [name for i in range(256) for name in (b"k%03d" % i, b"v%03d" % i)]
+    tags = number(256, 4) + b"".join(number(i + 1, 4) for i in range(512))
+    return tagged(n, 66 + len(tags), lambda rows: names, lambda rows: [tags] * rows)
+
+
+def frame(payload, length=None):
+    return b"\1" + number(len(payload) if length is None else length, 4) + payload
+
+
+def log_of(frames):
+    return EMPTY[:-1] + b"".join(frames) + b"\0", NO_FILE
+
+
+def one_row_entry(i):
+    return HEAD + number(i + 1, 8) + POST + number(1, 4) + PLAIN_ROW
+
+
+def tiny_groups(n):
+    """A log of posts of one row, each in a frame of its own."""
+    return log_of([frame(number(1, 4) + one_row_entry(i)) for i in range(max(1, n // (27 + len(PLAIN_ROW))))])
+
+
+def full_groups(n):
+    """A log of posts of one row, 64 in a frame."""
+    entry = len(one_row_entry(0))
+    return log_of([frame(number(64, 4) + b"".join(one_row_entry(i) for i in range(at * 64, at * 64 + 64))) for at in range(max(1, n // (64 * entry + 9)))])
+
+
+def withdrawn_posts(n):
+    """A log of posts of one row, each of which is withdrawn by the entry behind it."""
+    frames = []
+    for i in range(max(1, n // 110)):
+        withdrawal = HEAD + number(2 * i + 2, 8) + b"\4" + number(2 * i + 1, 8)
+        frames.append(frame(number(2, 4) + one_row_entry(2 * i) + withdrawal))
+    return log_of(frames)
+
+
+def lying(kind, before, count):
+    """A body whose one head, of this kind, has bytes and then a count that isn't so."""
+    return lambda n: (body_of(CURRENCY + number(1, 8) + HEAD + number(1, 8) + kind + before + number(count, 4) + bytes(n)), NO_FILE)
+
+
+MOST = 2**32 - 1
+TEXT_A = number(1, 4) + b"a"
+
+
 FOLDERS = {
     "the length of the body is 2^64-1": lambda n: (header(2**64 - 1) + bytes(n), NO_FILE),
     "the length of the body is 2^63": lambda n: (header(2**63) + bytes(n), NO_FILE),
@@ -197,6 +307,39 @@ FOLDERS = {
     "an old side of zeros": lambda n: (bytes(n), EMPTY),
     "a log of policies": policies,
     "a body of policies": heads,
+    "a body that is a byte longer than it says": lambda n: (header(len(tiny_segments(n)[0]) - 27) + tiny_segments(n)[0][25:], NO_FILE),
+    "a body that reaches the end of the file": lambda n: (header(len(tiny_segments(n)[0]) - 25) + tiny_segments(n)[0][25:], NO_FILE),
+    "an origin of 2^32-1 bytes": lambda n: (body_of(CURRENCY + number(1, 8) + number(MOST, 4) + bytes(n)), NO_FILE),
+    "a policy of 2^32-1 rules": lying(b"\3", TEXT_A, MOST),
+    "a rule of 2^32-1 targets": lying(b"\3", TEXT_A + number(1, 4) + TEXT_A + b"\1", MOST),
+    "a commitment of 2^32-1 tags": lying(b"\2", TEXT_A + b"\1\0", MOST),
+    "a commitment of 2^32-1 SKUs": lying(b"\2", TEXT_A + b"\1\0" + bytes(4) + number(1, 4) * 2 + number(1, 8) + TEXT_A, MOST),
+    "a commitment of 2^32-1 purchases": lying(b"\2", TEXT_A + b"\1\0" + bytes(4) + number(1, 4) * 2 + number(1, 8) + TEXT_A + number(1, 4) + TEXT_A, MOST),
+    "a post of 2^32-1 rows": lying(POST, b"", MOST),
+    "a segment of 2^32-1 rows": lambda n: (body_of(SEGMENT + b"\2" + number(MOST, 4) + bytes(n)), NO_FILE),
+    "65,536 rows in turn that aren't there": lambda n: (body_of(SEGMENT + b"\1" + number(MOST_ROWS, 4) + filled(PLAIN_ROW, n)), NO_FILE),
+    "a row of 2^32-1 tags": lambda n: (body_of(SEGMENT + b"\1" + number(1, 4) + PLAIN_ROW[:-4] + number(MOST, 4) + bytes(n)), NO_FILE),
+    "a name of 2^32-1 bytes": lambda n: (body_of(SEGMENT + b"\2" + number(1, 4) * 2 + number(MOST, 4) + bytes(n)), NO_FILE),
+    "columns of a row too few": lambda n: (body_of(SEGMENT + b"\2" + number(min(n // 74, MOST_ROWS), 4) + segment([bytes(4)] * min(n // 74, MOST_ROWS))[5:-4]), NO_FILE),
+    "an entry of 2^32-1 rows": lambda n: log_of([frame(number(1, 4) + HEAD + number(1, 8) + POST + number(MOST, 4) + bytes(min(n, 8_000_000)))]),
+    "a group that ends before its frame": lambda n: log_of([frame(number(1, 4) + one_row_entry(0) + bytes(min(n, 8_000_000)))]),
+    "frames, the last of which is too long": lambda n: (tiny_groups(n)[0][:-1] + frame(b"", 9), NO_FILE),
+    "posts with more rows than there are": lambda n: body_of_posts([4_096] * (n // 92), [ONE_ROW] * (n // 92)),
+    "more segments than posts": lambda n: body_of_posts([1], [ONE_ROW] * (n // 74)),
+    "tiny segments": tiny_segments,
+    "tiny segments, the last of which is wrong": lambda n: tiny_segments(n, ONE_ROW[:-4] + b"\1\0\0\0"),
+    "tiny posts that share segments": tiny_posts,
+    "a log of tiny groups": tiny_groups,
+    "a log of groups of 64 entries": full_groups,
+    "a log of posts that are withdrawn": withdrawn_posts,
+    "names of 1,024 bytes": lambda n: another_text_each(n, 1_024),
+    "names of 8 bytes": lambda n: another_text_each(n, 8),
+    "one name of 1,024 bytes in each row": lambda n: tagged(n, 74, lambda rows: [b"k", b"v" * 1_024], lambda rows: [ONE_TAG] * rows),
+    "256 tags in each row": many_tags_each,
+    "one name again and again": lambda n: body_of_posts([1], [segment([bytes(4)], [b"name"] * (n // 8))]),
+    "one long name again and again": lambda n: body_of_posts([1], [segment([bytes(4)], [b"n" * 1_024] * (n // 1_028))]),
+    "names that no row has": lambda n: body_of_posts([1], [segment([bytes(4)], [b"%08d" % i for i in range(n // 12)])]),
+    "names of which one comes twice": lambda n: body_of_posts([1], [segment([bytes(4)], [*(b"%08d" % i for i in range(n // 12)), b"%08d" % 0])]),
 }  # fmt: skip
 
 

@@ -186,12 +186,12 @@ def work(options, number, answers):
                 pool.append(inputs[place])
                 if options.memory:
                     remember(options.memory, reader, inputs[place])
-            finder.told["turn"] = turn
+            finder.told |= {"turn": turn, "executions": session.executions, "inputs": session.inputs}
             for place, why in faults[:3]:
                 case = finder.found(reader, inputs, place, why)
                 if case:
                     kept.append(case)
-                    print(f"FOUND {os.path.relpath(case[0], TOP)}: {case[1]}", flush=True)
+                    print(f"FOUND {os.path.relpath(case[0], TOP)} by execution {session.executions:,}: {case[1]}", flush=True)
         session.answers.update({fault.split(" ")[0]: count for fault, count in oracle.AMOUNT_FAULTS.items()})
         os.chdir("/")
         answers.put((session, kept))
