@@ -27,7 +27,6 @@ pub(crate) enum Match {
 
 /// How many rows of the SKUs that a commitment lists it applies to, and how many it doesn't apply to, each counted
 /// under the first reason that holds: in the order of the fields.
-#[derive(Drop)]
 pub struct Matches<'s> {
     /// It applies to them.
     pub applies: u64,
@@ -41,6 +40,19 @@ pub struct Matches<'s> {
     pub no_unit: u64,
     /// They are in another unit: how many in each, in the order in which these come.
     pub other_units: IndexMap<&'s str, u64>,
+}
+
+impl Drop for Matches<'_> {
+    fn drop(self) {
+        let Self {
+            applies: _,
+            not_eligible: _,
+            out_of_term: _,
+            other_account: _,
+            no_unit: _,
+            other_units: _,
+        } = self;
+    }
 }
 
 /// How many rows of segments a commitment applies to, and why not to others of its SKUs: of the rows that count, where

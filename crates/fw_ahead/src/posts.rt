@@ -22,7 +22,6 @@ const POSTS_AHEAD: usize = 16_384;
 
 /// The posts of a script, which are asked for in the order of its commands. Several workers read ahead, each a piece of about 1 MiB at a time, while the script
 /// comes and while whoever asks does something else; one worker reads each post when it is asked for.
-#[derive(Drop)]
 pub struct Posts {
     // Whether workers read ahead.
     reads_ahead: bool,
@@ -42,6 +41,22 @@ pub struct Posts {
     read: Vec<ReadPost>,
     // The tags that are known of texts from the posts that were read when they were asked for.
     known: KnownTexts,
+}
+
+impl Drop for Posts {
+    fn drop(self) {
+        let Self {
+            reads_ahead: _,
+            idle: _,
+            pieces: _,
+            next: _,
+            turn: _,
+            held: _,
+            next_cut: _,
+            read: _,
+            known: _,
+        } = self;
+    }
 }
 
 impl Posts {

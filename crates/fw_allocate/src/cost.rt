@@ -4,10 +4,16 @@ ghost use Rattle.std.specs.Prelude.{◌≡◌, string_bytes};
 use std::marker::Model;
 
 /// A group and its cost.
-#[derive(Debug, Drop)]
+#[derive(Debug)]
 pub struct Cost {
     group: String,
     cost: i128,
+}
+
+impl Drop for Cost {
+    fn drop(self) {
+        let Self { group: _, cost: _ } = self;
+    }
 }
 
 impl Model for Cost {

@@ -16,12 +16,22 @@ use std::alloc::{AllocError, Global};
 use std::marker::Model;
 
 /// What a rule moves: the cost that a group gives away, and the shares of it that other groups get.
-#[derive(Drop)]
 pub struct Gift<'a> {
     from: &'a str,
     given: i128,
     groups: Vec<&'a str>,
     shares: Vec<i128>,
+}
+
+impl Drop for Gift<'_> {
+    fn drop(self) {
+        let Self {
+            from: _,
+            given: _,
+            groups: _,
+            shares: _,
+        } = self;
+    }
 }
 
 impl<'a> Model for Gift<'a> {

@@ -123,11 +123,21 @@ impl DiscountStatus {
 }
 
 /// The commitment discount that a row belongs to.
-#[derive(Debug, Drop)]
+#[derive(Debug)]
 pub struct Discount {
     id: String,
     kind: DiscountKind,
     status: Option<DiscountStatus>,
+}
+
+impl Drop for Discount {
+    fn drop(self) {
+        let Self {
+            id: _,
+            kind: _,
+            status: _,
+        } = self;
+    }
 }
 
 impl Model for Discount {

@@ -13,7 +13,7 @@ use std::marker::Model;
 pub const MOST_POST_ROWS: usize = 4_096;
 
 /// The fields of a charge row. An `Option` is `None` where the column is null.
-#[derive(Debug, Drop)]
+#[derive(Debug)]
 pub struct RowFields {
     /// BilledCost: the cost that is the basis of an invoice, in nanos.
     pub billed: Nanos,
@@ -41,11 +41,36 @@ pub struct RowFields {
     pub tags: Tags,
 }
 
+impl Drop for RowFields {
+    fn drop(self) {
+        let Self {
+            billed: _,
+            effective: _,
+            category: _,
+            is_correction: _,
+            start: _,
+            end: _,
+            discount: _,
+            quantity: _,
+            unit: _,
+            sku: _,
+            sub_account: _,
+            tags: _,
+        } = self;
+    }
+}
+
 /// A charge row. Its period doesn't end before it starts, and ends within the year 9999; a discount of a usage row has a status; a
 /// discount's id, a unit, a SKU and a sub-account have 1 to 256 bytes each.
-#[derive(Debug, Drop)]
+#[derive(Debug)]
 pub struct Row {
     fields: RowFields,
+}
+
+impl Drop for Row {
+    fn drop(self) {
+        let Self { fields: _ } = self;
+    }
 }
 
 impl Model for Row {

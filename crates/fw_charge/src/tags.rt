@@ -6,10 +6,16 @@ use std::alloc::{AllocError, Global};
 use std::marker::Model;
 
 /// A tag: a key and its text.
-#[derive(Debug, Drop)]
+#[derive(Debug)]
 pub struct Tag {
     key: String,
     value: String,
+}
+
+impl Drop for Tag {
+    fn drop(self) {
+        let Self { key: _, value: _ } = self;
+    }
 }
 
 impl Model for Tag {
@@ -58,9 +64,15 @@ impl Tag {
 }
 
 /// At most 256 tags in rising order of the bytes of their keys, no key twice; a key and a text have at most 1,024 bytes each.
-#[derive(Debug, Drop)]
+#[derive(Debug)]
 pub struct Tags {
     items: Vec<Tag>,
+}
+
+impl Drop for Tags {
+    fn drop(self) {
+        let Self { items: _ } = self;
+    }
 }
 
 impl Model for Tags {

@@ -59,7 +59,6 @@ const DOUBLE: &str = "H2 DoubleColumn";
 const NO_ROWS: &str = "V14 NoRows";
 
 /// A text that is checked part by part.
-#[derive(Drop)]
 pub struct Checker {
     currency: Currency,
     // the byte that ends lines
@@ -78,6 +77,22 @@ pub struct Checker {
     pub findings: Vec<Finding>,
     /// What is in the records that break no rule.
     pub statistics: Statistics,
+}
+
+impl Drop for Checker {
+    fn drop(self) {
+        let Self {
+            currency: _,
+            line_end: _,
+            known: _,
+            records: _,
+            lines: _,
+            bad_records: _,
+            faults: _,
+            findings: _,
+            statistics: _,
+        } = self;
+    }
 }
 
 impl Checker {

@@ -13,7 +13,7 @@ use fw_rows::{Column, RecordFault};
 use std::alloc::{AllocError, Global};
 
 /// A place of a fault.
-#[derive(Debug, Drop)]
+#[derive(Debug)]
 pub struct Place {
     /// The line of the text in which the record begins, counted from 1.
     pub line: u64,
@@ -24,8 +24,18 @@ pub struct Place {
     pub value: String,
 }
 
+impl Drop for Place {
+    fn drop(self) {
+        let Self {
+            line: _,
+            record: _,
+            value: _,
+        } = self;
+    }
+}
+
 /// Faults of one code in one column.
-#[derive(Debug, Drop)]
+#[derive(Debug)]
 pub struct Finding {
     /// The code and the name, as `V5 Cost`.
     pub code: &'static str,
@@ -37,6 +47,18 @@ pub struct Finding {
     pub count: u64,
     /// The first places.
     pub places: Vec<Place>,
+}
+
+impl Drop for Finding {
+    fn drop(self) {
+        let Self {
+            code: _,
+            column: _,
+            expected: _,
+            count: _,
+            places: _,
+        } = self;
+    }
 }
 
 /// How many places of a finding are kept.

@@ -16,7 +16,7 @@ use fw_rows::RecordFault;
 use std::alloc::{AllocError, Global};
 
 /// Where a fault stands, and what is wrong.
-#[derive(Debug, Drop)]
+#[derive(Debug)]
 pub struct Located {
     /// How many lines of the part's records stand before the record.
     pub lines_before: u64,
@@ -29,6 +29,18 @@ pub struct Located {
     pub value: String,
     /// What was expected.
     pub expected: &'static str,
+}
+
+impl Drop for Located {
+    fn drop(self) {
+        let Self {
+            lines_before: _,
+            code: _,
+            column: _,
+            value: _,
+            expected: _,
+        } = self;
+    }
 }
 
 /// How many lines end in a text, where this byte ends them.

@@ -12,14 +12,18 @@ use indexmap::IndexMap;
 use std::alloc::{AllocError, Global};
 
 /// How many rows have a tag.
-#[derive(Drop)]
 pub struct Coverage {
     /// The tag keys in the order in which they first come, each with the number of rows that have it.
     pub keys: IndexMap<String, u64>,
 }
 
+impl Drop for Coverage {
+    fn drop(self) {
+        let Self { keys: _ } = self;
+    }
+}
+
 /// What is in a text: counts and sums of the rows that break no rule.
-#[derive(Drop)]
 pub struct Statistics {
     /// How many rows there are.
     pub rows: u64,
@@ -35,6 +39,20 @@ pub struct Statistics {
     pub currencies: IndexMap<String, u64>,
     /// The tags.
     pub tags: Coverage,
+}
+
+impl Drop for Statistics {
+    fn drop(self) {
+        let Self {
+            rows: _,
+            billed: _,
+            effective: _,
+            categories: _,
+            hours: _,
+            currencies: _,
+            tags: _,
+        } = self;
+    }
 }
 
 /// So many more under a key.

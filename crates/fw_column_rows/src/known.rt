@@ -20,13 +20,22 @@ const MOST_BYTES: usize = 16_777_216;
 /// of charges reads as.
 ///
 /// A contract sees the texts, each once; the place of a text is its code.
-#[derive(Drop)]
 pub struct KnownTexts {
     texts: Names,
     /// How many bytes these texts have.
     bytes: usize,
     /// For each text the tags that it states, where they are known.
     tags: Vec<Option<Tags>>,
+}
+
+impl Drop for KnownTexts {
+    fn drop(self) {
+        let Self {
+            texts: _,
+            bytes: _,
+            tags: _,
+        } = self;
+    }
 }
 
 impl Model for KnownTexts {

@@ -12,7 +12,6 @@ use std::alloc::{AllocError, Global};
 
 /// The codes of the SKUs that the rows of each hour have, and the places of the rows that have them: 8 bytes for each SKU of an hour, 4 an hour, and 2 a row.
 /// Where a row of an hour has no SKU, 0 is among the hour's codes.
-#[derive(Drop)]
 pub struct SkusByHour {
     /// The codes, hour by hour, those of an hour each once, in the order in which they first occur among its rows.
     codes: Vec<u32>,
@@ -20,6 +19,16 @@ pub struct SkusByHour {
     before: Vec<u32>,
     /// For each of the codes the places of the rows of its hour that have it, in rising order.
     places: Packed<u16>,
+}
+
+impl Drop for SkusByHour {
+    fn drop(self) {
+        let Self {
+            codes: _,
+            before: _,
+            places: _,
+        } = self;
+    }
 }
 
 impl SkusByHour {

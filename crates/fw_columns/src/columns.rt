@@ -29,19 +29,34 @@ use std::sync::Arc;
 ///
 /// Columns are never changed, so a [copy](Columns::copy) shares them, and the order of the rows by hour, the SKUs of each hour with the places of their rows,
 /// and the length of the rows in bytes are found once.
-#[derive(Drop)]
 pub struct Columns {
     shared: Arc<Kept>,
 }
 
+impl Drop for Columns {
+    fn drop(self) {
+        let Self { shared: _ } = self;
+    }
+}
+
 /// What the copies of columns share.
-#[derive(Drop)]
 struct Kept {
     table: Table,
     by_hour: RowsByHour,
     by_sku: SkusByHour,
     /// How many bytes the rows are written in.
     encoded_len: usize,
+}
+
+impl Drop for Kept {
+    fn drop(self) {
+        let Self {
+            table: _,
+            by_hour: _,
+            by_sku: _,
+            encoded_len: _,
+        } = self;
+    }
 }
 
 impl Model for Columns {

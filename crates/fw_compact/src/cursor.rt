@@ -18,7 +18,6 @@ use std::sync::Arc;
 
 /// The entries of a warehouse that count and aren't taken yet, in order, each under its new number. A contract sees their list. An entry is
 /// made once it is taken: at most one is held here.
-#[derive(Drop)]
 pub struct EntriesThatCount<'s> {
     state: &'s State,
     /// The entries that weren't looked at yet.
@@ -27,6 +26,17 @@ pub struct EntriesThatCount<'s> {
     front: Option<Entry>,
     /// How many entries of each origin were taken.
     taken: Counters,
+}
+
+impl Drop for EntriesThatCount<'_> {
+    fn drop(self) {
+        let Self {
+            state: _,
+            left: _,
+            front: _,
+            taken: _,
+        } = self;
+    }
 }
 
 impl<'s> Model for EntriesThatCount<'s> {

@@ -19,7 +19,7 @@ use std::marker::Model;
 /// Commitments made ready to cover a range of hours. Those that run in the range are put in order, and what they list into a table by SKU; the others
 /// take nothing in it. A roster is made once, for a report, and then covers the rows of one hour after another. Contracts see the list of
 /// all the commitments, and the range.
-#[derive(Debug, Drop)]
+#[derive(Debug)]
 pub struct Roster<'a> {
     commitments: &'a [Commitment],
     from: u64,
@@ -27,6 +27,19 @@ pub struct Roster<'a> {
     order: Vec<usize>,
     capacities: Vec<u64>,
     table: Vec<Vec<Offer<'a>>>,
+}
+
+impl Drop for Roster<'_> {
+    fn drop(self) {
+        let Self {
+            commitments: _,
+            from: _,
+            to: _,
+            order: _,
+            capacities: _,
+            table: _,
+        } = self;
+    }
 }
 
 impl<'a> Model for Roster<'a> {

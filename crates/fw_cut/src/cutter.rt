@@ -15,7 +15,7 @@ use std::marker::Model;
 use std::mem;
 
 /// A text of the header and some records behind it.
-#[derive(Debug, Drop)]
+#[derive(Debug)]
 pub struct Part {
     /// The header and the records, each as its bytes in the whole text.
     pub text: Vec<u8>,
@@ -25,8 +25,17 @@ pub struct Part {
     pub is_last: bool,
 }
 
+impl Drop for Part {
+    fn drop(self) {
+        let Self {
+            text: _,
+            header: _,
+            is_last: _,
+        } = self;
+    }
+}
+
 /// A text that is read and cut into parts.
-#[derive(Drop)]
 pub struct Cutter<R: Read> {
     reader: R,
     // the first record, with the byte order mark before it and what ends it
@@ -37,6 +46,18 @@ pub struct Cutter<R: Read> {
     spare: Vec<u8>,
     // whether the reader has nothing left
     at_end: bool,
+}
+
+impl<R: Read + Drop> Drop for Cutter<R> {
+    fn drop(self) {
+        let Self {
+            reader: _,
+            header: _,
+            buffer: _,
+            spare: _,
+            at_end: _,
+        } = self;
+    }
 }
 
 impl<R: Read> Model for Cutter<R> {

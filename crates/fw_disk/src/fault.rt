@@ -74,12 +74,21 @@ impl Plan {
 
 /// A volume over another one, of which some reads, writes and syncs fail with `Io`. A write that fails reaches the
 /// volume below all the same, a sync or a read that fails doesn't. A write past the limit is no such call.
-#[derive(Drop)]
 pub struct FaultVolume<V: Volume> {
     inner: V,
     plan: Plan,
     /// The calls that failed by the plan.
     failures: u64,
+}
+
+impl<V: Volume + Drop> Drop for FaultVolume<V> {
+    fn drop(self) {
+        let Self {
+            inner: _,
+            plan: _,
+            failures: _,
+        } = self;
+    }
 }
 
 impl<V: Volume> FaultVolume<V> {

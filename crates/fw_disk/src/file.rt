@@ -142,13 +142,23 @@ fn above_streams(file: File) -> io::Result<File> {
 /// Its type says nothing of what the files hold (`tells` is false). Lengths are counted from those at opening on, and a
 /// read that comes short of them fails. Once a write or a sync of a file failed, each later one fails, until the folder
 /// is opened again.
-#[derive(Drop)]
 pub struct FileVolume {
     left: DataFile,
     right: DataFile,
     /// It keeps the lock.
     folder: File,
     failures: u64,
+}
+
+impl Drop for FileVolume {
+    fn drop(self) {
+        let Self {
+            left: _,
+            right: _,
+            folder: _,
+            failures: _,
+        } = self;
+    }
 }
 
 impl FileVolume {

@@ -18,7 +18,7 @@ use fw_toml::{TableFault, table_of};
 use std::alloc::{AllocError, Global};
 
 /// What a file holds.
-#[derive(Debug, Drop)]
+#[derive(Debug)]
 pub enum Document {
     /// A commitment.
     Commitment(Commitment),
@@ -26,6 +26,14 @@ pub enum Document {
     Policy(Policy),
     /// A purchase that is added to a commitment.
     Purchase(AddedPurchase),
+}
+
+impl Drop for Document {
+    fn drop(self) {
+        match self {
+            Self::Commitment(_) | Self::Policy(_) | Self::Purchase(_) => {}
+        }
+    }
 }
 
 impl Document {

@@ -20,7 +20,6 @@ use std::alloc::{AllocError, Global};
 use std::marker::Model;
 
 /// What an entry asks for.
-#[derive(Drop)]
 pub enum Command {
     /// These charge rows count from now on: 1 to 4,096 of them.
     Post(Columns),
@@ -32,6 +31,18 @@ pub enum Command {
     Withdraw(u64),
     /// This was paid for a commitment that there is.
     AddPurchase(AddedPurchase),
+}
+
+impl Drop for Command {
+    fn drop(self) {
+        match self {
+            Self::Post(_)
+            | Self::Commit(_)
+            | Self::SetPolicy(_)
+            | Self::Withdraw(_)
+            | Self::AddPurchase(_) => {}
+        }
+    }
 }
 
 impl Command {
@@ -162,13 +173,23 @@ fn checked<'a>(
 }
 
 /// A command, the name of its sender, and its number among the commands of this sender: 1, 2, 3 and so on.
-#[derive(Drop)]
 pub struct Entry {
     origin: String,
     seq: u64,
     command: Command,
     /// How many bytes it is written in.
     len: usize,
+}
+
+impl Drop for Entry {
+    fn drop(self) {
+        let Self {
+            origin: _,
+            seq: _,
+            command: _,
+            len: _,
+        } = self;
+    }
 }
 
 impl Model for Entry {

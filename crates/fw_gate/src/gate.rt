@@ -20,10 +20,15 @@ pub trait Gate: Drop {
 }
 
 /// A volume over another one, of which each sync first passes a gate. Else the two are alike.
-#[derive(Drop)]
 pub struct GateVolume<V: Volume, G: Gate> {
     inner: V,
     gate: G,
+}
+
+impl<V: Volume + Drop, G: Gate + Drop> Drop for GateVolume<V, G> {
+    fn drop(self) {
+        let Self { inner: _, gate: _ } = self;
+    }
 }
 
 impl<V: Volume, G: Gate> GateVolume<V, G> {

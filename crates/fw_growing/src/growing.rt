@@ -7,9 +7,14 @@ use logbook::{Offer, Seen, Start, Word};
 use std::marker::Model;
 
 /// The length of a list, which threads share. Contracts see which list it is.
-#[derive(Drop)]
 pub struct Growing<E> {
     head: Word<E, u64, Law>,
+}
+
+impl<E: Drop> Drop for Growing<E> {
+    fn drop(self) {
+        let Self { head: _ } = self;
+    }
 }
 
 impl<E> Model for Growing<E> {
@@ -25,10 +30,15 @@ impl<E> Model for Growing<E> {
 }
 
 /// A beginning of a list that was seen. It takes no memory. Contracts see it as its elements, and which list they begin.
-#[derive(Drop)]
 pub struct Beginning<E> {
     count: u64,
     seen: Seen<E, u64, Law>,
+}
+
+impl<E: Drop> Drop for Beginning<E> {
+    fn drop(self) {
+        let Self { count: _, seen: _ } = self;
+    }
 }
 
 impl<E> Model for Beginning<E> {

@@ -13,12 +13,21 @@ use std::marker::Model;
 /// What an import keeps from one part of an origin to the next: the texts of tags that were read, so that none is read twice, and the posts
 /// of the origin, so that the entries of the warehouse are looked at once, however many parts are there already. A contract sees the origin,
 /// and its posts where they are kept.
-#[derive(Drop)]
 pub struct Importer<'a> {
     origin: &'a str,
     pub(crate) texts: KnownTexts,
     // kept from the first part on that was there already, until a part is added
     posts: Option<OwnPosts>,
+}
+
+impl Drop for Importer<'_> {
+    fn drop(self) {
+        let Self {
+            origin: _,
+            texts: _,
+            posts: _,
+        } = self;
+    }
 }
 
 impl<'a> Model for Importer<'a> {

@@ -9,9 +9,14 @@ use std::marker::Model;
 /// A truth value for each place of a column, which has at most [`Mask::MOST_PLACES`] places. A contract sees the list of them.
 ///
 /// [`Mask::new`] takes its memory, and nothing else does: the same mask can be set for one column of a length after another.
-#[derive(Drop)]
 pub struct Mask {
     places: Vec<bool>,
+}
+
+impl Drop for Mask {
+    fn drop(self) {
+        let Self { places: _ } = self;
+    }
 }
 
 impl Model for Mask {

@@ -9,10 +9,15 @@ use std::cmp::Ordering;
 use std::sync::Arc;
 
 /// A text and its value.
-#[derive(Drop)]
 pub(crate) struct Entry<V> {
     pub(crate) text: Arc<String>,
     pub(crate) value: V,
+}
+
+impl<V: Drop> Drop for Entry<V> {
+    fn drop(self) {
+        let Self { text: _, value: _ } = self;
+    }
 }
 
 impl<V: Share> Entry<V> {
@@ -42,12 +47,22 @@ impl<V: Drop> Entry<V> {
 
 /// An entry between the lesser and the greater texts, and how many entries are on the longest way down.
 #[cycle(branches)]
-#[derive(Drop)]
 pub(crate) struct Node<V> {
     before: Branch<V>,
     entry: Entry<V>,
     height: u32,
     after: Branch<V>,
+}
+
+impl<V: Drop> Drop for Node<V> {
+    fn drop(self) {
+        let Self {
+            before: _,
+            entry: _,
+            height: _,
+            after: _,
+        } = self;
+    }
 }
 
 /// Entries by rising texts.

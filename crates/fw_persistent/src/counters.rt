@@ -11,9 +11,14 @@ use std::sync::Arc;
 /// How often each text was counted. Counters are never changed: to count a text makes others, which share what stays.
 /// The time of `count`, `key` and `raised` grows with the logarithm of the number of texts, and so does the memory that
 /// `raised` takes.
-#[derive(Drop)]
 pub struct Counters {
     root: Branch<u64>,
+}
+
+impl Drop for Counters {
+    fn drop(self) {
+        let Self { root: _ } = self;
+    }
 }
 
 impl Model for Counters {

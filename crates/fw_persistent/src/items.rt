@@ -7,7 +7,6 @@ use std::alloc::{AllocError, Global};
 use std::sync::Arc;
 
 /// Items, oldest first. A fork's own item is its newest, and its two sides have as many items each.
-#[derive(Drop)]
 pub(crate) enum Tree<T> {
     Leaf(T),
     Fork {
@@ -15,6 +14,19 @@ pub(crate) enum Tree<T> {
         newer: Arc<Tree<T>>,
         item: T,
     },
+}
+
+impl<T: Drop> Drop for Tree<T> {
+    fn drop(self) {
+        match self {
+            Self::Leaf(_)
+            | Self::Fork {
+                older: _,
+                newer: _,
+                item: _,
+            } => {}
+        }
+    }
 }
 
 impl<T> Tree<T> {
@@ -84,7 +96,6 @@ impl<T: Share> Tree<T> {
 }
 
 /// Trees, the newest last, each with its number of items.
-#[derive(Drop)]
 pub(crate) enum Row<T> {
     Empty,
     More {
@@ -92,6 +103,19 @@ pub(crate) enum Row<T> {
         size: usize,
         newest: Arc<Tree<T>>,
     },
+}
+
+impl<T: Drop> Drop for Row<T> {
+    fn drop(self) {
+        match self {
+            Self::Empty
+            | Self::More {
+                older: _,
+                size: _,
+                newest: _,
+            } => {}
+        }
+    }
 }
 
 impl<T> Row<T> {

@@ -12,9 +12,14 @@ use std::sync::Arc;
 /// Values at texts, one at each text that is there. A map is never changed: to put a value makes another, which shares
 /// what stays. The time of `get`, `key` and `put` grows with the logarithm of the number of texts, and so does the memory
 /// that `put` takes.
-#[derive(Drop)]
 pub struct Map<V> {
     root: Branch<V>,
+}
+
+impl<V: Drop> Drop for Map<V> {
+    fn drop(self) {
+        let Self { root: _ } = self;
+    }
 }
 
 impl<V> Model for Map<V> {

@@ -7,10 +7,15 @@ use std::alloc::{AllocError, Global};
 use std::marker::Model;
 
 /// A list of items, oldest first. It is never changed: a push makes another, which shares the older items.
-#[derive(Drop)]
 pub struct Sequence<T> {
     len: usize,
     row: Row<T>,
+}
+
+impl<T: Drop> Drop for Sequence<T> {
+    fn drop(self) {
+        let Self { len: _, row: _ } = self;
+    }
 }
 
 impl<T> Model for Sequence<T> {

@@ -7,12 +7,17 @@ use std::alloc::{AllocError, Global};
 use std::marker::Model;
 
 /// The rows that count, in order, in segments of one row at least. They share their columns with the value that they were asked of.
-#[derive(Drop)]
 pub struct CountingSegments {
     // the segments of which all rows count
     all: Sequence<Columns>,
     // those behind them
     some: Vec<Columns>,
+}
+
+impl Drop for CountingSegments {
+    fn drop(self) {
+        let Self { all: _, some: _ } = self;
+    }
 }
 
 impl Model for CountingSegments {

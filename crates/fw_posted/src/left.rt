@@ -7,11 +7,16 @@ use std::alloc::{AllocError, Global};
 use std::sync::Arc;
 
 /// Which rows of a segment are left, and their columns, once they were made.
-#[derive(Drop)]
 pub(crate) struct Left {
     // for each row of the segment whether it counts
     pub(crate) counts: Vec<bool>,
     pub(crate) made: Option<Made>,
+}
+
+impl Drop for Left {
+    fn drop(self) {
+        let Self { counts: _, made: _ } = self;
+    }
 }
 
 /// The columns of the rows that are left.

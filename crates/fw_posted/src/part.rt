@@ -18,7 +18,6 @@ use std::sync::Arc;
 ///
 /// A withdrawal adds its range to a short list, so it costs the same in a long segment as in a short one. The columns of the rows that are left are
 /// made when they are asked for.
-#[derive(Drop)]
 pub(crate) struct Part {
     // how many rows stand before the segment
     start: usize,
@@ -28,6 +27,17 @@ pub(crate) struct Part {
     left: Option<Arc<Left>>,
     // what was withdrawn since
     gone: Sequence<Gone>,
+}
+
+impl Drop for Part {
+    fn drop(self) {
+        let Self {
+            start: _,
+            len: _,
+            left: _,
+            gone: _,
+        } = self;
+    }
 }
 
 impl Model for Part {

@@ -23,7 +23,6 @@ use std::marker::Model;
 ///
 /// It is never changed: a post or a withdrawal makes another, which shares what stays. Every error says that memory ran out, that what is shared has
 /// as many owners as can be counted, or that there are more rows than can be; the old value stays as it was.
-#[derive(Drop)]
 pub struct PostedRows {
     segments: Sequence<Columns>,
     // one for each segment
@@ -34,6 +33,18 @@ pub struct PostedRows {
     counting: usize,
     // whether there is nothing to make for the rows that count. Only time depends on it
     is_settled: bool,
+}
+
+impl Drop for PostedRows {
+    fn drop(self) {
+        let Self {
+            segments: _,
+            parts: _,
+            rows: _,
+            counting: _,
+            is_settled: _,
+        } = self;
+    }
 }
 
 impl Model for PostedRows {

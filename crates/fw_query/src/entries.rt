@@ -6,12 +6,23 @@ use fw_sums::Total;
 use std::marker::Model;
 
 /// A group of a report.
-#[derive(Debug, Drop)]
+#[derive(Debug)]
 pub struct Entry {
     group: String,
     billed: i128,
     direct: i128,
     charged: i128,
+}
+
+impl Drop for Entry {
+    fn drop(self) {
+        let Self {
+            group: _,
+            billed: _,
+            direct: _,
+            charged: _,
+        } = self;
+    }
 }
 
 impl Model for Entry {
@@ -75,7 +86,13 @@ impl Entry {
     pub(crate) fn into_group(self) -> String
         ensures { string_bytes result ≡ self.group }
     {
-        self.group
+        let Self {
+            group,
+            billed: _,
+            direct: _,
+            charged: _,
+        } = self;
+        group
     }
 
     /// What the group is charged, in nanos.
@@ -87,9 +104,15 @@ impl Entry {
 }
 
 /// A report: an entry for each group, in rising byte order of the groups.
-#[derive(Debug, Drop)]
+#[derive(Debug)]
 pub struct Report {
     entries: Vec<Entry>,
+}
+
+impl Drop for Report {
+    fn drop(self) {
+        let Self { entries: _ } = self;
+    }
 }
 
 impl Model for Report {

@@ -10,10 +10,18 @@ use std::marker::Model;
 
 /// A state and the segments of its rows that count, so that a report borrows both from one place. It shares everything with the state that it was made
 /// of; what that left to make for the rows that count is made here.
-#[derive(Drop)]
 pub struct Shown {
     state: State,
     counting: CountingSegments,
+}
+
+impl Drop for Shown {
+    fn drop(self) {
+        let Self {
+            state: _,
+            counting: _,
+        } = self;
+    }
 }
 
 impl Model for Shown {

@@ -9,12 +9,20 @@ use std::alloc::{AllocError, Global};
 use std::collections::VecDeque;
 
 /// Which of the parts of an export are there, and which posts have the rows of no part.
-#[derive(Drop)]
 pub struct Matching {
     /// For each part whether a post has its rows. One that is there needn't be posted.
     pub is_there: Vec<bool>,
     /// The posts that have the rows of no part, in order: those that go. The others stay.
     pub left: Vec<Post>,
+}
+
+impl Drop for Matching {
+    fn drop(self) {
+        let Self {
+            is_there: _,
+            left: _,
+        } = self;
+    }
 }
 
 /// Pairs parts with posts of equal rows: each part in turn takes the first post with its rows that no part before it took. Where the parts are

@@ -11,12 +11,21 @@ use std::marker::Model;
 
 /// The posts of an origin that count, and their rows, as they were in the state that this was made of, with which it shares the rows. A contract
 /// sees the posts, and the rows of the warehouse.
-#[derive(Drop)]
 pub struct OwnPosts {
     posts: Vec<Post>,
     rows: StoredRows,
     // the place of the next post, where they are asked for in turn. Only time depends on it
     next: usize,
+}
+
+impl Drop for OwnPosts {
+    fn drop(self) {
+        let Self {
+            posts: _,
+            rows: _,
+            next: _,
+        } = self;
+    }
 }
 
 impl Model for OwnPosts {

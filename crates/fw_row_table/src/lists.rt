@@ -13,12 +13,20 @@ use std::marker::Model;
 /// 4 bytes beside its places, and looking one up takes a pass over all of them.
 ///
 /// A contract sees the list of these lists in this order.
-#[derive(Drop)]
 pub struct Lists {
     /// The first of the lists, packed.
     packed: Packed<u32>,
     /// The lists behind them, each with its hash.
     lists: IndexSet<Hashed<Vec<u32>>>,
+}
+
+impl Drop for Lists {
+    fn drop(self) {
+        let Self {
+            packed: _,
+            lists: _,
+        } = self;
+    }
 }
 
 impl Model for Lists {

@@ -13,12 +13,21 @@ use std::marker::Model;
 /// 4 bytes beside its own, and looking one up takes a pass over all of them.
 ///
 /// A contract sees the list of the texts in this order.
-#[derive(Debug, Drop)]
+#[derive(Debug)]
 pub struct Names {
     /// The first of the texts, packed.
     packed: Packed<u8>,
     /// The texts behind them, each with its hash.
     texts: IndexSet<Hashed<String>>,
+}
+
+impl Drop for Names {
+    fn drop(self) {
+        let Self {
+            packed: _,
+            texts: _,
+        } = self;
+    }
 }
 
 impl Model for Names {

@@ -9,10 +9,16 @@ use std::marker::Model;
 /// Lists one behind the other in one buffer, and where each ends: a list takes 4 bytes beside its values.
 ///
 /// A contract sees the list of these lists.
-#[derive(Debug, Drop)]
+#[derive(Debug)]
 pub struct Packed<T> {
     values: Vec<T>,
     ends: Vec<u32>,
+}
+
+impl<T: Drop> Drop for Packed<T> {
+    fn drop(self) {
+        let Self { values: _, ends: _ } = self;
+    }
 }
 
 impl<T> Model for Packed<T> {
@@ -73,8 +79,10 @@ impl<T: Copy> Packed<T> {
     pub fn with(self, list: &[T]) -> Result<Packed<T>, AllocError>
         ensures { IfOk result (λ more. more ≡ self ++ list.now ∷ []) }
     {
-        let mut values = self.values;
-        let mut ends = self.ends;
+        let Self {
+            mut values,
+            mut ends,
+        } = self;
         values.extend_from_slice(list)?;
         let Ok(end) = u32::try_from(values.len()) else {
             return Err(AllocError);

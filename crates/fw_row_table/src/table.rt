@@ -10,7 +10,6 @@ use std::alloc::Global;
 /// The columns of rows, one value a row in each: 65 bytes a row, beside the texts and the lists of tags, each of which
 /// is kept once, in hash tables while rows come, and packed by [`Table::shrink`]. A text that may be null is its code:
 /// 0 where it is null, else 1 more than its place in the names.
-#[derive(Drop)]
 pub struct Table {
     /// The texts of the rows, each once.
     pub names: Names,
@@ -46,6 +45,30 @@ pub struct Table {
     pub sub_accounts: Vec<u32>,
     /// The tags: the place of the row's list among the lists.
     pub tags: Vec<u32>,
+}
+
+impl Drop for Table {
+    fn drop(self) {
+        let Self {
+            names: _,
+            lists: _,
+            billed: _,
+            effective: _,
+            categories: _,
+            classes: _,
+            starts: _,
+            ends: _,
+            discounts: _,
+            kinds: _,
+            statuses: _,
+            quantities: _,
+            has_quantity: _,
+            units: _,
+            skus: _,
+            sub_accounts: _,
+            tags: _,
+        } = self;
+    }
 }
 
 impl Table {

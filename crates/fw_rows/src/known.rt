@@ -21,10 +21,15 @@ const LONGEST_TEXT: usize = 1_024;
 /// one costs much more than finding it.
 ///
 /// A contract sees the texts, each with the tags that it states.
-#[derive(Drop)]
 pub struct KnownTags {
     /// For each text the tags that it states.
     read: IndexMap<String, Tags>,
+}
+
+impl Drop for KnownTags {
+    fn drop(self) {
+        let Self { read: _ } = self;
+    }
 }
 
 impl Model for KnownTags {

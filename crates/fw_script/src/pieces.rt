@@ -15,12 +15,17 @@ use std::sync::Arc;
 
 /// The bytes of a script that comes piece by piece. Commands that are whole can be cut off as a piece, for others to read while more comes. A contract sees
 /// all of its bytes.
-#[derive(Drop)]
 pub struct ScriptText {
     // What was cut off: one whole command or more each.
     pieces: Vec<Arc<Vec<u8>>>,
     // What came behind it.
     last: Vec<u8>,
+}
+
+impl Drop for ScriptText {
+    fn drop(self) {
+        let Self { pieces: _, last: _ } = self;
+    }
 }
 
 impl Model for ScriptText {

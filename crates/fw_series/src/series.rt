@@ -8,7 +8,7 @@ use fw_snapshot::Snapshot;
 use std::alloc::Global;
 
 /// A period of a range, and its report.
-#[derive(Debug, Drop)]
+#[derive(Debug)]
 pub struct Part {
     /// The hours of the period.
     pub period: Period,
@@ -16,13 +16,28 @@ pub struct Part {
     pub report: Report,
 }
 
+impl Drop for Part {
+    fn drop(self) {
+        let Self {
+            period: _,
+            report: _,
+        } = self;
+    }
+}
+
 /// The report of a range of hours, and the reports of the periods that it is cut into.
-#[derive(Debug, Drop)]
+#[derive(Debug)]
 pub struct Series {
     /// The report of the whole range.
     pub whole: Report,
     /// The periods in order, each with its report; none where the range isn't cut.
     pub parts: Vec<Part>,
+}
+
+impl Drop for Series {
+    fn drop(self) {
+        let Self { whole: _, parts: _ } = self;
+    }
 }
 
 /// The report that a query asks for and, where there is a step, the report of each period of its range: the range is cut where a new hour,

@@ -11,7 +11,6 @@ use std::marker::Model;
 use std::sync::Arc;
 
 /// What an accepted entry brought.
-#[derive(Drop)]
 pub enum Content {
     /// So many rows, which stand in the segments of the state.
     Post { rows: u32 },
@@ -23,6 +22,18 @@ pub enum Content {
     Withdraw(u64),
     /// A purchase that is added to a commitment.
     AddPurchase(AddedPurchase),
+}
+
+impl Drop for Content {
+    fn drop(self) {
+        match self {
+            Self::Post { rows: _ }
+            | Self::Commit(_)
+            | Self::SetPolicy(_)
+            | Self::Withdraw(_)
+            | Self::AddPurchase(_) => {}
+        }
+    }
 }
 
 impl Content {
@@ -67,11 +78,20 @@ impl Content {
 }
 
 /// An accepted entry without its rows.
-#[derive(Drop)]
 pub struct Head {
     origin: Arc<String>,
     seq: u64,
     content: Content,
+}
+
+impl Drop for Head {
+    fn drop(self) {
+        let Self {
+            origin: _,
+            seq: _,
+            content: _,
+        } = self;
+    }
 }
 
 impl Model for Head {

@@ -7,9 +7,14 @@ use std::marker::Model;
 use std::sync::Arc;
 
 /// A state that is shared: a copy costs nothing, and stays as it was whatever is accepted later.
-#[derive(Drop)]
 pub struct Snapshot {
     state: Arc<State>,
+}
+
+impl Drop for Snapshot {
+    fn drop(self) {
+        let Self { state: _ } = self;
+    }
 }
 
 impl Model for Snapshot {

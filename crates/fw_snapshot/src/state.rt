@@ -34,7 +34,6 @@ pub use building::StateBuilder;
 ///
 /// A state is never changed. [`State::apply`] makes another, which shares the entries and rows of the first, so it costs what the entry brings,
 /// however much was accepted before. A withdrawal costs the number of segments that its rows stand in, however long these are.
-#[derive(Drop)]
 pub struct State {
     alloc: Global,
     currency: Currency,
@@ -51,6 +50,23 @@ pub struct State {
     carried: Counters,
     // how many of these are withdrawn
     withdrawn: Counters,
+}
+
+impl Drop for State {
+    fn drop(self) {
+        let Self {
+            alloc: _,
+            currency: _,
+            heads: _,
+            posted: _,
+            commitments: _,
+            policy: _,
+            origins: _,
+            registered: _,
+            carried: _,
+            withdrawn: _,
+        } = self;
+    }
 }
 
 impl Model for State {

@@ -11,13 +11,22 @@ use std::marker::Model;
 
 /// The rows of segments, in order, as those that were ever posted to a warehouse. They are lent from the segments, which are shared: no row is
 /// copied. A contract sees the list of the rows.
-#[derive(Drop)]
 pub struct StoredRows {
     segments: Sequence<Columns>,
     // how many rows stand before each segment
     starts: Vec<usize>,
     // how many rows there are
     rows: usize,
+}
+
+impl Drop for StoredRows {
+    fn drop(self) {
+        let Self {
+            segments: _,
+            starts: _,
+            rows: _,
+        } = self;
+    }
 }
 
 impl Model for StoredRows {

@@ -30,10 +30,15 @@ pub(crate) const MOST_GROUPS: usize = 262_144;
 /// group that a commitment, or a row that one took of, is in there. From the second report on a key they are so many for each group in each segment of
 /// the rows too: a later report sums the rows of those segments alone that have rows both in and out of its range. Of a key it keeps 262,144 groups of
 /// hours at most, and about as many of segments, each some 31 MB; the hours and segments behind them are counted anew for each report.
-#[derive(Drop)]
 pub struct Covers {
     alloc: Global,
     keys: Vec<KeySums>,
+}
+
+impl Drop for Covers {
+    fn drop(self) {
+        let Self { alloc: _, keys: _ } = self;
+    }
 }
 
 // A key, and what is kept of it.

@@ -32,11 +32,20 @@ fn is_true_at(marks: &[bool], place: usize) -> bool
 }
 
 // Some hours in turn: which of them a commitment has a line in, which of these are open, since nothing is kept of them, and where the rows of those are.
-#[derive(Drop)]
 pub(crate) struct OpenHours {
     pub(crate) touched: Vec<bool>,
     pub(crate) marks: Vec<bool>,
     pub(crate) by_hour: Vec<Vec<HourPlace>>,
+}
+
+impl Drop for OpenHours {
+    fn drop(self) {
+        let Self {
+            touched: _,
+            marks: _,
+            by_hour: _,
+        } = self;
+    }
 }
 
 impl OpenHours {

@@ -4,11 +4,21 @@ ghost use Rattle.std.specs.Prelude.{◌≡◌, string_bytes};
 use std::marker::Model;
 
 /// What the lines of a group come to.
-#[derive(Debug, Drop)]
+#[derive(Debug)]
 pub struct Total {
     group: String,
     billed: i128,
     effective: i128,
+}
+
+impl Drop for Total {
+    fn drop(self) {
+        let Self {
+            group: _,
+            billed: _,
+            effective: _,
+        } = self;
+    }
 }
 
 impl Model for Total {
@@ -50,6 +60,11 @@ impl Total {
     pub fn into_group(self) -> String
         ensures { string_bytes result ≡ self.group }
     {
-        self.group
+        let Self {
+            group,
+            billed: _,
+            effective: _,
+        } = self;
+        group
     }
 }

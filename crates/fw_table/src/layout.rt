@@ -16,12 +16,20 @@ pub enum Align {
 }
 
 /// A line of a table.
-#[derive(Debug, Drop)]
+#[derive(Debug)]
 pub enum Line {
     /// A text for each column.
     Cells(Vec<String>),
     /// Dashes as wide as each column.
     Rule,
+}
+
+impl Drop for Line {
+    fn drop(self) {
+        match self {
+            Self::Cells(_) | Self::Rule => {}
+        }
+    }
 }
 
 /// A line of a table as a terminal may show it.

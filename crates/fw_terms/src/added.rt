@@ -8,10 +8,16 @@ use std::alloc::{AllocError, Global};
 use std::marker::Model;
 
 /// A purchase that is added to a commitment, up to the end of the year 9999, and the commitment's id of 1 to 256 bytes.
-#[derive(Debug, Drop)]
+#[derive(Debug)]
 pub struct AddedPurchase {
     id: String,
     purchase: Purchase,
+}
+
+impl Drop for AddedPurchase {
+    fn drop(self) {
+        let Self { id: _, purchase: _ } = self;
+    }
 }
 
 impl Model for AddedPurchase {
@@ -57,7 +63,8 @@ impl AddedPurchase {
         ensures short { IsShortText (string_bytes result.0) }
         ensures dated { result.1.at ≤ last_second }
     {
-        (self.id, self.purchase)
+        let Self { id, purchase } = self;
+        (id, purchase)
     }
 
     /// An equal one. The error comes where memory ran out.

@@ -85,10 +85,16 @@ pub fn total_cost(purchases: &[Purchase]) -> u64
 }
 
 /// How much of a row's cost counts against a commitment to spend, where the row has this SKU.
-#[derive(Debug, Drop)]
+#[derive(Debug)]
 pub struct Rate {
     sku: String,
     ppm: u32,
+}
+
+impl Drop for Rate {
+    fn drop(self) {
+        let Self { sku: _, ppm: _ } = self;
+    }
 }
 
 impl Model for Rate {
@@ -138,7 +144,7 @@ impl Rate {
 }
 
 /// What is committed to. In a commitment there are 1 to 256 SKUs or rates, in rising order of the SKUs' bytes.
-#[derive(Debug, Drop)]
+#[derive(Debug)]
 pub enum Terms {
     /// A quantity each hour, for rows in this unit and with one of these SKUs.
     Usage {
@@ -152,6 +158,14 @@ pub enum Terms {
         /// The rates, one for each SKU.
         rates: Vec<Rate>,
     },
+}
+
+impl Drop for Terms {
+    fn drop(self) {
+        match self {
+            Self::Usage { unit: _, skus: _ } | Self::Spend { rates: _ } => {}
+        }
+    }
 }
 
 impl Terms {
@@ -173,7 +187,7 @@ impl Terms {
 }
 
 /// The fields of a commitment.
-#[derive(Debug, Drop)]
+#[derive(Debug)]
 pub struct CommitmentFields {
     /// The name by which rows refer to the commitment: 1 to 256 bytes.
     pub id: String,
@@ -193,12 +207,33 @@ pub struct CommitmentFields {
     pub purchases: Vec<Purchase>,
 }
 
+impl Drop for CommitmentFields {
+    fn drop(self) {
+        let Self {
+            id: _,
+            terms: _,
+            sub_account: _,
+            tags: _,
+            start: _,
+            hours: _,
+            capacity: _,
+            purchases: _,
+        } = self;
+    }
+}
+
 /// A commitment: use or spending that was bought ahead, so much each hour of a term. It keeps the limits that [`CommitmentFields`] gives.
 ///
 /// A commitment is never changed, and its copies share its fields.
-#[derive(Debug, Drop)]
+#[derive(Debug)]
 pub struct Commitment {
     fields: Arc<CommitmentFields>,
+}
+
+impl Drop for Commitment {
+    fn drop(self) {
+        let Self { fields: _ } = self;
+    }
 }
 
 impl Model for Commitment {

@@ -6,10 +6,19 @@ use std::alloc::{AllocError, Global};
 use std::marker::Model;
 
 /// A group that a rule gives to, with its weight.
-#[derive(Debug, Drop)]
+#[derive(Debug)]
 pub struct Target {
     group: String,
     weight: u64,
+}
+
+impl Drop for Target {
+    fn drop(self) {
+        let Self {
+            group: _,
+            weight: _,
+        } = self;
+    }
 }
 
 impl Model for Target {
@@ -59,12 +68,20 @@ impl Target {
 }
 
 /// To whom a group's cost is given.
-#[derive(Debug, Drop)]
+#[derive(Debug)]
 pub enum Give {
     /// To these groups, by their weights: in a policy 1 to 256 of them, in rising order of their bytes.
     Fixed(Vec<Target>),
     /// To each group that gives nothing away and has a positive cost of its own, in proportion to these costs.
     Proportional,
+}
+
+impl Drop for Give {
+    fn drop(self) {
+        match self {
+            Self::Fixed(_) | Self::Proportional => {}
+        }
+    }
 }
 
 impl Give {
@@ -95,10 +112,16 @@ fn copy_targets(alloc: Global, targets: &[Target]) -> Result<Vec<Target>, AllocE
 }
 
 /// One group that gives its whole cost away, and to whom.
-#[derive(Debug, Drop)]
+#[derive(Debug)]
 pub struct Rule {
     from: String,
     give: Give,
+}
+
+impl Drop for Rule {
+    fn drop(self) {
+        let Self { from: _, give: _ } = self;
+    }
 }
 
 impl Model for Rule {
@@ -158,10 +181,16 @@ fn copy_rules(alloc: Global, rules: &[Rule]) -> Result<Vec<Rule>, AllocError>
 }
 
 /// How costs are shared out among the groups of one tag key. No group gives its cost away twice, and none that does is given to.
-#[derive(Debug, Drop)]
+#[derive(Debug)]
 pub struct Policy {
     key: String,
     rules: Vec<Rule>,
+}
+
+impl Drop for Policy {
+    fn drop(self) {
+        let Self { key: _, rules: _ } = self;
+    }
 }
 
 impl Model for Policy {

@@ -77,7 +77,6 @@ struct Brought {
 
 /// A state that is made again: its segments are there, and the heads of its entries are added in order. The rows of a post are the next ones of the
 /// segments, which stay as they stand, wherever a post ends.
-#[derive(Drop)]
 pub struct StateBuilder {
     alloc: Global,
     currency: Currency,
@@ -91,6 +90,21 @@ pub struct StateBuilder {
     place: Place,
     // how many rows are taken
     rows: usize,
+}
+
+impl Drop for StateBuilder {
+    fn drop(self) {
+        let Self {
+            alloc: _,
+            currency: _,
+            parts: _,
+            carried: _,
+            posted: _,
+            marks: _,
+            place: _,
+            rows: _,
+        } = self;
+    }
 }
 
 impl Model for StateBuilder {
