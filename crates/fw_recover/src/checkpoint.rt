@@ -114,7 +114,7 @@ impl<V: Volume> Store<V> {
 }
 
 /// The state, once its short segments are joined. The error comes where memory ran out.
-fn merged_of(state: &State) -> Result<Snapshot, AllocError>
+pub(crate) fn merged_of(state: &State) -> Result<Snapshot, AllocError>
     ensures { IfOk result (λ merged. merged ≡ state.now) }
 {
     snapshot_of(state.merged()?)

@@ -191,7 +191,8 @@ impl<V: Volume> Store<V> {
         requires of_form { has_entry self.old.form entry.now ≡ true }
         requires accepted { judged_on self.old entry.now ≡ Accept }
 
-        ensures any_moment { IsTrue V.tells → LeavesEither V.view self.old self.new (entry.now ∷ []) }
+        ensures any_moment { IsTrue V.tells
+            → LeavesEither V.view self.old self.new (entry.now ∷ []) }
         ensures done { OnOk result (Committed V.tells V.view self.old self.new (entry.now ∷ [])) }
         ensures fails { IfErr result (Fails V.view self.old self.new) }
 

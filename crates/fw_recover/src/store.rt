@@ -18,7 +18,6 @@ use std::alloc::{AllocError, Global};
 use std::marker::Model;
 
 /// A warehouse that stands on a volume, and its state in memory.
-#[derive(Drop)]
 pub struct Store<V: Volume> {
     pub(crate) volume: V,
     /// The form of the side in use.
@@ -32,14 +31,41 @@ pub struct Store<V: Volume> {
     pub(crate) failed: bool,
 }
 
+impl<V: Volume + Drop> Drop for Store<V> {
+    fn drop(self) {
+        let Self {
+            volume: _,
+            form: _,
+            generation: _,
+            log: _,
+            snapshot: _,
+            failed: _,
+        } = self;
+    }
+}
+
 impl<V: Volume> Model for Store<V> {
     ghost use Rattle.fw_recover.specs.Store.{StoreState, IsKept};
 
     ghost Value = { StoreState V };
 
-    ghost view = { λ s. record { volume = s.volume; form = s.form; generation = s.generation; log = s.log; history = s.snapshot; failed = s.failed } };
+    ghost view = { λ s. record {
+      volume = s.volume;
+      form = s.form;
+      generation = s.generation;
+      log = s.log;
+      history = s.snapshot;
+      failed = s.failed;
+    } };
 
-    ghost invariant = { λ s. IsKept V.tells V.view (record { volume = s.volume; form = s.form; generation = s.generation; log = s.log; history = s.snapshot; failed = s.failed }) };
+    ghost invariant = { λ s. IsKept V.tells V.view (record {
+      volume = s.volume;
+      form = s.form;
+      generation = s.generation;
+      log = s.log;
+      history = s.snapshot;
+      failed = s.failed;
+    }) };
 }
 
 impl<V: Volume> Store<V> {
@@ -52,7 +78,8 @@ impl<V: Volume> Store<V> {
     pub fn open(alloc: Global, volume: V) -> Result<Store<V>, (V, StoreFault)>
         ensures found { IfOk result (λ s. (s.failed ≡ false)
             × (IsTrue V.tells → StandsFor s.history (V.view volume).seen)) }
-        ensures each { IfOk result (λ s. IsTrue V.tells → EachStandsFor s.history (V.view s.volume)) }
+        ensures each { IfOk result (λ s. IsTrue V.tells
+            → EachStandsFor s.history (V.view s.volume)) }
         ensures none { IfErr result (λ e. e.1 ≡ NoHouse → IsTrue V.tells
             → StandsForNone (V.view volume).seen) }
         ensures corrupt { (side : Side) (at : ℕ)
@@ -115,7 +142,15 @@ impl<V: Volume> Store<V> {
     pub fn close(self) -> V
         ensures { result ≡ self.volume }
     {
-        self.volume
+        let Self {
+            volume,
+            form: _,
+            generation: _,
+            log: _,
+            snapshot: _,
+            failed: _,
+        } = self;
+        volume
     }
 
     /// What each store keeps between two calls. It does nothing.

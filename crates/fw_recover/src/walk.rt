@@ -1,5 +1,5 @@
 //! The walk over the log of a side, from the state that its body spells on.
-ghost use Rattle.std.specs.Prelude.{◌≡◌, ◌+◌, ◌<◌, ◌≤◌, ℕ, IfOk, IfErr, IsErrOf, IsTrue, MatchBool};
+ghost use Rattle.std.specs.Prelude.{◌≡◌, ◌+◌, ◌<◌, ◌≤◌, ℕ, IfOk, IfErr, IsErrOf, IsTrue, MatchBool, OnOk};
 ghost use Rattle.fw_disk.specs.declared.volume.Side.{Side};
 ghost use Rattle.fw_disk.specs.Volume.{Rose};
 ghost use Rattle.fw_snapshot.specs.Judging.{IsLegal, IsLegalAfter};
@@ -9,6 +9,7 @@ ghost use Rattle.fw_recover.specs.Corrupt.{LogBreaks};
 ghost use Rattle.fw_recover.specs.Opening.{log_fault, IsOpenFault, GoesBehind, GoesNotBehind, HasGroups, IsClosedAt, OnlyReads};
 
 use crate::StoreFault;
+use crate::checkpoint::merged_of;
 use crate::judging::judge_and_add;
 use fw_disk::{Side, Volume};
 use fw_entry_bytes::Form;
@@ -85,7 +86,11 @@ fn add_group(
         (GoesNotBehind form state.old.entries payload.now)) }
 {
     match decode_group(alloc, form, payload) {
-        Ok(entries) => add_all(state, &entries),
+        Ok(entries) => {
+            let all = add_all(state, &entries)?;
+            join_short(state)?;
+            Ok(all)
+        }
         Err(DecodeFault::Corrupt { .. }) => Ok(false),
         Err(DecodeFault::NoMemory) => Err(AllocError),
     }
@@ -103,4 +108,23 @@ fn add_all(state: &mut Snapshot, entries: &[Entry]) -> Result<bool, AllocError>
         };
     }
     Ok(true)
+}
+
+/// From how many segments on those of very short posts are joined.
+const MANY_SEGMENTS: usize = 32_768;
+
+/// How many rows a segment has where none is joined, at least, taken over all.
+const FEW_ROWS: usize = 8;
+
+/// Joins the segments of a state where there are many and most are very short. So the posts of a log take no more memory than their
+/// rows do, however short each is.
+fn join_short(state: &mut Snapshot) -> Result<(), AllocError>
+    ensures { OnOk result (state.new ≡ state.old) }
+{
+    let segments = state.state().segments().len();
+    if segments >= MANY_SEGMENTS && state.state().rows_posted() / FEW_ROWS < segments {
+        let joined = merged_of(state.state())?;
+        *state = joined;
+    }
+    Ok(())
 }

@@ -6,3 +6,4 @@ pub mod StateFormat
 pub mod Replay
 pub mod Histories
 pub mod Decoded
+mod RowsLoop

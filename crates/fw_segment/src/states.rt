@@ -1,6 +1,6 @@
 //! The reader and the writer of a state.
-ghost use Rattle.std.specs.Prelude.{◌≡◌, ◌++◌, ◌<◌, ◌≤◌, ℕ, List, length, map, true, All, OnOk, IfOk};
-ghost use Rattle.fw_bytes.specs.Reading.{Gives, times};
+ghost use Rattle.std.specs.Prelude.{◌≡◌, ◌++◌, ◌<◌, ◌≤◌, [], ℕ, List, length, map, true, unwrap_or, All, OnOk, IfOk};
+ghost use Rattle.fw_bytes.specs.Reading.{Gives, seen, times};
 ghost use Rattle.fw_bytes.specs.Spelling.{listed, text, Fits64};
 ghost use Rattle.fw_charge.specs.Currencies.{IsCode};
 ghost use Rattle.fw_entry.specs.Spelling.{IsEntry};
@@ -50,25 +50,67 @@ struct Parts {
     segments: Sequence<Columns>,
 }
 
-/// So many segments. Memory is taken as each is read, not for the count.
+/// Up to how many rows the segments of a body are joined as they are read. A checkpoint writes long ones. A body of very short ones, as another
+/// program may write it, takes no more memory than its rows do.
+const FEW_ROWS: usize = 32;
+
+/// Segments without their last one, and the last one, with the next one behind them: it is joined to the last one where they have few rows together.
+fn with_next(
+    alloc: Global,
+    segments: Sequence<Columns>,
+    last: Option<Columns>,
+    next: Columns,
+) -> Result<(Sequence<Columns>, Columns), AllocError>
+    ensures { IfOk result (λ x. segment_rows x.0 ++ x.1 ≡ (segment_rows segments ++ unwrap_or last []) ++ next) }
+{
+    let Some(last) = last else {
+        return Ok((segments, next));
+    };
+    if last.len() + next.len() <= FEW_ROWS {
+        let joined = Columns::concat(alloc, &last, &next)?;
+        return Ok((segments, joined));
+    }
+    let segments = segments.push(alloc, last)?;
+    Ok((segments, next))
+}
+
+/// Segments, with the last one behind them, if there is one.
+fn with_last(
+    alloc: Global,
+    segments: Sequence<Columns>,
+    last: Option<Columns>,
+) -> Result<Sequence<Columns>, AllocError>
+    ensures { IfOk result (λ all. segment_rows all ≡ segment_rows segments ++ unwrap_or last []) }
+{
+    match last {
+        Some(last) => segments.push(alloc, last),
+        None => Ok(segments),
+    }
+}
+
+/// The rows of so many segments, in segments. Memory is taken as each is read, not for the count.
 fn segments_after(
     alloc: Global,
     count: u32,
     bytes: &[u8],
 ) -> Result<(Sequence<Columns>, &[u8]), ReadError>
-    ensures { Gives (λ x. (x.0, x.1.now)) result (times segment_at count bytes.now) }
+    ensures { Gives (λ x. (segment_rows x.0, x.1.now)) result (seen segment_rows (times segment_at count) bytes.now) }
 {
     let mut segments = Sequence::new();
+    let mut last: Option<Columns> = None;
     let mut rest = bytes;
     for _ in 0..count {
         match segment_of(alloc, rest) {
-            Ok((columns, after)) => {
-                segments = segments.push(alloc, columns)?;
+            Ok((next, after)) => {
+                let (before, joined) = with_next(alloc, segments, last, next)?;
+                segments = before;
+                last = Some(joined);
                 rest = after;
             }
             Err(e) => return Err(e),
         }
     }
+    let segments = with_last(alloc, segments, last)?;
     Ok((segments, rest))
 }
 
