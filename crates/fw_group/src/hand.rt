@@ -99,7 +99,8 @@ impl Hand {
 
         ensures filled { OnOk result ((self.new ≡ take count items.old.items)
             × (items.new.items ≡ drop count items.old.items)) }
-        ensures refused { OnErr result ((self.new ≡ self.old) × (items.new.items ≡ items.old.items)) }
+        ensures refused { OnErr result ((self.new ≡ self.old)
+            × (items.new.items ≡ items.old.items)) }
     {
         self.importers.reserve(count)?;
         self.entries.reserve(count)?;

@@ -32,10 +32,18 @@ pub struct Item {
 }
 
 /// The items that wait, in the order in which they came.
-#[derive(Drop)]
 pub struct Inbox {
     items: VecDeque<Item>,
     closed: bool,
+}
+
+impl Drop for Inbox {
+    fn drop(self) {
+        let Self {
+            items: _,
+            closed: _,
+        } = self;
+    }
 }
 
 impl Model for Inbox {

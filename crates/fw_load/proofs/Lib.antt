@@ -1,3 +1,4 @@
 pub mod FileFacts
 pub mod Grown
+pub mod LeftFacts
 pub mod Sent

@@ -6,6 +6,7 @@
 mod board;
 mod fault;
 mod flushing;
+mod laws;
 mod lines;
 mod loading;
 mod posting;
@@ -13,5 +14,6 @@ mod progress;
 mod seat;
 
 pub use fault::LoadFault;
+pub use laws::{a_commit_leaves_none_or_all, a_run_leaves_what_was_accepted};
 pub use loading::{Job, load};
 pub use progress::Progress;

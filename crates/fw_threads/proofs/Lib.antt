@@ -3,4 +3,5 @@ pub mod Fronts
 pub mod Posts
 pub mod Right
 pub mod Sent
+pub mod Shown
 pub mod Snapshots

@@ -1,5 +1,5 @@
 -- Facts on items and their tickets.
-use Rattle.std.proofs.Common.{◌≡◌, ℕ, ◌≤◌, List, [], ◌∷◌, length, map, take, drop, refl, ap, sym, subst, ◌∙◌, arith}
+use Rattle.std.proofs.Common.{◌≡◌, ℕ, List, [], ◌∷◌, length, map, take, drop, refl, ap, sym, subst, ◌∙◌, arith}
 use Rattle.std.proofs.lemmas.List.{take-map, drop-map}
 use Rattle.fw_entry.specs.Entry.{EntryValue}
 use Rattle.fw_group.specs.declared.inbox.Item.{Item}
@@ -13,6 +13,12 @@ pub no_tickets : (tickets : List Posted) (items : List Item) → map posted_entr
 no_tickets [] items same none = refl
 no_tickets (t ∷ tickets) [] same none = cc
 no_tickets (t ∷ tickets) (x ∷ items) same none = cc
+
+-- where no ticket waits no item does
+pub nothing_waits : (tickets : List Posted) (items : List Item) → map posted_entry tickets ≡ entries_of items → length tickets ≡ 0 → items ≡ []
+nothing_waits tickets [] same none = refl
+nothing_waits [] (x ∷ items) same none = cc
+nothing_waits (t ∷ tickets) (x ∷ items) same none = absurd (omega (arith, none))
 
 pub nothing_kept : (tickets : List Posted) (items : List Item) → tickets ≡ [] → items ≡ [] → (map posted_entry tickets ≡ entries_of items) × Fits items
 nothing_kept tickets items t i =

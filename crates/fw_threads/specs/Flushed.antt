@@ -1,5 +1,5 @@
 -- What a flusher has, and what its commits do.
-use Rattle.std.specs.Prelude.{◌≡◌, ◌⊎◌, ⊤, ℕ, ◌≤◌, ◌<◌, Bool, true, false, IsTrue, List, [], length}
+use Rattle.std.specs.Prelude.{◌≡◌, ◌⊎◌, ℕ, ◌≤◌, ◌<◌, Bool, true, false, IsTrue, List, [], length, Option, Some, None}
 use Rattle.std.specs.Vec.{vec_capacity}
 use Rattle.fw_disk.specs.Volume.{View, LeavesOnly, Rose}
 use Rattle.fw_entry.specs.Entry.{EntryValue}
@@ -55,6 +55,22 @@ StaysInHand (commit.Store fault.OldSide) before after = after ≡ before
 StaysInHand (commit.Store fault.TooLarge) before after = after ≡ before
 StaysInHand why before after = after ≡ []
 
+-- the fault by which each item in hand is answered where a commit failed so: all are answered `Unknown` where the device failed in it or the stored group
+-- could not be published, `Closed` where the store had failed before, and that memory ran out; or none is answered, and they stay in hand
+abbrev pub answered_by : CommitFault → Option StoreFault
+answered_by (commit.Store fault.OldSide) = None
+answered_by (commit.Store fault.TooLarge) = None
+answered_by (commit.Store fault.Device) = Some fault.Device
+answered_by (commit.Store fault.Failed) = Some fault.Failed
+answered_by (commit.Store why) = Some fault.NoMemory
+answered_by commit.Unpublished = Some fault.Device
+
+-- the inbox is closed where a commit failed so
+abbrev pub closes_inbox : CommitFault → Bool
+closes_inbox (commit.Store fault.Device) = true
+closes_inbox (commit.Store why) = false
+closes_inbox commit.Unpublished = true
+
 module _ {V : Type 0} (view : V → View) where
   -- a group that was judged, with a snapshot to publish, and room for fronts and answers
   pub record IsReady {J : Type 0} (s : StoreState V) (items : List Item) (r : Ready J) : Type 0 where
@@ -90,7 +106,7 @@ module _ {V : Type 0} (tells : Bool) (view : V → View) where
   abbrev pub Fails : PublisherState V → List Item → CommitFault → PublisherState V → Type 0
   Fails p items (commit.Store fault.Device) q =
       (p.unpublished ≡ false) × (q ≡ record p { store = q.store }) × Lost p.store q.store × Rose (view p.store.volume).failures (view q.store.volume).failures
-      × (0 < length (group_on p.published items)) × AreOfForm p.store items × IsWhole p.store items q.store
+      × (0 < length (group_on p.published items)) × AreOfForm p.store items × IsWhole p.store items q.store × (p.store.failed ≡ false)
   Fails p items (commit.Store fault.Failed) q = ((p.store.failed ≡ true) ⊎ (p.unpublished ≡ true)) × (q ≡ p)
   Fails p items (commit.Store fault.OldSide) q = (p.store.failed ≡ false) × (p.unpublished ≡ false) × (AreOfForm p.store items → ⊥) × (q ≡ p)
   Fails p items (commit.Store fault.TooLarge) q =

@@ -13,7 +13,7 @@ use left_right::reader::Reader;
 use std::marker::Model;
 use thiserror::Error;
 
-pub(crate) type End<J> = Reader<Page, (), OfSplit<J>>;
+pub(crate) type End<J> = Reader<Page, Option<Snapshot>, OfSplit<J>>;
 
 /// Nothing can be viewed: the flusher has ended, or the state has as many owners as can be counted.
 #[derive(Clone, Copy, Debug, PartialEq, Eq, Error)]
@@ -21,10 +21,15 @@ pub(crate) type End<J> = Reader<Page, (), OfSplit<J>>;
 pub struct Gone;
 
 /// It views what is published. Contracts see an analyst as the longest front that it viewed or learned.
-#[derive(Drop)]
 pub struct Analyst<J: Naming> {
     reader: End<J>,
     mark: Mark,
+}
+
+impl<J: Naming> Drop for Analyst<J> {
+    fn drop(self) {
+        let Self { reader: _, mark: _ } = self;
+    }
 }
 
 impl<J: Naming> Model for Analyst<J> {

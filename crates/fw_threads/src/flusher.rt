@@ -1,13 +1,14 @@
 //! The flusher.
-ghost use Rattle.std.specs.Prelude.{◌≡◌, true, ◌⊎◌, ◌↔◌, ◌-◌, ◌^◌, ℕ, [], false, length, IfOk, IfErr, OnErr, OnOk, IsErrOf, IsTrue};
+ghost use Rattle.std.specs.Prelude.{◌≡◌, true, ◌⊎◌, ◌↔◌, ◌-◌, ◌^◌, ◌≤◌, ℕ, List, [], false, length, IfOk, IfErr, IfNone, IfSome, OnErr, OnOk, IsErrOf, IsTrue};
 ghost use Rattle.fw_disk.specs.declared.volume.Side.{Side};
 ghost use Rattle.fw_disk.specs.Volume.{LeavesOnly, Rose};
 ghost use Rattle.fw_recover.specs.Checkpoints.{HasNoRoomFor, IsCheckpointed};
-ghost use Rattle.fw_recover.specs.Stands.{StandsFor};
+ghost use Rattle.fw_recover.specs.Stands.{EachStandsFor, StandsFor};
 ghost use Rattle.fw_recover.specs.declared.fault.StoreFault.TheVariants.{NoHouse, Corrupt, Device, Failed, Generations, TooLarge, Exists, OldSide};
 ghost use Rattle.fw_group.specs.Answers.{IsGroupFault};
 ghost use Rattle.fw_group.specs.Items.{entries_of};
-ghost use Rattle.fw_threads.specs.Flushed.{IsTaken, Commits, CommitFails, StaysInHand, state_of};
+ghost use Rattle.fw_group.specs.declared.inbox.Item.{Item};
+ghost use Rattle.fw_threads.specs.Flushed.{IsTaken, Commits, CommitFails, StaysInHand, answered_by, closes_inbox, state_of};
 ghost use Rattle.fw_threads.specs.Told.{AreRight};
 
 use crate::naming::Naming;
@@ -81,10 +82,10 @@ impl<J: Naming, V: Volume> Flusher<J, V> {
         let mut waiting = shared
             .arrived
             .wait_while(rt, shared.waiting.lock(rt), |waiting| waiting.is_idle());
-        if waiting.is_empty() {
-            return Ok(Taken::Over);
+        match waiting.next(&mut self.hand)? {
+            Some(count) => Ok(Taken::Took(count)),
+            None => Ok(Taken::Over),
         }
-        Ok(Taken::Took(waiting.take(&mut self.hand)?))
     }
 
     /// Judges what is in hand, stores what is accepted as one group, publishes it, and answers each importer. It answers how many
@@ -122,14 +123,11 @@ impl<J: Naming, V: Volume> Flusher<J, V> {
         ensures same { state_of self.new ≡ state_of self.old }
         ensures hand { StaysInHand why self.old.hand self.new.hand }
     {
-        let fault = match why {
-            CommitFault::Store(StoreFault::OldSide | StoreFault::TooLarge) => return,
-            CommitFault::Store(StoreFault::Device) | CommitFault::Unpublished => {
-                self.shared.close(rt);
-                StoreFault::Device
-            }
-            CommitFault::Store(StoreFault::Failed) => StoreFault::Failed,
-            CommitFault::Store(_) => StoreFault::NoMemory,
+        if closes_inbox(why) {
+            self.shared.close(rt);
+        }
+        let Some(fault) = answered_by(why) else {
+            return;
         };
         send_refusal(rt, &self.shared, &self.hand, fault);
         self.hand.clear();
@@ -150,6 +148,9 @@ impl<J: Naming, V: Volume> Flusher<J, V> {
             → self.old.unpublished ≡ false
             → LeavesOnly (V.view self.old.store.volume) (V.view self.new.store.volume)
             (StandsFor self.old.store.history) }
+        ensures each { IsTrue V.tells → self.old.store.failed ≡ false
+            → self.old.unpublished ≡ false
+            → EachStandsFor self.old.store.history (V.view self.new.store.volume) }
         ensures failed { IsErrOf result Failed
             ↔ ((self.old.store.failed ≡ true) ⊎ (self.old.unpublished ≡ true)) }
         ensures generations { IsErrOf result Generations
@@ -162,7 +163,15 @@ impl<J: Naming, V: Volume> Flusher<J, V> {
         ensures not_exists { IsErrOf result Exists → ⊥ }
         ensures not_old_side { IsErrOf result OldSide → ⊥ }
         ensures device { IsErrOf result Device
-            → Rose (V.view self.old.store.volume).failures (V.view self.new.store.volume).failures }
+            → (self.new.store ≡ record self.old.store {
+              volume = self.new.store.volume;
+              failed = true;
+            })
+            × Rose (V.view self.old.store.volume).failures (V.view self.new.store.volume).failures }
+        ensures later { (V.view self.old.store.volume).failures
+            ≤ (V.view self.new.store.volume).failures }
+        ensures limit { (V.view self.new.store.volume).limit
+            ≡ (V.view self.old.store.volume).limit }
     {
         let done = self.publisher.checkpoint();
         if let Err(StoreFault::Device) = done {
@@ -185,6 +194,33 @@ impl<J: Naming, V: Volume> Flusher<J, V> {
             slot.end(rt);
         }
         publisher.close(rt)
+    }
+}
+
+// The fault by which each item in hand is answered where a commit failed so. `None` where they stay in hand.
+fn answered_by(why: CommitFault) -> Option<StoreFault>
+    ensures answered { result ≡ answered_by why }
+    ensures of_a_group { IfSome result IsGroupFault }
+    ensures stays { IfNone result ((items : List Item) → StaysInHand why items items) }
+    ensures goes { IfSome result (λ _. (items : List Item) → StaysInHand why items []) }
+{
+    match why {
+        CommitFault::Store(StoreFault::OldSide | StoreFault::TooLarge) => None,
+        CommitFault::Store(StoreFault::Device) | CommitFault::Unpublished => {
+            Some(StoreFault::Device)
+        }
+        CommitFault::Store(StoreFault::Failed) => Some(StoreFault::Failed),
+        CommitFault::Store(_) => Some(StoreFault::NoMemory),
+    }
+}
+
+// Whether the inbox is closed where a commit failed so.
+fn closes_inbox(why: CommitFault) -> bool
+    ensures { result ≡ closes_inbox why }
+{
+    match why {
+        CommitFault::Store(StoreFault::Device) | CommitFault::Unpublished => true,
+        CommitFault::Store(_) => false,
     }
 }
 

@@ -16,11 +16,20 @@ use std::sync::{Arc, Wait};
 
 /// It posts entries, one at a time. Contracts see an importer as the longest front that it was answered; before its first answer that is
 /// what was published at the split.
-#[derive(Drop)]
 pub struct Importer<J: Naming> {
     number: usize,
     mark: Mark,
     shared: Arc<Shared<J>, Global>,
+}
+
+impl<J: Naming> Drop for Importer<J> {
+    fn drop(self) {
+        let Self {
+            number: _,
+            mark: _,
+            shared: _,
+        } = self;
+    }
 }
 
 impl<J: Naming> Model for Importer<J> {

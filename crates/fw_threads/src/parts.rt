@@ -70,6 +70,8 @@ pub fn split<J: Naming, V: Volume, R: Wait>(
     ensures counts { IsOk result → AreCounts importers analysts }
     ensures not_counts { IfErr result (λ e. e.1 ≡ SplitFault.Counts → AreCounts importers analysts
         → ⊥) }
+    ensures counts_first { IfErr result (λ e. (AreCounts importers analysts → ⊥)
+        → e.1 ≡ SplitFault.Counts) }
 {
     if importers == 0 || importers > MOST_ENDS || analysts == 0 || analysts > MOST_ENDS {
         return Err((store, SplitFault::Counts));

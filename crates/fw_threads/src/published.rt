@@ -84,10 +84,18 @@ impl<J: Naming> Front for Published<J> {
 }
 
 /// What readers take: a front whose split is not in its type. Contracts see it as its mark.
-#[derive(Drop)]
 pub struct Page {
     snapshot: Snapshot,
     mark: Mark,
+}
+
+impl Drop for Page {
+    fn drop(self) {
+        let Self {
+            snapshot: _,
+            mark: _,
+        } = self;
+    }
 }
 
 impl Model for Page {
@@ -150,21 +158,22 @@ impl Absorb<Page> for Page {
     }
 }
 
-/// The rule of what readers take: it is a front of the split.
+/// The rule of what readers take: it is a front of the split, and each front that was taken begins it. So it only grows.
 pub struct OfSplit<J> {
     of: PhantomData<J>,
 }
 
-impl<J: Naming> Protocol<Page, ()> for OfSplit<J> {
-    ghost use Rattle.std.specs.Prelude.{◌≡◌};
+impl<J: Naming> Protocol<Page, Option<Snapshot>> for OfSplit<J> {
+    ghost use Rattle.std.specs.Prelude.{None};
+    ghost use Rattle.fw_threads.specs.Fronts.{BeginsWithAll};
 
-    ghost holds = { λ p _. p.of ≡ J.fronts };
+    ghost holds = { BeginsWithAll J.fronts };
 
-    ghost first = { tt };
+    ghost first = { None };
 }
 
-impl<J: Naming> Outcome<Page, ()> for OfSplit<J> {
-    ghost use Rattle.std.specs.Prelude.{◌≡◌};
+impl<J: Naming> Outcome<Page, Option<Snapshot>> for OfSplit<J> {
+    ghost use Rattle.fw_threads.specs.Fronts.{TakesNext};
 
-    ghost then = { λ _ p q _. q.of ≡ J.fronts };
+    ghost then = { TakesNext J.fronts };
 }

@@ -3,7 +3,7 @@ ghost use Rattle.std.specs.Prelude.{◌≡◌, true, ◌⊎◌, ◌↔◌, ◌-�
 ghost use Rattle.fw_disk.specs.declared.volume.Side.{Side};
 ghost use Rattle.fw_disk.specs.Volume.{LeavesOnly, Rose};
 ghost use Rattle.fw_snapshot.specs.Verdicts.{accepted_of, with_more};
-ghost use Rattle.fw_recover.specs.Stands.{StandsFor, StandsForEither};
+ghost use Rattle.fw_recover.specs.Stands.{EachStandsFor, StandsFor, StandsForEither};
 ghost use Rattle.fw_recover.specs.Committing.{Committed};
 ghost use Rattle.fw_recover.specs.Checkpoints.{HasNoRoomFor, IsCheckpointed};
 ghost use Rattle.fw_recover.specs.declared.fault.StoreFault.TheVariants.{NoHouse, Corrupt, Device, Failed, Generations, TooLarge, Exists, OldSide};
@@ -29,7 +29,7 @@ use std::marker::Model;
 use std::sync::Wait;
 use thiserror::Error;
 
-pub(crate) type Start<J> = Writer<Page, Page, (), OfSplit<J>>;
+pub(crate) type Start<J> = Writer<Page, Page, Option<Snapshot>, OfSplit<J>>;
 
 /// Why a commit failed.
 #[derive(Clone, Copy, Debug, PartialEq, Eq, Error)]
@@ -167,6 +167,9 @@ impl<J: Naming, V: Volume> Publisher<J, V> {
             → self.old.unpublished ≡ false
             → LeavesOnly (V.view self.old.store.volume) (V.view self.new.store.volume)
             (StandsFor self.old.store.history) }
+        ensures each { IsTrue V.tells → self.old.store.failed ≡ false
+            → self.old.unpublished ≡ false
+            → EachStandsFor self.old.store.history (V.view self.new.store.volume) }
         ensures failed { IsErrOf result Failed
             ↔ ((self.old.store.failed ≡ true) ⊎ (self.old.unpublished ≡ true)) }
         ensures generations { IsErrOf result Generations
@@ -179,7 +182,15 @@ impl<J: Naming, V: Volume> Publisher<J, V> {
         ensures not_exists { IsErrOf result Exists → ⊥ }
         ensures not_old_side { IsErrOf result OldSide → ⊥ }
         ensures device { IsErrOf result Device
-            → Rose (V.view self.old.store.volume).failures (V.view self.new.store.volume).failures }
+            → (self.new.store ≡ record self.old.store {
+              volume = self.new.store.volume;
+              failed = true;
+            })
+            × Rose (V.view self.old.store.volume).failures (V.view self.new.store.volume).failures }
+        ensures later { (V.view self.old.store.volume).failures
+            ≤ (V.view self.new.store.volume).failures }
+        ensures limit { (V.view self.new.store.volume).limit
+            ≡ (V.view self.old.store.volume).limit }
     {
         if self.unpublished {
             return Err(StoreFault::Failed);
@@ -245,6 +256,7 @@ fn store_group<J: Naming, V: Volume, R: Wait>(
     ready: Ready<J>,
 ) -> Result<Stored<J>, CommitFault>
     requires front { front.now ≡ store.old.history }
+    requires shown { writer.old.desk.shown.value.front ≡ store.old.history }
     requires growing { growing.now ≡ J.fronts }
     requires pending { drop writer.old.behind writer.old.log.items ≡ [] }
     requires ready { IsReady V.view store.old hand.now ready }
@@ -298,13 +310,14 @@ fn store_group<J: Naming, V: Volume, R: Wait>(
     })
 }
 
-// Publishes a front, and says whether it did.
+// Publishes a front that begins with what is shown, and says whether it did.
 pub(crate) fn publish<J: Naming, R: Wait>(
     writer: Start<J>,
     rt: &R,
     front: Published<J>,
 ) -> (Start<J>, bool)
-    requires { drop writer.behind writer.log.items ≡ [] }
+    requires pending { drop writer.behind writer.log.items ≡ [] }
+    requires follows { Begins writer.desk.shown.value.front front }
     ensures { MatchBool result.1
         ((result.0.desk.shown.value.front ≡ front) × (drop result.0.behind result.0.log.items ≡ []))
         (result.0.desk.shown.value ≡ writer.desk.shown.value) }

@@ -14,10 +14,18 @@ use std::marker::Model;
 use std::sync::{Condvar, Mutex, Wait};
 
 /// An answer, with the ticket of the entry of which it is right.
-#[derive(Drop)]
 pub struct Reply<J: Naming> {
     ticket: Ticket<J>,
     answer: Answer<Published<J>>,
+}
+
+impl<J: Naming> Drop for Reply<J> {
+    fn drop(self) {
+        let Self {
+            ticket: _,
+            answer: _,
+        } = self;
+    }
 }
 
 impl<J: Naming> Model for Reply<J> {
@@ -64,10 +72,15 @@ struct Place<J: Naming> {
 }
 
 /// Where one importer waits for its reply.
-#[derive(Drop)]
 pub struct Slot<J: Naming> {
     place: Mutex<Place<J>>,
     ready: Condvar,
+}
+
+impl<J: Naming> Drop for Slot<J> {
+    fn drop(self) {
+        let Self { place: _, ready: _ } = self;
+    }
 }
 
 impl<J: Naming> Slot<J> {
@@ -104,11 +117,20 @@ impl<J: Naming> Slot<J> {
 }
 
 /// What the threads of one split share.
-#[derive(Drop)]
 pub struct Shared<J: Naming> {
     pub waiting: Mutex<Waiting<J>>,
     pub arrived: Condvar,
     pub slots: Vec<Slot<J>>,
+}
+
+impl<J: Naming> Drop for Shared<J> {
+    fn drop(self) {
+        let Self {
+            waiting: _,
+            arrived: _,
+            slots: _,
+        } = self;
+    }
 }
 
 impl<J: Naming> Shared<J> {

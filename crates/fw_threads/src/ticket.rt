@@ -8,11 +8,20 @@ use std::marker::{Model, PhantomData};
 
 /// A place in the list of all entries that were posted in a split. It takes no memory. Contracts see the place, and the entry that
 /// stands there.
-#[derive(Drop)]
 pub struct Ticket<J: Naming> {
     place: u64,
     posts: Beginning<Entry>,
     of: PhantomData<J>,
+}
+
+impl<J: Naming> Drop for Ticket<J> {
+    fn drop(self) {
+        let Self {
+            place: _,
+            posts: _,
+            of: _,
+        } = self;
+    }
 }
 
 impl<J: Naming> Model for Ticket<J> {

@@ -1,5 +1,5 @@
 //! What waits and what is in hand, with the ticket of each item.
-ghost use Rattle.std.specs.Prelude.{◌≡◌, ◌↔◌, ◌+◌, ◌<◌, ◌≤◌, ◌++◌, ◌∷◌, [], true, false, length, take, drop, get_or, IfOk, OnErr, IsOk, IsErrOf, IsTrue, Ok, vec_len, vec_capacity};
+ghost use Rattle.std.specs.Prelude.{◌≡◌, ◌↔◌, ◌+◌, ◌<◌, ◌≤◌, ◌++◌, ◌∷◌, [], true, false, length, take, drop, get_or, IfNone, IfOk, IfSome, OnErr, IsOk, IsErrOf, IsTrue, Ok, vec_len, vec_capacity};
 ghost use Rattle.std.specs.VecDeque.{deque_len};
 ghost use Rattle.fw_group.specs.declared.inbox.PushFault.TheVariants.{Closed};
 ghost use Rattle.fw_group.specs.Items.{entries_of, importers_of};
@@ -17,13 +17,24 @@ use std::marker::Model;
 
 /// What lies under the lock: the inbox, a ticket for each item that waits, and how many importers have not left. Contracts see the
 /// inbox.
-#[derive(Drop)]
 pub struct Waiting<J: Naming> {
     inbox: Inbox,
     tickets: VecDeque<Ticket<J>>,
     posts: Beginning<Entry>,
     growing: Growing<Entry>,
     importers: usize,
+}
+
+impl<J: Naming> Drop for Waiting<J> {
+    fn drop(self) {
+        let Self {
+            inbox: _,
+            tickets: _,
+            posts: _,
+            growing: _,
+            importers: _,
+        } = self;
+    }
 }
 
 impl<J: Naming> Model for Waiting<J> {
@@ -39,10 +50,18 @@ impl<J: Naming> Model for Waiting<J> {
 }
 
 /// The group in hand, with the ticket of each item. Contracts see the items.
-#[derive(Drop)]
 pub struct InHand<J: Naming> {
     items: Hand,
     tickets: Vec<Ticket<J>>,
+}
+
+impl<J: Naming> Drop for InHand<J> {
+    fn drop(self) {
+        let Self {
+            items: _,
+            tickets: _,
+        } = self;
+    }
 }
 
 impl<J: Naming> Model for InHand<J> {
@@ -77,11 +96,6 @@ impl<J: Naming> Waiting<J> {
             growing,
             importers,
         }
-    }
-
-    /// Whether nothing waits.
-    pub fn is_empty(&self) -> bool {
-        self.tickets.is_empty()
     }
 
     /// Whether nothing waits, and an importer has not left.
@@ -137,6 +151,26 @@ impl<J: Naming> Waiting<J> {
         let count = self.inbox.take(&mut hand.items)?;
         move_front(&mut self.tickets, &mut hand.tickets, count);
         Ok(count)
+    }
+
+    /// Moves the items of the next group into an empty hand, as [`Waiting::take`] does. `None` where nothing waits.
+    ///
+    /// # Errors
+    /// Where the allocator refused a growth. Nothing changes.
+    pub fn next(&mut self, hand: &mut InHand<J>) -> Result<Option<usize>, AllocError>
+        requires { hand.old ≡ [] }
+        ensures moved { IfOk result (λ found.
+            IfSome found (λ n. IsLongest self.old.waiting n
+            × (hand.new ≡ take n self.old.waiting)
+            × (self.new ≡ record self.old { waiting = drop n self.old.waiting }))) }
+        ensures over { IfOk result (λ found. IfNone found
+            ((self.old.waiting ≡ []) × (self.new ≡ self.old) × (hand.new ≡ hand.old))) }
+        ensures refused { OnErr result ((hand.new ≡ hand.old) × (self.new ≡ self.old)) }
+    {
+        if self.tickets.is_empty() {
+            return Ok(None);
+        }
+        Ok(Some(self.take(hand)?))
     }
 
     /// Refuses each later item. What waits stays.

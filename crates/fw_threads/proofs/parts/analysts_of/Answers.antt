@@ -2,6 +2,7 @@ use Rattle.std.proofs.Common.{◌≡◌, [], ◌∷◌, length, All, length-appe
 use Rattle.std.proofs.lemmas.List.Elements.{All-push}
 use Rattle.fw_snapshot.specs.History.{History}
 use Rattle.fw_threads.specs.Fronts.{Marked}
+use Rattle.fw_threads.proofs.Shown.{admits}
 use Rattle.fw_threads.proofs.parts.analysts_of.Goals as goal
 
 pub loop-preserved : goal.loop-preserved
@@ -14,3 +15,6 @@ loop-preserved g c =
       omega (arith, i.1, c.push_reserved.ensures.capacity),
       subst (All P) (sym new) (All-push P c.loop.all.items c.new.result i.2 is),
     )
+
+pub reader-requires : goal.reader-requires
+reader-requires g c = admits g.J.Naming.fronts
