@@ -266,3 +266,5 @@ pub record KeepsPromise {V : Type 0} (tells : Bool) (view : V → View)
   pub kept : IfOk opened (λ found. IsPromised begun.history
       (session_behind begun run.commands run.answers left image ∷ []) found.history)
   pub otherwise : IfErr opened (λ e. (e.1 ≡ store_fault.Device) ⊎ (e.1 ≡ store_fault.NoMemory))
+  -- the volume has counted a failure of the device where one is answered
+  pub cause : IfErr opened (λ e. e.1 ≡ store_fault.Device → 0 < (view e.0).failures)

@@ -361,7 +361,8 @@ pub fn commands_are_run_in_turn<V: Volume>(before: &Store<V>, after: &Store<V>)
         × IsInFlight (standing_of V.view before.now) (standing_of V.view at.next)
         (take (suc place) commands) (take (suc place) answers) e
         × (found ≡ with_more at.next.history (e ∷ [])))) }
-    ensures any_moment { (result : Result (Unit {0}) ServeFault) (bytes held holds : Option (List ℕ))
+    ensures any_moment { (result : Result (Unit {0}) ServeFault)
+        (bytes held holds : Option (List ℕ))
         → IsOneRun V.tells V.view result bytes before.now after.now held holds
         → IsTrue V.tells → before.now.failed ≡ false
         → CrashLeaves V.view bytes before.now after.now held holds }

@@ -20,7 +20,7 @@ pub struct Refusal {
 }
 
 /// What a command is answered. After every reply but `Accepted` the warehouse is what it was before.
-#[derive(Debug, Drop)]
+#[derive(Debug)]
 pub enum Reply {
     /// The content is the entry of this number, counted from 1.
     Accepted(u64),
@@ -49,4 +49,27 @@ pub enum Reply {
     BadCommand,
     /// Fewer lines followed than the command asked for.
     BadEnd,
+}
+
+impl Drop for Reply {
+    fn drop(self) {
+        match self {
+            Self::Accepted(_)
+            | Self::Already(_)
+            | Self::Gap(_)
+            | Self::Refused(_)
+            | Self::Store(_)
+            | Self::Checkpointed
+            | Self::Text(_)
+            | Self::State {
+                entries: _,
+                rows: _,
+                commitments: _,
+                has_policy: _,
+            }
+            | Self::NoMemory
+            | Self::BadCommand
+            | Self::BadEnd => {}
+        }
+    }
 }

@@ -1,4 +1,5 @@
-use Rattle.std.proofs.Common.{[], subst}
+use Rattle.std.proofs.Common.{[], arith, subst}
+use Rattle.std.proofs.lemmas.Result.{IfErr-weaker}
 use Rattle.fw_recover.proofs.Committing.{each_stands}
 use Rattle.fw_serve.proofs.RecoveryFacts.{left_behind}
 use Rattle.fw_serve.specs.Recovery.{session_behind}
@@ -22,4 +23,12 @@ returns g c = λ told.
     let promise =
     c.reopen.ensures.promise begun.history [] (session_behind begun run.commands run.answers ended
     image) told was in
-    record { left = ended; image = image; run = run; kept = promise.0; otherwise = promise.1 }
+    record {
+      left = ended;
+      image = image;
+      run = run;
+      kept = promise.0;
+      otherwise = promise.1;
+      cause = IfErr-weaker c.reopen.result _ _ (λ e rose is. omega (arith, rose is))
+          c.reopen.ensures.device;
+    }

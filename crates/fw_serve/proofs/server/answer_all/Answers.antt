@@ -44,14 +44,6 @@ returns-in_err-write_reply-clause-runs g c =
     (Runs-part _ _ _ _ _ _ _ _ _ _ _ _ _ c.loop-command.invariant.runs c.in-Some.ensures.command c.answer-reply.ensures.answer c.answer-reply.ensures.moves
     (within_one _ _ _ _ _ _ c.keeps.ensures c.keeps-in-Some.ensures (g.met.V.Volume.only_now c.loop-command.store.volume) c.answer-reply.ensures.moves) c.in_err-write_reply.ensures.part.1))
 
-pub loop-command-preserved-in_ok-write_reply : goal.loop-command-preserved-in_ok-write_reply
-loop-command-preserved-in_ok-write_reply g c = record {
-  so_far = ServesSoFar-more _ _ _ _ _ _ _ _ _ _ _ c.loop-command.invariant.so_far c.in-Some.ensures.command c.answer-reply.ensures.answer c.in_ok-write_reply.ensures.whole;
-  runs = RunsSoFar-more _ _ _ _ _ _ _ _ _ _ _ _ _ c.loop-command.invariant.runs c.in-Some.ensures.command c.answer-reply.ensures.answer c.answer-reply.ensures.moves
-      (within_one _ _ _ _ _ _ c.keeps.ensures c.keeps-in-Some.ensures (g.met.V.Volume.only_now c.loop-command.store.volume) c.answer-reply.ensures.moves) c.in_ok-write_reply.ensures.whole;
-  kept = c.answer-reply.ensures.kept;
-}
-
 pub loop-command-preserved : goal.loop-command-preserved
 loop-command-preserved g c = record {
   so_far = ServesSoFar-more _ _ _ _ _ _ _ _ _ _ _ c.loop-command.invariant.so_far c.in-Some.ensures.command c.answer-reply.ensures.answer c.in_ok-write_reply.ensures.whole;
