@@ -1,4 +1,3 @@
 pub mod Behind
-pub mod Left
 pub mod Sent
 pub mod Restored

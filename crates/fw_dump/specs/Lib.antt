@@ -1,2 +1,1 @@
-pub mod RowsLeft
 pub mod Dumps

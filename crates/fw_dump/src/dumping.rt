@@ -1,26 +1,22 @@
 //! The entries of a warehouse, written as a script.
-ghost use Rattle.std.specs.Prelude.{◌≡◌, ℕ, List, OnOk, IfOk, take, drop};
+ghost use Rattle.std.specs.Prelude.{◌≡◌, ℕ, List, OnOk};
 ghost use Rattle.std.specs.Io.KnownBytes.{Appends};
 ghost use Rattle.fw_dump.specs.Dumps.{IsDumpOf, IsTextOf};
-ghost use Rattle.fw_dump.specs.RowsLeft.{rows_left};
-ghost use Rattle.fw_entry.specs.Spelling.{IsCommand, IsEntry};
-ghost use Rattle.fw_entry.specs.View.{command_view};
-ghost use Rattle.fw_snapshot.specs.HeadView.{content_view};
-ghost use Rattle.fw_snapshot.specs.Heads.{command_of, entry_of, row_count};
 
 use crate::fault::{DumpFault, TextFault};
-use crate::rows_left::RowsLeft;
-use crate::texts::entry_text;
+use crate::texts::entry_text_after;
 use fw_charge::Currency;
-use fw_entry::{Command, Entry};
-use fw_snapshot::{Content, Head, State};
-use std::alloc::{AllocError, Global};
+use fw_column_rows::KnownTexts;
+use fw_entries::EntriesLeft;
+use fw_entry::Entry;
+use fw_snapshot::State;
+use std::alloc::Global;
 use std::io::Write;
 
 /// Writes the entries of a warehouse in their order, each as the command of a script that sends it, and nothing else: also
 /// posts that were withdrawn, with their rows, and what withdraws them. The
 /// currency stands in no command: a script is served by a warehouse that was made in it. Beside the warehouse it holds one entry at a
-/// time: its rows, its text, and what is read from that.
+/// time: its rows, its text, and what is read from that; and texts of tags that were read, with their tags.
 ///
 /// # Errors
 /// `Entry` where an entry has no text, `Write` where the writer failed, `NoMemory`. The texts of the entries before were written, and where
@@ -31,33 +27,33 @@ pub fn dump<W: Write>(alloc: Global, state: &State, writer: &mut W) -> Result<()
         × Appends (W.contents writer.old) (W.contents writer.new) text) }
 {
     let currency = state.currency();
-    let mut rows = RowsLeft::of(state.segments());
-    for place in 0..state.entries() {
-        let entry = next_entry(alloc, state.head(place), &mut rows)?;
-        write_entry(alloc, currency, &entry, place, writer)?;
+    let mut known = KnownTexts::new(alloc);
+    let mut left = EntriesLeft::of(state);
+    let mut number: u64 = 0;
+    while let Some(entry) = left.next(alloc)? {
+        number = number.saturating_add(1);
+        write_entry(alloc, currency, &entry, number, &mut known, writer)?;
     }
     Ok(())
 }
 
-// Writes the text of the entry at a place, counted from 0.
+// Writes the text of an entry. The number counts the entries of the warehouse from 1.
 fn write_entry<W: Write>(
     alloc: Global,
     currency: Currency,
     entry: &Entry,
-    place: usize,
+    number: u64,
+    known: &mut KnownTexts,
     writer: &mut W,
 ) -> Result<(), DumpFault>
     ensures { OnOk result ((text : List ℕ)
         × IsTextOf currency text entry.now
         × Appends (W.contents writer.old) (W.contents writer.new) text) }
 {
-    match entry_text(alloc, currency, entry) {
+    match entry_text_after(alloc, currency, entry, known) {
         Ok(text) => write_text(writer, text.as_slice()),
         Err(TextFault::NoMemory) => Err(DumpFault::NoMemory),
-        Err(why) => Err(DumpFault::Entry {
-            number: (place as u64).saturating_add(1),
-            why,
-        }),
+        Err(why) => Err(DumpFault::Entry { number, why }),
     }
 }
 
@@ -68,46 +64,5 @@ fn write_text<W: Write>(writer: &mut W, text: &[u8]) -> Result<(), DumpFault>
     match writer.write_all(text) {
         Ok(()) => Ok(()),
         Err(error) => Err(DumpFault::Write(error.kind())),
-    }
-}
-
-// The entry of a head, whose rows are the next ones.
-fn next_entry(alloc: Global, head: &Head, rows: &mut RowsLeft<'_>) -> Result<Entry, AllocError>
-    requires { IsEntry
-        (entry_of head.now (take (row_count head.now.content) (rows_left rows.old))) }
-    ensures entry { IfOk result (λ entry.
-        entry ≡ entry_of head.now (take (row_count head.now.content) (rows_left rows.old))) }
-    ensures rest { OnOk result
-        (rows_left rows.new ≡ drop (row_count head.now.content) (rows_left rows.old)) }
-{
-    let command = next_command(alloc, head.content(), rows)?;
-    let origin = String::from_str(alloc, head.origin())?;
-    Ok(Entry::of_fields(origin, head.seq(), command))
-}
-
-// The command of what a head keeps of it, whose rows are the next ones.
-fn next_command(
-    alloc: Global,
-    content: &Content,
-    rows: &mut RowsLeft<'_>,
-) -> Result<Command, AllocError>
-    requires { let brought = content_view content.now in
-        IsCommand (command_of brought (take (row_count brought) (rows_left rows.old))) }
-    ensures command { let brought = content_view content.now in IfOk result (λ command.
-        command_view command
-        ≡ command_of brought (take (row_count brought) (rows_left rows.old))) }
-    ensures rest { OnOk result
-        (rows_left rows.new ≡ drop (row_count (content_view content.now)) (rows_left rows.old)) }
-{
-    match content {
-        Content::Post { rows: count } => {
-            let front = rows.take_front(alloc, *count as usize)?;
-            let columns = front.finish()?;
-            Ok(Command::Post(columns))
-        }
-        Content::Commit(commitment) => Ok(Command::Commit(commitment.copy()?)),
-        Content::SetPolicy(policy) => Ok(Command::SetPolicy(policy.copy(alloc)?)),
-        Content::Withdraw(target) => Ok(Command::Withdraw(*target)),
-        Content::AddPurchase(added) => Ok(Command::AddPurchase(added.copy(alloc)?)),
     }
 }

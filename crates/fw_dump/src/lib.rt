@@ -11,7 +11,6 @@ mod fault;
 mod laws;
 mod policy;
 mod rows;
-mod rows_left;
 mod sending;
 mod texts;
 mod values;

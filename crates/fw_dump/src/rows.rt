@@ -1,6 +1,7 @@
 //! The rows of a post, as CSV.
-use crate::values::{push_amount, push_second, push_tags, push_text};
-use csv::{Writer, WriterBuilder};
+use crate::values::{
+    QUOTE, QUOTE_IN_FIELD, push_amount, push_byte, push_comma, push_second, push_tags, push_text,
+};
 use fw_charge::Currency;
 use fw_columns::{Columns, LentDiscount, LentRow, LentTags};
 use fw_money::Nanos;
@@ -13,79 +14,81 @@ pub(crate) fn rows_csv(
     currency: Currency,
     rows: &Columns,
 ) -> Result<Vec<u8>, AllocError> {
-    let mut writer = WriterBuilder::new().from_writer(Vec::new(alloc));
-    write_records(alloc, &mut writer, currency, rows)?;
-    match writer.into_inner() {
-        Ok(text) => Ok(text),
-        Err(_) => Err(AllocError),
-    }
-}
-
-// Writes the header, and a record for each row.
-fn write_records(
-    alloc: Global,
-    writer: &mut Writer<Vec<u8>>,
-    currency: Currency,
-    rows: &Columns,
-) -> Result<(), AllocError> {
-    for column in Column::ALL {
-        write_field(writer, column.name().as_bytes())?;
-    }
-    end_record(writer)?;
-    let mut cell = Vec::new(alloc);
+    let mut out = Vec::new(alloc);
+    push_header(&mut out)?;
     for place in 0..rows.len() {
-        let row = rows.lent(place);
-        for column in Column::ALL {
-            cell.clear();
-            push_cell(alloc, &mut cell, currency, &row, column)?;
-            write_field(writer, cell.as_slice())?;
-        }
-        end_record(writer)?;
+        push_record(&mut out, currency, &rows.lent(place))?;
     }
-    Ok(())
+    Ok(out)
 }
 
-// Writes a field of a record.
-fn write_field(writer: &mut Writer<Vec<u8>>, field: &[u8]) -> Result<(), AllocError> {
-    match writer.write_field(field) {
-        Ok(()) => Ok(()),
-        Err(_) => Err(AllocError),
+// Appends the names of the columns.
+fn push_header(out: &mut Vec<u8>) -> Result<(), AllocError> {
+    let mut is_first = true;
+    for column in Column::ALL {
+        push_comma(out, is_first)?;
+        is_first = false;
+        push_text(out, column.name())?;
     }
+    push_byte(out, b'\n')
 }
 
-// Ends a record.
-fn end_record(writer: &mut Writer<Vec<u8>>) -> Result<(), AllocError> {
-    match writer.end_record() {
-        Ok(()) => Ok(()),
-        Err(_) => Err(AllocError),
+// Appends the record of a row.
+fn push_record(out: &mut Vec<u8>, currency: Currency, row: &LentRow<'_>) -> Result<(), AllocError> {
+    let mut is_first = true;
+    for column in Column::ALL {
+        push_comma(out, is_first)?;
+        is_first = false;
+        push_cell(out, currency, row, column)?;
     }
+    push_byte(out, b'\n')
 }
 
 // Appends what a row has in a column; nothing where it is null.
 fn push_cell(
-    alloc: Global,
-    cell: &mut Vec<u8>,
+    out: &mut Vec<u8>,
     currency: Currency,
     row: &LentRow<'_>,
     column: Column,
 ) -> Result<(), AllocError> {
     match column {
-        Column::BilledCost => push_amount(alloc, cell, row.billed()),
-        Column::EffectiveCost => push_amount(alloc, cell, row.effective()),
-        Column::BillingCurrency => cell.extend_from_slice(currency.code()),
-        Column::ChargeCategory => push_text(cell, row.category().word()),
-        Column::ChargePeriodStart => push_second(alloc, cell, row.start()),
-        Column::ChargePeriodEnd => push_second(alloc, cell, row.end()),
-        Column::ChargeClass => push_text(cell, class_word(row.is_correction())),
-        Column::CommitmentDiscountId => push_text(cell, id_of(row.discount())),
-        Column::CommitmentDiscountCategory => push_text(cell, kind_of(row.discount())),
-        Column::CommitmentDiscountStatus => push_text(cell, status_of(row.discount())),
-        Column::ConsumedQuantity => push_quantity(alloc, cell, row.quantity()),
-        Column::ConsumedUnit => push_text(cell, row.unit().unwrap_or("")),
-        Column::SkuId => push_text(cell, row.sku().unwrap_or("")),
-        Column::SubAccountId => push_text(cell, row.sub_account().unwrap_or("")),
-        Column::Tags => push_row_tags(cell, row.tags()),
+        Column::BilledCost => push_amount(out, row.billed()),
+        Column::EffectiveCost => push_amount(out, row.effective()),
+        Column::BillingCurrency => out.extend_from_slice(currency.code()),
+        Column::ChargeCategory => push_text(out, row.category().word()),
+        Column::ChargePeriodStart => push_second(out, row.start()),
+        Column::ChargePeriodEnd => push_second(out, row.end()),
+        Column::ChargeClass => push_text(out, class_word(row.is_correction())),
+        Column::CommitmentDiscountId => push_field(out, id_of(row.discount())),
+        Column::CommitmentDiscountCategory => push_text(out, kind_of(row.discount())),
+        Column::CommitmentDiscountStatus => push_text(out, status_of(row.discount())),
+        Column::ConsumedQuantity => push_quantity(out, row.quantity()),
+        Column::ConsumedUnit => push_field(out, row.unit().unwrap_or("")),
+        Column::SkuId => push_field(out, row.sku().unwrap_or("")),
+        Column::SubAccountId => push_field(out, row.sub_account().unwrap_or("")),
+        Column::Tags => push_row_tags(out, row.tags()),
     }
+}
+
+// Appends a text as a field: in quotes where it has a byte that parts fields or records.
+fn push_field(out: &mut Vec<u8>, text: &str) -> Result<(), AllocError> {
+    if !text.as_bytes().iter().any(|byte| parts_fields(*byte)) {
+        return push_text(out, text);
+    }
+    push_text(out, QUOTE)?;
+    for byte in text.as_bytes() {
+        if *byte == b'"' {
+            push_text(out, QUOTE_IN_FIELD)?;
+        } else {
+            push_byte(out, *byte)?;
+        }
+    }
+    push_text(out, QUOTE)
+}
+
+// Whether a byte outside of quotes parts fields or records, or begins quotes.
+fn parts_fields(byte: u8) -> bool {
+    matches!(byte, b',' | b'"' | b'\n' | b'\r')
 }
 
 // The word of a class.
@@ -121,21 +124,19 @@ fn status_of(discount: Option<LentDiscount<'_>>) -> &'static str {
 }
 
 // Appends a quantity; nothing where it is null.
-fn push_quantity(
-    alloc: Global,
-    cell: &mut Vec<u8>,
-    quantity: Option<Nanos>,
-) -> Result<(), AllocError> {
+fn push_quantity(out: &mut Vec<u8>, quantity: Option<Nanos>) -> Result<(), AllocError> {
     match quantity {
-        Some(amount) => push_amount(alloc, cell, amount),
+        Some(amount) => push_amount(out, amount),
         None => Ok(()),
     }
 }
 
-// Appends tags as a JSON object; nothing where there is none.
-fn push_row_tags(cell: &mut Vec<u8>, tags: LentTags<'_>) -> Result<(), AllocError> {
+// Appends tags as a JSON object in quotes; nothing where there is none.
+fn push_row_tags(out: &mut Vec<u8>, tags: LentTags<'_>) -> Result<(), AllocError> {
     if tags.len() == 0 {
         return Ok(());
     }
-    push_tags(cell, tags, b':')
+    push_text(out, QUOTE)?;
+    push_tags(out, tags, b':', QUOTE_IN_FIELD)?;
+    push_text(out, QUOTE)
 }

@@ -9,7 +9,7 @@ ghost use Rattle.fw_serve.specs.Contents.{ContentReads};
 ghost use Rattle.fw_serve.specs.Runs.{Sends};
 
 use fw_charge::Currency;
-use fw_column_rows::read_columns;
+use fw_column_rows::{KnownTexts, read_columns_after};
 use fw_commitment::{CommitmentFault, read_commitment, read_purchase};
 use fw_entry::{Command as EntryCommand, Entry, EntryFault};
 use fw_import::same_entry;
@@ -24,6 +24,7 @@ pub(crate) fn is_text_of(
     currency: Currency,
     text: &[u8],
     entry: &Entry,
+    known: &mut KnownTexts,
 ) -> Result<bool, AllocError>
     ensures { IfOk result (λ is. is ≡ true → IsTextOf currency text.now entry.now) }
 {
@@ -38,7 +39,7 @@ pub(crate) fn is_text_of(
         return Ok(false);
     };
     match script.next_command() {
-        None => sends(alloc, currency, command, entry),
+        None => sends(alloc, currency, command, entry, known),
         Some(_) => Ok(false),
     }
 }
@@ -49,6 +50,7 @@ fn sends(
     currency: Currency,
     command: Command<'_>,
     entry: &Entry,
+    known: &mut KnownTexts,
 ) -> Result<bool, AllocError>
     ensures { IfOk result (λ sends. sends ≡ true
         → Sends currency (plain_command command.entry) entry.now) }
@@ -59,7 +61,9 @@ fn sends(
             origin,
             sequence,
             content,
-        } => sends_as(alloc, currency, kind, origin, sequence, content, entry),
+        } => sends_as(
+            alloc, currency, kind, origin, sequence, content, entry, known,
+        ),
         _ => Ok(false),
     }
 }
@@ -73,6 +77,7 @@ fn sends_as(
     sequence: &[u8],
     content: &[u8],
     entry: &Entry,
+    known: &mut KnownTexts,
 ) -> Result<bool, AllocError>
     ensures { IfOk result (λ sends. sends ≡ true
         → Sends currency (plain.entry kind origin.now sequence.now content.now) entry.now) }
@@ -81,7 +86,7 @@ fn sends_as(
     let Some(number) = sequence_number(sequence) else {
         return Ok(false);
     };
-    let Some(command) = read_content(alloc, currency, kind, content)? else {
+    let Some(command) = read_content(alloc, currency, kind, content, known)? else {
         return Ok(false);
     };
     match Entry::new(alloc, origin, number, command) {
@@ -97,6 +102,7 @@ fn read_content(
     currency: Currency,
     kind: EntryKind,
     content: &[u8],
+    known: &mut KnownTexts,
 ) -> Result<Option<EntryCommand>, AllocError>
     ensures reads { IfOk result (λ read. IfSome read (λ command.
         ContentReads kind currency content.now (Ok (command_view command)))) }
@@ -104,7 +110,7 @@ fn read_content(
         HasRowCount (command_view command))) }
 {
     match kind {
-        EntryKind::Post => match read_columns(alloc, content, currency) {
+        EntryKind::Post => match read_columns_after(alloc, content, currency, known) {
             Ok(rows) => Ok(Some(EntryCommand::Post(rows))),
             Err(RowFault::NoMemory) => Err(AllocError),
             Err(_) => Ok(None),

@@ -9,6 +9,7 @@ use crate::rows::rows_csv;
 use crate::sending::is_text_of;
 use crate::values::{push_number, push_text};
 use fw_charge::Currency;
+use fw_column_rows::KnownTexts;
 use fw_entry::{Command, Entry};
 use fw_script::EntryKind;
 use std::alloc::{AllocError, Global};
@@ -24,8 +25,20 @@ const MOST_LINES: usize = 1_000_000;
 pub fn entry_text(alloc: Global, currency: Currency, entry: &Entry) -> Result<Vec<u8>, TextFault>
     ensures { IfOk result (λ text. IsTextOf currency text.items entry.now) }
 {
+    entry_text_after(alloc, currency, entry, &mut KnownTexts::new(alloc))
+}
+
+/// The text of an entry, as [`entry_text`] has it. A text of tags that was read of the text of an earlier entry isn't read again.
+pub(crate) fn entry_text_after(
+    alloc: Global,
+    currency: Currency,
+    entry: &Entry,
+    known: &mut KnownTexts,
+) -> Result<Vec<u8>, TextFault>
+    ensures { IfOk result (λ text. IsTextOf currency text.items entry.now) }
+{
     let text = written(alloc, currency, entry)?;
-    if is_text_of(alloc, currency, text.as_slice(), entry)? {
+    if is_text_of(alloc, currency, text.as_slice(), entry, known)? {
         Ok(text)
     } else {
         Err(TextFault::Differs)
@@ -84,7 +97,7 @@ fn content_of(alloc: Global, currency: Currency, command: &Command) -> Result<Ve
         Command::Post(rows) => rows_csv(alloc, currency, rows),
         Command::Commit(commitment) => {
             let mut content = Vec::new(alloc);
-            push_commitment(alloc, &mut content, commitment)?;
+            push_commitment(&mut content, commitment)?;
             Ok(content)
         }
         Command::SetPolicy(policy) => {
@@ -95,7 +108,7 @@ fn content_of(alloc: Global, currency: Currency, command: &Command) -> Result<Ve
         Command::Withdraw(_) => Ok(Vec::new(alloc)),
         Command::AddPurchase(added) => {
             let mut content = Vec::new(alloc);
-            push_added(alloc, &mut content, added)?;
+            push_added(&mut content, added)?;
             Ok(content)
         }
     }

@@ -2,7 +2,7 @@
 use fw_columns::LentTags;
 use fw_money::Nanos;
 use jiff_core::civil::Date;
-use std::alloc::{AllocError, Global};
+use std::alloc::AllocError;
 
 /// How many seconds a minute, an hour and a day have.
 const MINUTE: u64 = 60;
@@ -10,6 +10,14 @@ const MINUTE: u64 = 60;
 const HOUR: u64 = 60 * MINUTE;
 
 const DAY: u64 = 24 * HOUR;
+
+/// How many nanos an amount of 1 has.
+const NANOS: u64 = 1_000_000_000;
+
+/// A double quote, and what it is written as within a field of CSV that is in quotes.
+pub(crate) const QUOTE: &str = "\"";
+
+pub(crate) const QUOTE_IN_FIELD: &str = "\"\"";
 
 /// The digits of the base 16.
 const DIGITS: [u8; 16] = *b"0123456789abcdef";
@@ -32,47 +40,79 @@ pub(crate) fn push_number(out: &mut Vec<u8>, number: u64) -> Result<(), AllocErr
 }
 
 /// Appends an amount, exact, with nine digits after the point.
-pub(crate) fn push_amount(
-    alloc: Global,
-    out: &mut Vec<u8>,
-    amount: Nanos,
-) -> Result<(), AllocError> {
-    let text = fw_money::text(alloc, i128::from(amount.count()))?;
-    push_text(out, text.as_str())
+pub(crate) fn push_amount(out: &mut Vec<u8>, amount: Nanos) -> Result<(), AllocError> {
+    let count = amount.count();
+    if count < 0 {
+        push_byte(out, b'-')?;
+    }
+    let magnitude = count.unsigned_abs();
+    push_number(out, magnitude / NANOS)?;
+    push_byte(out, b'.')?;
+    push_digits(out, magnitude % NANOS, 9)
+}
+
+// Appends the last digits of a number, so many of them: at most nine.
+fn push_digits(out: &mut Vec<u8>, number: u64, count: usize) -> Result<(), AllocError> {
+    let mut digits = [b'0'; 9];
+    let mut rest = number;
+    for place in 0..9 {
+        digits[8 - place] = b'0' + (rest % 10) as u8;
+        rest /= 10;
+    }
+    out.extend_from_slice(&digits[9 - count.min(9)..])
 }
 
 /// Appends the instant of a second since 1970, as `2024-01-31T14:00:00Z`. A second past the year 9999 is its number, which no
 /// reader takes for an instant.
-pub(crate) fn push_second(alloc: Global, out: &mut Vec<u8>, second: u64) -> Result<(), AllocError> {
+pub(crate) fn push_second(out: &mut Vec<u8>, second: u64) -> Result<(), AllocError> {
     match Date::from_unix_epoch_day((second / DAY) as i64) {
-        Ok(date) => push_instant(alloc, out, date, second % DAY),
+        Ok(date) => push_instant(out, date, second % DAY),
         Err(_) => push_number(out, second),
     }
 }
 
 // Appends the instant of a second of a day.
-fn push_instant(alloc: Global, out: &mut Vec<u8>, date: Date, time: u64) -> Result<(), AllocError> {
-    let (year, month, day) = (date.year, date.month, date.day);
-    let (hour, minute, second) = (time / HOUR, time % HOUR / MINUTE, time % MINUTE);
-    let text = format!(in alloc;
-        "{year:04}-{month:02}-{day:02}T{hour:02}:{minute:02}:{second:02}Z"
-    )?;
-    push_text(out, text.as_str())
+fn push_instant(out: &mut Vec<u8>, date: Date, time: u64) -> Result<(), AllocError> {
+    push_digits(out, u64::from(date.year.unsigned_abs()), 4)?;
+    push_byte(out, b'-')?;
+    push_digits(out, u64::from(date.month), 2)?;
+    push_byte(out, b'-')?;
+    push_digits(out, u64::from(date.day), 2)?;
+    push_byte(out, b'T')?;
+    push_digits(out, time / HOUR, 2)?;
+    push_byte(out, b':')?;
+    push_digits(out, time % HOUR / MINUTE, 2)?;
+    push_byte(out, b':')?;
+    push_digits(out, time % MINUTE, 2)?;
+    push_byte(out, b'Z')
 }
 
-/// Appends a text in double quotes, with the escapes that JSON and TOML both read.
-pub(crate) fn push_quoted(out: &mut Vec<u8>, text: &str) -> Result<(), AllocError> {
-    push_byte(out, b'"')?;
-    for byte in text.as_bytes() {
-        push_escaped(out, *byte)?;
+/// Appends a text in double quotes, with the escapes that JSON and TOML both read. A double quote is written as this text.
+pub(crate) fn push_quoted(out: &mut Vec<u8>, text: &str, quote: &str) -> Result<(), AllocError> {
+    push_text(out, quote)?;
+    if text.as_bytes().iter().any(|byte| is_escaped(*byte)) {
+        for byte in text.as_bytes() {
+            push_escaped(out, *byte, quote)?;
+        }
+    } else {
+        push_text(out, text)?;
     }
-    push_byte(out, b'"')
+    push_text(out, quote)
+}
+
+// Whether a byte of a text in quotes has an escape.
+fn is_escaped(byte: u8) -> bool {
+    matches!(byte, b'"' | b'\\' | 0..=31 | 127)
 }
 
 // Appends a byte of a text in quotes. TOML has an escape for byte 127 too, which JSON takes either way.
-fn push_escaped(out: &mut Vec<u8>, byte: u8) -> Result<(), AllocError> {
+fn push_escaped(out: &mut Vec<u8>, byte: u8, quote: &str) -> Result<(), AllocError> {
     match byte {
-        b'"' | b'\\' => out.extend_from_slice(&[b'\\', byte]),
+        b'"' => {
+            push_byte(out, b'\\')?;
+            push_text(out, quote)
+        }
+        b'\\' => push_text(out, "\\\\"),
         0..=31 | 127 => {
             let high = DIGITS[(byte / 16) as usize];
             let low = DIGITS[(byte % 16) as usize];
@@ -82,17 +122,23 @@ fn push_escaped(out: &mut Vec<u8>, byte: u8) -> Result<(), AllocError> {
     }
 }
 
-/// Appends tags in braces, each key and text in quotes with this sign between them: `:` in JSON, `=` in TOML.
-pub(crate) fn push_tags(out: &mut Vec<u8>, tags: LentTags<'_>, sign: u8) -> Result<(), AllocError> {
+/// Appends tags in braces, each key and text in quotes with this sign between them: `:` in JSON, `=` in TOML. A double quote is written
+/// as this text.
+pub(crate) fn push_tags(
+    out: &mut Vec<u8>,
+    tags: LentTags<'_>,
+    sign: u8,
+    quote: &str,
+) -> Result<(), AllocError> {
     push_byte(out, b'{')?;
     let mut is_first = true;
     let mut rest = tags;
     while let Some((tag, after)) = rest.split_first() {
         push_comma(out, is_first)?;
         is_first = false;
-        push_quoted(out, tag.key)?;
+        push_quoted(out, tag.key, quote)?;
         push_byte(out, sign)?;
-        push_quoted(out, tag.value)?;
+        push_quoted(out, tag.value, quote)?;
         rest = after;
     }
     push_byte(out, b'}')

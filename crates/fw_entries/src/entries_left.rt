@@ -107,7 +107,8 @@ fn row_count(content: &Content) -> usize
 
 // The entry of a head, whose rows are the next ones.
 fn entry_of(alloc: Global, head: &Head, rows: &mut RowsLeft<'_>) -> Result<Entry, AllocError>
-    requires { IsEntry (entry_of head.now (take (row_count head.now.content) (rows_left rows.old))) }
+    requires { IsEntry (entry_of head.now
+        (take (row_count head.now.content) (rows_left rows.old))) }
     ensures entry { IfOk result (λ entry. entry
         ≡ entry_of head.now (take (row_count head.now.content) (rows_left rows.old))) }
     ensures rest { OnOk result (rows_left rows.new

@@ -5,10 +5,10 @@ use Rattle.fw_dump.proofs.sending.read_content.Goals as goal
 
 pub returns-in-Ok-clause-reads : goal.returns-in-Ok-clause-reads
 unfolding ContentReads
-returns-in-Ok-clause-reads c = rw c.in-Post.is (c.in-Ok.rows, refl, rw c.in-Ok.is at c.read_columns.ensures)
+returns-in-Ok-clause-reads c = rw c.in-Post.is (c.in-Ok.rows, refl, rw c.in-Ok.is at c.read_columns_after.ensures)
 
 pub returns-in-Ok-clause-sized : goal.returns-in-Ok-clause-sized
-returns-in-Ok-clause-sized c = IsRowCount-read _ _ c.in-Ok.rows (rw c.in-Ok.is at c.read_columns.ensures)
+returns-in-Ok-clause-sized c = IsRowCount-read _ _ c.in-Ok.rows (rw c.in-Ok.is at c.read_columns_after.ensures)
 
 pub returns-in-Ok-read_commitment-clause-reads : goal.returns-in-Ok-read_commitment-clause-reads
 unfolding ContentReads
