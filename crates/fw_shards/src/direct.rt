@@ -7,11 +7,21 @@ use std::alloc::{AllocError, Global};
 use std::marker::Model;
 
 /// A group of a direct report: what its lines come to, under no policy.
-#[derive(Debug, Drop)]
+#[derive(Debug)]
 pub struct Direct {
     group: String,
     billed: i128,
     direct: i128,
+}
+
+impl Drop for Direct {
+    fn drop(self) {
+        let Self {
+            group: _,
+            billed: _,
+            direct: _,
+        } = self;
+    }
 }
 
 impl Model for Direct {
@@ -20,7 +30,11 @@ impl Model for Direct {
 
     ghost Value = { Cost };
 
-    ghost view = { λ d. record { group = string_bytes d.group; billed = d.billed; effective = d.direct } };
+    ghost view = { λ d. record {
+      group = string_bytes d.group;
+      billed = d.billed;
+      effective = d.direct;
+    } };
 }
 
 impl Direct {
@@ -87,15 +101,26 @@ impl Direct {
     pub(crate) fn into_group(self) -> String
         ensures { string_bytes result ≡ self.group }
     {
-        self.group
+        let Self {
+            group,
+            billed: _,
+            direct: _,
+        } = self;
+        group
     }
 }
 
 /// A direct report: what the lines of each group come to in some hours, under no policy. What a shard answers is one, and so is what
 /// [`added`](crate::added) makes of these.
-#[derive(Debug, Drop)]
+#[derive(Debug)]
 pub struct DirectReport {
     entries: Vec<Direct>,
+}
+
+impl Drop for DirectReport {
+    fn drop(self) {
+        let Self { entries: _ } = self;
+    }
 }
 
 impl Model for DirectReport {

@@ -6,7 +6,7 @@ use std::alloc::{AllocError, AllocFailed};
 use thiserror::Error;
 
 /// Why reports aren't added up.
-#[derive(Debug, Drop, Error)]
+#[derive(Debug, Error)]
 pub enum AddFault {
     /// The absolute billed costs of all entries, or their absolute direct costs, come to more than 10^37 nanos. It is looked at first.
     #[error("the costs of the reports pass 10^37 nanos")]
@@ -18,6 +18,14 @@ pub enum AddFault {
     /// Memory ran out.
     #[error("out of memory")]
     NoMemory,
+}
+
+impl Drop for AddFault {
+    fn drop(self) {
+        match self {
+            Self::OutOfRange | Self::TotalTooLarge { group: _ } | Self::NoMemory => {}
+        }
+    }
 }
 
 impl From<AllocError> for AddFault {

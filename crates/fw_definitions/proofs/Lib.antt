@@ -1,0 +1,3 @@
+pub mod JoiningFacts
+pub mod OrderFacts
+pub mod ReplayFacts
