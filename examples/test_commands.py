@@ -988,8 +988,9 @@ class Files(unittest.TestCase):
             # The same file again and again is as long as one that has all the rows.
             status, printed, said = focusd(*words, "a", "--create", *[full] * posts, more)
             self.assertEqual((status, printed), (1, ""))
-            self.assertIn("the rows don't fit: 1025 files have 4194305 rows, 0 rows were posted before, 0 of them by a, and a warehouse takes at most 4194304 rows", said)
-            self.assertIn("another warehouse", said)
+            self.assertIn("focusd: the rows of the files: J1 Full: with this post more than 4,194,304 rows would have been posted to the warehouse", said)
+            self.assertIn("\nWhat to do: Begin another warehouse, ", said)
+            self.assertIn("\n1025 files have 4194305 rows, 0 rows were posted before, 0 of them by a. Nothing was imported.\n", said)
             self.assertEqual(focusd("status", "--dir", folder)[0], 1)
             # A warehouse that is full, of which one post counts no more. A checkpoint spares each of the next commands the log.
             content = self.HEADER + row * rows
@@ -1000,8 +1001,8 @@ class Files(unittest.TestCase):
             # What is there already takes no more room.
             self.assertEqual(focusd(*words, "a", full)[:2], (0, f"imported 0 rows, {rows} were there already; 1 post\n"))
             for origin, files, refusal in (
-                ("a", (full, more), "2 files have 4097 rows, 4194304 rows were posted before, 4096 of them by a,"),
-                ("b", (more,), "1 file has 1 row, 4194304 rows were posted before, 0 of them by b,"),
+                ("a", (full, more), "2 files have 4097 rows, 4194304 rows were posted before, 4096 of them by a. Nothing was imported.\n"),
+                ("b", (more,), "1 file has 1 row, 4194304 rows were posted before, 0 of them by b. Nothing was imported.\n"),
             ):
                 status, printed, said = focusd(*words, origin, *files)
                 self.assertEqual((status, printed), (1, ""))
@@ -1010,7 +1011,8 @@ class Files(unittest.TestCase):
             # Standard input isn't looked at first.
             ran = focusd(*words, "b", "-", given=self.HEADER + row)
             self.assertEqual(ran[:2], (1, ""))
-            self.assertIn(":2: the post from record 1 on: J1 Full: 4194304 rows were posted", ran[2])
+            self.assertIn(":2: the post from record 1 on: J1 Full: with this post more than 4,194,304 rows would have been posted", ran[2])
+            self.assertIn("\nRows that were posted before it, and stay: 4194304.\n", ran[2])
 
     def test_a_check_of_a_header_lists_all_that_is_wrong_with_it(self):
         lacking = b"BilledCost,BilledCost,Tags,Note,Tags,Note,Tags\n1,1,,,,,\n"
@@ -1529,13 +1531,14 @@ billed = "1.5"
         )
         for old, new, fields in changes:
             self.file("cd.toml", self.COMMITMENT.replace(old, new))
-            self.refused(f"cd.toml: commitment cd-1 is there already with other terms, and a commitment is never changed; the fields that differ: {fields} (J2 DoubleId)\n", file)
+            said = f"it is never changed, and these of its fields differ: {fields}. What to do: Give each commitment an id of its own. (J2 DoubleId)\n"
+            self.refused("cd.toml: commitment cd-1: a commitment of this id was accepted before; " + said, file)
         self.file("cd.toml", self.SPEND.replace("cd-s", "cd-1"))
-        self.refused("the fields that differ: category, hours, capacity, sub_account, tags, purchase (J2 DoubleId)", file)
+        self.refused("these of its fields differ: category, hours, capacity, sub_account, tags, purchase. ", file)
 
     def test_two_files_with_one_id(self):
         first, second = self.file("one.toml", self.COMMITMENT), self.file("two.toml", self.COMMITMENT.replace("hours = 3", "hours = 4"))
-        self.refused("two.toml: commitment cd-1 is there already with other terms", first, second)
+        self.refused("two.toml: commitment cd-1: a commitment of this id was accepted before; it is never changed", first, second)
 
     def test_nothing_is_added_where_one_file_has_a_fault(self):
         good, bad = self.file("good.toml", self.COMMITMENT), self.file("bad.toml", self.POLICY.replace("web = 3", "web = -3"))
@@ -1663,7 +1666,7 @@ billed = "1.5"
             line = f"paid.toml: purchase for commitment cd-1: entry {number + 1} (billing {number})\n"
             self.assertEqual(self.add(commitment, purchase), (0, "cd.toml: commitment cd-1 is there already, the same\n" + line, ""))
         self.file("cd.toml", self.COMMITMENT.replace("hours = 3", "hours = 4"))
-        self.refused("the fields that differ: hours (J2 DoubleId)\n", commitment)
+        self.refused("these of its fields differ: hours. What to do: Give each commitment an id of its own. (J2 DoubleId)\n", commitment)
         # Two equal payments can be right.
         self.file("paid.toml", self.PURCHASE)
         self.assertEqual(self.add("--yes", purchase), (0, "paid.toml: purchase for commitment cd-1: entry 6 (billing 5)\n", ""))
@@ -1704,16 +1707,20 @@ paid.toml: commitment cd-1 would have 4 purchases, for 17.5 USD
         self.assertIn(missing, self.add("--dry-run", purchase)[2])
         self.assertEqual(self.add(commitment)[0], 0)
         self.file("paid.toml", self.PURCHASE.replace("1.5", "99999985.500000001"))
-        reason = "the purchases of the commitment cost 14.5 USD, and with this one they would cost more than 100,000,000 (J9 PurchaseLimit)\n"
-        self.refused("paid.toml: purchase for commitment cd-1: " + reason, purchase)
+        limit = "purchase for commitment cd-1: with this purchase the commitment would have more than 64 purchases, or they would come to more than 100,000,000 units; "
+        remedy = (
+            "What to do: Look for a wrong amount, and for a purchase that was added twice. Purchases that are still to be sent can be joined into one: "
+            "only their sum counts. (J9 PurchaseLimit)\n"
+        )
+        self.refused(f"paid.toml: {limit}those that it has cost 14.5 USD. {remedy}", purchase)
         self.file("paid.toml", self.PURCHASE.replace("1.5", "99999985.5"))
         self.assertEqual(self.add(purchase)[0], 0)
         more = [self.file(f"{second}.toml", self.PURCHASE.replace("30Z", f"30:{second:02}Z").replace("1.5", "0")) for second in range(1, 60)]
         self.assertEqual(self.add(*more)[0], 0)
         more = [self.file(f"{minute}.toml", self.PURCHASE.replace("30Z", f"{minute}Z").replace("1.5", "0")) for minute in range(31, 34)]
-        self.refused("33.toml: purchase for commitment cd-1: the commitment has 64 purchases, and takes no more (J9 PurchaseLimit)\n", *more)
+        self.refused(f"33.toml: {limit}it has 64. {remedy}", *more)
         self.assertEqual(self.add(*more[:2])[0], 0)
-        self.refused("33.toml: purchase for commitment cd-1: the commitment has 64 purchases, and takes no more (J9 PurchaseLimit)\n", more[2])
+        self.refused(f"33.toml: {limit}it has 64. {remedy}", more[2])
 
     def test_faults_of_purchases(self):
         file = self.file("paid.toml", "")
@@ -2284,6 +2291,134 @@ class Bodies(unittest.TestCase):
         with tempfile.TemporaryDirectory() as folder:
             self.lay(folder, twice)
             self.is_damaged(folder, twice.rindex(self.text("billing")))
+
+    @staticmethod
+    def short_posts(count):
+        """So many posts of a row each, with a withdrawal behind each tenth: the number of each entry, and its row or the number that it withdraws."""
+        number = 0
+        for at in range(count):
+            number += 1
+            yield number, (1_000 * (at + 1), 10**9, f"t{at % 3}")
+            if at % 10 == 9:
+                number += 1
+                yield number, number - 4
+
+    def opens_with_short_posts(self, side, count):
+        """A side is opened with the answers that expected.py has to a script that sends the short posts."""
+        low, high = self.RANGE
+        header = "BilledCost,EffectiveCost,BillingCurrency,ChargeCategory,ChargePeriodStart,ChargePeriodEnd,ConsumedQuantity,ConsumedUnit,SkuId,Tags"
+        script = ""
+        for number, what in self.short_posts(count):
+            if isinstance(what, int):
+                script += f"withdraw a {number} {what}\n"
+                continue
+            cost = f"{what[0]}e-9"
+            script += f"post a {number} 2\n{header}\n" + f'{cost},{cost},USD,Usage,2024-01-01T00:00Z,2024-01-01T01:00Z,1,Hours,vm,"{{""team"":""{what[2]}""}}"\n'
+        kept = warehouse_of(script.encode())
+        self.assertEqual((kept.posted, kept.row_count()), (count, count - count // 10))
+        asked = f"report team {low} {high}\nlines {low} {high}\nstate\n".encode()
+        answers = kept.report("team", low, high) + kept.lines(low, high) + kept.state()
+        with tempfile.TemporaryDirectory() as folder:
+            self.lay(folder, side)
+            self.assertEqual(focusd("run", "--dir", folder, "--workers", "3", given=asked), (0, answers, ""))
+            self.assertEqual(focusd("run", "--dir", folder, given=b"checkpoint\n" + asked), (0, "checkpointed\n" + answers, ""))
+            self.assertEqual(focusd("run", "--dir", folder, given=asked), (0, answers, ""))
+
+    def test_very_many_short_segments(self):
+        """Each post has a segment of its own in the body, by turns in both layouts."""
+        posts, heads, segments = 3_000, b"", []
+        for number, what in self.short_posts(posts):
+            heads += self.text("a") + struct.pack("<Q", number) + (self.withdrawn(what) if isinstance(what, int) else b"\1" + struct.pack("<I", 1))
+            if not isinstance(what, int):
+                segments.append((self.in_turn, self.by_column)[number % 2]([what]))
+        body = self.text("USD") + struct.pack("<Q", posts + posts // 10) + heads + struct.pack("<I", len(segments)) + b"".join(segments)
+        self.opens_with_short_posts(b"\1FWHOUSE2" + struct.pack("<QQ", 1, len(body)) + body + b"\0", posts)
+
+    def test_very_many_short_posts_in_a_log(self):
+        """More than are kept apart while a log is read, in frames of 64 entries."""
+        posts, entries = 33_000, []
+        for number, what in self.short_posts(posts):
+            content = self.withdrawn(what) if isinstance(what, int) else b"\1" + self.in_turn([what])[1:]
+            entries.append(self.text("a") + struct.pack("<Q", number) + content)
+        body = self.text("USD") + bytes(12)
+        frames = []
+        for at in range(0, len(entries), 64):
+            group = struct.pack("<I", len(entries[at : at + 64])) + b"".join(entries[at : at + 64])
+            frames.append(b"\1" + struct.pack("<I", len(group)) + group)
+        self.opens_with_short_posts(b"\1FWHOUSE2" + struct.pack("<QQ", 1, len(body)) + body + b"".join(frames) + b"\0", posts)
+
+
+class DamagedSides(unittest.TestCase):
+    """A side of an empty warehouse that is damaged in one place, and the byte at which that is found."""
+
+    # A frame with one entry, a policy for the key `t`, and the next gate.
+    FRAME = bytes.fromhex("01 1b000000 01000000 0100000061 0100000000000000 03 0100000074 00000000 00")
+    FORMS = (b"FWHOUSE1", b"FWHOUSE2")
+
+    @staticmethod
+    def side(form, generation=1):
+        return b"\1" + form + struct.pack("<QQ", generation, 19) + bytes.fromhex("03000000 555344 0000000000000000 00000000 00")
+
+    def damaged(self, form, generation=1):
+        """Each damage, what it makes of the side, and the byte of the fault: none where the side is no longer open."""
+        whole = self.side(form, generation)
+        body = whole[:-1]
+        yield "cut within its header", whole[:25], None
+        yield "cut before its first gate", whole[:44], 17
+        yield "another magic word", whole[:8] + b"9" + whole[9:], 1
+        yield "generation 0", whole[:9] + bytes(8) + whole[17:], 9
+        yield "a body of 2^64-1 bytes", whole[:17] + b"\xff" * 8 + whole[25:], 17
+        yield "a body that is a byte shorter", whole[:17] + struct.pack("<Q", 18) + whole[25:], 40
+        yield "a currency of small letters", whole.replace(b"USD", b"usd"), 25
+        yield "an open gate with nothing behind it", body + b"\1", 44
+        yield "a frame of no bytes", body + self.FRAME[:1] + bytes(4) + self.FRAME[5:], 44
+        yield "an entry that leaves a gap", body + self.FRAME.replace(struct.pack("<Q", 1), struct.pack("<Q", 2), 1), 44
+
+    def answers(self, left, right, wanted):
+        """A run over these files, and what verify says; neither changes a file."""
+        with tempfile.TemporaryDirectory() as folder:
+            files = [pathlib.Path(folder) / name for name in ("left", "right")]
+            for file, content in zip(files, (left, right)):
+                file.write_bytes(content)
+            code = wanted if isinstance(wanted, str) else "S2 Corrupt"
+            self.assertEqual(focusd("run", "--dir", folder, given=b"state\n"), (1, "", f"focusd: {code}\n"))
+            status, said, error = focusd("verify", "--dir", folder)
+            self.assertEqual((status, said), (1, ""))
+            self.assertTrue(error.startswith(f"focusd: {code}\n"))
+            if code == "S2 Corrupt":
+                self.assertEqual(error, f"focusd: {code}\n{folder}/{wanted[0]}: damaged at byte {wanted[1]}\n")
+            self.assertEqual([file.read_bytes() for file in files], [left, right])
+
+    def test_left_in_use(self):
+        for form in self.FORMS:
+            for name, side, at in self.damaged(form):
+                with self.subTest(name, form=form):
+                    self.answers(side, b"", "S1 NoHouse" if at is None else ("left", at))
+
+    def test_right_in_use(self):
+        for form in self.FORMS:
+            for name, side, at in self.damaged(form):
+                with self.subTest(name, form=form):
+                    self.answers(b"", side, "S1 NoHouse" if at is None else ("right", at))
+
+    def test_right_in_use_beside_an_older_left(self):
+        for form in self.FORMS:
+            for older in self.FORMS:
+                for name, side, at in self.damaged(form, 2):
+                    with self.subTest(name, form=form, older=older):
+                        if at is not None:
+                            self.answers(self.side(older), side, ("right", at))
+                            continue
+                        with tempfile.TemporaryDirectory() as folder:
+                            (pathlib.Path(folder) / "left").write_bytes(self.side(older))
+                            (pathlib.Path(folder) / "right").write_bytes(side)
+                            self.assertEqual(focusd("run", "--dir", folder, given=b"state\n"), (0, "state 0 0 0 0\n", ""))
+
+    def test_two_sides_of_one_generation(self):
+        for form in self.FORMS:
+            for other in self.FORMS:
+                for generation in (1, 2, 2**64 - 1):
+                    self.answers(self.side(form, generation), self.side(other, generation), ("right", 9))
 
 
 class KeptVolumes(unittest.TestCase):

@@ -1,5 +1,5 @@
 #!/usr/bin/env python3
-"""Tests of the example's files: python3 examples/test_examples.py"""
+"""Tests of the examples: that each kept file is what its program makes, and that the answers are right."""
 import csv
 import decimal
 import io
@@ -15,6 +15,9 @@ from unittest import mock
 import expected
 
 HERE = os.path.dirname(os.path.abspath(__file__))
+sys.path.append(os.path.join(os.path.dirname(HERE), "tools"))
+from command_line import run_tests  # noqa: E402
+
 FILES = [
     "focus-export.csv",
     *(f"{name}.{kind}" for name in ("first-report", "providers", "commitments") for kind in ("script", "expected")),
@@ -253,4 +256,4 @@ class Example(unittest.TestCase):
 
 
 if __name__ == "__main__":
-    unittest.main()
+    run_tests(__doc__)

@@ -202,7 +202,8 @@ impl Progress for FileProgress<'_> {
     fn stored(&mut self, files: usize) {
         if self.is_shown {
             let all = self.files;
-            let _ = eprintln!(self.rt; "{files} of {all} files are stored");
+            let are = if all == 1 { "file is" } else { "files are" };
+            let _ = eprintln!(self.rt; "{files} of {all} {are} stored");
         }
     }
 }

@@ -72,13 +72,8 @@ fn full_text(
     commitment: &Commitment,
 ) -> Result<String, AllocError> {
     if commitment.purchases().len() >= Commitment::MOST_PURCHASES {
-        return String::from_str(
-            alloc,
-            "the commitment has 64 purchases, and takes no more (J9 PurchaseLimit)",
-        );
+        return String::from_str(alloc, "it has 64");
     }
     let cost = cost_text(alloc, currency, commitment.cost())?;
-    format!(in alloc;
-        "the purchases of the commitment cost {cost}, and with this one they would cost more than 100,000,000 (J9 PurchaseLimit)"
-    )
+    format!(in alloc; "those that it has cost {cost}")
 }

@@ -239,11 +239,8 @@ pub(crate) fn say_refusal(
         AddFault::Conflict(conflict) => say_conflict(rt, state, given, conflict),
         AddFault::Entry(fault) => say_given(rt, given, entry_code(fault)?),
         AddFault::NoNumber => {
-            let (file, name) = (given.file, given.name);
-            let _ = eprintln!(rt;
-                "{file}: {name}: the origin {origin} has no further number (E2 Seq)"
-            );
-            Ok(false)
+            let reason = format!(in rt.alloc(); "the origin {origin} has no further number")?;
+            say_reason(rt, given, "E2 Seq", reason.as_str())
         }
     }
 }
@@ -276,23 +273,34 @@ fn say_conflict(
 
 // Says that a commitment can't have a purchase too.
 fn say_limit(rt: &HostRuntime, state: &State, given: &Given<'_>) -> Result<bool, Fault> {
-    let (file, name) = (given.file, given.name);
     let reason = limit_text(rt.alloc(), state, given.document)?;
-    let _ = eprintln!(rt; "{file}: {name}: {reason}");
+    say_reason(rt, given, "J9 PurchaseLimit", reason.as_str())
+}
+
+// Says what a fault of a document means, why this one has it, and what to do. The answer is false.
+fn say_reason(
+    rt: &HostRuntime,
+    given: &Given<'_>,
+    fault: &str,
+    reason: &str,
+) -> Result<bool, Fault> {
+    let (file, name) = (given.file, given.name);
+    let words = explain_fault(fault);
+    let (meaning, remedy) = (words.meaning, words.remedy);
+    let _ = eprintln!(rt; "{file}: {name}: {meaning}; {reason}. What to do: {remedy} ({fault})");
     Ok(false)
 }
 
 // Says that there is a commitment of the same id with other terms.
 fn say_double(rt: &HostRuntime, state: &State, given: &Given<'_>) -> Result<bool, Fault> {
-    let (file, name) = (given.file, given.name);
     let fields = match given.document {
         Document::Commitment(commitment) => other_fields(rt.alloc(), state, commitment)?,
         Document::Policy(_) | Document::Purchase(_) => String::new(rt.alloc()),
     };
-    let _ = eprintln!(rt;
-        "{file}: {name} is there already with other terms, and a commitment is never changed; the fields that differ: {fields} (J2 DoubleId)"
-    );
-    Ok(false)
+    let reason = format!(in rt.alloc();
+        "it is never changed, and these of its fields differ: {fields}"
+    )?;
+    say_reason(rt, given, "J2 DoubleId", reason.as_str())
 }
 
 // The names of the fields in which a commitment differs from the one of its id, as that was committed to.

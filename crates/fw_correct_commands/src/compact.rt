@@ -105,7 +105,8 @@ fn end<V: Volume>(
 fn show<V: Volume>(rt: &HostRuntime, store: &Store<V>, shows: bool) {
     if shows {
         let entries = store.state().state().entries();
-        let _ = eprint!(rt; "\r{entries} entries");
+        let word = if entries == 1 { "entry" } else { "entries" };
+        let _ = eprint!(rt; "\r{entries} {word}");
     }
 }
 

@@ -1,6 +1,6 @@
 //! Whether the rows of files fit into a warehouse, before the first of them is posted.
 use crate::importing::Import;
-use fw_console::{Fault, House, bytes_of};
+use fw_console::{Fault, House, bytes_of, say_fault};
 use fw_cut::{CutFault, Cutter};
 use fw_import::{fits, surely_fits};
 use std::alloc::{AllocError, Global};
@@ -87,21 +87,20 @@ fn say_too_many(rt: &HostRuntime, import: &Import<'_>, files: usize, rows: u64, 
     let files_have = if files == 1 { "file has" } else { "files have" };
     let more = if rows == 1 { "row" } else { "rows" };
     let rows_were = if posted == 1 { "row was" } else { "rows were" };
+    say_fault(rt, "the rows of the files", "J1 Full");
     let _ = eprintln!(rt;
-        "focusd: the rows don't fit: {files} {files_have} {rows} {more}, {posted} {rows_were} posted before, {sent} of them by {origin}, and a warehouse takes at most 4194304 rows (J1 Full). Nothing was imported."
+        "{files} {files_have} {rows} {more}, {posted} {rows_were} posted before, {sent} of them by {origin}. Nothing was imported."
     );
-    say_how_to_fit(rt, &import.house, rows.saturating_sub(sent));
+    say_room(rt, &import.house, rows.saturating_sub(sent));
 }
 
-/// Says what to do where so many more rows don't fit.
-pub(crate) fn say_how_to_fit(rt: &HostRuntime, house: &House, more: u64) {
+/// Says how many rows were withdrawn, where so many more would fit without them.
+pub(crate) fn say_room(rt: &HostRuntime, house: &House, more: u64) {
     let gone = house.rows_posted().saturating_sub(house.rows());
     if gone > 0 && fits(house.rows(), 0, more) {
         let were = if gone == 1 { "was" } else { "were" };
         let _ = eprintln!(rt;
             "{gone} of the rows posted {were} withdrawn: `focusd compact` makes room of them."
         );
-    } else {
-        let _ = eprintln!(rt; "Import the files into another warehouse, e.g. one for each year.");
     }
 }

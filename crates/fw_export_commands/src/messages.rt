@@ -1,5 +1,5 @@
 //! What an import says, and why a part was refused.
-use crate::fitting::say_how_to_fit;
+use crate::fitting::say_room;
 use crate::importing::Import;
 use crate::others::Shared;
 use fw_calendar::hour_text;
@@ -88,23 +88,19 @@ fn explain_conflict(
     conflict: Conflict,
 ) -> Result<bool, Fault> {
     match conflict {
-        Conflict::Full => {
-            say_full(rt, house, walk);
-            Ok(false)
-        }
+        Conflict::Full => say_full(rt, house, walk),
         Conflict::OwnCommitment => explain_own(rt, house, walk, part),
         other => say_post(rt, walk, conflict_code(other)),
     }
 }
 
-// Says that the warehouse takes no more rows.
-fn say_full(rt: &HostRuntime, house: &House, walk: &Walk<'_>) {
-    let (name, line, record) = (walk.shown.as_str(), walk.line, walk.record);
+// Says that the warehouse takes no more rows. The answer is false.
+fn say_full(rt: &HostRuntime, house: &House, walk: &Walk<'_>) -> Result<bool, Fault> {
     let posted = house.rows_posted();
-    let _ = eprintln!(rt;
-        "focusd: {name}:{line}: the post from record {record} on: J1 Full: {posted} rows were posted to the warehouse, and it takes at most 4194304. Those before it stay."
-    );
-    say_how_to_fit(rt, house, 1);
+    let is_taken = say_post(rt, walk, "J1 Full")?;
+    let _ = eprintln!(rt; "Rows that were posted before it, and stay: {posted}.");
+    say_room(rt, house, 1);
+    Ok(is_taken)
 }
 
 // Says which row of a part carries the id of a commitment of the warehouse.

@@ -1,4 +1,9 @@
 //! Where a walk over exports stands, and what it says of them.
+ghost use Rattle.std.specs.Prelude.{◌≡◌, ◌+◌, false, IfOk, OnOk};
+ghost use Rattle.fw_check.specs.Checks.{records_in};
+ghost use Rattle.fw_check.specs.Counts.{kept};
+ghost use Rattle.fw_check.specs.Lines.{line_ends_in};
+
 use crate::faults::{code_of, column_of};
 use fw_check::{Located, line_ends, locate};
 use fw_console::{Fault, Progress};
@@ -8,7 +13,6 @@ use fw_rows::{RecordFault, RowFault};
 use fw_table::shown_text;
 
 /// Where a walk over exports stands.
-#[derive(Drop)]
 pub struct Walk<'a> {
     /// The name of the export.
     pub name: &'a str,
@@ -22,6 +26,19 @@ pub struct Walk<'a> {
     pub line_end: u8,
     /// How far all exports are read.
     pub progress: Progress,
+}
+
+impl Drop for Walk<'_> {
+    fn drop(self) {
+        let Self {
+            name: _,
+            shown: _,
+            line: _,
+            record: _,
+            line_end: _,
+            progress: _,
+        } = self;
+    }
 }
 
 impl<'a> Walk<'a> {
@@ -38,7 +55,9 @@ impl<'a> Walk<'a> {
     }
 
     // It stands at the beginning of a file.
-    pub(crate) fn go_to(&mut self, rt: &HostRuntime, file: &'a str) -> Result<(), Fault> {
+    pub(crate) fn go_to(&mut self, rt: &HostRuntime, file: &'a str) -> Result<(), Fault>
+        ensures { OnOk result ((self.new.line ≡ 1) × (self.new.record ≡ 1)) }
+    {
         self.name = if file == "-" { "standard input" } else { file };
         self.shown = shown_text(rt.alloc(), self.name)?;
         self.line = 1;
@@ -47,14 +66,21 @@ impl<'a> Walk<'a> {
     }
 
     // It stands behind a header.
-    pub(crate) fn pass_header(&mut self, rt: &HostRuntime, header: &[u8], line_end: u8) {
+    pub(crate) fn pass_header(&mut self, rt: &HostRuntime, header: &[u8], line_end: u8)
+        ensures line { self.new.line ≡ kept (line_ends_in line_end header.now + 1) }
+        ensures ends { self.new.line_end ≡ line_end }
+    {
         self.line = line_ends(header, line_end).saturating_add(1);
         self.line_end = line_end;
         self.progress.took(rt, 0, header.len());
     }
 
     /// It stands behind a part, which has so many rows.
-    pub fn took(&mut self, rt: &HostRuntime, part: &Part, rows: u64) {
+    pub fn took(&mut self, rt: &HostRuntime, part: &Part, rows: u64)
+        ensures line { self.new.line ≡
+            kept (self.old.line + line_ends_in self.old.line_end (records_in part.now)) }
+        ensures record { self.new.record ≡ kept (self.old.record + rows) }
+    {
         let body = body_of(part);
         self.line = self.line.saturating_add(line_ends(body, self.line_end));
         self.record = self.record.saturating_add(rows);
@@ -69,7 +95,9 @@ impl<'a> Walk<'a> {
     }
 
     // Says why the export can't be cut from here on. The answer is false. The error says that memory ran out.
-    pub(crate) fn not_cut(&mut self, rt: &HostRuntime, fault: CutFault) -> Result<bool, Fault> {
+    pub(crate) fn not_cut(&mut self, rt: &HostRuntime, fault: CutFault) -> Result<bool, Fault>
+        ensures { IfOk result (λ is_taken. is_taken ≡ false) }
+    {
         self.progress.end(rt);
         let name = self.shown.as_str();
         let (line, record) = (self.line, self.record);
@@ -101,7 +129,9 @@ impl<'a> Walk<'a> {
         part: &Part,
         fault: RowFault,
         currency: &str,
-    ) -> Result<bool, Fault> {
+    ) -> Result<bool, Fault>
+        ensures { IfOk result (λ is_taken. is_taken ≡ false) }
+    {
         self.progress.end(rt);
         match fault {
             RowFault::Record { number, fault } => {
@@ -167,7 +197,9 @@ fn say_header(rt: &HostRuntime, name: &str, fault: RowFault) {
 }
 
 // The bytes of a part behind its header.
-fn body_of(part: &Part) -> &[u8] {
+fn body_of(part: &Part) -> &[u8]
+    ensures { result.now ≡ records_in part.now }
+{
     let text = part.text.as_slice();
     let (_, body) = text.split_at(part.header.min(text.len()));
     body
