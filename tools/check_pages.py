@@ -14,9 +14,10 @@ For example, `docs/DISK.md:12: no heading of README.md has the anchor #run-it`. 
 - a clause that the function beside it lacks: "`serve`, clause `done`", "clause `done` of `serve`", `serve.done`
 - a row of a table of cases without its file, or of a table of definitions whose file doesn't define the name
 - a line of prose of more than 100 columns that can be broken
-- a page of more lines than it may have: README.md (150), CONTRIBUTING.md (200), docs/PROOFS.md (300)
+- a page of more lines than it may have: README.md (150), CONTRIBUTING.md (200), docs/PROOFS.md and docs/BENCHMARKS.md (300)
 - a page whose sentences have more than 18 words on average: those of paragraphs and list items, a code span as one word
 - a decision of more than 80 words: the text of a section of docs/DECISIONS.md, from its heading to the next one
+- words for which the field has a usual one, as `want of memory` for `out of memory`
 
 In a path `..` and a part in capitals, as NAME, stand for anything (but not in the name of a page), and an extension may
 be left out. A file named by its end alone, as `src/lib.rt`, has to be in a crate that its section names, if any.
@@ -33,12 +34,12 @@ import sys
 from dataclasses import dataclass, field
 
 from changes import GitError, files_of, output_of
-from command_line import add_top, parser_of
+from command_line import add_top, parser_of, status_of_faults
 from crates_txt import deps_of, lines_in
 
 PAGE = re.compile(r"README\.md|CONTRIBUTING\.md|(docs|examples|bench|tools/fuzz)/[^/]+\.md")
 MOST_COLUMNS = 100
-MOST_LINES = {"README.md": 150, "CONTRIBUTING.md": 200, "docs/PROOFS.md": 300}
+MOST_LINES = {"README.md": 150, "CONTRIBUTING.md": 200, "docs/PROOFS.md": 300, "docs/BENCHMARKS.md": 300}
 MOST_WORDS_A_SENTENCE = 18
 DECISIONS, MOST_WORDS_OF_A_DECISION = "docs/DECISIONS.md", 80
 
@@ -48,6 +49,16 @@ OUTSIDE = {
     "FIRST_PROOFS.md": "a page of the toolchain",
     "SHORTER_PROOFS.md": "a page of the toolchain",
     "docs/ANSWERS.md": "a page of the toolchain",
+}
+
+# Words that no page has, each with those that it has instead.
+USUAL = {
+    r"(?:for )?want of memory|memory is wanting": "out of memory, or a failed allocation",
+    r"(?:is|are) told": "returns, answers or reports",
+    r"hands on": "re-exports",
+    r"fails? on order": "injects faults",
+    r"refused allocations?": "injected allocation failures",
+    r"(?:doesn't|don't|does not|do not) bear out": "never trusts a length prefix",
 }
 
 # The kinds of lines.
@@ -137,12 +148,16 @@ class Page:
 
     path: str
     text: str
-    lines: list = field(init=False)
-    kinds: list = field(init=False)
 
-    def __post_init__(self):
-        self.lines = self.text.splitlines()
-        self.kinds = kinds_of(self.lines)
+    @functools.cached_property
+    def lines(self):
+        """The lines of the text."""
+        return self.text.splitlines()
+
+    @functools.cached_property
+    def kinds(self):
+        """The kind of each line."""
+        return kinds_of(self.lines)
 
     @functools.cached_property
     def prose(self):
@@ -528,6 +543,16 @@ def check_lines(page):
             yield Fault(page.path, number, f"{len(line)} columns, more than {MOST_COLUMNS}")
 
 
+def check_words(page):
+    """The words for which there is a usual one."""
+    for line, lines in page.blocks():
+        text = without_spans(lines)
+        for words, usual in USUAL.items():
+            for found in re.finditer(rf"\b(?:{words})\b".replace(" ", r"\s+"), text, re.IGNORECASE):
+                at = line + text.count("\n", 0, found.start())
+                yield Fault(page.path, at, f'"{" ".join(found[0].split())}": the usual word is {usual}')
+
+
 def check_sizes(page):
     """The page that is too long, or whose sentences are, and the decisions that are."""
     most = MOST_LINES.get(page.path)
@@ -554,6 +579,7 @@ def faults_of(repository):
             *check_clauses(page, repository),
             *check_tables(page, repository),
             *check_lines(page),
+            *check_words(page),
             *check_sizes(page),
         ]
     return sorted(set(faults), key=lambda fault: (fault.page, fault.line, fault.what)), list(pages.values())
@@ -623,10 +649,7 @@ def main():
         return 2
     if options.figures:
         print("\n".join(figures(pages)))
-    for fault in faults:
-        print(fault)
-    print(f"{len(pages)} pages, {len(faults)} fault{'' if len(faults) == 1 else 's'}")
-    return 1 if faults else 0
+    return status_of_faults(faults, f"{len(pages)} pages, {len(faults)} fault{'' if len(faults) == 1 else 's'}")
 
 
 if __name__ == "__main__":

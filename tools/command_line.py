@@ -3,6 +3,7 @@
 import argparse
 import os
 import sys
+import unittest
 
 TOP = os.path.dirname(os.path.dirname(os.path.abspath(__file__)))
 # focusd as tools/gate.py leaves it.
@@ -37,6 +38,22 @@ def whole_number(text):
 def say(text):
     """Prints a line on standard error at once."""
     print(text, file=sys.stderr, flush=True)
+
+
+def run_tests(doc):
+    """Runs the tests of the program that was started. Its help is its docstring, an example, and what `unittest` takes."""
+    if {"-h", "--help"}.intersection(sys.argv[1:]):
+        name = os.path.relpath(os.path.abspath(sys.argv[0]), TOP)
+        print(f"{doc.strip()}\n\n    python3 -B {name}               runs all tests\n    python3 -B {name} CLASS.TEST    runs one\n")
+    unittest.main()
+
+
+def status_of_faults(faults, counts):
+    """The exit status of a check that found these faults: it prints each of them, and last what was counted."""
+    for fault in faults:
+        print(fault)
+    print(counts)
+    return 1 if faults else 0
 
 
 def status_of(name, run, errors):

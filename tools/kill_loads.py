@@ -80,7 +80,7 @@ def killed(words, seconds):
 
 def stored(told, count):
     """How many files a load said it had stored, of so many."""
-    found = re.findall(rb"(\d+) of (\d+) files are stored\r?\n", told)
+    found = re.findall(rb"(\d+) of (\d+) (?:files are|file is) stored\r?\n", told)
     if any(int(of) != count for _, of in found):
         wrong(f"it told of another number of files than {count}: {told!r}")
     return max((int(files) for files, _ in found), default=0)

@@ -4,11 +4,12 @@
     tools/planted.py            writes the page
     tools/planted.py --check    says whether the page is what it would write
 
-It counts the public functions, their clauses and the must-fail edits of each crate. What planted bodies showed stands in
+It counts the functions, their clauses and the must-fail edits of each crate. What planted bodies showed stands in
 tools/planted.toml.
 
 Public is a function that is declared `pub`, or that a public trait asks for. A function has a clause where an `ensures`
-says something of what it returns or leaves. Crates of tests, `fw_test_*`, aren't counted.
+says something of what it returns or leaves. A function of an `impl` of a trait isn't counted: its clauses are the
+trait's. Crates of tests, `fw_test_*`, aren't counted.
 
 Exit status: 0 where the page is written, or is up to date; 1 where it is out of date; 2 where it can't be said.
 """
@@ -41,7 +42,8 @@ field.
 CRATES = """
 A function is public where it is declared `pub`, or where a public trait asks for it. It has a clause where an `ensures`
 says something of what it returns or leaves. A law is a function that returns and changes nothing: its contract is a fact.
-A function without a clause is proved all the same: it is safe, and it returns.
+A function without a clause is proved all the same: it is safe, and it returns. Functions of an `impl` of a trait aren't
+counted, since their clauses are the trait's.
 """
 WITHOUT = """
 Of these the prover shows that they are safe and that they return, and nothing else. Tests show what they do.
@@ -54,6 +56,9 @@ planted again.
 """
 THROUGH = """
 Each of these meets its contract, for the reason beside it.
+"""
+READ = """
+Each of these would meet its contract too. They were found by reading, and no check has shown it.
 """
 UNJUDGED = """
 Nothing is known of these bodies. Where must-fail edits turn the same clauses, they are refused.
@@ -74,23 +79,33 @@ class PlantedError(Exception):
 
 @dataclass(frozen=True)
 class Function:
-    """A public function: its name, behind that of its type; how many `ensures` it has; whether it is a law, which returns and changes nothing."""
+    """A function: its name, behind that of its type; how many `ensures` it has; whether it is a law, which returns and changes nothing; whether it is public."""
 
     name: str
     clauses: int
     is_law: bool
+    is_public: bool
 
 
 @dataclass
 class Crate:
-    """A crate: its public functions, and the names of its must-fail edits."""
+    """A crate: its functions, and the names of its must-fail edits."""
 
     functions: list = field(default_factory=list)
     edits: set = field(default_factory=set)
 
-    def without_clause(self):
-        """The names of the public functions of which no clause says anything."""
-        return [it.name for it in self.functions if not it.clauses]
+    def kept(self, is_public):
+        """The public functions, or the others."""
+        return [it for it in self.functions if it.is_public == is_public]
+
+    def without_clause(self, is_public):
+        """The names of the public functions, or of the others, of which no clause says anything."""
+        return [it.name for it in self.kept(is_public) if not it.clauses]
+
+    def counts(self):
+        """How many public functions there are, how many of them are laws and how many have no clause; how many others, and how many of them have none."""
+        public, others = self.kept(True), self.kept(False)
+        return [len(public), sum(it.is_law for it in public), len(self.without_clause(True)), len(others), len(self.without_clause(False))]
 
 
 def head_of(tokens, at):
@@ -113,40 +128,41 @@ def head_of(tokens, at):
     return clauses, clauses > 0 and not acts, at
 
 
-def public_functions(text):
-    """The public functions of a source file."""
-    tokens, owner, depth, in_trait, at = list(tokens_of(text)), "", 0, False, 0
+def functions_in(text):
+    """The functions of a source file, but for those of an `impl` of a trait."""
+    tokens, owner, depth, in_trait, is_of_trait, at = list(tokens_of(text)), "", 0, False, False, 0
     while at < len(tokens):
         word, before = tokens[at][0], tokens[at - 1][0] if at else ""
         if word in ("impl", "trait") and not depth:
             opened = next((number for number in range(at, len(tokens)) if tokens[number][0] == "{"), len(tokens) - 1)
-            owner, in_trait = owner_name(tokens, at, opened), word == "trait" and before == "pub"
+            owner, is_of_trait = owner_name(tokens, at, opened)
+            in_trait = word == "trait" and before == "pub"
             at, depth = opened, 1
         elif word == "fn" and at + 1 < len(tokens) and NAME.fullmatch(tokens[at + 1][0]):
             name = tokens[at + 1][0]
             clauses, is_law, end = head_of(tokens, at + 1)
-            if before == "pub" or in_trait:
-                yield Function(f"{owner}::{name}" if owner else name, clauses, is_law)
+            if not is_of_trait:
+                yield Function(f"{owner}::{name}" if owner else name, clauses, is_law, before == "pub" or in_trait)
             at = closing(tokens, end) if end < len(tokens) and tokens[end][0] == "{" else end
         elif word in "{}":
             depth += 1 if word == "{" else -1
             if not depth:
-                owner, in_trait = "", False
+                owner, in_trait, is_of_trait = "", False, False
         at += 1
 
 
 def owner_name(tokens, at, opened):
-    """The type of the `impl`, or the trait, whose keyword stands at a number and whose block opens at another."""
-    depth, found, is_past_where = 0, "", False
+    """The type of the `impl`, or the trait, whose keyword stands at a number and whose block opens at another; and whether it is an `impl` of a trait."""
+    depth, found, is_of_trait, is_past_where = 0, "", False, False
     for number in range(at + 1, opened):
         word = tokens[number][0]
         depth += (word == "<") - (word == ">")
         is_past_where = is_past_where or word == "where"
-        if word == "for" and not depth:
-            found = ""
+        if word == "for" and not depth and not is_past_where:
+            found, is_of_trait = "", True
         elif not depth and not is_past_where and not found and NAME.fullmatch(word) and word not in ("mut", "dyn", "unsafe"):
             found = word
-    return found
+    return found, is_of_trait
 
 
 def crates_of(top):
@@ -161,7 +177,7 @@ def crates_of(top):
             crate.edits.add(found[2])
         else:
             with open(os.path.join(top, path), encoding="utf-8") as file:
-                crate.functions += public_functions(file.read())
+                crate.functions += functions_in(file.read())
     return crates
 
 
@@ -170,7 +186,7 @@ def data_of(top):
     try:
         with open(os.path.join(top, DATA), "rb") as file:
             data = tomllib.load(file)
-        return data["runs"], data["through"], data["unjudged"]
+        return data["runs"], data["through"], data["read"], data["unjudged"]
     except (KeyError, tomllib.TOMLDecodeError) as error:
         raise PlantedError(f"{DATA}: {error}") from error
 
@@ -205,25 +221,25 @@ def edit_names(crate, names, crates):
     return ", ".join(found) or "none named"
 
 
-def page_of(crates, runs, through, unjudged):
+def page_of(crates, runs, through, read, unjudged):
     """The page."""
     counted = []
     for name, crate in sorted(crates.items()):
         if crate.functions or crate.edits:
-            laws = sum(it.is_law for it in crate.functions)
-            counted.append([f"`{name}`", len(crate.functions), laws, len(crate.without_clause()), len(crate.edits)])
-    sums = [sum(row[column] for row in counted) for column in range(1, 5)]
+            counted.append([f"`{name}`", *crate.counts(), len(crate.edits)])
+    sums = [sum(row[column] for row in counted) for column in range(1, 7)]
     counted.append(["all", *sums])
-    bare = [(name, crate.without_clause()) for name, crate in sorted(crates.items())]
+    bare = [(name, crate.without_clause(True)) for name, crate in sorted(crates.items())]
     without = [[f"`{name}`", ", ".join(f"`{it}`" for it in found)] for name, found in bare if found]
     rows = [[f"`{it['crate']}`", it["bodies"], it["why"]] for it in through]
+    by_reading = [[f"`{it['crate']}`", it["bodies"], it["why"]] for it in read]
     unknown = [[f"`{it['crate']}`", it["bodies"], edit_names(it["crate"], it["edits"], crates)] for it in unjudged]
     parts = [
         "# Planted bugs",
         prose(INTRODUCTION),
         "## Crate by crate",
         prose(CRATES),
-        table(["crate", "public functions", "laws among them", "without a clause", "must-fail edits"], counted),
+        table(["crate", "public functions", "laws among them", "without a clause", "other functions", "without a clause", "must-fail edits"], counted),
         "## Public functions without a clause",
         prose(WITHOUT),
         table(["crate", "functions"], without),
@@ -233,6 +249,9 @@ def page_of(crates, runs, through, unjudged):
         "## Let through",
         prose(THROUGH),
         table(["crate", "bodies", "why"], rows),
+        "## Let through, by reading",
+        prose(READ),
+        table(["crate", "bodies", "why"], by_reading),
         "## Not judged",
         prose(UNJUDGED),
         table(["crate", "bodies", "edits of the same clauses"], unknown),

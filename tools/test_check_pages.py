@@ -1,5 +1,5 @@
 #!/usr/bin/env python3
-"""Tests of tools/check_pages.py, over small repositories and over this one: python3 tools/test_check_pages.py"""
+"""Tests of tools/check_pages.py, over small repositories and over this one."""
 
 import os
 import subprocess
@@ -9,6 +9,7 @@ import unittest
 
 sys.path.insert(0, os.path.dirname(os.path.abspath(__file__)))
 import check_pages  # noqa: E402
+from command_line import run_tests  # noqa: E402
 from small_repository import made_for, write  # noqa: E402
 
 TOOL = os.path.join(os.path.dirname(os.path.abspath(__file__)), "check_pages.py")
@@ -191,10 +192,16 @@ class Repositories(unittest.TestCase):
         self.assert_passes("ab. " * 25 + "\n")
 
     def test_lines_of_a_page(self):
-        for page, most in [("README.md", 150), ("CONTRIBUTING.md", 200), ("docs/PROOFS.md", 300)]:
+        for page, most in [("README.md", 150), ("CONTRIBUTING.md", 200), ("docs/PROOFS.md", 300), ("docs/BENCHMARKS.md", 300)]:
             self.assert_passes("- a\n" * most, page)
             self.assertEqual(self.faults("- a\n" * (most + 1), page), [f"{most + 1}: {most + 1} lines, more than {most}"])
         self.assert_passes("- a\n" * 1000, "docs/FORMATS.md")
+
+    def test_usual_words(self):
+        usual = "the usual word is out of memory, or a failed allocation"
+        self.assertEqual(self.faults("# A\n\nIt ends\nfor want\nof memory.\n", "docs/A.md"), [f'4: "for want of memory": {usual}'])
+        self.assertEqual(self.faults("| Memory is wanting |\n"), [f'1: "Memory is wanting": {usual}'])
+        self.assert_passes("It ends out of memory. A hand on it, `is told`, he told.\n\n    it is told\n")
 
     def test_words_of_sentences(self):
         most, over = "a " * 17 + "end.\n", "a " * 18 + "end.\n"
@@ -290,4 +297,4 @@ class Pages(unittest.TestCase):
 
 
 if __name__ == "__main__":
-    unittest.main()
+    run_tests(__doc__)

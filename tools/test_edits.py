@@ -1,5 +1,5 @@
 #!/usr/bin/env python3
-"""Tests of how must-fail edits are planted and judged, and of edits tried over a crate: python3 tools/test_edits.py"""
+"""Tests of how must-fail edits are planted and judged, and of edits tried over a crate."""
 import os
 import subprocess
 import sys
@@ -10,7 +10,7 @@ import unittest
 
 sys.path.insert(0, os.path.dirname(os.path.abspath(__file__)))
 import edits  # noqa: E402
-from command_line import TOP  # noqa: E402
+from command_line import TOP, run_tests  # noqa: E402
 from functions import functions_of  # noqa: E402
 
 TOOL = os.path.join(os.path.dirname(os.path.abspath(__file__)), "edits.py")
@@ -228,4 +228,4 @@ class Trying(unittest.TestCase):
 
 
 if __name__ == "__main__":
-    unittest.main()
+    run_tests(__doc__)

@@ -1,8 +1,6 @@
 #!/usr/bin/env python3
 """Tests of the fuzzer: its readers and its oracle on what docs/FORMATS.md says, the changes of inputs, and that it finds planted bugs.
 
-    python3 -B tools/test_fuzz.py
-
 It needs no built program.
 """
 
@@ -18,6 +16,7 @@ HERE = os.path.dirname(os.path.abspath(__file__))
 sys.path.insert(0, os.path.join(HERE, "fuzz"))
 import aims  # noqa: E402
 import command_oracle  # noqa: E402
+import each_byte  # noqa: E402
 import encode  # noqa: E402
 import folder_oracle  # noqa: E402
 import fuzz  # noqa: E402
@@ -28,6 +27,7 @@ import running  # noqa: E402
 import shrink  # noqa: E402
 import texts  # noqa: E402
 import toml_text  # noqa: E402
+from command_line import run_tests  # noqa: E402
 
 TOP = os.path.dirname(HERE)
 SIX = b"BilledCost,EffectiveCost,BillingCurrency,ChargeCategory,ChargePeriodStart,ChargePeriodEnd"
@@ -281,10 +281,24 @@ class Folders(unittest.TestCase):
     def test_each_field_is_known(self):
         entries = encode.entries_of(content_of("tools", "fuzz", "corpus", "scripts", "each-kind-of-entry.script"))
         file = encode.side(entries[:3], [[one] for one in entries[3:]])
-        fields, log = folder_oracle.fields_of(file)
-        self.assertIn((17, 8), fields)
-        self.assertEqual(log, 25 + int.from_bytes(file[17:25], "little"))
-        self.assertTrue(all(at + width <= len(file) for at, width in fields) and max(at for at, _ in fields) > log)
+        layout = folder_oracle.layout_of(file)
+        self.assertIn((17, 8), layout.fields)
+        self.assertEqual(layout.log, 25 + int.from_bytes(file[17:25], "little"))
+        self.assertTrue(all(at + width <= len(file) for at, width in layout.fields) and max(at for at, _ in layout.fields) > layout.log)
+
+    def test_each_text_and_each_list_is_known(self):
+        rows = encode.entries_of(post(ROW + b',"{""a"":""x"",""b"":""y""}"', header=SIX + b",Tags"))[0]
+        layout = folder_oracle.layout_of(encode.side([rows], [[(b"b", 1, *rows[2:])]]))
+        file = encode.side([rows], [[(b"b", 1, *rows[2:])]])
+        self.assertEqual([file[at + 4 : end] for at, end in layout.texts], [b"USD", b"a", b"a", b"x", b"b", b"y", b"b", b"a", b"x", b"b", b"y"])
+        for at, end in layout.texts:
+            self.assertEqual(int.from_bytes(file[at : at + 4], "little"), end - at - 4)
+        counted = {at: len(parts) for at, parts in layout.lists if at is not None}
+        # The heads, the segments, the names, the tags of the segment's row; the entries of the frame, their rows, and the tags of theirs.
+        self.assertEqual(sorted(counted.values()), [1, 1, 1, 1, 2, 2, 4])
+        for at, count in counted.items():
+            self.assertEqual(int.from_bytes(file[at : at + 4], "little"), count)
+        self.assertEqual(sum(at is None for at, _ in layout.lists), 15)
 
 
 class CommandLines(unittest.TestCase):
@@ -324,6 +338,44 @@ class Changes(unittest.TestCase):
             self.assertEqual(len(gates), len(entries) - 3)
             self.assertEqual(changed[gates[-1][1] :], b"\0")
 
+    def test_the_lengths_are_made_to_fit_around_parts_and_texts(self):
+        entries = encode.entries_of(content_of("tools", "fuzz", "corpus", "scripts", "each-kind-of-entry.script"))
+        file, chance = encode.side(entries[:3], [[one] for one in entries[3:]]), random.Random(1)
+        layout, counts = folder_oracle.layout_of(file), set()
+        for change in [mutate.of_parts, mutate.of_text_in] * 200:
+            changed = change(chance, file, layout)
+            gates = list(mutate.frames_of(changed, 25 + mutate.number_at(changed, 17, 8)))
+            self.assertEqual(len(gates), len(entries) - 3)
+            self.assertEqual(changed[gates[-1][1] :], b"\0")
+            counts.add(len(changed) - len(file))
+        self.assertTrue(min(counts) < 0 < max(counts) and 0 in counts)
+
+    def test_parts_change_places(self):
+        made = {mutate.exchanged(random.Random(seed), b"(a)(bb)(c)", [(0, 3), (3, 7), (7, 10)]) for seed in range(300)}
+        self.assertEqual(made, {b"(bb)(a)(c)", b"(a)(c)(bb)", b"(c)(bb)(a)"})
+
+    def test_blanks_stand_at_ends(self):
+        chance = random.Random(1)
+        made = {mutate.of_blanks(chance, b'skus = ["vm", "db"]') for _ in range(400)}
+        for text in (b'skus = ["vm ", "db"]', b'skus = ["vm", " db"]', b'skus = ["vm\t", "db"]', b'skus = ["vm", "db\xc2\xa0"]', b'skus = ["vm","db"]'):
+            self.assertIn(text, made)
+        self.assertIn(b"a,vm ,b", {mutate.of_blanks(chance, b"a,vm,b") for _ in range(100)})
+        self.assertIn(b"vm", {mutate.blanked(chance, b" vm ") for _ in range(50)})
+
+    def test_instants_move(self):
+        chance, text = random.Random(1), b"report t 2024-01-01T01:00Z x"
+        made = {mutate.of_times(chance, text)[9:-2] for _ in range(600)}
+        seconds = {texts.second(one) - texts.second(b"2024-01-01T01:00Z") for one in made}
+        self.assertTrue({0, 1_800, -1_800, 900, -900, 2_700, 1, 60, 3_600, -86_400} <= seconds, seconds)
+        for one in (b"2024-01-01T01:30Z", b"2024-01-01T01:30+00:30", b"2024-01-01T06:30+05:30", b"2023-12-31T21:30-03:30"):
+            self.assertIn(one, made)
+        lines = b"a 2024-01-01T00:00Z,2024-01-01T01:00Z\nb 2024-01-01T02:00Z"
+        self.assertIn(b"a 2024-01-01T00:30Z,2024-01-01T01:30Z\nb 2024-01-01T02:00Z", {mutate.of_times(chance, lines) for _ in range(400)})
+        # Where there is no such day, the nearest one.
+        self.assertEqual(mutate.instant(-1), b"1970-01-01T00:00Z")
+        self.assertEqual(mutate.instant(texts.LAST_SECOND + 86_400, 1_559), b"9999-12-31T23:59:59+25:59")
+        self.assertEqual(mutate.of_times(chance, b"2024-13-01T00:00Z"), b"2024-13-01T00:00Z")
+
     def test_fields_of_a_line(self):
         self.assertEqual(mutate.fields_of(b'a,"b,c",,"d""e'), [b"a", b'"b,c"', b"", b'"d""e'])
 
@@ -340,6 +392,28 @@ class Changes(unittest.TestCase):
                 code = re.match(r"[HV][0-9]+", why[name])
                 wanted = f"refused {code[0]} " if code else "refused V5 " if re.match(r"M[0-9]", why[name]) else "accepted"
                 self.assertTrue(found.startswith(wanted), f"{name}: {found}")
+
+
+class EachByte(unittest.TestCase):
+    def test_each_front_and_each_change_is_one_input(self):
+        text = b"ab\xff"
+        made = [each_byte.input_at(text, number) for number in range(sum(each_byte.count_of(text)))]
+        self.assertEqual(made[:4], [b"", b"a", b"ab", text])
+        self.assertEqual(len(set(made)), 4 + 3 * 255)
+        self.assertTrue(all(len(one) == 3 and sum(a != b for a, b in zip(one, text)) == 1 for one in made[4:]))
+
+    def test_the_texts_are_those_of_the_script(self):
+        found = each_byte.texts()
+        self.assertEqual([len(text.bytes) for text in found.values()], [695, 320, 198, 67, 60])
+        for name, answers in (("csv", ["accepted 4"]), ("commitment", ["accepted 2"]), ("policy", ["accepted 4"]), ("purchase", ["accepted 4"])):
+            script = each_byte.script_of(found[name], [found[name].bytes])
+            self.assertEqual(answered(script)[len(answered(found[name].before)) :][: len(answers)], answers, name)
+
+    def test_a_wrong_answer_is_found(self):
+        session, text = Planted(rb"V6 Currency", b"V7 Time"), each_byte.texts()["csv"]
+        wrong = each_byte.differences(session, text, [text.bytes, text.bytes.replace(b"USD", b"EUR", 1), b""])
+        self.assertEqual([inputs for inputs, _ in wrong], [[text.bytes.replace(b"USD", b"EUR", 1)]])
+        self.assertEqual(each_byte.differences(session, text, [text.bytes, b""]), [])
 
 
 class Shrinking(unittest.TestCase):
@@ -366,12 +440,23 @@ class Planted(readers.Session):
         return running.Ended(0, re.sub(self.old, self.new, out), b"", 0, 0, 0)
 
 
+class Misread(readers.Session):
+    """A program that is the oracle, and reads another script."""
+
+    def __init__(self, old, new):
+        super().__init__("", 1)
+        self.old, self.new = old, new
+
+    def run(self, words, given=b"", size=None):
+        return running.Ended(0, oracle.answers(re.sub(self.old, self.new, given)), b"", 0, 0, 0)
+
+
 class Driver(unittest.TestCase):
-    def found(self, reader, old, new, turns=12):
+    def found(self, reader, old, new, turns=12, program=Planted):
         """What is kept of a planted bug: the smallest input."""
-        session, chance = Planted(old, new), random.Random(3)
+        session, chance = program(old, new), random.Random(3)
         pool = list(reader.corpus().values())
-        reader.other_faults = lambda inputs, session: []
+        reader.other_faults = reader.folder_faults = lambda *_: []
         try:
             for _ in range(turns):
                 inputs = [reader.mutated(chance, pool) for _ in range(reader.together)]
@@ -384,7 +469,7 @@ class Driver(unittest.TestCase):
                         self.assertIs(again, reader)
                         return ones
         finally:
-            del reader.other_faults
+            del reader.other_faults, reader.folder_faults
         return None
 
     def test_a_wrong_code_is_found_and_made_small(self):
@@ -394,6 +479,31 @@ class Driver(unittest.TestCase):
         self.assertLess(len(one), 2_500)
         (one,) = self.found(readers.READERS["toml"], rb"C3 Limit", b"C2 Field")
         self.assertLess(len(one), 120)
+
+    def test_a_blank_and_half_an_hour_are_found(self):
+        (one,) = self.found(readers.READERS["toml"], rb' +(")', rb"\1", turns=40, program=Misread)
+        self.assertIn(b' "', one)
+        (one,) = self.found(readers.READERS["json"], rb' +(")', rb"\1", turns=40, program=Misread)
+        self.assertIn(b' "', one)
+        self.assertIn(b":30", b"".join(self.found(readers.READERS["scripts"], rb":30Z", b":00Z", turns=200, program=Misread)))
+
+    def test_tags_out_of_order_are_made(self):
+        """The oracle that takes names in any order finds sound what the right one finds damaged."""
+        reader, chance = readers.READERS["folders"], random.Random(3)
+        pool, right = list(reader.corpus().values()), folder_oracle.rises
+        made = [reader.mutated(chance, pool) for _ in range(1_500)]
+        found = []
+        for files in made:
+            answers = []
+            for folder_oracle.rises in (right, lambda names: True):
+                try:
+                    folder_oracle.opened(*files)
+                    answers.append("sound")
+                except (folder_oracle.NoHouse, folder_oracle.Corrupt) as fault:
+                    answers.append(repr(fault))
+            found += [files] if answers[0] != "sound" == answers[1] else []
+        folder_oracle.rises = right
+        self.assertTrue(found)
 
     def test_a_right_program_has_no_fault(self):
         for name in ("csv", "json", "toml"):
@@ -426,9 +536,9 @@ class Driver(unittest.TestCase):
                 folder_oracle.opened(*make(20_000))
             except folder_oracle.Corrupt as corrupt:
                 self.assertEqual(corrupt.args[0], "left", name)
-        for name in ("tiny segments", "tiny posts that share segments", "a log of tiny groups", "names of 1,024 bytes", "256 tags in each row"):
+        for name in ("tiny segments", "tiny segments row by row", "tiny posts that share segments", "a log of tiny groups", "names of 1,024 bytes", "256 tags in each row"):
             self.assertTrue(folder_oracle.opened(*aims.FOLDERS[name](20_000)).kinds, name)
 
 
 if __name__ == "__main__":
-    unittest.main()
+    run_tests(__doc__)

@@ -1,5 +1,5 @@
 #!/usr/bin/env python3
-"""Tests of which must-fail edits are due and tried, and of the gate over a repository of two small crates: python3 tools/test_gate.py"""
+"""Tests of which must-fail edits are due and tried, and of the gate over a repository of two small crates."""
 import os
 import subprocess
 import sys
@@ -12,7 +12,7 @@ import due  # noqa: E402
 import gate  # noqa: E402
 import meter  # noqa: E402
 import refuse_allocations  # noqa: E402
-from command_line import TOP  # noqa: E402
+from command_line import TOP, run_tests  # noqa: E402
 from crates_txt import below, deps_of, lines_in  # noqa: E402
 
 TOOL = os.path.join(os.path.dirname(os.path.abspath(__file__)), "gate.py")
@@ -333,4 +333,4 @@ class Gate(unittest.TestCase):
 
 
 if __name__ == "__main__":
-    unittest.main()
+    run_tests(__doc__)

@@ -9,6 +9,7 @@ import unittest
 
 sys.path.insert(0, os.path.dirname(os.path.abspath(__file__)))
 import make_manual  # noqa: E402
+from command_line import run_tests  # noqa: E402
 
 TOP = """Keeps a warehouse of costs
 
@@ -161,4 +162,4 @@ class MakeManual(unittest.TestCase):
 
 
 if __name__ == "__main__":
-    unittest.main()
+    run_tests(__doc__)

@@ -1,5 +1,5 @@
 #!/usr/bin/env python3
-"""Tests of tools/planted.py, over a small repository and over this one: python3 tools/test_planted.py"""
+"""Tests of tools/planted.py, over a small repository and over this one."""
 
 import contextlib
 import io
@@ -10,7 +10,7 @@ from unittest import mock
 
 sys.path.insert(0, os.path.dirname(os.path.abspath(__file__)))
 import planted  # noqa: E402
-from command_line import TOP  # noqa: E402
+from command_line import TOP, run_tests  # noqa: E402
 from small_repository import made_for, write  # noqa: E402
 
 SOURCE = """//! pub fn in_a_comment() {}
@@ -81,6 +81,11 @@ crate = "fw_low"
 bodies = "`clear` that is slow"
 why = "Only time is lost."
 
+[[read]]
+crate = "fw_low"
+bodies = "`quiet` that is loud"
+why = "It has no clause."
+
 [[unjudged]]
 crate = "fw_high"
 bodies = "`run` that stops"
@@ -91,17 +96,19 @@ edits = ["no_digit"]
 
 
 class Functions(unittest.TestCase):
-    def test_public_functions(self):
-        found = [(it.name, it.clauses, it.is_law) for it in planted.public_functions(SOURCE)]
+    def test_functions(self):
+        found = [(it.name, it.clauses, it.is_law, it.is_public) for it in planted.functions_in(SOURCE)]
         self.assertEqual(
             found,
             [
-                ("Disk::read", 1, False),
-                ("Disk::stop", 0, False),
-                ("Amount::of", 2, False),
-                ("clear", 1, False),
-                ("amounts_are_one", 1, True),
-                ("quiet", 0, False),
+                ("Disk::read", 1, False, True),
+                ("Disk::stop", 0, False, True),
+                ("Hidden::hide", 0, False, False),
+                ("Amount::of", 2, False, True),
+                ("Amount::inside", 0, False, False),
+                ("clear", 1, False, True),
+                ("amounts_are_one", 1, True, True),
+                ("quiet", 0, False, True),
             ],
         )
 
@@ -131,10 +138,11 @@ class Pages(unittest.TestCase):
     def test_the_page_is_written(self):
         self.assertEqual(self.run_tool(), (0, ""))
         page = self.page()
-        self.assertIn("| `fw_high` | 1 | 0 | 0 | 0 |\n| `fw_low` | 6 | 1 | 2 | 2 |\n| all | 7 | 1 | 2 | 2 |\n", page)
+        self.assertIn("| `fw_high` | 1 | 0 | 0 | 0 | 0 | 0 |\n| `fw_low` | 6 | 1 | 2 | 2 | 2 | 2 |\n| all | 7 | 1 | 2 | 2 | 2 | 2 |\n", page)
         self.assertIn("| `fw_low` | `Disk::stop`, `quiet` |\n", page)
         self.assertIn("| `fw_low` | 3 | 4 | 0 | 1 | 0 | `0123abcd` |\n", page)
         self.assertIn("| `fw_low` | `clear` that is slow | Only time is lost. |\n", page)
+        self.assertIn("| `fw_low` | `quiet` that is loud | It has no clause. |\n", page)
         self.assertIn("| `fw_high` | `run` that stops | `fw_low/no_digit` |\n", page)
         self.assertNotIn("fw_test_low", page)
 
@@ -165,4 +173,4 @@ class ThisRepository(unittest.TestCase):
 
 
 if __name__ == "__main__":
-    unittest.main()
+    run_tests(__doc__)

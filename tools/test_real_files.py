@@ -1,8 +1,6 @@
 #!/usr/bin/env python3
 """Tests the step over real files: that a missing strace is installed or named, and that what a tool finds ends the step.
 
-    python3 tools/test_real_files.py
-
 It runs neither strace nor the program: small scripts stand in for them.
 """
 import contextlib
@@ -15,6 +13,7 @@ from unittest import mock
 
 sys.path.insert(0, os.path.dirname(os.path.abspath(__file__)))
 import real_files  # noqa: E402
+from command_line import run_tests  # noqa: E402
 from store_runs import CannotRun, Case, commands  # noqa: E402
 
 FOLLOWS = "exit 0"
@@ -136,4 +135,4 @@ class WrongVolumes(unittest.TestCase):
 
 
 if __name__ == "__main__":
-    unittest.main()
+    run_tests(__doc__)

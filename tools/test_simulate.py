@@ -7,6 +7,7 @@ import unittest
 TOP = os.path.dirname(os.path.dirname(os.path.abspath(__file__)))
 sys.path[:0] = [os.path.join(TOP, "tools"), os.path.join(TOP, "examples")]
 import expected  # noqa: E402
+from command_line import run_tests  # noqa: E402
 from simulate import OLD_FILES, POSTS, WRONG, changes_of, entry_of, fault_of, judged, script_of, shown, split_answers  # noqa: E402
 
 
@@ -236,4 +237,4 @@ class Simulate(unittest.TestCase):
 
 
 if __name__ == "__main__":
-    unittest.main()
+    run_tests(__doc__)

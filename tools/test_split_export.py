@@ -1,5 +1,5 @@
 #!/usr/bin/env python3
-"""Tests of the cutting: python3 tools/test_split_export.py"""
+"""Tests of tools/split_export.py: how it cuts exports into scripts."""
 import csv
 import io
 import os
@@ -8,6 +8,8 @@ import subprocess
 import sys
 import tempfile
 import unittest
+
+from command_line import run_tests
 
 TOOL = os.path.join(os.path.dirname(os.path.abspath(__file__)), "split_export.py")
 HEADER = b"BilledCost,ChargeDescription\n"
@@ -166,4 +168,4 @@ class Cutting(unittest.TestCase):
 
 
 if __name__ == "__main__":
-    unittest.main()
+    run_tests(__doc__)

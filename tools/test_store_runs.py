@@ -1,8 +1,6 @@
 #!/usr/bin/env python3
 """Tests what the tools over real files are made of: scripts and their answers, recorded calls, the disk model, and the rules of the files.
 
-    python3 tools/test_store_runs.py
-
 It runs no program.
 """
 import os
@@ -13,6 +11,7 @@ import unittest
 from unittest import mock
 
 sys.path.insert(0, os.path.dirname(os.path.abspath(__file__)))
+from command_line import run_tests  # noqa: E402
 from crash_images import EDITS  # noqa: E402
 from folders import Files  # noqa: E402
 from store_runs import (  # noqa: E402
@@ -243,4 +242,4 @@ class Rules(unittest.TestCase):
 
 
 if __name__ == "__main__":
-    unittest.main()
+    run_tests(__doc__)

@@ -8,6 +8,7 @@ from unittest import mock
 TOP = os.path.dirname(os.path.dirname(os.path.abspath(__file__)))
 sys.path.insert(0, os.path.join(TOP, "tools"))
 import sweep  # noqa: E402
+from command_line import run_tests  # noqa: E402
 from sweep import STEPS, STORE_CALLS, Wrong, is_open, is_stored, listed, right_answers, side, sides_left, store_script, swept  # noqa: E402
 
 SCRIPT = store_script("old ever 99", STORE_CALLS)
@@ -70,4 +71,4 @@ class Sweep(unittest.TestCase):
 
 
 if __name__ == "__main__":
-    unittest.main()
+    run_tests(__doc__)

@@ -16,7 +16,7 @@ import re
 import subprocess
 import sys
 
-from command_line import TOP, parser_of
+from command_line import TOP, parser_of, status_of_faults
 
 PAGE = "docs/FORMATS.md"
 FAULT = re.compile(r"`(?:refused |store |focusd: )?([A-Z][0-9]+ [A-Z]\w+|NoMemory)(?: [A-Z])?`")
@@ -138,10 +138,7 @@ def main():
     except (Unread, OSError, ValueError) as error:
         print(f"tools/test_words.py: {error}", file=sys.stderr)
         return 2
-    for fault in faults:
-        print(fault)
-    print(f"{len(listed)} codes, {len(rows_of(page))} rows of {PAGE}, {len(faults)} faults")
-    return 1 if faults else 0
+    return status_of_faults(faults, f"{len(listed)} codes, {len(rows_of(page))} rows of {PAGE}, {len(faults)} faults")
 
 
 if __name__ == "__main__":

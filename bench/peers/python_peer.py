@@ -1,11 +1,12 @@
 #!/usr/bin/env python3
 """The job by Python's standard library: rows kept in a list, then one report.
 
-    python_peer.py exact|float EXPORT FROM TO
+    bench/peers/python_peer.py exact export.csv 2024-09-01T00:00Z 2024-10-01T00:00Z
 
 `exact` rounds each amount to its nano by decimal, `float` sums floats, as most
 scripts do. The export is one file; each different text of a time is read once.
 """
+import argparse
 import csv
 import datetime
 import decimal
@@ -68,10 +69,15 @@ def read_rows(path, amount):
 
 
 def main():
-    how, path, low, high = sys.argv[1:]
-    amount, spell = (read_exact, spell_exact) if how == "exact" else (float, spell_float)
-    kept = read_rows(path, amount)
-    low, high = seconds(low), seconds(high)
+    parser = argparse.ArgumentParser(description=__doc__, formatter_class=argparse.RawDescriptionHelpFormatter)
+    parser.add_argument("how", choices=["exact", "float"], help="how amounts are summed")
+    parser.add_argument("export", metavar="EXPORT", help="the CSV")
+    parser.add_argument("low", metavar="FROM", type=seconds, help="when the range begins")
+    parser.add_argument("high", metavar="TO", type=seconds, help="when it ends")
+    options = parser.parse_args()
+    low, high = options.low, options.high
+    amount, spell = (read_exact, spell_exact) if options.how == "exact" else (float, spell_float)
+    kept = read_rows(options.export, amount)
     sums = {}
     for start, group, billed, effective in kept:
         if low <= start < high:

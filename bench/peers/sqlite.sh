@@ -1,11 +1,17 @@
 #!/bin/sh
 # The job by SQLite's shell: the export imported as texts into a table in memory, then one report in SQL.
 #
-#     sqlite.sh exact|float EXPORT FROM TO
+#     bench/peers/sqlite.sh exact export.csv 2024-09-01T00:00Z 2024-10-01T00:00Z
 #
 # `exact` makes whole nanos of the texts, half to even, in SQL; `float` sums doubles, as most queries do.
 # It checks no rule of a row, and compares times as texts, which serves for times in UTC alone.
 set -eu
+case ${1-} in
+-h | --help)
+    sed -n '2,/^set/s/^# \{0,1\}//p' "$0"
+    exit 0
+    ;;
+esac
 how=$1 export=$2
 low=$(printf %.16s "$3") high=$(printf %.16s "$4")
 

@@ -218,6 +218,13 @@ def tiny_segments(n, last=ONE_ROW):
     return body_of_posts([1] * count, [ONE_ROW] * (count - 1) + [last])
 
 
+def tiny_segments_in_turn(n):
+    """Posts of one row, each with a segment of its own in which it stands by itself, which has fewer bytes than one by column."""
+    one = b"\1" + number(1, 4) + PLAIN_ROW
+    count = max(2, n // (18 + len(one)))
+    return body_of_posts([1] * count, [one] * count)
+
+
 def tiny_posts(n):
     """Posts of one row, whose rows share segments."""
     count = max(2, n // (18 + len(ONE_ROW) - 9))
@@ -327,6 +334,7 @@ FOLDERS = {
     "posts with more rows than there are": lambda n: body_of_posts([4_096] * (n // 92), [ONE_ROW] * (n // 92)),
     "more segments than posts": lambda n: body_of_posts([1], [ONE_ROW] * (n // 74)),
     "tiny segments": tiny_segments,
+    "tiny segments row by row": tiny_segments_in_turn,
     "tiny segments, the last of which is wrong": lambda n: tiny_segments(n, ONE_ROW[:-4] + b"\1\0\0\0"),
     "tiny posts that share segments": tiny_posts,
     "a log of tiny groups": tiny_groups,

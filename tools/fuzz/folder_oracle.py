@@ -4,6 +4,8 @@
 offset of the first fault. A file that isn't there is None.
 """
 
+from dataclasses import dataclass, field
+
 import oracle
 from oracle import expected, texts
 
@@ -31,10 +33,24 @@ class Fault(Exception):
     """The offset of the first fault in what is decoded."""
 
 
+@dataclass
+class Layout:
+    """Where what a file is made of stands, as far as it was read."""
+
+    # Of numbers and codes the places and widths.
+    fields: list = field(default_factory=lambda: [(0, 1), (1, 8), (9, 8), (17, 8)])
+    # Of texts where their lengths stand and where they end.
+    texts: list = field(default_factory=list)
+    # Of lists where their count stands, and where each part begins and ends. A column has no count of its own.
+    lists: list = field(default_factory=list)
+    # Where the first gate is.
+    log: int = 0
+
+
 class Reader:
     """Reads fields from the left; a fault is at the first byte of the field."""
 
-    # Where the numbers and codes of a file are that were read, as places and widths, while `fields_of` looks at it.
+    # The layout of a file while `layout_of` looks at it, and where the bytes that are read begin in it.
     seen = None
     base = 0
 
@@ -61,7 +77,7 @@ class Reader:
 
     def note(self, width):
         if Reader.seen is not None:
-            Reader.seen.append((Reader.base + self.at, width))
+            Reader.seen.fields.append((Reader.base + self.at, width))
 
     def number(self, width, signed=False):
         self.note(width)
@@ -88,6 +104,8 @@ class Reader:
             raise Fault(at) from None
         if not least <= len(text.encode()) <= most:
             raise Fault(at)
+        if Reader.seen is not None:
+            Reader.seen.texts.append((Reader.base + at, Reader.base + self.at))
         return text
 
     def short(self):
@@ -100,7 +118,20 @@ class Reader:
         return read() if self.code(0, 1) else None
 
     def items(self, least, most, read):
-        return [read() for _ in range(self.number_in(4, least, most))]
+        at = self.at
+        return self.parts(self.number_in(4, least, most), read, at)
+
+    def parts(self, count, read, counted_at=None):
+        """So many parts, whose count stands at a place if anywhere."""
+        if Reader.seen is None:
+            return [read() for _ in range(count)]
+        spans, found = [], []
+        Reader.seen.lists.append((None if counted_at is None else Reader.base + counted_at, spans))
+        for _ in range(count):
+            at = Reader.base + self.at
+            found.append(read())
+            spans.append((at, Reader.base + self.at))
+        return found
 
     def tags(self):
         return self.items(0, texts.MOST_TAGS, lambda: (self.tag_text(), self.tag_text()))
@@ -248,7 +279,7 @@ def segment(r):
     names = r.items(0, 2**32 - 1, r.tag_text)
 
     def column(read):
-        return [read() for _ in range(count)]
+        return r.parts(count, read)
 
     def short_name():
         code = r.checked(lambda: r.number(4), lambda c: c <= len(names) and (c == 0 or 1 <= len(names[c - 1].encode()) <= oracle.LONGEST_TEXT))
@@ -262,7 +293,7 @@ def segment(r):
     has_quantity, quantities = column(lambda: r.code(0, 1)), column(r.nanos)
     columns.append([amount if there else None for there, amount in zip(has_quantity, quantities)])
     columns += [column(short_name), column(short_name), column(short_name)]
-    columns.append(column(lambda: [(names[place()], names[place()]) for _ in range(r.number_in(4, 0, texts.MOST_TAGS))]))
+    columns.append(column(lambda: r.items(0, texts.MOST_TAGS, lambda: (names[place()], names[place()]))))
     rows = [Row(*fields) for fields in zip(*columns)]
     seen = dict.fromkeys(text for row in rows for text in texts_of(row))
     if not all(row.agrees() for row in rows) or list(seen) != names or any(amount and not there for there, amount in zip(has_quantity, quantities)):
@@ -311,9 +342,8 @@ def state(data, last_kind):
     """The warehouse that a body spells."""
     r = Reader(data)
     currency = r.checked(lambda: r.text(0, 2**32), lambda text: len(text) == 3 and all("A" <= letter <= "Z" for letter in text))
-    heads = []
-    for _ in range(r.number(8)):
-        heads.append(Entry(r, last_kind, lambda: r.number_in(4, 1, expected.MOST_ROWS)))
+    at = r.at
+    heads = r.parts(r.number(8), lambda: Entry(r, last_kind, lambda: r.number_in(4, 1, expected.MOST_ROWS)), at)
     rows = [row for rows in r.items(0, 2**32 - 1, lambda: segment(r)) for row in rows]
     if r.at < len(data):
         raise Fault(r.at)
@@ -363,7 +393,7 @@ class Side:
                 raise Corrupt(self.name, gate)
             Reader.base = gate + 5
             if Reader.seen is not None:
-                Reader.seen += [(gate, 1), (gate + 1, 4)]
+                Reader.seen.fields += [(gate, 1), (gate + 1, 4)]
             try:
                 entries = group(self.file[gate + 5 : gate + 5 + length], self.last_kind)
             except Fault:
@@ -383,16 +413,16 @@ def opened(left, right):
     return max(sides, key=lambda side: side.generation).house()
 
 
-def fields_of(file):
-    """The places and widths of the numbers and codes of a file, as far as it can be read, and where its first gate is."""
-    Reader.seen = [(0, 1), (1, 8), (9, 8), (17, 8)]
-    log = len(file)
+def layout_of(file):
+    """The layout of a file, as far as it can be read."""
+    layout = Reader.seen = Layout(log=len(file))
     try:
         side = Side("", file)
-        log = side.log
+        layout.log = side.log
         side.house()
     except Corrupt:
         pass
     finally:
-        seen, Reader.seen = Reader.seen, None
-    return [(at, width) for at, width in seen if at + width <= len(file)], log
+        Reader.seen = None
+    layout.fields = [(at, width) for at, width in layout.fields if at + width <= len(file)]
+    return layout

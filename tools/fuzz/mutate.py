@@ -1,15 +1,17 @@
-"""Changes of inputs: bytes, words of a format, records, numbers at limits, splices of two inputs, and fields of the two files.
+"""Changes of inputs: bytes, words of a format, records, blanks, instants, numbers at limits, splices of two inputs, and what the two files are made of.
 
 Each function takes a `random.Random`, so that the same seed makes the same input.
 """
 
+import datetime
 import os
 import re
 import sys
 
 HERE = os.path.dirname(os.path.abspath(__file__))
-sys.path.insert(0, os.path.dirname(HERE))
+sys.path[:0] = [HERE, os.path.dirname(HERE)]
 import compare_hostile as hostile  # noqa: E402
+import texts  # noqa: E402
 
 NUMBERS = [
     "0", "-0", "1", "-1", "00", "01", "255", "256", "257", "1024", "1025", "4095", "4096", "4097", "26304", "26305", "65535", "65536", "65537", "1000000",
@@ -144,6 +146,74 @@ def of_texts(chance, data, words=()):
     return data[:start] + letter * (length // len(letter)) + b"y" * (length % len(letter)) + data[end:]
 
 
+# Bytes that a reader may take for nothing at an end of a text.
+BLANKS = (b" ", b" ", b" ", b"  ", b"\t", b"\xc2\xa0", b"\xe3\x80\x80", b"\x0b", b"\xe2\x80\x8b", b"\xef\xbb\xbf")
+QUOTED = re.compile(rb"\"([^\"\r\n]*)\"|'([^'\r\n]*)'")
+PIECE = re.compile(rb"[^,=\"'\[\]{}:\r\n]+")
+
+
+def of_blanks(chance, data, words=()):
+    """A blank put at an end of a text, or taken away from there: of a text in quotes, or of what stands between two marks."""
+    quoted = [found.span(1 if found[1] is not None else 2) for found in QUOTED.finditer(data)]
+    places = quoted if quoted and chance.random() < 0.6 else [found.span() for found in PIECE.finditer(data)]
+    if not places:
+        return of_bytes(chance, data)
+    start, end = chance.choice(places)
+    return data[:start] + blanked(chance, data[start:end]) + data[end:]
+
+
+def blanked(chance, text):
+    """A text with a blank more at an end, or without the one that was there."""
+    blank = chance.choice(BLANKS)
+    kind = chance.random()
+    if kind < 0.15:
+        return text.strip(b" \t")
+    return text + blank if kind < 0.7 else blank + text
+
+
+INSTANT = re.compile(rb"[0-9]{4}-[0-9]{2}-[0-9]{2}[Tt ][0-9]{2}(?::[0-9]{2}(?::[0-9]{2})?)?(?:[Zz]|[+-][0-9]{2}(?::?[0-9]{2})?)")
+# By how many seconds an instant moves: to halves and quarters of an hour, by a minute, a second, an hour and a day.
+MOVES = (1_800, 1_800, 900, 2_700, 60, 1, 3_600, 86_400)
+# Offsets in minutes: whole hours, and those of zones that have half and quarter hours.
+OFFSETS = (0, 60, 120, -300, 30, -30, 15, 330, 345, -210, 525, 765, 840, -720, 1_559)
+
+
+def of_times(chance, data, words=()):
+    """An instant moved, as to half an hour, or spelled in another zone, or both; or all instants of its line moved by the same time."""
+    places = [found.span() for found in INSTANT.finditer(data)]
+    if not places:
+        return of_words(chance, data, words)
+    start, end = chance.choice(places)
+    if chance.random() < 0.25:
+        low, high = data.rfind(b"\n", 0, start) + 1, (data + b"\n").index(b"\n", end)
+        move = chance.choice(MOVES) * chance.choice([1, 1, -1])
+        return data[:low] + INSTANT.sub(lambda found: moved_by(found[0], move), data[low:high]) + data[high:]
+    return data[:start] + moved(chance, data[start:end]) + data[end:]
+
+
+def moved(chance, text):
+    """An instant that is moved or spelled otherwise; as it was where it is none."""
+    kind = chance.random()
+    move = chance.choice(MOVES) * chance.choice([1, 1, -1]) if kind < 0.75 else 0
+    return moved_by(text, move, chance.choice(OFFSETS) if kind > 0.5 else 0, chance.random() < 0.2)
+
+
+def moved_by(text, move, offset=0, is_long=False):
+    try:
+        return instant(texts.second(text) + move, offset, is_long)
+    except texts.NoInstant:
+        return text
+
+
+def instant(second, offset=0, is_long=False):
+    """The text of a second, in the zone of so many minutes; the nearest one where there is no such day."""
+    first, last = datetime.datetime(1970, 1, 1), datetime.datetime(9999, 12, 31, 23, 59, 59)
+    local = first + datetime.timedelta(seconds=min(max(second + offset * 60, 0), (last - first).total_seconds()))
+    sign = "Z" if offset == 0 else f"{'-' if offset < 0 else '+'}{abs(offset) // 60:02}:{abs(offset) % 60:02}"
+    seconds = f":{local.second:02}" if is_long or local.second else ""
+    return f"{local.year:04}-{local.month:02}-{local.day:02}T{local.hour:02}:{local.minute:02}{seconds}{sign}".encode()
+
+
 def splice(chance, data, other):
     """The front of one input and the rest of another one, most often at the end of a line."""
     def place(text):
@@ -157,16 +227,20 @@ def mutated(chance, data, other, words):
     """One to five changes of an input."""
     for _ in range(chance.choice([1, 1, 1, 2, 2, 3, 5])):
         kind = chance.random()
-        if kind < 0.25:
+        if kind < 0.22:
             data = of_bytes(chance, data)
-        elif kind < 0.55:
+        elif kind < 0.48:
             data = of_words(chance, data, words)
-        elif kind < 0.68:
+        elif kind < 0.59:
             data = of_numbers(chance, data)
-        elif kind < 0.83:
+        elif kind < 0.73:
             data = of_lines(chance, data)
-        elif kind < 0.92:
+        elif kind < 0.81:
             data = of_texts(chance, data, words)
+        elif kind < 0.87:
+            data = of_blanks(chance, data, words)
+        elif kind < 0.93:
+            data = of_times(chance, data, words)
         else:
             data = splice(chance, data, other)
     return data[:MOST_BYTES]
@@ -194,7 +268,13 @@ def of_fields(chance, data, words):
     fields = fields_of(lines[at])
     place = chance.randrange(len(fields))
     kind = chance.random()
-    if kind < 0.7:
+    if kind < 0.1:
+        fields[place] = of_blanks(chance, fields[place])
+    elif kind < 0.2:
+        places = [at for at, field in enumerate(fields) if INSTANT.search(field)] or [place]
+        place = chance.choice(places)
+        fields[place] = of_times(chance, fields[place], words)
+    elif kind < 0.7:
         word = chance.choice(words)
         quoted = b'"' + word.replace(b'"', b'""') + b'"'
         fields[place] = quoted if chance.random() < 0.4 or re.search(rb'[,"\r\n]', word) and chance.random() < 0.9 else word
@@ -231,8 +311,16 @@ def of_values(chance, data):
     place = chance.choice(places)
     name, _, value = lines[place].partition(b"=")
     kind = chance.random()
-    if kind < 0.6:
+    if kind < 0.45:
         value = b" " + chance.choice(VALUES) + b"\n"
+    elif kind < 0.55:
+        value = of_blanks(chance, value)
+    elif kind < 0.65:
+        dated = [at for at in places if INSTANT.search(lines[at])]
+        if dated:
+            place = chance.choice(dated)
+            name, _, value = lines[place].partition(b"=")
+        value = of_times(chance, value, VALUES)
     elif kind < 0.75:
         value = lines[chance.choice(places)].partition(b"=")[2]
     elif kind < 0.9:
@@ -280,17 +368,79 @@ def number_at(data, at, width):
     return int.from_bytes(data[at : at + width], "little")
 
 
-def of_file(chance, file, fields, log):
-    """A file of which one field is changed. `fields` are the places and widths of its numbers and codes, `log` is where its first gate is."""
+def of_file(chance, file, layout):
+    """A file in which something of its layout is changed: a number or a code, a text, the parts of a list, or bytes anywhere."""
     kind = chance.random()
-    if fields and kind < 0.55:
-        at, width = chance.choice(fields)
-        value = number_at(file, at, width)
-        other = chance.choice([value + 1, value - 1, value ^ 1 << chance.randrange(8 * width), *chance.choices(EXTREMES, k=4), len(file) - at, len(file)])
-        return with_number(file, at, width, other)
-    if kind < 0.75:
+    if layout.fields and kind < 0.42:
+        return of_number_in(chance, file, layout.fields)
+    if kind < 0.54:
+        return of_parts(chance, file, layout)
+    if kind < 0.62:
+        return of_text_in(chance, file, layout)
+    if kind < 0.8:
         return of_bytes(chance, file)
-    return resized(chance, file, log)
+    return resized(chance, file, layout.log)
+
+
+def of_number_in(chance, file, fields):
+    """A file with another number or code at one of these places, each of which has a width."""
+    at, width = chance.choice(fields)
+    value = number_at(file, at, width)
+    others = [value + 1, value - 1, value ^ 1 << chance.randrange(8 * width), *chance.choices(EXTREMES, k=4), len(file) - at, len(file)]
+    if width == 8:
+        others += [value + move for move in chance.choices(MOVES, k=2)]
+    return with_number(file, at, width, chance.choice(others))
+
+
+def of_parts(chance, file, layout):
+    """A file in which two parts of a list change places, as two tags, names, rows, entries or segments; or one is doubled or left out, and then
+    the list's count is made to fit, and the length of what has it."""
+    counted = [(at, parts) for at, parts in layout.lists if at is not None and parts]
+    columns = [(at, parts) for at, parts in layout.lists if at is None and len(parts) > 1]
+    kind = chance.random()
+    if columns and kind < 0.2:
+        return exchanged(chance, file, chance.choice(columns)[1])
+    # Most lists have one part alone.
+    longer = [(at, parts) for at, parts in counted if len(parts) > 1]
+    if longer and kind < 0.75:
+        return exchanged(chance, file, chance.choice(longer)[1])
+    if not counted:
+        return resized(chance, file, layout.log)
+    at, parts = chance.choice(counted)
+    start, end = chance.choice(parts)
+    more, put = (1, file[start:end] * 2) if chance.random() < 0.5 else (-1, b"")
+    return replaced(with_number(file, at, 4, number_at(file, at, 4) + more), layout.log, start, end, put)
+
+
+def exchanged(chance, file, parts):
+    """A file in which two of these parts change places, most often neighbours."""
+    first = chance.randrange(len(parts) - 1)
+    second = first + 1 if chance.random() < 0.7 else chance.randrange(first + 1, len(parts))
+    (a, b), (c, d) = parts[first], parts[second]
+    return file[:a] + file[c:d] + file[b:c] + file[a:b] + file[d:]
+
+
+def of_text_in(chance, file, layout):
+    """A file with another text, whose length is made to fit: a blank more or less at an end, a letter changed, or as many bytes as a limit allows."""
+    if not layout.texts:
+        return of_bytes(chance, file)
+    at, end = chance.choice(layout.texts)
+    text = file[at + 4 : end]
+    kind = chance.random()
+    if kind < 0.5:
+        text = blanked(chance, text)
+    elif kind < 0.75:
+        text = of_bytes(chance, text)
+    else:
+        text = b"x" * chance.choice(LENGTHS)
+    return replaced(file, layout.log, at, end, len(text).to_bytes(4, "little") + text)
+
+
+def replaced(file, log, start, end, put):
+    """A file with other bytes in a place, and the length of the body, or of the frame, that has the place made to fit."""
+    field, width = next(((gate + 1, 4) for gate, behind in frames_of(file, log) if gate + 5 <= start <= behind), (17, 8))
+    changed = file[:start] + put + file[end:]
+    return with_number(changed, field, width, number_at(file, field, width) + len(put) - (end - start))
 
 
 def resized(chance, file, log):
@@ -298,14 +448,11 @@ def resized(chance, file, log):
     if len(file) < 26:
         return of_bytes(chance, file)
     frames = list(frames_of(file, log))
-    spans = [(25, log, 17, 8)] + [(gate + 5, end, gate + 1, 4) for gate, end in frames]
-    start, end, field, width = chance.choice(spans)
+    start, end = chance.choice([(25, log), *((gate + 5, end) for gate, end in frames)])
     at = chance.randint(start, end)
-    gone = chance.choice([0, 0, 1, 2, 4, 8])
+    gone = min(chance.choice([0, 0, 1, 2, 4, 8]), end - at)
     put = chance.choice([b"", b"\0", b"\1", bytes(4), bytes(8), chance.randbytes(chance.randint(1, 8)), file[at : at + chance.randint(1, 40)]])
-    gone = min(gone, end - at)
-    changed = file[:at] + put + file[at + gone :]
-    return with_number(changed, field, width, number_at(file, field, width) + len(put) - gone)
+    return replaced(file, log, at, at + gone, put)
 
 
 def frames_of(file, log):

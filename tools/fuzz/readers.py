@@ -597,16 +597,16 @@ class Folders(Reader):
     """The two files of a folder, each of which may be missing."""
 
     name = "folders"
-    # The fields of files that inputs were made of.
+    # The layouts of files that inputs were made of.
     known = {}
 
-    def fields_of(self, file):
+    def layout_of(self, file):
         if len(file) < 26:
-            return [], 0
+            return folder_oracle.Layout(fields=[])
         if file not in self.known:
             if len(self.known) > 500:
                 self.known.clear()
-            self.known[file] = folder_oracle.fields_of(file)
+            self.known[file] = folder_oracle.layout_of(file)
         return self.known[file]
 
     def corpus(self):
@@ -628,12 +628,12 @@ class Folders(Reader):
                 at = 1 - at
             file = files[at] or b""
             kind = chance.random()
-            fields, log = self.fields_of(file)
-            if kind < 0.7:
-                files[at] = mutate.of_file(chance, file, fields, log)
-            elif kind < 0.85 and log:
+            layout = self.layout_of(file)
+            if kind < 0.75:
+                files[at] = mutate.of_file(chance, file, layout)
+            elif kind < 0.87 and layout.log:
                 other = [one for files in pool for one in files if one]
-                files[at] = mutate.of_frames(chance, file, log, chance.choice(other))
+                files[at] = mutate.of_frames(chance, file, layout.log, chance.choice(other))
             elif kind < 0.9:
                 files.reverse()
             elif kind < 0.95:
@@ -726,7 +726,9 @@ class CommandLines(Reader):
         # No word names a place outside of the folder, and no argument of a program has a byte 0.
         words = tuple(word.replace(b"\0", b"").replace(b"/", b"").replace(b"..", b".") for word in words)
         meaning = command_oracle.meaning(words)
-        signature = ("command line", meaning, words[:1], len(words))
+        # A word that is no command is like any other.
+        command = next((word for word in words[:1] if word.decode(errors="replace") in command_oracle.COMMANDS), None)
+        signature = ("command line", meaning, command, len(words))
         self.new = [] if signature in oracle.PATHS else [0]
         oracle.PATHS.add(signature)
         session.count([f"command line: {meaning}"])
