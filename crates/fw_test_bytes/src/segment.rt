@@ -420,21 +420,18 @@ fn broken_bytes_have_their_faults(rt: HostRuntime) {
     check_all(&rt, first_wrong_break(rt.alloc()));
 }
 
-/// The segments of two posts of one row each, part by part, in one segment or in two, row by row or by column; and the parts as they are written again: the
-/// same segments, by column.
-const CUTS: &[(&[&[u8]], &[&[u8]])] = &[
-    (&[&[1, 0, 0, 0, 1, 2, 0, 0, 0], &TAX, &TAX], ONE_SEGMENT),
-    (&[&[2, 0, 0, 0], &SEGMENT, &SEGMENT], TWO_SEGMENTS),
-    (&[&[2, 0, 0, 0], &COLUMNS, &COLUMNS], TWO_SEGMENTS),
-    (&[&[2, 0, 0, 0], &SEGMENT, &COLUMNS], TWO_SEGMENTS),
-    (&[&[1, 0, 0, 0], &BOTH], ONE_SEGMENT),
+/// The segments of two posts of one row each, part by part, in one segment or in two, row by row or by column. However they are cut, segments of few rows
+/// are written again as one, by column.
+const CUTS: &[&[&[u8]]] = &[
+    &[&[1, 0, 0, 0, 1, 2, 0, 0, 0], &TAX, &TAX],
+    &[&[2, 0, 0, 0], &SEGMENT, &SEGMENT],
+    &[&[2, 0, 0, 0], &COLUMNS, &COLUMNS],
+    &[&[2, 0, 0, 0], &SEGMENT, &COLUMNS],
+    ONE_SEGMENT,
 ];
 
 /// Both rows by column, in one segment.
 const ONE_SEGMENT: &[&[u8]] = &[&[1, 0, 0, 0], &BOTH];
-
-/// Each row by column, in a segment of its own.
-const TWO_SEGMENTS: &[&[u8]] = &[&[2, 0, 0, 0], &COLUMNS, &COLUMNS];
 
 /// Two rows by column: a tax of 1 nano in the first hour of 1970, twice.
 const BOTH: [u8; 139] = [
@@ -451,17 +448,17 @@ fn two_posts(alloc: Global, segments: &[&[u8]]) -> Result<Vec<u8>, AllocError> {
     joined(alloc, &[&TWO_POSTS, &segments])
 }
 
-/// Whether two posts that are cut so are read, and written as the other parts say.
-fn is_cut_kept(alloc: Global, cut: &[&[u8]], again: &[&[u8]]) -> Result<bool, AllocError> {
+/// Whether two posts that are cut so are read, and written in one segment.
+fn is_cut_read(alloc: Global, cut: &[&[u8]]) -> Result<bool, AllocError> {
     let bytes = two_posts(alloc, cut)?;
-    let written = two_posts(alloc, again)?;
+    let written = two_posts(alloc, ONE_SEGMENT)?;
     is_written_as(alloc, What::State(Form::One), &bytes, &written)
 }
 
-/// The place of the first of the cuts of two posts of one row each that is not read, or not written in the same segments.
+/// The place of the first of the cuts of two posts of one row each that is not read, or not written in one segment.
 fn wrong_cut(alloc: Global) -> Result<Option<usize>, AllocError> {
-    for (i, (cut, again)) in CUTS.iter().enumerate() {
-        if !is_cut_kept(alloc, cut, again)? {
+    for (i, cut) in CUTS.iter().enumerate() {
+        if !is_cut_read(alloc, cut)? {
             return Ok(Some(i));
         }
     }
