@@ -13,6 +13,7 @@ mod search;
 
 pub use charging::charge;
 pub use cost::Cost;
+pub use fw_policy::{PolicyFault, read_policy};
 pub use fw_shares::share;
 pub use fw_terms::{Give, Policy, Rule, Target};
 pub use laws::{charges_are_one, charges_keep_the_total};

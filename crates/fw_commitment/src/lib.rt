@@ -15,6 +15,7 @@ mod terms;
 
 pub use added::read_purchase;
 pub use fault::{CommitmentFault, CommitmentField};
+pub use fw_cover::{Taken, cover};
 pub use fw_terms::{AddedPurchase, Commitment, Purchase, Rate, Terms};
 pub use laws::{commitment_reads_as_one, purchase_reads_as_one};
 pub use reading::read_commitment;
