@@ -1,5 +1,5 @@
 //! A state that is made again of its parts: of its segments as they stand, and of the heads of its entries, one after the other.
-ghost use Rattle.std.specs.Prelude.{◌≡◌, ◌<◌, ◌≤◌, ◌+◌, ◌++◌, ◌∷◌, ◌||◌, [], ℕ, List, false, true, if◌then◌else◌, length, take, drop, slice_get, All, IsTrue, Some, IfOk, IfSome};
+ghost use Rattle.std.specs.Prelude.{◌≡◌, ◌<◌, ◌≤◌, ◌+◌, ◌++◌, ◌∷◌, ◌||◌, [], ℕ, List, false, true, if◌then◌else◌, length, take, drop, slice_get, All, IsTrue, Some, IfOk, IfSome, OnErr};
 ghost use Rattle.std.specs.List.{list_any};
 ghost use Rattle.std.specs.Option.{option_map_or};
 ghost use Rattle.std.specs.Str.{bytes_eq};
@@ -160,6 +160,8 @@ impl StateBuilder {
         requires enough { row_count (content_view content) ≤ length (left_rows self.old) }
         ensures answer { IfOk result (λ added. added ≡ goes_behind self.old.history.entries (next_entry self.old (record { origin = origin.now; seq = seq; content = content_view content }))) }
         ensures added { IfOk result (λ added. added ≡ true → self.new ≡ with_next self.old (record { origin = origin.now; seq = seq; content = content_view content })) }
+        ensures refused { IfOk result (λ added. added ≡ false → self.new ≡ self.old) }
+        ensures no_memory { OnErr result (self.new ≡ self.old) }
     {
         let brought = self.brought(&content)?;
         if !self.accepts(origin, seq, &content, &brought) {
