@@ -249,6 +249,8 @@ checkpointed tells view old new bytes side form generation failed side_is log sp
       side = ap (λ (l : LogState). l.side) log ∙ side_is;
       body = spells.body;
       spells = spells.spells;
+      segments = spells.segments;
+      joined = spells.joined;
       fits = omega (arith, fits, long);
       start = ap (λ (l : LogState). l.start) log ∙ long;
       no_group = ap (λ (l : LogState). l.end) log ∙ sym (ap (λ (l : LogState). l.start) log);

@@ -4,14 +4,18 @@ use Rattle.std.specs.Prelude.{◌≡◌, ◌≢◌, ◌⊎◌, ℕ, ◌≤◌, L
 use Rattle.fw_disk.specs.declared.volume.Side.{Side}
 use Rattle.fw_disk.specs.Volume.{Image, View, Settled, Torn, other}
 use Rattle.fw_entry_bytes.specs.declared.form.Form.TheVariants.{Two}
-use Rattle.fw_segment.specs.States.{Spells}
+use Rattle.fw_charge.specs.Charge.{Charge}
+use Rattle.fw_segment.specs.States.{Spells, SpellsJoined}
 use Rattle.fw_snapshot.specs.History.{History}
 use Rattle.fw_recover.specs.Sides.{made_of}
 
--- all of a side behind its gate: a header, which is of the second form, a body that spells the warehouse, and a closed gate behind it
+-- all of a side behind its gate: a header, which is of the second form, a body that spells the warehouse by segments that are joined, and a closed
+-- gate behind it
 pub record SpellsSide (generation : ℕ) (h : History) (bytes : List ℕ) : Type 0 where
   pub body : List ℕ
   pub spells : Spells body h
+  pub segments : List (List Charge)
+  pub joined : SpellsJoined body h segments
   pub is : bytes ≡ made_of Two generation body ++ 0 ∷ []
 
 -- nothing is pending

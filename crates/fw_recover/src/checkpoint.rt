@@ -13,13 +13,13 @@ use crate::{Store, StoreFault, make_side};
 use fw_disk::Volume;
 use fw_entry_bytes::Form;
 use fw_journal::Log;
-use fw_snapshot::{Snapshot, State};
+use fw_snapshot::{JoinedState, Snapshot, State};
 use std::alloc::{AllocError, Global};
 
 impl<V: Volume> Store<V> {
     /// Makes the side that isn't in use anew, of the state as it is, of the second form and with the next generation; from
     /// then on that side is in use, and its log is empty. The rows are then in few segments, on the side and in the store: short ones that follow each other are
-    /// joined, as [`State::merged`](fw_snapshot::State::merged) says. At each moment since the call's start, and after it whatever it answers, a crash
+    /// joined, as [`JoinedState::of_state`] says. At each moment since the call's start, and after it whatever it answers, a crash
     /// leaves files that stand for the warehouse as it is.
     ///
     /// `Failed` where the device has failed in an earlier call that writes, then `Generations` where there is no greater
@@ -82,11 +82,14 @@ impl<V: Volume> Store<V> {
             → HasNoRoomFor (V.view self.now.volume).limit self.now.history }
         ensures which { OnErr result (IsErrOf result TooLarge ⊎ IsErrOf result NoMemory) }
     {
-        let Ok(merged) = merged_of(self.snapshot.state()) else {
+        let Ok(joined) = JoinedState::of_state(self.snapshot.state()) else {
             return Err(StoreFault::NoMemory);
         };
-        let bytes = side_bytes(alloc, generation, merged.state(), self.volume.limit())?;
-        Ok((bytes, merged))
+        let bytes = side_bytes(alloc, generation, &joined, self.volume.limit())?;
+        let Ok(snapshot) = snapshot_of(joined.into_state()) else {
+            return Err(StoreFault::NoMemory);
+        };
+        Ok((bytes, snapshot))
     }
 
     /// The length of the body of the side in use, in bytes.

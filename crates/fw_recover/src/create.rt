@@ -21,7 +21,7 @@ use fw_charge::Currency;
 use fw_disk::{Side, Volume, VolumeFault};
 use fw_entry_bytes::Form;
 use fw_journal::Log;
-use fw_snapshot::{Snapshot, State};
+use fw_snapshot::{JoinedState, Snapshot, State};
 use std::alloc::Global;
 
 impl<V: Volume> Store<V> {
@@ -190,9 +190,12 @@ fn first_side(
     ensures too_large { IsErrOf result TooLarge → limit < 45 }
     ensures which { OnErr result (IsErrOf result TooLarge ⊎ IsErrOf result NoMemory) }
 {
-    let Ok(snapshot) = snapshot_of(State::empty(alloc, currency)) else {
+    let Ok(joined) = JoinedState::of_state(&State::empty(alloc, currency)) else {
         return Err(StoreFault::NoMemory);
     };
-    let bytes = side_bytes(alloc, 1, snapshot.state(), limit)?;
+    let bytes = side_bytes(alloc, 1, &joined, limit)?;
+    let Ok(snapshot) = snapshot_of(joined.into_state()) else {
+        return Err(StoreFault::NoMemory);
+    };
     Ok((bytes, snapshot))
 }

@@ -30,7 +30,7 @@ use Rattle.fw_segment.specs.declared.layout.SegmentLayout.TheVariants.{Columns}
 use Rattle.fw_segment.specs.Segments.{segment, IsSegment}
 use Rattle.fw_segment.specs.Heads as head
 use Rattle.fw_segment.specs.Heads.{heads, IsContent, IsHead}
-use Rattle.fw_segment.specs.States.{state, Spells, most_segments, Cut, cut_rows, Parts, parts_at, bytes_before_heads, continued, replayed, replayed_state, state_from, state_at}
+use Rattle.fw_segment.specs.States.{state, by_column, Spells, SpellsByColumn, most_segments, Cut, cut_rows, Parts, parts_at, bytes_before_heads, continued, replayed, replayed_state, state_from, state_at}
 use Rattle.fw_segment.proofs.HeadFormat.{AreHeads, FitsHead}
 use Rattle.fw_segment.proofs.StateFormat.{FitsCut, parts_taken, parts_again}
 use Rattle.fw_segment.proofs.Replay.{no_row_counts, replay_taken, replay_again}
@@ -167,10 +167,6 @@ states_one bytes a b s t = ok_is a b (sym (state_again Two bytes a s (all_of_two
 
 -- ---- writing
 
--- segments that are laid out by column
-abbrev pub by_column : List (List Charge) → Cut
-by_column segments = map (λ rows. (Columns, rows)) segments
-
 each_spelled : (segments : List (List Charge)) → flat_map (λ (s : SegmentLayout × List Charge). segment s.0 s.1) (by_column segments) ≡ flat_map (segment Columns) segments
 each_spelled [] = refl
 each_spelled (rows ∷ segments) = ap (λ (w : List ℕ). segment Columns rows ++ w) (each_spelled segments)
@@ -195,15 +191,32 @@ abbrev pub IsSized : List Charge → Type 0
 IsSized rows = (0 < length rows) × (length rows ≤ most_column_rows)
 
 -- segments whose rows are those of entries are segments
-pub are_segments : (segments : List (List Charge)) → All IsSized segments → All IsRow (segment_rows segments) → All IsLaid (by_column segments)
-are_segments [] sized each = All-nil IsLaid
+pub are_segments : (segments : List (List Charge)) → All IsSized segments → All IsRow (segment_rows segments) → All IsSegment segments
+are_segments [] sized each = All-nil IsSegment
 are_segments (rows ∷ segments) sized each =
     let others = segment_rows segments in
     let size = All-head IsSized rows segments sized in
     let front : All IsRow rows = subst (All IsRow) (take-append_seam rows others) (All-take IsRow (length rows) (rows ++ others) each) in
     let back : All IsRow others = subst (All IsRow) (drop-append_seam rows others) (All-drop IsRow (length rows) (rows ++ others) each) in
     let one : IsSegment rows = record { some = size.0; few = size.1; each = front } in
-    All-cons IsLaid (Columns, rows) (by_column segments) one (are_segments segments (All-tail IsSized rows segments sized) back)
+    All-cons IsSegment rows segments one (are_segments segments (All-tail IsSized rows segments sized) back)
+
+are_laid : (segments : List (List Charge)) → All IsSegment segments → All IsLaid (by_column segments)
+are_laid [] each = All-nil IsLaid
+are_laid (rows ∷ segments) each = All-cons IsLaid (Columns, rows) (by_column segments) (All-head IsSegment rows segments each) (are_laid segments (All-tail IsSegment rows segments each))
+
+-- by column, and so in some layout
+pub spells_some : (bytes : List ℕ) (h : History) (segments : List (List Charge)) → SpellsByColumn bytes h segments → Spells bytes h
+spells_some bytes h segments s =
+    let long : length (by_column segments) ≡ length segments = length-map {B = SegmentLayout × List Charge} segments (λ (rows : List Charge). (Columns, rows)) in
+    record {
+      cut = by_column segments;
+      count = rw long s.count;
+      segments = are_laid segments s.each;
+      rows = ap segment_rows (same_rows segments) ∙ s.rows;
+      history = s.history;
+      spelled = s.spelled;
+    }
 
 posted_each : (c : CommandValue) → IsCommand c → All IsRow (posted c)
 posted_each (post rows) h = h.each

@@ -15,7 +15,9 @@ use Rattle.fw_snapshot.specs.Heads.{HeadValue, head_of, entry_of, row_count, row
 use Rattle.fw_snapshot.specs.History.{History, rows_posted}
 use Rattle.fw_snapshot.specs.Judging.{IsLegal}
 use Rattle.fw_snapshot.specs.Verdicts.{goes_behind}
+use Rattle.fw_snapshot.specs.Joined.{AreFull}
 use Rattle.fw_segment.specs.declared.layout.SegmentLayout.{SegmentLayout}
+use Rattle.fw_segment.specs.declared.layout.SegmentLayout.TheVariants.{Columns}
 use Rattle.fw_segment.specs.Segments.{segment, segment_at, IsSegment}
 use Rattle.fw_segment.specs.Heads.{head, heads, heads_at}
 
@@ -48,6 +50,23 @@ pub record Spells (bytes : List ℕ) (h : History) : Type 0 where
   pub rows : segment_rows (cut_rows cut) ≡ rows_posted h.entries
   pub history : IsHistory h
   pub spelled : bytes ≡ state h.currency (map head_of h.entries) cut
+
+-- segments, each of them by column
+abbrev pub by_column : List (List Charge) → Cut
+by_column segments = map (λ rows. (Columns, rows)) segments
+
+-- the bytes spell the state, and they are what these segments of its rows give, each of them by column
+pub record SpellsByColumn (bytes : List ℕ) (h : History) (segments : List (List Charge)) : Type 0 where
+  pub count : Fits32 (length segments)
+  pub each : All IsSegment segments
+  pub rows : segment_rows segments ≡ rows_posted h.entries
+  pub history : IsHistory h
+  pub spelled : bytes ≡ state h.currency (map head_of h.entries) (by_column segments)
+
+-- the same, of segments that are joined as a checkpoint writes them: no two that follow each other have room in one
+pub record SpellsJoined (bytes : List ℕ) (h : History) (segments : List (List Charge)) : Type 0 where
+  pub columns : SpellsByColumn bytes h segments
+  pub full : AreFull segments
 
 -- ---- how a state is read
 

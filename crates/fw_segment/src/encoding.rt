@@ -1,9 +1,10 @@
 //! Values to bytes.
-ghost use Rattle.std.specs.Prelude.{◌≡◌, IfOk};
+ghost use Rattle.std.specs.Prelude.{◌≡◌, List, IfOk};
+ghost use Rattle.fw_charge.specs.Charge.{Charge};
 ghost use Rattle.fw_entry.specs.Spelling.{entry};
 ghost use Rattle.fw_segment.specs.Groups.{group, IsGroup};
 ghost use Rattle.fw_segment.specs.Segments.{segment, IsSegment};
-ghost use Rattle.fw_segment.specs.States.{Spells};
+ghost use Rattle.fw_segment.specs.States.{Spells, SpellsByColumn};
 
 use crate::groups::put_group;
 use crate::layout::SegmentLayout;
@@ -51,7 +52,9 @@ pub fn encode_segment(
 
 /// The bytes of a state, each of its segments as one, by column: a spelling of it. The error comes where memory ran out.
 pub fn encode_state(alloc: Global, one: &State) -> Result<Vec<u8>, AllocError>
-    ensures { IfOk result (λ bytes. Spells bytes.items one.now) }
+    ensures spelled { IfOk result (λ bytes. Spells bytes.items one.now) }
+    ensures by_column { IfOk result (λ bytes.
+        (segments : List (List Charge)) × SpellsByColumn bytes.items one.now segments) }
 {
     let mut out = Vec::new(alloc);
     append_state(&mut out, one)?;

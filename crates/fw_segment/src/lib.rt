@@ -22,4 +22,4 @@ pub use encoding::{encode_entry, encode_group, encode_segment, encode_state};
 pub use fault::DecodeFault;
 pub use laws::{spellings_are_one, states_are_one};
 pub use layout::SegmentLayout;
-pub use states::append_state;
+pub use states::{append_joined, append_state};

@@ -2,9 +2,11 @@
 ghost use Rattle.std.specs.Prelude.{◌≡◌, ◌++◌, ◌<◌, ◌≤◌, [], ℕ, List, length, map, true, unwrap_or, All, OnOk, IfOk};
 ghost use Rattle.fw_bytes.specs.Reading.{Gives, seen, times};
 ghost use Rattle.fw_bytes.specs.Spelling.{listed, text, Fits64};
+ghost use Rattle.fw_charge.specs.Charge.{Charge};
 ghost use Rattle.fw_charge.specs.Currencies.{IsCode};
 ghost use Rattle.fw_entry.specs.Spelling.{IsEntry};
 ghost use Rattle.fw_snapshot.specs.Building.{left_rows, next_entry, with_next};
+ghost use Rattle.fw_snapshot.specs.History.{rows_posted};
 ghost use Rattle.fw_snapshot.specs.Judging.{most_rows, IsLegal};
 ghost use Rattle.fw_posted.specs.Rows.{segment_rows};
 ghost use Rattle.fw_snapshot.specs.Heads.{head_of, row_count, row_counts};
@@ -12,7 +14,7 @@ ghost use Rattle.fw_snapshot.specs.Verdicts.{goes_behind};
 ghost use Rattle.fw_segment.specs.HeadView.{content_view, head_view};
 ghost use Rattle.fw_segment.specs.Heads.{IsHead, heads};
 ghost use Rattle.fw_segment.specs.Segments.{segment, segment_at};
-ghost use Rattle.fw_segment.specs.States.{Spells, continued, currency_at, parts_at, rows_at, state_at, state_from};
+ghost use Rattle.fw_segment.specs.States.{Spells, SpellsByColumn, SpellsJoined, continued, currency_at, parts_at, rows_at, state_at, state_from};
 ghost use Rattle.fw_segment.specs.declared.layout.SegmentLayout.TheVariants as layout;
 ghost use Rattle.fw_row_table.specs.Table.{most_column_rows};
 
@@ -24,7 +26,7 @@ use fw_charge::Currency;
 use fw_columns::Columns;
 use fw_entry_bytes::Form;
 use fw_persistent::Sequence;
-use fw_snapshot::{State, StateBuilder};
+use fw_snapshot::{JoinedState, State, StateBuilder};
 use std::alloc::{AllocError, Global};
 
 /// The bytes before the first head: the length of the currency, its three letters, and the number of heads.
@@ -61,7 +63,8 @@ fn with_next(
     last: Option<Columns>,
     next: Columns,
 ) -> Result<(Sequence<Columns>, Columns), AllocError>
-    ensures { IfOk result (λ x. segment_rows x.0 ++ x.1 ≡ (segment_rows segments ++ unwrap_or last []) ++ next) }
+    ensures { IfOk result (λ x.
+        segment_rows x.0 ++ x.1 ≡ (segment_rows segments ++ unwrap_or last []) ++ next) }
 {
     let Some(last) = last else {
         return Ok((segments, next));
@@ -94,7 +97,8 @@ fn segments_after(
     count: u32,
     bytes: &[u8],
 ) -> Result<(Sequence<Columns>, &[u8]), ReadError>
-    ensures { Gives (λ x. (segment_rows x.0, x.1.now)) result (seen segment_rows (times segment_at count) bytes.now) }
+    ensures { Gives (λ x. (segment_rows x.0, x.1.now)) result
+        (seen segment_rows (times segment_at count) bytes.now) }
 {
     let mut segments = Sequence::new();
     let mut last: Option<Columns> = None;
@@ -284,11 +288,41 @@ fn put_segments(out: &mut Vec<u8>, segments: &Sequence<Columns>) -> Result<(), A
 /// # Errors
 /// [`AllocError`] where memory ran out. Then nothing is promised of what the buffer holds.
 pub fn append_state(out: &mut Vec<u8>, one: &State) -> Result<(), AllocError>
-    ensures { OnOk result ((body : List ℕ) × (out.new.items ≡ out.old.items ++ body) × Spells body one.now) }
+    ensures spelled { OnOk result ((body : List ℕ) × (out.new.items ≡ out.old.items ++ body)
+        × Spells body one.now) }
+    ensures by_column { OnOk result ((body : List ℕ) × (out.new.items ≡ out.old.items ++ body)
+        × (segments : List (List Charge)) × SpellsByColumn body one.now segments) }
 {
-    put_currency(out, one.currency())?;
-    put_heads(out, one)?;
-    put_segments(out, one.segments())?;
+    append_by_column(out, one, one.segments())?;
+    Ok(())
+}
+
+/// Appends the bytes of a state whose short segments are joined, each of them by column: a spelling of it, behind what the buffer holds.
+///
+/// # Errors
+/// [`AllocError`] where memory ran out. Then nothing is promised of what the buffer holds.
+pub fn append_joined(out: &mut Vec<u8>, one: &JoinedState) -> Result<(), AllocError>
+    ensures { OnOk result ((body : List ℕ) × (out.new.items ≡ out.old.items ++ body)
+        × Spells body one.now.history × SpellsJoined body one.now.history one.now.segments) }
+{
+    append_by_column(out, one.state(), one.segments())?;
+    Ok(())
+}
+
+/// Appends the bytes of a state by these segments of its rows, each of them by column.
+fn append_by_column(
+    out: &mut Vec<u8>,
+    state: &State,
+    segments: &Sequence<Columns>,
+) -> Result<(), AllocError>
+    requires posted { segment_rows segments.now ≡ rows_posted state.now.entries }
+    requires few { length segments.now ≤ most_rows }
+    ensures { OnOk result ((body : List ℕ) × (out.new.items ≡ out.old.items ++ body)
+        × SpellsByColumn body state.now segments.now) }
+{
+    put_currency(out, state.currency())?;
+    put_heads(out, state)?;
+    put_segments(out, segments)?;
     Ok(())
 }
 

@@ -16,6 +16,7 @@ pub mod SenderFacts
 pub mod RuleFacts
 pub mod OnePostFacts
 pub mod MergedState
+pub mod JoinedFacts
 pub mod BuildingFacts
 pub mod BuilderFacts
 pub mod AddingToBuilder

@@ -13,3 +13,5 @@ pub mod SnapshotView
 pub mod Verdicts
 pub mod Building
 pub mod BuilderView
+pub mod Joined
+pub mod JoinedView

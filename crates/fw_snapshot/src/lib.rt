@@ -34,5 +34,5 @@ pub use laws::{
     what_is_accepted_breaks_no_rule, what_is_sent_often_stands_once,
 };
 pub use snapshot::Snapshot;
-pub use state::{State, StateBuilder};
+pub use state::{JoinedState, State, StateBuilder};
 pub use verdict::{Conflict, Verdict};

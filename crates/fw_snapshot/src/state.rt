@@ -27,8 +27,10 @@ use std::marker::Model;
 use std::sync::Arc;
 
 mod building;
+mod joined;
 
 pub use building::StateBuilder;
+pub use joined::JoinedState;
 
 /// The state of a warehouse: its currency, and the entries that it accepted, in order.
 ///

@@ -9,5 +9,7 @@ returns-then-len-limit-clause-too_large c is =
     record {
       body = made.0;
       spells = made.1;
+      segments = c.args.state.now.segments;
+      joined = made.3;
       too_long = omega (arith, ap (λ (l : List ℕ). length l) made.2, length-made Two c.args.generation made.0);
     }
