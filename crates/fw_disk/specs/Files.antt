@@ -1,5 +1,5 @@
 -- What is said of a volume of real files: how long they are by count, and which have failed. What they hold is not said.
-use Rattle.std.specs.Prelude.{◌≡◌, ℕ, ◌^◌, ◌≤◌, Option, false, [], Result, IsTrue, IsSome, IsErrOf, OnOk}
+use Rattle.std.specs.Prelude.{◌≡◌, ℕ, ◌^◌, ◌≤◌, Option, Bool, false, [], Result, IsTrue, IsSome, IsErrOf, OnOk}
 use Rattle.std.proofs.Common.{arith}
 use Rattle.std.proofs.lemmas.Bool.{false≢true}
 use Rattle.std.specs.declared.io.Error.{Error}
@@ -46,6 +46,10 @@ none_told told = absurd (false≢true told)
 -- why the first write or sync of a file failed, where one has
 abbrev pub failure_of : FileVolume → Side → Option Error
 failure_of volume s = (file_of volume s).failure
+
+-- whether a file was opened to be read alone
+abbrev pub reads_only : FileVolume → Side → Bool
+reads_only volume s = (file_of volume s).reads_only
 
 -- What a write or a sync does to this: a file of which one failed fails each later one, for the same reason.
 pub record Marks (side : Side) (old new : FileVolume) (result : Result (Unit {0}) VolumeFault) : Type 0 where

@@ -192,6 +192,146 @@ fn a_read_that_comes_short_fails(rt: HostRuntime) {
     check(&rt, is_short_read(&rt));
 }
 
+const READ: Round = (
+    &[
+        Call::Limit(1 << 40),
+        Call::Read(Side::Left, &[1, 9, 3, 4, 5]),
+        Call::Read(Side::Right, &[]),
+        Call::Sync(Side::Left),
+        Call::Sync(Side::Right),
+        Call::Write(Side::Left, 0, &[7]),
+        Call::Write(Side::Right, 0, &[]),
+        Call::Sync(Side::Left),
+        Call::Sync(Side::Right),
+        Call::Read(Side::Left, &[1, 9, 3, 4, 5]),
+    ],
+    &[
+        DONE, DONE, DONE, DONE, DONE, FAILS, FAILS, FAILS, FAILS, DONE,
+    ],
+);
+
+const NO_BYTES: Round = (
+    &[
+        Call::Read(Side::Left, &[]),
+        Call::Read(Side::Right, &[]),
+        Call::Sync(Side::Left),
+        Call::Len(Side::Right, 0),
+    ],
+    &[DONE; 4],
+);
+
+/// Whether the volume of a folder that is opened to be read answers as it should. It is closed afterwards.
+fn reads(rt: &HostRuntime, folder: &str, round: Round) -> Result<bool, FolderFault> {
+    let mut volume = FileVolume::open_to_read(rt, folder)?;
+    answered(are_answered(&mut volume, round))
+}
+
+/// Whether a folder with one file is read, and has that file alone and its bytes afterwards.
+fn is_only_read(rt: &HostRuntime) -> Result<bool, FolderFault> {
+    let folder = "fw_test_disk_read";
+    make_folder(rt, folder)?;
+    let is_written = plays(rt, folder, WRITTEN)?;
+    fs::remove_file(rt, "fw_test_disk_read/right")?;
+    let is_read = reads(rt, folder, READ)?;
+    let is_made = fs::exists(rt, "fw_test_disk_read/right")?;
+    let is_kept = plays(rt, folder, KEPT)?;
+    remove_folder(rt, folder)?;
+    Ok(is_written && is_read && !is_made && is_kept)
+}
+
+#[test]
+fn a_folder_that_is_read_takes_no_write(rt: HostRuntime) {
+    check(&rt, is_only_read(&rt));
+}
+
+/// Whether an empty folder is read, and is empty afterwards: it is removed as such a one.
+fn stays_empty(rt: &HostRuntime) -> Result<bool, FolderFault> {
+    let folder = "fw_test_disk_empty";
+    make_folder(rt, folder)?;
+    let is_read = reads(rt, folder, NO_BYTES)?;
+    fs::remove_dir(rt, folder)?;
+    Ok(is_read)
+}
+
+#[test]
+fn a_folder_that_is_read_stays_empty(rt: HostRuntime) {
+    check(&rt, stays_empty(&rt));
+}
+
+/// Why a folder isn't opened to be read; none where it is.
+fn reading_refusal(rt: &HostRuntime, folder: &str) -> Result<Option<FolderFault>, FolderFault> {
+    match FileVolume::open_to_read(rt, folder) {
+        Ok(_) => Ok(None),
+        Err(FolderFault::NoMemory) => Err(FolderFault::NoMemory),
+        Err(fault) => Ok(Some(fault)),
+    }
+}
+
+/// Whether a folder that is read may be read by another, and not written.
+fn reads_beside(rt: &HostRuntime, folder: &str) -> Result<bool, FolderFault> {
+    let _volume = FileVolume::open_to_read(rt, folder)?;
+    match (refusal(rt, folder), reading_refusal(rt, folder)) {
+        (Ok(written), Ok(read)) => {
+            Ok(matches!(written, Some(FolderFault::InUse)) && read.is_none())
+        }
+        (Err(fault), _) | (_, Err(fault)) => Err(fault),
+    }
+}
+
+/// Whether a folder that may be written by one isn't read by another.
+fn is_written_alone(rt: &HostRuntime, folder: &str) -> Result<bool, FolderFault> {
+    let _volume = FileVolume::open(rt, folder)?;
+    match reading_refusal(rt, folder) {
+        Ok(fault) => Ok(matches!(fault, Some(FolderFault::InUse))),
+        Err(fault) => Err(fault),
+    }
+}
+
+/// Whether readers share a folder, which a writer doesn't.
+fn is_shared(rt: &HostRuntime) -> Result<bool, FolderFault> {
+    let folder = "fw_test_disk_shared";
+    make_folder(rt, folder)?;
+    let is_shared = reads_beside(rt, folder)?
+        && is_written_alone(rt, folder)?
+        && refusal(rt, folder)?.is_none()
+        && reading_refusal(rt, folder)?.is_none();
+    remove_folder(rt, folder)?;
+    Ok(is_shared)
+}
+
+#[test]
+fn readers_share_a_folder(rt: HostRuntime) {
+    check(&rt, is_shared(&rt));
+}
+
+/// Whether a missing folder, a folder for a file, a device for a file and a file past the limit aren't read.
+fn are_unread(rt: &HostRuntime) -> Result<bool, FolderFault> {
+    let folder = "fw_test_disk_unread";
+    let path = "fw_test_disk_unread/left";
+    make_folder(rt, folder)?;
+    let none = reading_refusal(rt, "fw_test_disk_unread/none")?;
+    fs::create_dir(rt, path)?;
+    let of_folder = reading_refusal(rt, folder)?;
+    fs::remove_dir(rt, path)?;
+    symlink(rt, "/dev/null", path)?;
+    let of_device = reading_refusal(rt, folder)?;
+    fs::remove_file(rt, path)?;
+    set_len(rt, path, FileVolume::LIMIT + 1)?;
+    let of_length = reading_refusal(rt, folder)?;
+    remove_folder(rt, folder)?;
+    Ok(
+        matches!(none, Some(FolderFault::Io(_)))
+            && matches!(of_folder, Some(FolderFault::Io(_)))
+            && matches!(of_device, Some(FolderFault::Io(_)))
+            && matches!(of_length, Some(FolderFault::TooLong)),
+    )
+}
+
+#[test]
+fn what_is_no_folder_and_no_file_is_not_read(rt: HostRuntime) {
+    check(&rt, are_unread(&rt));
+}
+
 /// Makes a file of this length, which takes no room on the disk.
 fn set_len(rt: &HostRuntime, path: &str, len: u64) -> io::Result<()> {
     let file = OpenOptions::new().write(true).create(true).open(rt, path)?;
