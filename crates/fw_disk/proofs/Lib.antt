@@ -1,4 +1,5 @@
 pub mod Moments
+pub mod Others
 mod Outcomes
 mod Ranges
 mod Record

@@ -104,6 +104,10 @@ StaysPending old new = (c : Image) → old.may_leave c → new.may_leave c
 abbrev pub SettlesOnly : Side → View → View → Type 0
 SettlesOnly side old new = (c : Image) → old.may_leave c → c side ≡ old.seen side → new.may_leave c
 
+-- what of the other file a crash could leave before, it can leave after: what was pending there still is
+abbrev pub KeepsOther : Side → View → View → Type 0
+KeepsOther side old new = (d : Image) → old.may_leave d → (c : Image) × new.may_leave c × (c (other side) ≡ d (other side))
+
 -- nothing is pending on a side
 abbrev pub Settled : Side → View → Type 0
 Settled side v = (c : Image) → v.may_leave c → c side ≡ v.seen side

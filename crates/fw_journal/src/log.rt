@@ -1,6 +1,6 @@
 //! A log that stands on its volume, and grows by one payload at a time.
 ghost use Rattle.std.specs.Prelude.{◌≡◌, ◌⊎◌, ◌↔◌, ◌+◌, ◌^◌, ◌<◌, ◌≤◌, ◌++◌, ◌∷◌, [], List, ℕ, length, drop, false, true, IsSome, IfSome, IfNone, IfOk, IfErr, OnOk, OnErr, IsErrOf, IsTrue, max};
-ghost use Rattle.fw_disk.specs.Volume.{Rose, LeavesOnly, Settled, SameSizes, Calm, other};
+ghost use Rattle.fw_disk.specs.Volume.{Rose, LeavesOnly, Settled, KeepsOther, SameSizes, Calm, other};
 ghost use Rattle.fw_journal.specs.declared.fault.LogFault.TheVariants.{Device, Corrupt, Failed, TooLarge, NoMemory};
 ghost use Rattle.fw_journal.specs.Frames.{BreaksAt, IsFit};
 ghost use Rattle.fw_journal.specs.Log.{Stands, IsReady, Appends, Lengthens};
@@ -94,6 +94,9 @@ impl Log {
             → LeavesOnly (V.view volume.old) (V.view volume.new) (Appends self.old payloads payload.now (V.view volume.old)) }
         ensures acknowledged { OnOk result (IsTrue V.tells → (payloads : List (List ℕ)) → Stands self.old payloads (V.view volume.old)
             → Stands self.new (payloads ++ payload.now ∷ []) (V.view volume.new)) }
+        // What a crash could leave of the other side, it still can.
+        ensures kept_other { IsTrue V.tells
+            → KeepsOther self.old.side (V.view volume.old) (V.view volume.new) }
         ensures other_stays { IsTrue V.tells → (V.view volume.new).seen (other self.old.side) ≡ (V.view volume.old).seen (other self.old.side) }
 
         ensures ready { IsReady V.tells self.new (V.view volume.new) }

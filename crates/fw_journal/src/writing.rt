@@ -1,6 +1,6 @@
 //! The device calls of an append.
 ghost use Rattle.std.specs.Prelude.{◌≡◌, ◌+◌, ◌<◌, ◌≤◌, length, max, OnOk, OnErr, IsTrue};
-ghost use Rattle.fw_disk.specs.Volume.{Rose, LeavesOnly, Settled, other};
+ghost use Rattle.fw_disk.specs.Volume.{Rose, LeavesOnly, Settled, KeepsOther, other};
 ghost use Rattle.fw_journal.specs.Log.{WhileFraming, Framed, Lengthens};
 
 use fw_disk::{Side, Volume, VolumeFault, write_synced};
@@ -18,6 +18,8 @@ pub(crate) fn write_frame<V: Volume>(
     ensures any_moment { IsTrue V.tells → Settled side (V.view volume.old)
         → LeavesOnly (V.view volume.old) (V.view volume.new) (WhileFraming side gate frame.now (V.view volume.old)) }
     ensures done { OnOk result (IsTrue V.tells → Settled side (V.view volume.old) → Framed side gate frame.now (V.view volume.old) (V.view volume.new)) }
+    ensures kept_other { IsTrue V.tells → Settled side (V.view volume.old)
+        → KeepsOther side (V.view volume.old) (V.view volume.new) }
     ensures other_stays { IsTrue V.tells → (V.view volume.new).seen (other side) ≡ (V.view volume.old).seen (other side) }
     ensures sizes { Lengthens side (gate + 1 + length frame.now) (V.view volume.old) (V.view volume.new) }
     ensures whole { OnOk result ((V.view volume.new).size side ≡ max ((V.view volume.old).size side) (gate + 1 + length frame.now)) }

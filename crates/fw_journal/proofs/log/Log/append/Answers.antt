@@ -1,5 +1,5 @@
 use Rattle.std.proofs.Common.{max, ◌≡◌, ◌++◌, ◌+◌, [], ◌∷◌, false, IsTrue, List, ℕ, length, subst, sym, ◌∙◌, ap, arith, length-append}
-use Rattle.fw_disk.specs.Volume.{LeavesOnly}
+use Rattle.fw_disk.specs.Volume.{LeavesOnly, KeepsOther}
 use Rattle.fw_journal.specs.Frames.{sized}
 use Rattle.fw_journal.specs.Log.{LogState, Stands, IsReady, Appends, Framed, WhileFraming, Lengthens}
 use Rattle.fw_journal.proofs.Spelling.{length-sized}
@@ -30,6 +30,17 @@ moments g c frame told payloads =
     let P : LogState → Type 0 = λ log. Stands log payloads old → LeavesOnly old new (Appends log payloads payload old) in
     subst P c.self.view_is (λ stands. appends _ payloads payload c.requires.size old stands new
     (subst (λ (f : List ℕ). LeavesOnly old new (WhileFraming c.self.inside.side c.self.inside.end f old)) frame (c.write_frame.ensures.any_moment told stands.settled)))
+
+-- what could be left of the other side still can
+other_kept : (g : given.Over) (c : After-write_frame g) → IsTrue g.V.Volume.tells → KeepsOther c.args.self.now.side (g.V.Volume.view c.args.volume.now) (g.V.Volume.view c.write_frame.new.volume)
+other_kept g c told =
+    let old = g.V.Volume.view c.args.volume.now in
+    let new = g.V.Volume.view c.write_frame.new.volume in
+    let P : LogState → Type 0 = λ log. IsReady g.V.Volume.tells log old in
+    let ready = subst P (sym c.self.view_is) c.requires.ready in
+    let was = ready.told told c.if-self.false in
+    let Q : LogState → Type 0 = λ log. KeepsOther log.side old new in
+    subst Q c.self.view_is (c.write_frame.ensures.kept_other told was.1.settled)
 
 lengthened : (g : given.Over) (c : After-write_frame g) → c.deref.result.now ≡ sized c.args.payload.now ++ 0 ∷ []
     → Lengthens c.args.self.now.side (c.args.self.now.end + 6 + length c.args.payload.now) (g.V.Volume.view c.args.volume.now) (g.V.Volume.view c.write_frame.new.volume)
@@ -65,6 +76,16 @@ pub returns-clause-any_moment : goal.returns-clause-any_moment
 returns-clause-any_moment g c told fresh =
     let at = goal.at.returns-clause-any_moment g c in
     moments g at.After-write_frame (frame_is g at.After-deref) told
+
+pub returns-in_default-write_frame-clause-kept_other : goal.returns-in_default-write_frame-clause-kept_other
+returns-in_default-write_frame-clause-kept_other g c told =
+    let at = goal.at.returns-in_default-write_frame-clause-kept_other g c in
+    other_kept g at.After-write_frame told
+
+pub returns-clause-kept_other : goal.returns-clause-kept_other
+returns-clause-kept_other g c told =
+    let at = goal.at.returns-clause-kept_other g c in
+    other_kept g at.After-write_frame told
 
 pub returns-clause-acknowledged : goal.returns-clause-acknowledged
 returns-clause-acknowledged g c told payloads stands_old =
