@@ -13,6 +13,7 @@ import csv
 import datetime
 import decimal
 import errno
+import fcntl
 import html.parser
 import io
 import json
@@ -627,6 +628,162 @@ class Commands(unittest.TestCase):
             printed = " ".join(focusd(command, "--help")[1].split())
             for said in ("another origin has", "posts", "behind those of the files", "won't fit"):
                 self.assertIn(said, printed, command)
+
+
+class OnlyAsked(unittest.TestCase):
+    """What commands that ask leave of a folder, and what commands that write leave of one without a warehouse."""
+
+    EXPORT = str(HERE / "focus-export.csv")
+    # Each command that asks, with what is its own behind --dir.
+    ASKING = (
+        ("report", "--tag", "team", *MONTH), ("lines", *MONTH), ("coverage", *MONTH), ("status",), ("verify",), ("dump",),
+        ("replace", "--quiet", "--dry-run", "--origin", "aws", EXPORT), ("withdraw", "--dry-run", "--origin", "aws", "--all"),
+        ("add", "--dry-run", "--origin", "new", str(HERE / "commitment.toml")),
+    )  # fmt: skip
+    WRITING = (
+        ("run",), ("load", EXPORT), ("import", "--quiet", "--origin", "aws", EXPORT), ("add", "--origin", "new", str(HERE / "commitment.toml")),
+        ("withdraw", "--origin", "aws", "--all", "--yes"), ("replace", "--quiet", "--origin", "aws", EXPORT), ("checkpoint",),
+    )  # fmt: skip
+
+    def setUp(self):
+        room = tempfile.TemporaryDirectory()
+        self.addCleanup(room.cleanup)
+        self.room = pathlib.Path(room.name)
+        self.folder = self.room / "costs"
+        self.folder.mkdir()
+        export = pathlib.Path(self.EXPORT).read_bytes()
+        done = focusd("run", "--create", "--dir", str(self.folder), given=b"post aws 1 %d\n%s" % (export.count(b"\n"), export))
+        self.assertEqual(done, (0, "accepted 1\n", ""))
+
+    def asked(self, words, folder=None):
+        return focusd(words[0], "--dir", str(folder or self.folder), *words[1:])
+
+    def compacted(self, folder):
+        """A warehouse made of that of a folder, which asks the folder."""
+        with tempfile.TemporaryDirectory() as into:
+            return focusd("compact", "--quiet", "--dir", str(folder), "--into", into)
+
+    @staticmethod
+    def found(folder):
+        """All that stands in a folder: names, bytes, and what the system keeps of each file but when it was read."""
+        found = []
+        for path in (folder, *sorted(folder.iterdir())):
+            it = path.lstat()
+            kept = path.read_bytes() if path.is_file() else None
+            found.append((path.name, kept, it.st_mode, it.st_ino, it.st_size, it.st_mtime_ns, it.st_ctime_ns))
+        return found
+
+    def test_a_command_that_asks_changes_nothing(self):
+        before = self.found(self.folder)
+        for words in self.ASKING:
+            status, _, said = self.asked(words)
+            self.assertEqual((status, said), (0, ""), words)
+            self.assertEqual(self.found(self.folder), before, words)
+        self.assertEqual(self.compacted(self.folder)[0], 0)
+        self.assertEqual(self.found(self.folder), before)
+
+    def test_a_file_that_is_missing_is_not_made(self):
+        """`right` is empty in a warehouse that was made: without it the warehouse is the same."""
+        wanted = {words: self.asked(words) for words in self.ASKING}
+        (self.folder / "right").unlink()
+        before = self.found(self.folder)
+        for words in self.ASKING:
+            self.assertEqual(self.asked(words), wanted[words], words)
+            self.assertEqual(self.found(self.folder), before, words)
+        self.assertEqual(self.compacted(self.folder)[0], 0)
+        self.assertEqual(self.found(self.folder), before)
+        self.assertEqual(self.asked(("run",)), (0, "", ""))
+        self.assertEqual((self.folder / "right").read_bytes(), b"")
+
+    def test_no_command_makes_a_file_where_no_warehouse_is(self):
+        closed = b"\0" * 30
+        for files in ({}, {"left": b""}, {"right": b""}, {"left": closed}, {"left": closed, "right": closed}):
+            for words in (*self.ASKING, *self.WRITING):
+                with tempfile.TemporaryDirectory() as folder:
+                    for name, kept in files.items():
+                        (pathlib.Path(folder) / name).write_bytes(kept)
+                    before = self.found(pathlib.Path(folder))
+                    status, printed, said = self.asked(words, folder)
+                    said = said.removesuffix(no_house(folder).split("\n", 1)[1])
+                    self.assertEqual((status, printed, said), (1, "", "focusd: S1 NoHouse\n"), (words, files))
+                    self.assertEqual(self.found(pathlib.Path(folder)), before, (words, files))
+
+    def test_damage_is_found_before_a_file_is_made(self):
+        (self.folder / "right").unlink()
+        left = self.folder / "left"
+        left.write_bytes(left.read_bytes()[:1] + b"X" + left.read_bytes()[2:])
+        before = self.found(self.folder)
+        for words in (*self.ASKING, *self.WRITING):
+            status, printed, said = self.asked(words)
+            self.assertEqual((status, printed, said.splitlines()[0]), (1, "", "focusd: S2 Corrupt"), words)
+            self.assertEqual(self.found(self.folder), before, words)
+
+    def test_an_import_that_is_refused_makes_no_file_in_a_folder_that_is_there(self):
+        wrong = self.room / "wrong.csv"
+        wrong.write_text("BilledCost\n1\n")
+        folder = self.room / "empty"
+        folder.mkdir()
+        self.assertEqual(focusd("import", "--quiet", "--create", "--dir", str(folder), "--origin", "aws", str(wrong))[0], 1)
+        self.assertEqual(list(folder.iterdir()), [])
+
+    def test_a_folder_that_may_only_be_read(self):
+        """As another user where this is the superuser, for whom no mode counts."""
+        program = self.room / "focusd"
+        shutil.copy(PROGRAM, program)
+        user = {"user": 65534, "group": 65534, "extra_groups": []} if os.geteuid() == 0 else {}
+        self.room.chmod(0o755)
+
+        def done(words):
+            ran = subprocess.run([str(program), words[0], "--dir", str(self.folder), *words[1:]], stdin=subprocess.DEVNULL, capture_output=True, **user)
+            return ran.returncode, ran.stdout.decode(), ran.stderr.decode()
+
+        try:
+            done(("status",))
+        except (OSError, subprocess.SubprocessError):
+            self.skipTest("no other user can run the program here")
+        for name in ("focus-export.csv", "commitment.toml"):
+            shutil.copy(HERE / name, self.room / name)
+        words_of = {words: tuple(str(self.room / pathlib.Path(it).name) if it.startswith(str(HERE)) else it for it in words) for words in self.ASKING}
+        wanted = {words: self.asked(words_of[words]) for words in self.ASKING}
+        for file in self.folder.iterdir():
+            file.chmod(0o444)
+        self.folder.chmod(0o555)
+        self.addCleanup(self.folder.chmod, 0o755)
+        before = self.found(self.folder)
+        for words in self.ASKING:
+            self.assertEqual(done(words_of[words]), wanted[words], words)
+        for words in (("run",), ("checkpoint",)):
+            self.assertEqual(done(words)[2].splitlines()[0], "focusd: K1 Io", words)
+        self.assertEqual(self.found(self.folder), before)
+
+    def test_many_may_ask_at_once_and_none_while_one_writes(self):
+        wanted = {words: self.asked(words) for words in self.ASKING}
+        in_use = f"focusd: K1 Io\n{self.folder}: another process has this folder open\n"
+        for how, answers in ((fcntl.LOCK_SH, wanted), (fcntl.LOCK_EX, {words: (1, "", in_use) for words in self.ASKING})):
+            lock = os.open(self.folder, os.O_RDONLY)
+            try:
+                fcntl.flock(lock, how)
+                for words in self.ASKING:
+                    self.assertEqual(self.asked(words), answers[words], words)
+                for words in self.WRITING:
+                    said = in_use.splitlines()[: 1 if words == ("run",) else 2]
+                    status, printed, found = self.asked(words)
+                    self.assertEqual((status, printed, found.splitlines()), (1, "", said), words)
+            finally:
+                os.close(lock)
+
+    def test_what_is_no_file_is_not_waited_for(self):
+        left = self.folder / "left"
+        left.unlink()
+        os.mkfifo(left)
+        for make, why in ((None, "unsupported"), (left.mkdir, system(errno.EISDIR))):
+            if make:
+                left.unlink()
+                make()
+            for words in self.ASKING:
+                ran = subprocess.run([PROGRAM, words[0], "--dir", str(self.folder), *words[1:]], capture_output=True, timeout=60)
+                self.assertEqual((ran.returncode, ran.stdout), (1, b""), words)
+                self.assertTrue(ran.stderr.decode().startswith(f"focusd: K1 Io\n{self.folder}: {why}. What to do: "), ran.stderr)
 
 
 class WithdrawnPosts(Commands):

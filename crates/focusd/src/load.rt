@@ -42,7 +42,7 @@ pub(crate) fn load_files<R: Threads + Wait + Sync>(
             let creates = if options.get_flag(CREATE) {
                 Creates::New(currency)
             } else {
-                Creates::OnlyFiles
+                Creates::Never
             };
             let loaded = load_folder(rt, threads, folder, creates, job);
             Ok(advised(rt, folder, loaded))

@@ -7,7 +7,7 @@ use crate::texts::{Given, name_text, replaced_text};
 use clap::ArgMatches;
 use fw_adding::{Outcome, add_document};
 use fw_command_line::{DIR, DRY_RUN, FILES, ORIGIN, YES};
-use fw_console::{Fault, advised, closed, open_warehouse, wrong_origin};
+use fw_console::{Fault, advised, closed, open_to_ask, open_warehouse, wrong_origin};
 use fw_disk::Volume;
 use fw_documents::Document;
 use fw_entry::is_origin;
@@ -39,7 +39,11 @@ fn add_into(
     job: &Job<'_>,
     files: &[&str],
 ) -> Result<ExitCode, Fault> {
-    let mut store = open_warehouse(rt, folder)?;
+    let mut store = if job.is_dry {
+        open_to_ask(rt, folder)?
+    } else {
+        open_warehouse(rt, folder)?
+    };
     let done = add_to(rt, &mut store, job, files);
     closed(store, done)
 }

@@ -1,7 +1,7 @@
 //! Questions to the warehouse of a folder.
 use clap::ArgMatches;
 use fw_command_line::DIR;
-use fw_console::{Fault, advised, let_go, open_warehouse, print_answer, warn_unfinished};
+use fw_console::{Fault, advised, let_go, open_to_ask, print_answer, warn_unfinished};
 use fw_disk::FileVolume;
 use fw_recover::Store;
 use fw_views::{Question, answer};
@@ -17,7 +17,7 @@ pub(crate) fn ask(rt: &HostRuntime, options: &ArgMatches<'_>, question: &Questio
 
 // The answer of the warehouse of a folder.
 fn answer_in(rt: &HostRuntime, folder: &str, question: &Question<'_>) -> Result<Vec<u8>, Fault> {
-    let store = open_warehouse(rt, folder)?;
+    let store = open_to_ask(rt, folder)?;
     let answered = answer_of(rt, folder, &store, question);
     let_go(store, answered)
 }

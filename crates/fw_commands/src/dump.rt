@@ -4,7 +4,7 @@ ghost use Rattle.std.specs.Process.{exit_status};
 
 use clap::ArgMatches;
 use fw_command_line::DIR;
-use fw_console::{Fault, Heard, advised, let_go, open_warehouse, printed};
+use fw_console::{Fault, Heard, advised, let_go, open_to_ask, printed};
 use fw_dump::{DumpFault, TextFault, dump};
 use fw_explain::explain_fault;
 use fw_snapshot::State;
@@ -20,7 +20,7 @@ pub fn print_dump(rt: &HostRuntime, options: &ArgMatches<'_>) -> ExitCode {
 
 // Prints the script of the warehouse of a folder.
 fn dump_folder(rt: &HostRuntime, folder: &str) -> Result<ExitCode, Fault> {
-    let store = open_warehouse(rt, folder)?;
+    let store = open_to_ask(rt, folder)?;
     let dumped = dump_state(rt, folder, store.state().state());
     let_go(store, dumped)
 }

@@ -38,7 +38,7 @@ pub fn serve_script(
     let creates = if options.get_flag(CREATE) {
         Creates::New(currency)
     } else {
-        Creates::OnlyFiles
+        Creates::Never
     };
     let served = serve_folder(rt, threads, folder, creates, workers);
     Ok(advised_on_terminal(rt, folder, served))

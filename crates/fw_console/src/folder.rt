@@ -3,7 +3,7 @@ ghost use Rattle.std.specs.Prelude.{◌≡◌};
 
 use crate::fault::{Fault, FileFailure};
 use crate::house::{House, Place};
-use fw_disk::{FileVolume, Side, Volume};
+use fw_disk::{FileVolume, FolderFault, Side, Volume};
 use fw_recover::{Store, StoreFault};
 use fw_rows::Currency;
 use fw_serve::reopen;
@@ -16,8 +16,6 @@ use std::{fs, io};
 pub enum Creates {
     /// Never: there has to be one. Where there is none, no file is made either.
     Never,
-    /// Never, but the two files are made where they are missing.
-    OnlyFiles,
     /// Where there is none: with the first post, of this currency. The folder is made then too, if it isn't there.
     IfMissing(Currency),
     /// At once, of this currency: there must be none, and the folder has to be there.
@@ -27,27 +25,41 @@ pub enum Creates {
 /// Opens the warehouse of a folder, or makes it. Where one may be made that isn't there, neither it nor its folder is made yet.
 pub fn open_folder(rt: &HostRuntime, folder: &str, creates: Creates) -> Result<House, Fault> {
     match creates {
-        Creates::Never => open_found(rt, folder),
-        Creates::OnlyFiles => reopened(rt, folder, creates),
+        Creates::Never => found(rt, folder, creates),
         Creates::IfMissing(currency) if is_missing(rt, folder) => {
             in_missing(rt.alloc(), folder, currency)
         }
-        Creates::IfMissing(_) => reopened(rt, folder, creates),
+        Creates::IfMissing(_) => found(rt, folder, creates),
         Creates::New(currency) => made(rt, folder, currency),
     }
 }
 
-/// Opens the warehouse of a folder. A folder that holds neither of its files has none, and none is made there.
+/// Opens the warehouse of a folder. A folder without one has none afterwards either, and no file is made there.
 pub fn open_warehouse(rt: &HostRuntime, folder: &str) -> Result<Store<FileVolume>, Fault> {
     open_folder(rt, folder, Creates::Never)?.into_store()
 }
 
-// The warehouse of a folder that holds one of its files.
-fn open_found(rt: &HostRuntime, folder: &str) -> Result<House, Fault> {
-    if has_no_files(rt, folder)? {
-        return Err(Fault::Store(StoreFault::NoHouse));
+/// Opens the warehouse of a folder to ask it. Nothing is made or written there, and others may ask it meanwhile.
+pub fn open_to_ask(rt: &HostRuntime, folder: &str) -> Result<Store<FileVolume>, Fault> {
+    match reopen(rt.alloc(), FileVolume::open_to_read(rt, folder)?) {
+        Ok(store) => Ok(store),
+        Err((volume, fault)) => Err(store_fault(&volume, fault)),
     }
-    reopened(rt, folder, Creates::Never)
+}
+
+// The warehouse of a folder, or the place of one that is to be made there. Where one of its files is missing, it is looked for before that is
+// made: without a warehouse it stays missing.
+fn found(rt: &HostRuntime, folder: &str, creates: Creates) -> Result<House, Fault> {
+    if lacks_a_file(rt, folder)? {
+        match (open_to_ask(rt, folder), creates) {
+            (Ok(store), _) => let_go(store, ()),
+            (Err(Fault::Store(StoreFault::NoHouse)), Creates::IfMissing(currency)) => {
+                return in_folder(rt.alloc(), folder, currency);
+            }
+            (Err(fault), _) => return Err(fault),
+        }
+    }
+    reopened(rt, folder, creates)
 }
 
 // The warehouse of a folder whose files are made where they are missing, or the place of one that is to be made there.
@@ -62,7 +74,7 @@ fn reopened(rt: &HostRuntime, folder: &str, creates: Creates) -> Result<House, F
 fn not_opened(volume: FileVolume, fault: StoreFault, creates: Creates) -> Result<House, Fault> {
     match (fault, creates) {
         (StoreFault::NoHouse, Creates::IfMissing(currency)) => {
-            Ok(House::in_place(Place::Folder(volume), currency))
+            Ok(House::in_place(Place::Files(volume), currency))
         }
         _ => Err(store_fault(&volume, fault)),
     }
@@ -71,6 +83,12 @@ fn not_opened(volume: FileVolume, fault: StoreFault, creates: Creates) -> Result
 // The place of a warehouse in a folder that isn't there.
 fn in_missing(alloc: Global, folder: &str, currency: Currency) -> Result<House, Fault> {
     let place = Place::Missing(String::from_str(alloc, folder)?);
+    Ok(House::in_place(place, currency))
+}
+
+// The place of a warehouse in a folder that is there, where a file of it isn't.
+fn in_folder(alloc: Global, folder: &str, currency: Currency) -> Result<House, Fault> {
+    let place = Place::Named(String::from_str(alloc, folder)?);
     Ok(House::in_place(place, currency))
 }
 
@@ -125,11 +143,20 @@ pub(crate) fn file_failure(volume: &FileVolume) -> Option<FileFailure> {
     None
 }
 
-// Whether a folder is there and holds neither file of a warehouse.
-fn has_no_files(rt: &HostRuntime, folder: &str) -> Result<bool, Fault> {
+// Whether one of the files of a folder's warehouse isn't there.
+fn lacks_a_file(rt: &HostRuntime, folder: &str) -> Result<bool, Fault> {
     let left = format!(in rt.alloc(); "{folder}/left")?;
     let right = format!(in rt.alloc(); "{folder}/right")?;
-    Ok(!is_missing(rt, folder) && is_missing(rt, left.as_str()) && is_missing(rt, right.as_str()))
+    Ok(!is_there(rt, left.as_str())? || !is_there(rt, right.as_str())?)
+}
+
+// Whether there is a file or a folder of this name.
+fn is_there(rt: &HostRuntime, name: &str) -> Result<bool, Fault> {
+    match fs::metadata(rt, name) {
+        Ok(_) => Ok(true),
+        Err(error) if error.kind() == io::ErrorKind::NotFound => Ok(false),
+        Err(error) => Err(Fault::from(FolderFault::from(error))),
+    }
 }
 
 // Whether there is no file and no folder of this name.

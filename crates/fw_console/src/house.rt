@@ -21,8 +21,10 @@ pub struct House {
 /// Where a warehouse is to be made.
 #[derive(Drop)]
 pub(crate) enum Place {
-    /// In a folder that is there.
-    Folder(FileVolume),
+    /// In the files of a folder, which are there.
+    Files(FileVolume),
+    /// In a folder of this name, which is there, in files that are to be made.
+    Named(String),
     /// In a folder of this name, which is to be made too.
     Missing(String),
 }
@@ -117,7 +119,8 @@ impl House {
 // The volume of a place. A folder that isn't there is made.
 fn volume_of(rt: &HostRuntime, place: Place) -> Result<FileVolume, Fault> {
     match place {
-        Place::Folder(volume) => Ok(volume),
+        Place::Files(volume) => Ok(volume),
+        Place::Named(folder) => Ok(FileVolume::open(rt, folder.as_str())?),
         Place::Missing(folder) => Ok(in_new_folder(rt, folder.as_str())?),
     }
 }

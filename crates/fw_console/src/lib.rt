@@ -17,7 +17,7 @@ mod words;
 pub use advice::{advised, advised_on_terminal, stopped, tell_failure};
 pub use currency::{letters, read_currency};
 pub use fault::{Fault, FileFailure, WRONG_USE, wrong_use};
-pub use folder::{Creates, closed, is_folder, let_go, open_folder, open_warehouse};
+pub use folder::{Creates, closed, is_folder, let_go, open_folder, open_to_ask, open_warehouse};
 pub use heard::Heard;
 pub use house::House;
 pub use origin::wrong_origin;

@@ -4,7 +4,7 @@ use crate::texts::{entries_of_text, print_line};
 use clap::ArgMatches;
 use fw_command_line::{DIR, INTO, QUIET};
 use fw_compact::EntriesThatCount;
-use fw_console::{Creates, Fault, advised, closed, let_go, open_folder, open_warehouse};
+use fw_console::{Creates, Fault, advised, closed, let_go, open_folder, open_to_ask};
 use fw_disk::{FolderFault, Volume};
 use fw_entry::Entry;
 use fw_recover::Store;
@@ -22,7 +22,7 @@ pub fn compact_folder(rt: &HostRuntime, options: &ArgMatches<'_>) -> ExitCode {
     let folder = options.get_str(DIR).unwrap_or("");
     let into = options.get_str(INTO).unwrap_or("");
     let shows = !options.get_flag(QUIET) && rt.stderr().is_terminal();
-    match open_warehouse(rt, folder) {
+    match open_to_ask(rt, folder) {
         Ok(store) => {
             let done = compact(rt, store.state().state(), into, shows);
             advised(rt, into, let_go(store, done))

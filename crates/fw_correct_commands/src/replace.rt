@@ -11,8 +11,8 @@ use fw_charge::hour_of;
 use fw_columns::Columns;
 use fw_command_line::{DIR, DRY_RUN, FILES, ORIGIN, QUIET};
 use fw_console::{
-    Fault, advised, begin_replacement, closed, end_replacement, open_warehouse, say_fault,
-    unfinished_origin, wrong_origin,
+    Fault, advised, begin_replacement, closed, end_replacement, open_to_ask, open_warehouse,
+    say_fault, unfinished_origin, wrong_origin,
 };
 use fw_disk::Volume;
 use fw_entry::{Entry, is_origin};
@@ -69,7 +69,11 @@ pub fn replace_rows(rt: &HostRuntime, options: &ArgMatches<'_>) -> Result<ExitCo
 
 // Replaces rows of the warehouse of a folder.
 fn replace_in(rt: &HostRuntime, job: &Job<'_>, files: &[&str]) -> Result<ExitCode, Fault> {
-    let mut store = open_warehouse(rt, job.folder)?;
+    let mut store = if job.is_dry {
+        open_to_ask(rt, job.folder)?
+    } else {
+        open_warehouse(rt, job.folder)?
+    };
     let done = replace_by(rt, &mut store, job, files);
     closed(store, done)
 }

@@ -6,7 +6,9 @@ use crate::groups::{add_entries, state_with};
 use crate::texts::{hours_text, posts_text, print_line, print_text, rows_text};
 use clap::ArgMatches;
 use fw_command_line::{DIR, DRY_RUN, ORIGIN, YES};
-use fw_console::{Fault, WRONG_USE, advised, closed, open_warehouse, say_fault, wrong_origin};
+use fw_console::{
+    Fault, WRONG_USE, advised, closed, open_to_ask, open_warehouse, say_fault, wrong_origin,
+};
 use fw_disk::Volume;
 use fw_entry::{Entry, is_origin};
 use fw_recover::Store;
@@ -54,7 +56,11 @@ pub fn withdraw_posts(rt: &HostRuntime, options: &ArgMatches<'_>) -> Result<Exit
 
 // Withdraws posts of the warehouse of a folder.
 fn withdraw_from(rt: &HostRuntime, folder: &str, job: &Job<'_>) -> Result<ExitCode, Fault> {
-    let mut store = open_warehouse(rt, folder)?;
+    let mut store = if job.is_dry {
+        open_to_ask(rt, folder)?
+    } else {
+        open_warehouse(rt, folder)?
+    };
     let done = withdraw(rt, &mut store, job);
     closed(store, done)
 }
