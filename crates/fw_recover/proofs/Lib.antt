@@ -5,6 +5,7 @@ pub mod Standing
 pub mod Appending
 pub mod Headers
 pub mod Found
+pub mod ClosingFacts
 pub mod Made
 pub mod Committing
 pub mod Judged
