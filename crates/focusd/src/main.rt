@@ -2,7 +2,7 @@
 //!
 //! What it computes stands in libraries: `fw_serve::serve` runs scripts over any reader, writer and volume, and `fw_views` writes what the
 //! commands for people print. `fw_command_line` is the command line, and `fw_commands`, `fw_export_commands`, `fw_add_commands` and
-//! `fw_correct_commands` are what the commands do over folders and the standard streams. This crate reads the words of the command line and
+//! `fw_correct_commands` and `fw_shard_commands` are what the commands do over folders and the standard streams. This crate reads the words of the command line and
 //! runs the command that they name. `load`, which needs threads that wait, is here too.
 #![tactic(auto)]
 
@@ -19,6 +19,7 @@ use fw_commands::{
 use fw_console::{Fault, WRONG_USE, printed, stopped, wrong_use};
 use fw_correct_commands::{compact_folder, replace_rows, withdraw_posts};
 use fw_export_commands::{check_files, import_files};
+use fw_shard_commands::{charge_reports, split_files};
 use fw_table::shown_text;
 use load::load_files;
 use std::alloc::{AllocError, Global};
@@ -109,6 +110,8 @@ fn run_command<R: Threads + Wait + Sync>(
         Some(("checkpoint", options)) => Ok(make_checkpoint(rt, options)),
         Some(("compact", options)) => Ok(compact_folder(rt, options)),
         Some(("dump", options)) => Ok(print_dump(rt, options)),
+        Some(("split", options)) => split_files(rt, options),
+        Some(("charge", options)) => charge_reports(rt, options),
         Some(("explain", options)) => print_explanation(rt, options),
         _ => Ok(wrong_use(rt, "no command")),
     }

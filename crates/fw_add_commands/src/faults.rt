@@ -20,7 +20,7 @@ use std::alloc::{AllocError, Global};
 const SHOWN: usize = 60;
 
 /// Says why a text is no document. The answer is false.
-pub(crate) fn say_fault(
+pub fn say_fault(
     rt: &HostRuntime,
     file: &str,
     text: &[u8],

@@ -10,7 +10,7 @@ const MOST_BYTES: usize = 1 << 26;
 
 /// The text of a file, or of standard input where its name is `-`; `None` where it can't be read, which was said. The message has its name as a
 /// terminal may show it.
-pub(crate) fn text_of(rt: &HostRuntime, file: &str) -> Result<Option<Vec<u8>>, Fault> {
+pub fn text_of(rt: &HostRuntime, file: &str) -> Result<Option<Vec<u8>>, Fault> {
     if file == "-" {
         return read_text(rt, "standard input", rt.stdin());
     }

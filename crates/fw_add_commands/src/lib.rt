@@ -1,7 +1,7 @@
 //! `focusd add`: commitments, policies and purchases are taken from TOML files into a warehouse.
 //!
 //! What a file is, is computed by `fw_documents`, and what becomes of it by `fw_adding`. This crate opens the folder, reads
-//! the files and prints: [`add_files`].
+//! the files and prints: [`add_files`]. [`text_of`] and [`say_fault`] are of use to other commands that read such files.
 #![tactic(auto)]
 
 mod add;
@@ -14,3 +14,5 @@ mod printing;
 mod texts;
 
 pub use add::add_files;
+pub use faults::say_fault;
+pub use files::text_of;

@@ -12,6 +12,9 @@ pub const BY: &str = "by";
 /// The id of the argument that is a code.
 pub const CODE: &str = "code";
 
+/// The id of the option that names the commitments by which an export is cut.
+pub const COMMITMENTS: &str = "commitments";
+
 /// The id of the option that creates the warehouse.
 pub const CREATE: &str = "create";
 
@@ -20,6 +23,9 @@ pub const CURRENCY: &str = "currency";
 
 /// The id of the option that names the folder of the warehouse.
 pub const DIR: &str = "dir";
+
+/// The id of the option that prints a report without the policy, as a document.
+pub const DIRECT: &str = "direct";
 
 /// The id of the option that writes nothing.
 pub const DRY_RUN: &str = "dry-run";
@@ -33,11 +39,17 @@ pub const FORMAT: &str = "format";
 /// The id of the option that says when the range begins.
 pub const FROM: &str = "from";
 
-/// The id of the option that names the folder of a warehouse that is made.
+/// The id of the option that names the folder of a warehouse that is made, or says how many piles a period of an export is cut into.
 pub const INTO: &str = "into";
 
 /// The id of the option that names who sends the entries, or the first part of such names.
 pub const ORIGIN: &str = "origin";
+
+/// The id of the option that names the folder of the parts of an export.
+pub const OUT: &str = "out";
+
+/// The id of the option that names the policy of a charge.
+pub const POLICY: &str = "policy";
 
 /// The id of the option that prints no progress.
 pub const QUIET: &str = "quiet";

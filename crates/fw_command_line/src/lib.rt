@@ -4,6 +4,7 @@
 #![tactic(auto)]
 
 mod add;
+mod charge;
 mod check;
 mod checkpoint;
 mod compact;
@@ -19,12 +20,13 @@ mod options;
 mod replace;
 mod report;
 mod run;
+mod split;
 mod status;
 mod verify;
 mod withdraw;
 
 pub use ids::{
-    ALL, ANALYSTS, BY, CODE, CREATE, CURRENCY, DIR, DRY_RUN, FILES, FORMAT, FROM, INTO, ORIGIN,
-    QUIET, SEQ, TAG, TO, TOP, WORKERS, YES,
+    ALL, ANALYSTS, BY, CODE, COMMITMENTS, CREATE, CURRENCY, DIR, DIRECT, DRY_RUN, FILES, FORMAT,
+    FROM, INTO, ORIGIN, OUT, POLICY, QUIET, SEQ, TAG, TO, TOP, WORKERS, YES,
 };
 pub use line::command_line;

@@ -1,7 +1,7 @@
 //! The whole command line.
 use crate::{
-    add, check, checkpoint, compact, coverage, dump, explain, import, lines, load, replace, report,
-    run, status, verify, withdraw,
+    add, charge, check, checkpoint, compact, coverage, dump, explain, import, lines, load, replace,
+    report, run, split, status, verify, withdraw,
 };
 use clap::Command;
 use std::alloc::{AllocError, Global};
@@ -65,12 +65,14 @@ enum Name {
     Checkpoint,
     Compact,
     Dump,
+    Split,
+    Charge,
     Explain,
 }
 
 impl Name {
     /// All commands, in the order in which the help has them.
-    const ALL: [Name; 16] = [
+    const ALL: [Name; 18] = [
         Name::Run,
         Name::Import,
         Name::Load,
@@ -86,6 +88,8 @@ impl Name {
         Name::Checkpoint,
         Name::Compact,
         Name::Dump,
+        Name::Split,
+        Name::Charge,
         Name::Explain,
     ];
 
@@ -107,6 +111,8 @@ impl Name {
             Name::Checkpoint => checkpoint::command(alloc),
             Name::Compact => compact::command(alloc),
             Name::Dump => dump::command(alloc),
+            Name::Split => split::command(alloc),
+            Name::Charge => charge::command(alloc),
             Name::Explain => explain::command(alloc),
         }
     }

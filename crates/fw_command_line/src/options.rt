@@ -2,7 +2,9 @@
 ghost use Rattle.std.specs.Prelude.{◌≡◌, Some, false, true, option_map, codes};
 ghost use Rattle.clap.specs.declared.builder.action.ArgAction.TheVariants.{SetTrue};
 
-use crate::ids::{CREATE, CURRENCY, DIR, DRY_RUN, FILES, FORMAT, FROM, ORIGIN, QUIET, TO, YES};
+use crate::ids::{
+    BY, CREATE, CURRENCY, DIR, DRY_RUN, FILES, FORMAT, FROM, ORIGIN, QUIET, TAG, TO, TOP, YES,
+};
 use clap::{Arg, ArgAction, Command};
 use std::alloc::{AllocError, Global};
 
@@ -36,6 +38,46 @@ pub(crate) fn format_option<'a>(
         .default_value(default)
         .value_parser(formats)
         .help(help)
+}
+
+/// The formats of a report.
+const REPORT_FORMATS: [&str; 4] = ["table", "csv", "json", "html"];
+
+/// The option that names the format of a report.
+pub(crate) fn report_format_option<'a>(alloc: Global) -> Arg<'a> {
+    format_option(
+        alloc,
+        REPORT_FORMATS.as_slice(),
+        "table",
+        "How the report is written",
+    )
+}
+
+/// The option that names the tag.
+pub(crate) fn tag_option<'a>(alloc: Global) -> Arg<'a> {
+    Arg::new(alloc, TAG)
+        .long("tag")
+        .value_name("KEY")
+        .help("The tag whose values are the groups")
+}
+
+/// The periods that a range can be cut into.
+pub(crate) const STEPS: [&str; 3] = ["hour", "day", "month"];
+
+/// The option that cuts the range into periods.
+pub(crate) fn by_option<'a>(alloc: Global) -> Arg<'a> {
+    Arg::new(alloc, BY)
+        .long("by")
+        .value_name("PERIOD")
+        .value_parser(STEPS.as_slice())
+        .help("Cuts the range into hours, days or months, each with a report of its own")
+}
+
+/// The option that shows the groups that are charged most.
+pub(crate) fn top_option<'a>(alloc: Global) -> Arg<'a> {
+    Arg::new(alloc, TOP).long("top").value_name("N").help(
+        "Shows the N groups that are charged most, and the sums of all others: 1 to 1,000",
+    )
 }
 
 /// The argument that names a file or more.

@@ -1,14 +1,11 @@
 //! `focusd report`: what each group of a tag cost in a range of time.
-use crate::ids::{BY, TAG, TOP};
-use crate::options::{command_with, folder_option, format_option, from_option, to_option};
-use clap::{Arg, Command};
+use crate::ids::{DIRECT, FORMAT, TOP};
+use crate::options::{
+    by_option, command_with, folder_option, from_option, report_format_option, tag_option,
+    to_option, top_option,
+};
+use clap::{Arg, ArgAction, Command};
 use std::alloc::{AllocError, Global};
-
-/// The formats of a report.
-const FORMATS: [&str; 4] = ["table", "csv", "json", "html"];
-
-/// The periods that a range can be cut into.
-const STEPS: [&str; 3] = ["hour", "day", "month"];
 
 const EXAMPLE: &str =
     "T is a month (2024-01), a date (2024-01-31) or a time on a whole hour (2024-01-31T14:00Z), in UTC, and
@@ -26,6 +23,9 @@ nanos, since shares of common costs are rounded in each period. The sum over all
 With --top N only the N groups that are charged most over the whole range have lines of their own; one line,
 (others), has the sums of all others.
 
+With --direct the sums of BilledCost and EffectiveCost are printed before the policy, in nanos, as one document of JSON. Such
+documents of several warehouses, which hold together what one would, are added by `focusd charge`.
+
 Examples:
   what each team cost in January 2024
     focusd report --dir costs --tag team --from 2024-01 --to 2024-02
@@ -36,46 +36,28 @@ Examples:
   the sums by team, for a program
     focusd report --dir costs --tag team --from 2024-01 --to 2024-02 --format json | jq '.total'";
 
-// The option that names the tag.
-fn tag_option<'a>(alloc: Global) -> Arg<'a> {
-    Arg::new(alloc, TAG)
-        .long("tag")
-        .value_name("KEY")
-        .required(true)
-        .help("The tag whose values are the groups")
-}
-
-// The option that cuts the range into periods.
-fn by_option<'a>(alloc: Global) -> Arg<'a> {
-    Arg::new(alloc, BY)
-        .long("by")
-        .value_name("PERIOD")
-        .value_parser(STEPS.as_slice())
-        .help("Cuts the range into hours, days or months, each with a report of its own")
-}
-
-// The option that shows the groups that are charged most.
-fn top_option<'a>(alloc: Global) -> Arg<'a> {
-    Arg::new(alloc, TOP).long("top").value_name("N").help(
-        "Shows the N groups that are charged most, and the sums of all others: 1 to 1,000",
-    )
+// The option that leaves the policy out.
+fn direct_option<'a>(alloc: Global) -> Result<Arg<'a>, AllocError> {
+    Arg::new(alloc, DIRECT)
+        .long("direct")
+        .action(ArgAction::SetTrue)
+        .help(
+            "Prints the costs before the policy as a document, which focusd charge adds to others",
+        )
+        .conflicts_with_all(&[TOP, FORMAT])
 }
 
 // The options, in the order in which the help has them.
 fn options<'a>(alloc: Global) -> Result<Vec<Arg<'a>>, AllocError> {
     Ok(vec![in alloc;
         folder_option(alloc),
-        tag_option(alloc),
+        tag_option(alloc).required(true),
         from_option(alloc),
         to_option(alloc),
         by_option(alloc),
         top_option(alloc),
-        format_option(
-            alloc,
-            FORMATS.as_slice(),
-            "table",
-            "How the report is written",
-        ),
+        report_format_option(alloc),
+        direct_option(alloc)?,
     ]?)
 }
 

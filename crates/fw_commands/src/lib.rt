@@ -19,7 +19,7 @@ pub use coverage::print_coverage;
 pub use dump::print_dump;
 pub use explain::print_explanation;
 pub use lines::print_lines;
-pub use report::print_report;
+pub use report::{print_report, read_options, step_of, wrong_top};
 pub use run::serve_script;
 pub use status::print_status;
 pub use verify::verify_folder;

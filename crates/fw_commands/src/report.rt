@@ -6,7 +6,7 @@ ghost use Rattle.fw_console.specs.Statuses.{wrong_use_status};
 use crate::ask::ask;
 use clap::ArgMatches;
 use fw_calendar::Step;
-use fw_command_line::{BY, FORMAT, TAG, TOP};
+use fw_command_line::{BY, DIRECT, FORMAT, TAG, TOP};
 use fw_console::{Fault, WRONG_USE, read_range, wrong_time};
 use fw_query::Query;
 use fw_series::{Format, ReportOptions};
@@ -28,26 +28,41 @@ pub fn print_report(rt: &HostRuntime, options: &ArgMatches<'_>) -> Result<ExitCo
         from_hour,
         to_hour,
     };
+    if options.get_flag(DIRECT) {
+        let step = step_of(options.get_str(BY));
+        return Ok(ask(rt, options, &Question::Direct { query, step }));
+    }
+    match read_options(options) {
+        Ok(shown) => Ok(ask(
+            rt,
+            options,
+            &Question::Report {
+                query,
+                options: shown,
+            },
+        )),
+        Err(text) => Ok(wrong_top(rt, text)),
+    }
+}
+
+/// How the options have a report cut and written, or the value of `--top` that is no number of groups.
+pub fn read_options<'o>(options: &'o ArgMatches<'_>) -> Result<ReportOptions, &'o str> {
     let top = match options.get_str(TOP) {
         Some(text) => match read_top(text) {
             Some(top) => Some(top),
-            None => return Ok(wrong_top(rt, text)),
+            None => return Err(text),
         },
         None => None,
     };
-    let question = Question::Report {
-        query,
-        options: ReportOptions {
-            step: step_of(options.get_str(BY)),
-            top,
-            format: format_of(options.get_str(FORMAT)),
-        },
-    };
-    Ok(ask(rt, options, &question))
+    Ok(ReportOptions {
+        step: step_of(options.get_str(BY)),
+        top,
+        format: format_of(options.get_str(FORMAT)),
+    })
 }
 
-// The period that a word of `--by` names.
-fn step_of(word: Option<&str>) -> Option<Step> {
+/// The period that a word of `--by` names.
+pub fn step_of(word: Option<&str>) -> Option<Step> {
     match word {
         Some("hour") => Some(Step::Hour),
         Some("day") => Some(Step::Day),
@@ -76,8 +91,8 @@ fn read_top(text: &str) -> Option<usize>
     }
 }
 
-// Says that the value of `--top` is no number of groups.
-fn wrong_top(rt: &HostRuntime, text: &str) -> ExitCode
+/// Says that the value of `--top` is no number of groups.
+pub fn wrong_top(rt: &HostRuntime, text: &str) -> ExitCode
     ensures { exit_status result ≡ wrong_use_status }
 {
     let _ = eprintln!(rt;

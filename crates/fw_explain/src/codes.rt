@@ -24,6 +24,11 @@ pub(crate) fn file_codes() -> &'static [Explanation] {
     FILE_CODES
 }
 
+/// The codes of what is wrong with reports of shards, and with the parts of exports.
+pub(crate) fn shard_codes() -> &'static [Explanation] {
+    SHARD_CODES
+}
+
 /// The codes of what is wrong with a warehouse's folder and files, or with what is written of them, and last the one fault without a number.
 pub(crate) fn store_codes() -> &'static [Explanation] {
     STORE_CODES
@@ -437,6 +442,79 @@ const FILE_CODES: &[Explanation] = &[
         expected: "",
         meaning: "the replacement of another origin's rows is not finished; nothing was done",
         remedy: "Run that replacement again first, with the same files: it goes on where it stopped.",
+    },
+];
+
+const SHARD_CODES: &[Explanation] = &[
+    Explanation {
+        code: "W1",
+        name: "NoDirectReport",
+        expected: "",
+        meaning: "a text that `focusd report --direct` printed is expected, and this is none",
+        remedy: "Print the report again by `focusd report --direct`, and give its output as it is.",
+    },
+    Explanation {
+        code: "W2",
+        name: "OtherTag",
+        expected: "",
+        meaning: "the reports are of different tags, or of another one than --tag names",
+        remedy: "Print all reports with the same --tag, and charge each tag by itself.",
+    },
+    Explanation {
+        code: "W3",
+        name: "OtherCurrency",
+        expected: "",
+        meaning: "the reports are in different currencies",
+        remedy: "Charge the warehouses of each currency by themselves.",
+    },
+    Explanation {
+        code: "W4",
+        name: "OtherPeriod",
+        expected: "",
+        meaning: "a report has hours of several of the periods that --by asks for, in one sum",
+        remedy: "Print the reports with the same --by as the charge, or a shorter one, or charge without --by.",
+    },
+    Explanation {
+        code: "W5",
+        name: "OutsideRange",
+        expected: "",
+        meaning: "a report has hours that are not in the range of --from and --to",
+        remedy: "Print the report for hours in the range, or make the range of the charge wider; without --from and --to it has the hours of all reports.",
+    },
+    Explanation {
+        code: "W6",
+        name: "OutOfRange",
+        expected: "",
+        meaning: "the absolute costs of all reports come to more than 10^37 nanos",
+        remedy: "Look for a report that is no report of a warehouse: the costs of the rows of a warehouse come to far less.",
+    },
+    Explanation {
+        code: "W7",
+        name: "Exists",
+        expected: "",
+        meaning: "a part of an export would take the place of a file",
+        remedy: "Name an empty folder by --out, or move the file.",
+    },
+    Explanation {
+        code: "W8",
+        name: "OtherHeader",
+        expected: "",
+        meaning: "the files that are cut have different headers",
+        remedy: "Cut them by themselves, each into a folder of its own.",
+    },
+    Explanation {
+        code: "W9",
+        name: "OtherKind",
+        expected: "",
+        meaning: "the document is of another kind than the option takes",
+        remedy: "Give the TOML of a policy to --policy, and that of a commitment to --commitments.",
+    },
+    Explanation {
+        code: "W10",
+        name: "NotWritten",
+        expected: "",
+        meaning: "a part of an export could not be written",
+        remedy: "Look for a full disk, or a folder that can't be written to, and run the command again.",
     },
 ];
 

@@ -2,7 +2,9 @@
 ghost use Rattle.std.specs.Prelude.{◌≡◌, ◌⊎◌, [], IfSome};
 ghost use Rattle.fw_explain.specs.Printed.{code_in};
 
-use crate::codes::{document_codes, entry_codes, export_codes, file_codes, store_codes};
+use crate::codes::{
+    document_codes, entry_codes, export_codes, file_codes, shard_codes, store_codes,
+};
 
 /// What a code means.
 #[derive(Clone, Copy, Debug)]
@@ -20,7 +22,7 @@ pub struct Explanation {
 }
 
 /// How many tables of explanations there are.
-const TABLES: usize = 5;
+const TABLES: usize = 6;
 
 /// All explanations, in the order of the formats' tables.
 pub fn explanations() -> [&'static [Explanation]; TABLES] {
@@ -29,6 +31,7 @@ pub fn explanations() -> [&'static [Explanation]; TABLES] {
         document_codes(),
         entry_codes(),
         file_codes(),
+        shard_codes(),
         store_codes(),
     ]
 }

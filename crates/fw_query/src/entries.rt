@@ -70,8 +70,8 @@ impl Entry {
         self.direct
     }
 
-    // The entry of a group that is charged this.
-    pub(crate) fn of_charge(group: String, billed: i128, direct: i128, charged: i128) -> Entry
+    /// The entry of a group that was billed and cost this directly, and is charged this, in nanos.
+    pub fn of_charge(group: String, billed: i128, direct: i128, charged: i128) -> Entry
         ensures { result ≡ record { group = string_bytes group; billed = billed; direct = direct; charged = charged } }
     {
         Entry {
@@ -125,8 +125,8 @@ impl Model for Report {
 }
 
 impl Report {
-    // The report with these entries.
-    pub(crate) fn of_entries(entries: Vec<Entry>) -> Report
+    /// The report with these entries, which are in rising byte order of the groups, each group once.
+    pub fn of_entries(entries: Vec<Entry>) -> Report
         ensures { result ≡ entries.items }
     {
         Report { entries }

@@ -103,7 +103,7 @@ totals_other costs e (h ∷ gs) none = two_ways (bytes_eq e.group h)
     (λ other. λ j.
     total_other costs e h (nat_list_eq_equiv.symm h e.group ∙ other) j ∷ totals_other costs e gs (sym (ap (λ b. b || list_any (bytes_eq e.group) gs) other) ∙ none) j)
 
-not_behind : (g : List ℕ) (gs : List (List ℕ)) → IsRising (g ∷ gs) → list_any (bytes_eq g) gs ≡ false
+pub not_behind : (g : List ℕ) (gs : List (List ℕ)) → IsRising (g ∷ gs) → list_any (bytes_eq g) gs ≡ false
 not_behind g gs up = two_ways (list_any (bytes_eq g) gs)
     (λ there. absurd (apart_from_less g g (head_below g g gs up (from-there g gs there)) refl))
     (λ absent. absent)

@@ -8,3 +8,4 @@ mod CoverFacts
 mod LineFacts
 mod DealtFacts
 mod CaseFacts
+mod EntryFacts

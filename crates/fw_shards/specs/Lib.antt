@@ -3,3 +3,5 @@ pub mod Asked
 pub mod Added
 pub mod Places
 pub mod Refusals
+pub mod Charged
+pub mod Entries

@@ -1,8 +1,10 @@
 //! Direct reports as values.
 ghost use Rattle.std.specs.Prelude.{◌≡◌, ◌+ℤ◌, ◌<◌, ◌^◌, IfOk, map, nat_abs, string_bytes};
 ghost use Rattle.fw_shards.specs.Added.{direct_of};
+ghost use Rattle.fw_shards.specs.Entries.{cost_of_total};
 
 use fw_query::{Entry, Report};
+use fw_sums::Total;
 use std::alloc::{AllocError, Global};
 use std::marker::Model;
 
@@ -72,6 +74,15 @@ impl Direct {
         ensures { result ≡ self.now.effective }
     {
         self.direct
+    }
+
+    // The group of a total.
+    pub(crate) fn of_total(total: Total) -> Direct
+        ensures { result ≡ cost_of_total total }
+    {
+        let billed = total.billed();
+        let direct = total.effective();
+        Direct::of_fields(total.into_group(), billed, direct)
     }
 
     // An equal group.

@@ -12,9 +12,11 @@ mod direct;
 mod fault;
 mod laws;
 mod range;
+mod reporting;
 
 pub use adding::added;
 pub use charging::charged;
 pub use direct::{Direct, DirectReport};
 pub use fault::AddFault;
 pub use laws::{reports_are_direct, shards_add_up, the_sum_is_the_report, whole_hours_are_shards};
+pub use reporting::{charged_report, direct_alone};

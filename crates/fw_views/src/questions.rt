@@ -14,6 +14,8 @@ ghost use Rattle.fw_views.specs.declared.questions.Question.TheVariants.{Coverag
 
 use crate::covered::{CoverageFormat, coverage_text};
 use crate::status::{sound_text, status_text};
+use fw_calendar::Step;
+use fw_direct::direct_text;
 use fw_disk::Volume;
 use fw_query::{Query, QueryFault, lines_csv};
 use fw_recover::Store;
@@ -27,6 +29,11 @@ pub enum Question<'q> {
     Report {
         query: Query<'q>,
         options: ReportOptions,
+    },
+    /// What each group of a tag cost before any policy, in the whole range or by period, as a document that can be added to others.
+    Direct {
+        query: Query<'q>,
+        step: Option<Step>,
     },
     /// Each line behind the costs of the hours from `from` up to, not including, `to`, counted from 1970.
     Lines {
@@ -75,6 +82,7 @@ pub fn answer<V: Volume>(
 {
     match question {
         Question::Report { query, options } => report_text(alloc, store.state(), query, options),
+        Question::Direct { query, step } => direct_text(alloc, store.state(), query, *step),
         Question::Lines { from, to } => lines_csv(alloc, store.state(), *from, *to),
         Question::Coverage { from, to, format } => {
             coverage_text(alloc, store.state(), *from, *to, *format)

@@ -1,0 +1,95 @@
+//! `focusd split`: CSV exports are cut into parts by time and SKU.
+use crate::ids::{BY, COMMITMENTS, INTO, OUT};
+use crate::options::{
+    STEPS, command_with, currency_option, files_argument, format_option, quiet_option,
+};
+use clap::{Arg, ArgAction, Command};
+use std::alloc::{AllocError, Global};
+
+/// The formats of the answer.
+const FORMATS: [&str; 2] = ["text", "json"];
+
+const HELP: &str =
+    "The rows of the FILEs are dealt to parts by the hour, day or month in which ChargePeriodStart lies, in UTC. A part is an export
+with the header of the FILEs and the records as they are, in their order: 2024-09-01T00.csv, 2024-09-01.csv or 2024-09.csv in the
+folder of --out, which is made where it isn't there. `-` is standard input.
+
+With --into N each period is dealt to up to N piles, as 2024-09-01.1.csv. SKUs that one commitment lists stay together: name the
+commitments by --commitments. Rows of other SKUs go to the pile with the fewest rows. The same commitments, in the same order, give
+the same piles in each period and run. --format json lists the parts, and in which pile each commitment belongs.
+
+Each record is checked as `focusd import` checks it, so the parts can be imported. No file is overwritten. The parts have their names
+once all FILEs are read; until then, and where a run was stopped, they end in `.part`. A fault removes them.
+
+Example: a year of exports by day, for warehouses of a day each
+  focusd split --by day --out days 2024-*.csv
+
+Exit status: 0 where all parts are there, 1 where a file has a fault or can't be read or written, 2 where the command line is wrong.";
+
+// The option that says by what rows are dealt.
+fn period_option<'a>(alloc: Global) -> Arg<'a> {
+    Arg::new(alloc, BY)
+        .long("by")
+        .value_name("PERIOD")
+        .default_value("day")
+        .value_parser(STEPS.as_slice())
+        .help("A part for each hour, day or month")
+}
+
+// The option that says how many piles there are.
+fn into_option<'a>(alloc: Global) -> Arg<'a> {
+    Arg::new(alloc, INTO).long("into").value_name("N").help(
+        "How many piles the rows of a period are dealt to: 1 to 1,000, where it isn't given 1",
+    )
+}
+
+// The option that names commitments.
+fn commitments_option<'a>(alloc: Global) -> Arg<'a> {
+    Arg::new(alloc, COMMITMENTS)
+        .long("commitments")
+        .value_name("FILE")
+        .action(ArgAction::Append)
+        .help("The TOML of a commitment, whose SKUs stay together; can be given again")
+}
+
+// The option that names the folder of the parts.
+fn out_option<'a>(alloc: Global) -> Arg<'a> {
+    Arg::new(alloc, OUT)
+        .long("out")
+        .value_name("DIR")
+        .required(true)
+        .help("The folder of the parts")
+}
+
+// The options, in the order in which the help has them.
+fn options<'a>(alloc: Global) -> Result<Vec<Arg<'a>>, AllocError> {
+    Ok(vec![in alloc;
+        period_option(alloc),
+        into_option(alloc),
+        commitments_option(alloc),
+        out_option(alloc),
+        currency_option(alloc).help("The currency that all costs must have: three capital letters"),
+        format_option(
+            alloc,
+            FORMATS.as_slice(),
+            "text",
+            "How the answer is written",
+        ),
+        quiet_option(alloc),
+        files_argument(
+            alloc,
+            "A CSV with the columns of FOCUS 1.0, or `-` for standard input",
+        ),
+    ]?)
+}
+
+/// The command's part of the command line.
+pub(crate) fn command<'a>(alloc: Global) -> Result<Command<'a>, AllocError> {
+    command_with(
+        alloc,
+        "split",
+        "Cuts CSV exports into parts by time and SKU",
+        HELP,
+        options(alloc)?,
+    )
+}
