@@ -108,11 +108,12 @@ fn place_of(skus: &[Listed], sku: &str) -> Result<usize, usize> {
     skus.binary_search_by(|listed| listed.sku.as_str().cmp(sku))
 }
 
-// Joins the sets of two commitments: all of the second one's set are in that of the first.
+// Joins the sets of two commitments. A set is named by the least place of its commitments.
 fn join(sets: &mut [usize], first: usize, second: usize) {
-    let (Some(kept), Some(joined)) = (sets.get(first).copied(), sets.get(second).copied()) else {
+    let (Some(one), Some(other)) = (sets.get(first).copied(), sets.get(second).copied()) else {
         return;
     };
+    let (kept, joined) = (one.min(other), one.max(other));
     for set in sets {
         if *set == joined {
             *set = kept;
