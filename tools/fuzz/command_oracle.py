@@ -14,10 +14,10 @@ CURRENCY = re.compile(r"[A-Z]{3}")
 
 
 class Option:
-    """An option of a command: whether it takes a value, has to be given, and what values it takes."""
+    """An option of a command: whether it takes a value, has to be given, what values it takes, and whether it can be given again."""
 
-    def __init__(self, takes=True, required=False, rule=None):
-        self.takes, self.required, self.rule = takes, required, rule
+    def __init__(self, takes=True, required=False, rule=None, repeats=False):
+        self.takes, self.required, self.rule, self.repeats = takes, required, rule, repeats
 
 
 def one_of(*words):
@@ -46,7 +46,15 @@ COMMANDS = {
     "check": ({"format": Option(rule=one_of("text", "json")), "currency": Option(), "quiet": FLAG}, 1, MANY),
     "report": (
         {"dir": DIR, "tag": DIR, **FROM_TO, "by": Option(rule=one_of("hour", "day", "month")), "top": Option(),
-         "format": Option(rule=one_of("table", "csv", "json", "html"))}, 0, 0,
+         "format": Option(rule=one_of("table", "csv", "json", "html")), "direct": FLAG}, 0, 0,
+    ),
+    "charge": (
+        {"tag": Option(), "policy": Option(), **PERHAPS, "by": Option(rule=one_of("hour", "day", "month")), "top": Option(),
+         "format": Option(rule=one_of("table", "csv", "json", "html"))}, 1, MANY,
+    ),
+    "split": (
+        {"by": Option(rule=one_of("hour", "day", "month")), "into": Option(), "commitments": Option(repeats=True), "out": DIR,
+         "currency": Option(), "format": Option(rule=one_of("text", "json")), "quiet": FLAG}, 1, MANY,
     ),
     "lines": ({"dir": DIR, **FROM_TO}, 0, 0),
     "coverage": ({"dir": DIR, **FROM_TO, "format": Option(rule=one_of("table", "csv"))}, 0, 0),
@@ -108,7 +116,7 @@ def read_words(command, words):
             if name == "help" and not equals:
                 raise Settled(HELP)
             option = options.get(name)
-            if option is None or name in given or equals and not option.takes:
+            if option is None or name in given and not option.repeats or equals and not option.takes:
                 raise Settled(WRONG)
             if option.takes and not equals:
                 if at == len(words) or words[at].startswith("-") and words[at] != "-":
@@ -135,6 +143,12 @@ def rules_hold(command, given, others):
         return False
     if "top" in given and not number_from(1, 1_000)(given["top"]):
         return False
+    if "direct" in given and ("top" in given or "format" in given):
+        return False
+    if command == "split" and not number_from(1, 1_000)(given.get("into", "1")):
+        return False
+    if command == "charge":
+        return all(time_of(given[name]) is not None for name in ("from", "to") if name in given)
     if command != "load" and not ORIGIN.fullmatch(given.get("origin", "a")):
         return False
     if command == "withdraw" and ("seq" in given) + ("all" in given) + ("from" in given or "to" in given) != 1:

@@ -1,4 +1,6 @@
 //! A direct report that was written.
+ghost use Rattle.std.specs.Prelude.{◌<◌};
+
 use crate::fault::DocumentFault;
 use crate::member::{
     count_of, currency_of, list_of, member_fault, nanos_of, period_of, step_of, text_of,
@@ -108,7 +110,9 @@ fn parts_of(
     value: &Value,
     range: Period,
     step: Option<Step>,
-) -> Result<Vec<DirectPart>, DocumentFault> {
+) -> Result<Vec<DirectPart>, DocumentFault>
+    requires { range.from < range.to }
+{
     let all = periods_by(alloc, step, range.from, range.to)?;
     let mut left = all.as_slice().iter();
     let mut parts = Vec::new(alloc);

@@ -1,4 +1,6 @@
 //! Members of an object of JSON.
+ghost use Rattle.std.specs.Prelude.{◌<◌, IfOk};
+
 use crate::fault::DocumentFault;
 use fw_calendar::{Period, Step, read_time};
 use fw_charge::Currency;
@@ -75,7 +77,9 @@ fn wrong_step() -> DocumentFault {
 }
 
 /// The range of hours of an object.
-pub(crate) fn period_of(alloc: Global, object: &Value) -> Result<Period, DocumentFault> {
+pub(crate) fn period_of(alloc: Global, object: &Value) -> Result<Period, DocumentFault>
+    ensures { IfOk result (λ period. period.from < period.to) }
+{
     let from = hour_of(alloc, object, "from")?;
     let to = hour_of(alloc, object, "to")?;
     if from < to && to - from <= MOST_HOURS {

@@ -1,4 +1,8 @@
 //! The direct reports of the periods of a range.
+ghost use Rattle.std.specs.Prelude.{◌≡◌, IfOk};
+ghost use Rattle.fw_direct.specs.Parts.{AreDirectParts, IsDirectPart};
+ghost use Rattle.fw_sums.specs.Limits.{IsRange};
+
 use crate::periods::periods_by;
 use fw_calendar::{Period, Step};
 use fw_query::{Query, QueryFault};
@@ -26,7 +30,9 @@ impl Drop for DirectPart {
 
 impl DirectPart {
     // The direct report, to keep.
-    pub(crate) fn into_report(self) -> DirectReport {
+    pub(crate) fn into_report(self) -> DirectReport
+        ensures { result ≡ self.report }
+    {
         let Self { period: _, report } = self;
         report
     }
@@ -42,10 +48,28 @@ pub fn direct_parts(
     snapshot: &Snapshot,
     query: &Query<'_>,
     step: Option<Step>,
-) -> Result<Vec<DirectPart>, QueryFault> {
+) -> Result<Vec<DirectPart>, QueryFault>
+    ensures parts { IfOk result (λ parts. AreDirectParts snapshot.now.entries query.now.key.now
+        query.now.from_hour query.now.to_hour step parts.items) }
+    ensures range { IfOk result (λ _. IsRange query.now.from_hour query.now.to_hour) }
+{
     if !query.is_range() {
         return Err(QueryFault::Range);
     }
+    parts_of(alloc, snapshot, query, step)
+}
+
+// The direct report of each period of a range that has hours, but not too many.
+fn parts_of(
+    alloc: Global,
+    snapshot: &Snapshot,
+    query: &Query<'_>,
+    step: Option<Step>,
+) -> Result<Vec<DirectPart>, QueryFault>
+    requires { IsRange query.now.from_hour query.now.to_hour }
+    ensures parts { IfOk result (λ parts. AreDirectParts snapshot.now.entries query.now.key.now
+        query.now.from_hour query.now.to_hour step parts.items) }
+{
     let periods = periods_by(alloc, step, query.from_hour, query.to_hour)?;
     let mut parts = Vec::new(alloc);
     for period in &periods {
@@ -63,7 +87,10 @@ fn direct_part(
     snapshot: &Snapshot,
     key: &str,
     period: Period,
-) -> Result<DirectPart, QueryFault> {
+) -> Result<DirectPart, QueryFault>
+    ensures period { IfOk result (λ part. part.period ≡ period) }
+    ensures report { IfOk result (IsDirectPart snapshot.now.entries key.now) }
+{
     let query = Query {
         key,
         from_hour: period.from,

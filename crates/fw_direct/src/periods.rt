@@ -1,4 +1,7 @@
 //! The periods of a range of hours.
+ghost use Rattle.std.specs.Prelude.{◌≡◌, ◌≤◌, IfOk};
+ghost use Rattle.fw_direct.specs.Parts.{ArePeriodsBy};
+
 use fw_calendar::{Period, Step, periods};
 use std::alloc::{AllocError, Global};
 
@@ -9,13 +12,12 @@ pub fn periods_by(
     step: Option<Step>,
     from: u64,
     to: u64,
-) -> Result<Vec<Period>, AllocError> {
+) -> Result<Vec<Period>, AllocError>
+    requires { from ≤ to }
+    ensures { IfOk result (λ periods. ArePeriodsBy step from to periods.items) }
+{
     match step {
-        Some(step) if from <= to => periods(alloc, step, from, to),
-        _ => {
-            let mut all = Vec::new(alloc);
-            all.push(Period { from, to })?;
-            Ok(all)
-        }
+        Some(step) => periods(alloc, step, from, to),
+        None => vec![in alloc; Period { from, to }],
     }
 }

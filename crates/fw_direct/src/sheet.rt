@@ -1,12 +1,18 @@
 //! Direct reports of shards, added up period by period and charged.
+ghost use Rattle.std.specs.Prelude.{◌≡◌, ◌≤◌, IfOk, IfSome, map};
+ghost use Rattle.std.specs.List.{AllZip};
+ghost use Rattle.std.specs.Option.{option_copied};
+ghost use Rattle.fw_direct.specs.Parts.{ArePeriodsBy};
+ghost use Rattle.fw_direct.specs.Sheets.{IsCharged, IsChargedPart, IsSum, LiesAt};
+
 use crate::part::DirectPart;
 use crate::periods::periods_by;
 use fw_calendar::{Period, Step};
-use fw_query::Report;
 use fw_series::{Part, Series};
 use fw_shards::{AddFault, DirectReport, added, charged_report};
 use fw_terms::Policy;
 use std::alloc::{AllocError, Global};
+use std::marker::Model;
 
 /// A period, and the direct reports that lie in it.
 struct Slot {
@@ -23,6 +29,31 @@ impl Drop for Slot {
     }
 }
 
+impl Model for Slot {
+    ghost use Rattle.fw_direct.specs.Sheets.{SlotValue};
+
+    ghost Value = { SlotValue };
+
+    ghost view = { λ s. record {
+      period = s.period;
+      reports = s.reports.items;
+    } };
+}
+
+impl Slot {
+    // The report of what the direct reports of the period add up to.
+    fn part(&self, alloc: Global, key: &str, policy: Option<&Policy>) -> Result<Part, AddFault>
+        ensures { IfOk result (IsChargedPart (option_copied policy.entry) key.now self.now) }
+    {
+        let sum = added(alloc, self.reports.as_slice())?;
+        let report = charged_report(alloc, key, &sum, policy)?;
+        Ok(Part {
+            period: self.period,
+            report,
+        })
+    }
+}
+
 /// The periods of a range of hours, and direct reports that lie in them.
 pub struct Sheet {
     step: Option<Step>,
@@ -35,11 +66,28 @@ impl Drop for Sheet {
     }
 }
 
+impl Model for Sheet {
+    ghost use Rattle.fw_direct.specs.Sheets.{SheetValue};
+
+    ghost Value = { SheetValue };
+
+    ghost view = { λ s. record {
+      step = s.step;
+      slots = s.slots.items;
+    } };
+}
+
 impl Sheet {
     /// A range of hours, cut by a step where there is one, without reports. The one error is that memory ran out.
-    pub fn new(alloc: Global, step: Option<Step>, from: u64, to: u64) -> Result<Sheet, AllocError> {
+    pub fn new(alloc: Global, step: Option<Step>, from: u64, to: u64) -> Result<Sheet, AllocError>
+        requires { from ≤ to }
+        ensures step { IfOk result (λ sheet. sheet.step ≡ step) }
+        ensures periods { IfOk result (λ sheet. ArePeriodsBy step from to
+            (map (λ s. s.period) sheet.slots)) }
+    {
+        let periods = periods_by(alloc, step, from, to)?;
         let mut slots = Vec::new(alloc);
-        for period in &periods_by(alloc, step, from, to)? {
+        for period in &periods {
             slots.push(Slot {
                 period: *period,
                 reports: Vec::new(alloc),
@@ -70,29 +118,41 @@ impl Sheet {
         alloc: Global,
         key: &str,
         policy: Option<&Policy>,
-    ) -> Result<Series, AddFault> {
+    ) -> Result<Series, AddFault>
+        ensures { IfOk result (IsCharged (option_copied policy.entry) key.now self.now) }
+    {
         let sums = sums_of(alloc, self.slots.as_slice())?;
-        let whole = whole_of(alloc, sums.as_slice(), key, policy)?;
+        let sum = added(alloc, sums.as_slice())?;
+        let whole = charged_report(alloc, key, &sum, policy)?;
         let parts = match self.step {
-            Some(_) => parts_of(alloc, self.slots.as_slice(), sums.as_slice(), key, policy)?,
+            Some(_) => parts_of(alloc, self.slots.as_slice(), key, policy)?,
             None => Vec::new(alloc),
         };
         Ok(Series { whole, parts })
     }
 }
 
-// The place of the period in which some hours lie, among periods in order.
-fn place_of(slots: &[Slot], hours: Period) -> Option<usize> {
+// The place of the period in which some hours lie.
+fn place_of(slots: &[Slot], hours: Period) -> Option<usize>
+    ensures { IfSome result (LiesAt (map (λ s. s.period) slots.now) hours) }
+{
     let place = match slots.binary_search_by(|slot| slot.period.from.cmp(&hours.from)) {
         Ok(place) => place,
         Err(place) => place.checked_sub(1)?,
     };
     let slot = slots.get(place)?;
-    (hours.to <= slot.period.to).then_some(place)
+    if slot.period.from <= hours.from && hours.to <= slot.period.to {
+        Some(place)
+    } else {
+        None
+    }
 }
 
 // What the reports of each period add up to.
-fn sums_of(alloc: Global, slots: &[Slot]) -> Result<Vec<DirectReport>, AddFault> {
+fn sums_of(alloc: Global, slots: &[Slot]) -> Result<Vec<DirectReport>, AddFault>
+    ensures { IfOk result (λ sums. AllZip (λ slot sum. IsSum slot.reports sum) slots.now
+        sums.items) }
+{
     let mut sums = Vec::new(alloc);
     for slot in slots {
         match added(alloc, slot.reports.as_slice()) {
@@ -103,32 +163,22 @@ fn sums_of(alloc: Global, slots: &[Slot]) -> Result<Vec<DirectReport>, AddFault>
     Ok(sums)
 }
 
-// The report of the range, given what the reports of its periods add up to.
-fn whole_of(
-    alloc: Global,
-    sums: &[DirectReport],
-    key: &str,
-    policy: Option<&Policy>,
-) -> Result<Report, AddFault> {
-    let sum = added(alloc, sums)?;
-    Ok(charged_report(alloc, key, &sum, policy)?)
-}
-
 // The reports of the periods.
 fn parts_of(
     alloc: Global,
     slots: &[Slot],
-    sums: &[DirectReport],
     key: &str,
     policy: Option<&Policy>,
-) -> Result<Vec<Part>, AddFault> {
+) -> Result<Vec<Part>, AddFault>
+    ensures { IfOk result (λ parts. AllZip (IsChargedPart (option_copied policy.entry) key.now)
+        slots.now parts.items) }
+{
     let mut parts = Vec::new(alloc);
-    for (slot, sum) in slots.iter().zip(sums) {
-        let report = charged_report(alloc, key, sum, policy)?;
-        parts.push(Part {
-            period: slot.period,
-            report,
-        })?;
+    for slot in slots {
+        match slot.part(alloc, key, policy) {
+            Ok(part) => parts.push(part)?,
+            Err(fault) => return Err(fault),
+        }
     }
     Ok(parts)
 }

@@ -1,4 +1,6 @@
 //! `focusd charge`: direct reports are added up, and charged under a policy.
+ghost use Rattle.std.specs.Prelude.{◌≤◌};
+
 use crate::documents::{document_of, other_kind};
 use crate::reports::Reports;
 use crate::words::refuse;
@@ -145,7 +147,7 @@ fn charge_all(
     if !reports.lie_in(rt, range)? {
         return Ok(ExitCode::FAILURE);
     }
-    if range.to.saturating_sub(range.from) > MOST_HOURS {
+    if range.to <= range.from || range.to - range.from > MOST_HOURS {
         return Err(Fault::Range);
     }
     charge_range(rt, reports, shown, range, policy)
@@ -158,7 +160,9 @@ fn charge_range(
     shown: &ReportOptions,
     range: Period,
     policy: Option<&Policy>,
-) -> Result<ExitCode, Fault> {
+) -> Result<ExitCode, Fault>
+    requires { range.from ≤ range.to }
+{
     let (tag, currency) = reports.tag_and_currency();
     let tag = String::from_str(rt.alloc(), tag)?;
     let currency = String::from_str(rt.alloc(), currency)?;
