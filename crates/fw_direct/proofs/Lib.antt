@@ -1,0 +1,2 @@
+mod PeriodFacts
+mod SheetFacts

@@ -7,6 +7,7 @@
 
 mod document;
 mod fault;
+mod laws;
 mod member;
 mod part;
 mod periods;
@@ -15,6 +16,7 @@ mod text;
 
 pub use document::{DirectDocument, read_document};
 pub use fault::DocumentFault;
+pub use laws::what_is_charged_is_the_series;
 pub use part::{DirectPart, direct_parts};
 pub use periods::periods_by;
 pub use sheet::Sheet;
