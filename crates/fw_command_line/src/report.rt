@@ -44,7 +44,8 @@ fn direct_option<'a>(alloc: Global) -> Result<Arg<'a>, AllocError> {
         .help(
             "Prints the costs before the policy as a document, which focusd charge adds to others",
         )
-        .conflicts_with_all(&[TOP, FORMAT])
+        .conflicts_with(TOP)?
+        .conflicts_with(FORMAT)
 }
 
 // The options, in the order in which the help has them.
