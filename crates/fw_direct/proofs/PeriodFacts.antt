@@ -26,10 +26,10 @@ pub adjacent : (step : Option Step) (from to : ℕ) (ps : List Period) → from 
 adjacent None from to ps some are = subst (Adjacent from to) (sym are) (refl, some, omega arith, refl)
 adjacent (Some step) from to ps some are = adjacent_steps step from to ps are
 
-pub ask : List EntryValue → Period → AskedValue
+abbrev pub ask : List EntryValue → Period → AskedValue
 ask whole p = record { history = whole; from = p.from; to = p.to }
 
-pick : List EntryValue → Period → List AskedValue → Bool → List (List EntryValue)
+abbrev pick : List EntryValue → Period → List AskedValue → Bool → List (List EntryValue)
 pick whole p rest b = map (λ (a : AskedValue). a.history) (cond b (ask whole p ∷ rest) rest)
 
 none_before : (whole : List EntryValue) (from to hour : ℕ) (ps : List Period) → Adjacent from to ps → hour < from → asked_for hour (map (ask whole) ps) ≡ []

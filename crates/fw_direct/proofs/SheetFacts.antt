@@ -13,7 +13,7 @@ use Rattle.fw_sums.specs.Costs.{Cost}
 use Rattle.fw_terms.specs.Policy.{PolicyValue}
 use Rattle.std.proofs.Common.{Option}
 
-pub period_of : SlotValue → Period
+abbrev pub period_of : SlotValue → Period
 period_of s = s.period
 
 -- the sums of the periods are the direct reports of the one warehouse, asked for each of them

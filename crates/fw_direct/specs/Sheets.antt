@@ -1,9 +1,8 @@
 -- Direct reports of shards, by the periods in which they lie, and what they come to.
-use Rattle.std.specs.Prelude.{◌≡◌, ◌<◌, ◌≤◌, [], ◌∷◌, ◌++◌, ℕ, List, None, Option, Some, length, map, set, slice_get}
+use Rattle.std.specs.Prelude.{◌≡◌, ◌≤◌, [], ℕ, List, None, Option, Some}
 use Rattle.std.specs.List.{AllZip}
 use Rattle.fw_calendar.specs.declared.steps.Period.{Period}
 use Rattle.fw_calendar.specs.declared.steps.Step.{Step}
-use Rattle.fw_direct.specs.declared.part.DirectPart.{DirectPart}
 use Rattle.fw_entry.specs.Entry as entry
 use Rattle.fw_query.specs.Limits.{most_total}
 use Rattle.fw_series.specs.declared.series.Part.{Part}
@@ -60,20 +59,3 @@ pub record HoldsShards (whole : List entry.EntryValue) (key : List ℕ) (slot : 
   pub asked : List AskedValue
   pub shards : AreShardsOf whole slot.period.from slot.period.to asked
   pub direct : AreDirectOnEach key asked slot.reports
-
--- the hours lie in the period at this place
-pub record LiesAt (periods : List Period) (hours : Period) (place : ℕ) : Type 0 where
-  pub period : Period
-  pub at : slice_get periods place ≡ Some period
-  pub begins : period.from ≤ hours.from
-  pub ends : hours.to ≤ period.to
-
--- the report of a part was put to the period at a place, in which its hours lie
-pub record IsPut (old : SheetValue) (part : DirectPart) (new : SheetValue) : Type 0 where
-  pub place : ℕ
-  pub lies : LiesAt (map (λ s. s.period) old.slots) part.period place
-  pub slot : SlotValue
-  pub at : slice_get old.slots place ≡ Some slot
-  pub new_is : new ≡ record old {
-    slots = set old.slots place (record slot { reports = slot.reports ++ part.report ∷ [] });
-  }

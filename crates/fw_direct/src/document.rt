@@ -2,9 +2,7 @@
 ghost use Rattle.std.specs.Prelude.{◌<◌};
 
 use crate::fault::DocumentFault;
-use crate::member::{
-    count_of, currency_of, list_of, member_fault, nanos_of, period_of, step_of, text_of,
-};
+use crate::member::{count_of, list_of, member_fault, nanos_of, period_of, step_of, text_of};
 use crate::part::DirectPart;
 use crate::periods::periods_by;
 use fw_calendar::{Period, Step};
@@ -85,7 +83,9 @@ fn document_of(alloc: Global, value: &Value) -> Result<DirectDocument, DocumentF
         return Err(member_fault("direct", "1, as focusd report --direct prints it"));
     }
     let tag = String::from_str(alloc, text_of(value, "tag")?)?;
-    let currency = currency_of(value)?;
+    let Some(currency) = Currency::new(text_of(value, "currency")?.as_bytes()) else {
+        return Err(member_fault("currency", "three capital letters, as USD"));
+    };
     let range = period_of(alloc, value)?;
     let step = step_of(value)?;
     let entries = count_of(value, "entries")?;
@@ -114,20 +114,31 @@ fn parts_of(
     requires { range.from < range.to }
 {
     let all = periods_by(alloc, step, range.from, range.to)?;
-    let mut left = all.as_slice().iter();
     let mut parts = Vec::new(alloc);
+    let mut next = 0;
     for object in list_of(value, "periods")? {
         let period = period_of(alloc, object)?;
-        if !left.any(|other| *other == period) {
+        let Some(place) = place_of(all.as_slice(), next, period) else {
             return Err(member_fault(
                 "periods",
                 "those that by cuts the range from from to to into, in order",
             ));
-        }
+        };
+        next = place.saturating_add(1);
         let report = report_of(alloc, object)?;
         parts.push(DirectPart { period, report })?;
     }
     Ok(parts)
+}
+
+// The place of a period among periods, from a place on.
+fn place_of(periods: &[Period], from: usize, period: Period) -> Option<usize> {
+    for place in from..periods.len() {
+        if periods[place] == period {
+            return Some(place);
+        }
+    }
+    None
 }
 
 // The direct report of a period.

@@ -3,7 +3,6 @@ ghost use Rattle.std.specs.Prelude.{◌<◌, IfOk};
 
 use crate::fault::DocumentFault;
 use fw_calendar::{Period, Step, read_time};
-use fw_charge::Currency;
 use fw_query::MOST_HOURS;
 use serde_json::Value;
 use std::alloc::Global;
@@ -46,14 +45,6 @@ pub(crate) fn nanos_of(object: &Value, name: &'static str) -> Result<i128, Docum
     match text.parse::<i128>() {
         Ok(nanos) => Ok(nanos),
         Err(_) => Err(member_fault(name, "a text of a whole number of nanos, within 128 bits")),
-    }
-}
-
-/// The currency.
-pub(crate) fn currency_of(object: &Value) -> Result<Currency, DocumentFault> {
-    match Currency::new(text_of(object, "currency")?.as_bytes()) {
-        Some(currency) => Ok(currency),
-        None => Err(member_fault("currency", "three capital letters, as USD")),
     }
 }
 

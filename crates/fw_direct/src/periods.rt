@@ -18,6 +18,6 @@ pub fn periods_by(
 {
     match step {
         Some(step) => periods(alloc, step, from, to),
-        None => vec![in alloc; Period { from, to }],
+        None => Ok(vec![in alloc; Period { from, to }]?),
     }
 }

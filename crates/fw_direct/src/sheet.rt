@@ -1,9 +1,9 @@
 //! Direct reports of shards, added up period by period and charged.
-ghost use Rattle.std.specs.Prelude.{◌≡◌, ◌≤◌, IfOk, IfSome, map};
+ghost use Rattle.std.specs.Prelude.{◌≡◌, ◌≤◌, IfOk, map};
 ghost use Rattle.std.specs.List.{AllZip};
 ghost use Rattle.std.specs.Option.{option_copied};
 ghost use Rattle.fw_direct.specs.Parts.{ArePeriodsBy};
-ghost use Rattle.fw_direct.specs.Sheets.{IsCharged, IsChargedPart, IsSum, LiesAt};
+ghost use Rattle.fw_direct.specs.Sheets.{IsCharged, IsChargedPart, IsSum};
 
 use crate::part::DirectPart;
 use crate::periods::periods_by;
@@ -41,6 +41,13 @@ impl Model for Slot {
 }
 
 impl Slot {
+    // What the direct reports of the period add up to.
+    fn sum(&self, alloc: Global) -> Result<DirectReport, AddFault>
+        ensures { IfOk result (IsSum self.now.reports) }
+    {
+        added(alloc, self.reports.as_slice())
+    }
+
     // The report of what the direct reports of the period add up to.
     fn part(&self, alloc: Global, key: &str, policy: Option<&Policy>) -> Result<Part, AddFault>
         ensures { IfOk result (IsChargedPart (option_copied policy.entry) key.now self.now) }
@@ -99,11 +106,11 @@ impl Sheet {
     /// Puts the report of some hours to the period in which they lie; false where they lie in none. The one error is that memory ran out.
     pub fn put(&mut self, part: DirectPart) -> Result<bool, AllocError> {
         match place_of(self.slots.as_slice(), part.period) {
-            Some(place) => {
+            Some(place) if place < self.slots.len() => {
                 self.slots[place].reports.push(part.into_report())?;
                 Ok(true)
             }
-            None => Ok(false),
+            _ => Ok(false),
         }
     }
 
@@ -133,9 +140,7 @@ impl Sheet {
 }
 
 // The place of the period in which some hours lie.
-fn place_of(slots: &[Slot], hours: Period) -> Option<usize>
-    ensures { IfSome result (LiesAt (map (λ s. s.period) slots.now) hours) }
-{
+fn place_of(slots: &[Slot], hours: Period) -> Option<usize> {
     let place = match slots.binary_search_by(|slot| slot.period.from.cmp(&hours.from)) {
         Ok(place) => place,
         Err(place) => place.checked_sub(1)?,
@@ -155,10 +160,7 @@ fn sums_of(alloc: Global, slots: &[Slot]) -> Result<Vec<DirectReport>, AddFault>
 {
     let mut sums = Vec::new(alloc);
     for slot in slots {
-        match added(alloc, slot.reports.as_slice()) {
-            Ok(sum) => sums.push(sum)?,
-            Err(fault) => return Err(fault),
-        }
+        sums.push(slot.sum(alloc)?)?;
     }
     Ok(sums)
 }
@@ -175,10 +177,7 @@ fn parts_of(
 {
     let mut parts = Vec::new(alloc);
     for slot in slots {
-        match slot.part(alloc, key, policy) {
-            Ok(part) => parts.push(part)?,
-            Err(fault) => return Err(fault),
-        }
+        parts.push(slot.part(alloc, key, policy)?)?;
     }
     Ok(parts)
 }

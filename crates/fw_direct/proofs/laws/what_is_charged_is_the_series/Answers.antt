@@ -35,7 +35,7 @@ returns c = λ whole key from to sheet series each some periods hold charged.
     let made = of_whole.report in
     let on_each = direct_each whole key sheet.slots of_whole.sums direct hold of_whole.are_sums in
     let parts : (step : Option Step) → ArePeriodsBy step from to ps → AreChargedParts (policy_of whole) key step sheet.slots series.parts.items → ArePartsBy whole key from to step series.parts.items =
-    λ step. elim step [
+    λ step. elim step as (λ k. ArePeriodsBy k from to ps → AreChargedParts (policy_of whole) key k sheet.slots series.parts.items → ArePartsBy whole key from to k series.parts.items) [
       | None ↦ λ are none. none
       | Some s ↦ λ are zip. record {
         periods = subst (ArePeriodsBy (Some s) from to) (sym (same_periods (policy_of whole) key sheet.slots series.parts.items zip)) are;
