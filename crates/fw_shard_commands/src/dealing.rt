@@ -117,7 +117,11 @@ impl<'o> Dealing<'o> {
 fn sku_of(columns: &Columns, row: usize) -> Option<&str> {
     let code = columns.sku_codes().get(row)?.checked_sub(1)?;
     let names = columns.names();
-    ((code as usize) < names.len()).then_some(names.text(code))
+    if (code as usize) < names.len() {
+        Some(names.text(code))
+    } else {
+        None
+    }
 }
 
 // What ends a record that nothing ends: where a quote is open in it, a quote, and then what ends the header.

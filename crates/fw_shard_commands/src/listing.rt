@@ -68,7 +68,9 @@ impl Dealt {
     pub(crate) fn find_piles(&mut self, piles: &Piles) {
         for place in 0..self.all.len() {
             let pile = self.pile_of(place, piles);
-            self.all[place].pile = pile;
+            if place < self.all.len() {
+                self.all[place].pile = pile;
+            }
         }
     }
 

@@ -66,7 +66,7 @@ impl<'o> Outputs<'o> {
     pub(crate) fn span(&mut self, rt: &HostRuntime, hour: u64) -> Result<Option<usize>, Fault> {
         let place = match place_of(self.spans.as_slice(), hour) {
             Ok(place) => return Ok(Some(place)),
-            Err(place) => place,
+            Err(place) => place.min(self.spans.len()),
         };
         let period = span_of(rt.alloc(), self.step, hour)?;
         let piles = self.new_piles(rt.alloc(), period)?;
@@ -91,10 +91,7 @@ impl<'o> Outputs<'o> {
 
     /// Whether an hour lies in the period at a place.
     pub(crate) fn has(&self, place: usize, hour: u64) -> bool {
-        match self.spans.get(place) {
-            Some(span) => span.period.from <= hour && hour < span.period.to,
-            None => false,
-        }
+        has_hour(self.spans.as_slice(), place, hour)
     }
 
     /// The pile with the fewest rows, of the period at a place.
@@ -225,9 +222,17 @@ fn place_of(spans: &[Span], hour: u64) -> Result<usize, usize> {
     match spans.binary_search_by(|span| span.period.from.cmp(&hour)) {
         Ok(place) => Ok(place),
         Err(place) => match place.checked_sub(1) {
-            Some(before) if hour < spans[before].period.to => Ok(before),
+            Some(before) if has_hour(spans, before, hour) => Ok(before),
             _ => Err(place),
         },
+    }
+}
+
+// Whether an hour lies in the period at a place.
+fn has_hour(spans: &[Span], place: usize, hour: u64) -> bool {
+    match spans.get(place) {
+        Some(span) => span.period.from <= hour && hour < span.period.to,
+        None => false,
     }
 }
 

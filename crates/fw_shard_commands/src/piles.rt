@@ -72,12 +72,14 @@ impl Piles {
     fn add_sku(&mut self, alloc: Global, own: usize, sku: &str) -> Result<(), AllocError> {
         match place_of(self.skus.as_slice(), sku) {
             Ok(place) => {
-                let by = self.skus[place].by;
-                join(self.sets.as_mut_slice(), by, own);
+                if let Some(by) = listed_by(self.skus.as_slice(), place) {
+                    join(self.sets.as_mut_slice(), by, own);
+                }
                 Ok(())
             }
             Err(place) => {
                 let sku = String::from_str(alloc, sku)?;
+                let place = place.min(self.skus.len());
                 self.skus.insert(place, Listed { sku, by: own })?;
                 Ok(())
             }
@@ -97,7 +99,10 @@ impl Piles {
     /// The pile of a SKU, counted from 0; none where no commitment lists it.
     pub(crate) fn of_sku(&self, sku: &str) -> Option<usize> {
         match place_of(self.skus.as_slice(), sku) {
-            Ok(place) => Some(self.of_commitment(self.skus[place].by)),
+            Ok(place) => {
+                let by = listed_by(self.skus.as_slice(), place)?;
+                Some(self.of_commitment(by))
+            }
             Err(_) => None,
         }
     }
@@ -106,6 +111,14 @@ impl Piles {
 // Where a SKU stands, or where it would.
 fn place_of(skus: &[Listed], sku: &str) -> Result<usize, usize> {
     skus.binary_search_by(|listed| listed.sku.as_str().cmp(sku))
+}
+
+// The commitment that lists the SKU at a place.
+fn listed_by(skus: &[Listed], place: usize) -> Option<usize> {
+    match skus.get(place) {
+        Some(listed) => Some(listed.by),
+        None => None,
+    }
 }
 
 // Joins the sets of two commitments. A set is named by the least place of its commitments.

@@ -82,7 +82,7 @@ impl Reports {
         }
         for (place, line) in text.lines().enumerate() {
             if !line.trim().is_empty() {
-                let number = place + 1;
+                let number = place.saturating_add(1);
                 let about = format!(in rt.alloc(); "{name}:{number}")?;
                 if !self.read_one(rt, about, line, tag)? {
                     return Ok(false);
