@@ -10,7 +10,7 @@ from focusd_cluster.faults import Fault
 from focusd_cluster.filling import fill_order, filled
 from focusd_cluster.importing import Say
 from focusd_cluster.manifest import Cluster, Policy, Term, sha256_of, write_synced
-from focusd_cluster.piles import check_skus, piles_of
+from focusd_cluster.piles import check_new, piles_of
 from focusd_cluster.tasks import Order, ran, script_of
 
 OF_COMMITMENTS = {"category", "start", "hours", "capacity", "unit", "skus", "rates", "purchase"}
@@ -71,8 +71,9 @@ class Taken:
             return f"{path}: {word} {name} is there already, the same"
         if kind == "commit" and any((term.kind, term.id) == (kind, name) for term in before):
             raise Fault(f"{path}: a commitment {name} with other terms is there (J2 DoubleId)")
-        skus = sorted(map(str, table.get("skus") or table.get("rates") or []))
-        self.terms.append((path, Term(kind, name, f"terms/{len(before) + 1}.toml", sha256, 1, skus)))
+        if kind == "commit":
+            check_new(self.manifest, path)
+        self.terms.append((path, Term(kind, name, f"terms/{len(before) + 1}.toml", sha256, 1)))
         return f"{path}: {word} {name}: term {len(before) + 1}"
 
     def check(self, program: str) -> None:
@@ -86,16 +87,14 @@ class Taken:
             judge(self.cluster, program, 0, [path for path, _ in self.policies], True)
 
     def place(self, program: str) -> None:
-        """Gives new terms their piles: a commitment that of its SKUs, a purchase that of its commitment."""
-        manifest = self.manifest
-        old = [self.cluster.path(term.file) for term in manifest.terms if term.kind == "commit"]
-        piles = piles_of(program, manifest, old + [path for path, term in self.terms if term.kind == "commit"])
-        check_skus(manifest, piles)
-        of_ids = {term.id: term.pile for term in manifest.terms if term.kind == "commit"}
-        for path, term in self.terms:
-            if term.kind == "commit" and term.skus:
-                of_ids[term.id] = piles[term.skus[0]]
-            term.pile = of_ids.get(term.id, 1)
+        """Gives new terms their piles: a purchase that of its commitment."""
+        old = [self.cluster.path(term.file) for term in self.manifest.terms if term.kind == "commit"]
+        piles = piles_of(program, self.manifest, old + [path for path, term in self.terms if term.kind == "commit"])
+        for term in self.manifest.terms:
+            if piles[term.id] != term.pile:
+                raise Fault(f"commitment {term.id} would move from pile {term.pile} to {piles[term.id]}. What to do: add all commitments to a new cluster")
+        for _, term in self.terms:
+            term.pile = piles.get(term.id, 1)
 
 
 def read(path: str) -> tuple[dict[str, Any], str]:

@@ -116,7 +116,7 @@ def answered(cluster: Cluster, engine: Engine, program: str, options: argparse.N
     """Prints what a command says: the exit status."""
     progress = say_nothing if options.quiet else say
     if options.command == "import":
-        print(importing.import_export(cluster, engine, program, options.origin, options.files, progress))
+        print(importing.import_export(cluster, engine, program, options.origin, options.files, progress, say))
     elif options.command == "add":
         for line in adding.add_files(cluster, program, options.files, options.yes):
             print(line)

@@ -10,7 +10,8 @@ from typing import Any
 from focusd_cluster.engine import Engine
 from focusd_cluster.faults import Fault, WrongWords
 from focusd_cluster.filling import fill_order, filled
-from focusd_cluster.manifest import BEGUN, CUT, DONE, Cluster, Export, Shard, Source, new_shard
+from focusd_cluster.manifest import CUT, DONE, Cluster, Export, Shard, Source, new_shard
+from focusd_cluster.piles import check_piles, split_words
 from focusd_cluster.tasks import TERMS, Order, cut, measure
 
 # The most rows of a warehouse.
@@ -19,7 +20,7 @@ MOST_ROWS = 4_194_304
 Say = Callable[[str], None]
 
 
-def import_export(cluster: Cluster, engine: Engine, program: str, origin: str, files: list[str], say: Say) -> str:
+def import_export(cluster: Cluster, engine: Engine, program: str, origin: str, files: list[str], say: Say, warn: Say) -> str:
     """Imports an export, or goes on with it: what is said at the end."""
     if not re.fullmatch(r"[A-Za-z0-9._-]{1,64}", origin, re.ASCII) or origin == TERMS:
         raise WrongWords(f"--origin: {origin!r} is not made of 1 to 64 ASCII letters, digits, '-', '_' and '.'")
@@ -28,84 +29,56 @@ def import_export(cluster: Cluster, engine: Engine, program: str, origin: str, f
     if other and other.origin != origin:
         raise Fault(f"the import of {other.origin} isn't finished. What to do: run it again first")
     export = manifest.export(origin)
-    sources = [source_of(path) for path in files]
-    if export:
-        check_same(export, sources)
-        if export.state == DONE:
-            return imported_before(export, engine, sources)
-    else:
-        export = Export(origin, BEGUN, sources)
-        manifest.exports.append(export)
-        cluster.save()
-    say(f"cutting {len(sources)} files")
-    receipts = cut_files(cluster, engine, program, export)
-    if export.state == BEGUN:
-        plan(cluster, export, receipts)
-        for source, receipt in zip(export.files, receipts):
-            source.sha256 = receipt["sha256"]
-        export.state, export.rows = CUT, sum(receipt["rows"] for receipt in receipts)
-        cluster.save()
-    else:
-        for source, receipt in zip(export.files, receipts):
-            check_hash(source, receipt)
+    if export and export.state == DONE:
+        check_hashes(export, engine.all(measure, [{"name": path, "path": os.path.abspath(path)} for path in files]))
+        return f"imported 0 rows into {len(export.shards)} shards, {export.rows:,} were there already"
+    say(f"cutting {len(files)} files")
+    try:
+        receipts = engine.all(cut, [cut_order(cluster, program, origin, number, path) for number, path in enumerate(files, 1)])
+        if export:
+            check_hashes(export, receipts)
+        else:
+            export = plan(cluster, origin, files, receipts)
+            manifest.exports.append(export)
+            cluster.save()
+    except Fault:
+        # Nothing of an export that has no plan is in a shard.
+        if not export:
+            shutil.rmtree(cluster.path("parts", origin), ignore_errors=True)
+        raise
     say(f"filling {len(export.shards)} shards")
-    new, known = fill_shards(cluster, engine, program, export, receipts, say)
+    new, known, warnings = fill_shards(cluster, engine, program, export, receipts, say)
     export.state, export.done = DONE, []
     cluster.save()
     shutil.rmtree(cluster.path("parts", origin), ignore_errors=True)
+    if warnings:
+        name, text = min(warnings.items())
+        warn(f"{len(warnings)} shards gave a warning, {name} this one: {text.strip()}")
     return f"imported {new:,} rows into {len(export.shards)} shards, {known:,} were there already"
 
 
-def source_of(path: str) -> Source:
-    """A file as it is named and as long as it is."""
+def check_hashes(export: Export, found: list[Order]) -> None:
+    """Refuses other files than those that the export was imported from."""
+    if [(file.bytes, file.sha256) for file in export.files] != [(file["bytes"], file["sha256"]) for file in found]:
+        raise Fault(f"{export.origin} was imported from other files. What to do: give another export an origin of its own")
+
+
+def cut_order(cluster: Cluster, program: str, origin: str, number: int, path: str) -> Order:
+    """The order to cut a file. What it is cut into has a folder of its own, by the length and the time of the file."""
+    manifest, path = cluster.manifest, os.path.abspath(path)
+    commitments = [cluster.path(term.file) for term in manifest.terms if term.kind == "commit"] if manifest.piles > 1 else []
     try:
-        return Source(os.path.abspath(path), os.path.getsize(path))
+        found = os.stat(path)
     except OSError as why:
         raise Fault(f"{path}: {why.strerror}") from why
-
-
-def check_same(export: Export, sources: list[Source]) -> None:
-    """Refuses other files than those that the export began with."""
-    if [file.bytes for file in export.files] != [file.bytes for file in sources]:
-        raise Fault(f"{export.origin} was imported from other files. What to do: give another export an origin of its own")
-    for file, source in zip(export.files, sources):
-        file.path = source.path
-
-
-def check_hash(source: Source, found: Order) -> None:
-    """Refuses a file that has other bytes than the one that the export was imported from."""
-    if source.sha256 and source.sha256 != found["sha256"]:
-        raise Fault(f"{source.path}: it isn't the file that was imported under this origin. What to do: give another export an origin of its own")
-
-
-def imported_before(export: Export, engine: Engine, sources: list[Source]) -> str:
-    """What is said where the export is in the shards already."""
-    orders = [{"name": f"{number}: {source.path}", "path": source.path} for number, source in enumerate(sources, 1)]
-    for source, found in zip(export.files, engine.all(measure, orders)):
-        check_hash(source, found)
-    return f"imported 0 rows into {len(export.shards)} shards, {export.rows:,} were there already"
-
-
-def cut_files(cluster: Cluster, engine: Engine, program: str, export: Export) -> list[Order]:
-    """The receipts of the files, each cut into parts."""
-    manifest = cluster.manifest
-    commitments = [cluster.path(term.file) for term in manifest.terms if term.kind == "commit"] if manifest.piles > 1 else []
-    orders = []
-    for number, source in enumerate(export.files, 1):
-        orders.append(
-            {
-                "name": f"file {number}, {source.path}",
-                "program": program,
-                "path": source.path,
-                "bytes": source.bytes,
-                "by": manifest.by,
-                "piles": manifest.piles,
-                "currency": manifest.currency,
-                "commitments": commitments,
-                "out": cluster.path("parts", export.origin, str(number)),
-            }
-        )
-    return engine.all(cut, orders)
+    return {
+        "name": f"file {number}, {path}",
+        "program": program,
+        "path": path,
+        "stamp": [found.st_size, found.st_mtime_ns],
+        "words": split_words(manifest, commitments),
+        "out": cluster.path("parts", origin, f"{number}-{found.st_size}-{found.st_mtime_ns}"),
+    }
 
 
 def shard_of(cluster: Cluster, part: dict[str, Any]) -> Shard:
@@ -116,21 +89,17 @@ def shard_of(cluster: Cluster, part: dict[str, Any]) -> Shard:
     return manifest.shards.get(shard.name, shard)
 
 
-def plan(cluster: Cluster, export: Export, receipts: list[Order]) -> None:
+def plan(cluster: Cluster, origin: str, files: list[str], receipts: list[Order]) -> Export:
     """Names the shards of an export, and how many rows each takes. It refuses an export that doesn't fit."""
     manifest = cluster.manifest
-    piles = {sku: term.pile for term in manifest.terms for sku in term.skus}
     shards: dict[str, Shard] = {}
     rows: dict[str, int] = defaultdict(int)
-    skus: dict[str, set[str]] = defaultdict(set)
-    for part in (part for receipt in receipts for part in receipt["files"]):
-        shard = shard_of(cluster, part)
-        shards[shard.name] = shard
-        rows[shard.name] += part["rows"]
-        for sku in part.get("skus", []) if manifest.piles > 1 else []:
-            skus[str(shard.pile)].add(sku)
-            if piles.get(sku, shard.pile) != shard.pile:
-                raise Fault(f"focusd split put the SKU {sku} into pile {shard.pile}, and its commitment is in pile {piles[sku]}")
+    for receipt in receipts:
+        check_piles(manifest.terms, receipt)
+        for part in receipt["files"]:
+            shard = shard_of(cluster, part)
+            shards[shard.name] = shard
+            rows[shard.name] += part["rows"]
     full = [name for name, count in rows.items() if shards[name].rows + count > MOST_ROWS]
     if full:
         names = ", ".join(sorted(full)[:5])
@@ -139,16 +108,17 @@ def plan(cluster: Cluster, export: Export, receipts: list[Order]) -> None:
             "--by or more piles (--into)"
         )
     manifest.shards |= shards
-    export.shards, export.skus = dict(rows), {pile: sorted(found) for pile, found in skus.items()}
+    sources = [Source(os.path.abspath(path), receipt["bytes"], receipt["sha256"]) for path, receipt in zip(files, receipts)]
+    return Export(origin, CUT, sources, sum(receipt["rows"] for receipt in receipts), dict(rows))
 
 
-def fill_shards(cluster: Cluster, engine: Engine, program: str, export: Export, receipts: list[Order], say: Say) -> tuple[int, int]:
-    """Imports the parts into their shards: how many rows are new, and how many were there."""
-    manifest, counts = cluster.manifest, [0, 0]
+def fill_shards(cluster: Cluster, engine: Engine, program: str, export: Export, receipts: list[Order], say: Say) -> tuple[int, int, dict[str, str]]:
+    """Imports the parts into their shards: how many rows are new, how many were there, and the warnings by shard."""
+    manifest, counts, warnings = cluster.manifest, [0, 0], {}
     parts: dict[str, list[tuple[str, int]]] = defaultdict(list)
-    for number, receipt in enumerate(receipts, 1):
+    for receipt in receipts:
         for part in receipt["files"]:
-            parts[shard_of(cluster, part).name].append((cluster.path("parts", export.origin, str(number), part["file"]), part["bytes"]))
+            parts[shard_of(cluster, part).name].append((os.path.join(receipt["out"], part["file"]), part["bytes"]))
     orders = [(shard, fill_order(cluster, shard, program)) for shard in manifest.shards.values() if not shard.hours and manifest.lacks_terms(shard)]
     for name, part_rows in export.shards.items():
         if name in export.done:
@@ -164,7 +134,9 @@ def fill_shards(cluster: Cluster, engine: Engine, program: str, export: Export, 
         export.done.append(shard.name)
         counts[0] += answer["new"]
         counts[1] += answer["known"]
+        if answer["warning"]:
+            warnings[shard.name] = answer["warning"]
         say(f"{len(export.done)} of {len(export.shards)} shards")
 
     filled(cluster, engine, orders, note)
-    return counts[0], counts[1]
+    return counts[0], counts[1], warnings

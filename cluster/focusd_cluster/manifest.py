@@ -23,8 +23,8 @@ from focusd_cluster.hours import Range, gaps, hour_of, overlap, text_of
 
 FORMAT = 1
 MANIFEST = "manifest.json"
-# How far an export is: it was named, its files were cut, its rows are in the shards.
-BEGUN, CUT, DONE = "begun", "cut", "done"
+# How far an export is: its files were cut and its rows are on the way to the shards, or all are there.
+CUT, DONE = "cut", "done"
 
 
 @dataclasses.dataclass
@@ -36,7 +36,6 @@ class Term:
     file: str
     sha256: str
     pile: int
-    skus: list[str]
 
 
 @dataclasses.dataclass
@@ -54,7 +53,7 @@ class Source:
 
     path: str
     bytes: int
-    sha256: str = ""
+    sha256: str
 
 
 @dataclasses.dataclass
@@ -67,7 +66,6 @@ class Export:
     rows: int = 0
     shards: dict[str, int] = dataclasses.field(default_factory=dict)  # the rows for each shard
     done: list[str] = dataclasses.field(default_factory=list)  # the shards that have theirs
-    skus: dict[str, list[str]] = dataclasses.field(default_factory=dict)  # for each pile the SKUs of its rows, where there are several piles
 
 
 @dataclasses.dataclass

@@ -9,7 +9,6 @@ import csv
 import json
 import os
 import re
-import resource
 import shutil
 import subprocess
 import time
@@ -45,11 +44,6 @@ def ran(words: list[str], given: bytes = b"") -> subprocess.CompletedProcess[byt
     return done
 
 
-def peak() -> int:
-    """The most bytes of memory of one program that this worker ran so far."""
-    return resource.getrusage(resource.RUSAGE_CHILDREN).ru_maxrss * 1024
-
-
 def guarded(run: Any, order: Order) -> Order:
     """What a task returns: what it found, with the seconds that it took, or its fault with the name of the shard or the file."""
     started = time.monotonic()
@@ -57,7 +51,11 @@ def guarded(run: Any, order: Order) -> Order:
         found = run(order)
     except Fault as why:
         return {"name": order["name"], "fault": f"{order['name']}: {why}"}
-    return {"name": order["name"], "seconds": time.monotonic() - started, "peak": peak(), **found}
+    except OSError as why:
+        return {"name": order["name"], "fault": f"{order['name']}: {why.filename}: {why.strerror}"}
+    except (ValueError, LookupError) as why:
+        return {"name": order["name"], "fault": f"{order['name']}: focusd wrote what isn't known here: {why!r}"}
+    return {"name": order["name"], "seconds": time.monotonic() - started, **found}
 
 
 def served(order: Order, script: bytes, *more: str) -> list[bytes]:
@@ -113,13 +111,14 @@ def filled(order: Order) -> Order:
     before = entries - sum(answer.startswith(b"accepted ") for answer in answers)
     if not is_new and before < order["entries"]:
         raise Fault(f"it has {before} entries, and had {order['entries']}. What to do: take the folder from a back-up that isn't older")
-    new, known = 0, 0
+    new, known, warning = 0, 0, ""
     if order["parts"]:
         for path, size in order["parts"]:
             if os.path.getsize(path) != size:
                 raise Fault(f"{path} isn't whole. What to do: remove its folder, and import again")
         words = [order["program"], "import", "--dir", order["folder"], "--origin", order["origin"], "--quiet", *(path for path, _ in order["parts"])]
-        found = IMPORTED.search(ran(words).stdout.decode())
+        done = ran(words)
+        found, warning = IMPORTED.search(done.stdout.decode()), done.stderr.decode("utf-8", "replace")
         if not found:
             raise Fault("focusd import ended without its line")
         new, known = int(found[1]), int(found[2])
@@ -131,7 +130,8 @@ def filled(order: Order) -> Order:
         raise Fault(f"it has {commitments} commitments, and the cluster has {len(order['terms'])} terms for it")
     if rows != order["rows"] + new + known:
         raise Fault(f"it has {rows:,} rows, and {order['rows'] + new + known:,} were imported into it. What to do: take the folder from a back-up")
-    return {"entries": entries, "rows": rows, "commitments": commitments, "terms": len(order["terms"]), "new": new, "known": known}
+    counts = {"entries": entries, "rows": rows, "commitments": commitments, "terms": len(order["terms"])}
+    return {**counts, "new": new, "known": known, "warning": warning}
 
 
 def cut(order: Order) -> Order:
@@ -143,28 +143,19 @@ def parts_of(order: Order) -> Order:
     """What `cut` finds."""
     receipt = os.path.join(order["out"], RECEIPT)
     if not os.path.exists(receipt):
-        try:
-            found = cut_into(order, f"{order['out']}.{uuid.uuid4().hex}")
-        except OSError as why:
-            raise Fault(f"{why.filename}: {why.strerror}") from why
-        if found["bytes"] != order["bytes"]:
-            raise Fault(f"it has {found['bytes']} bytes, and had {order['bytes']}: it changed. What to do: import it again")
+        cut_into(order, f"{order['out']}.{uuid.uuid4().hex}")
     with open(receipt, "rb") as file:
-        return json.load(file)
+        return {**json.load(file), "out": order["out"]}
 
 
-def cut_into(order: Order, own: str) -> Order:
+def cut_into(order: Order, own: str) -> None:
     """Cuts the file into a folder of this run's own, which then gets its name, if none has it yet."""
-    before = os.stat(order["path"])
-    found = {"bytes": before.st_size, "sha256": sha256_of(order["path"])}
-    words = [order["program"], "split", "--by", order["by"], "--into", str(order["piles"]), "--currency", order["currency"], "--format", "json", "--quiet"]
-    for path in order["commitments"]:
-        words += ["--commitments", path]
+    found = {"bytes": order["stamp"][0], "sha256": sha256_of(order["path"])}
     os.makedirs(os.path.dirname(own), exist_ok=True)
     try:
-        found |= json.loads(ran([*words, "--out", own, order["path"]]).stdout)
+        found |= json.loads(ran([order["program"], *order["words"], "--out", own, order["path"]]).stdout)
         after = os.stat(order["path"])
-        if (after.st_size, after.st_mtime_ns) != (before.st_size, before.st_mtime_ns):
+        if [after.st_size, after.st_mtime_ns] != order["stamp"]:
             raise Fault("it changed while it was read. What to do: import it again")
         for name in os.listdir(own):
             with open(os.path.join(own, name), "rb") as file:
@@ -181,7 +172,6 @@ def cut_into(order: Order, own: str) -> Order:
             raise
     finally:
         shutil.rmtree(own, ignore_errors=True)
-    return found
 
 
 def measure(order: Order) -> Order:
@@ -191,10 +181,7 @@ def measure(order: Order) -> Order:
 
 def measured(order: Order) -> Order:
     """What `measure` finds."""
-    try:
-        return {"bytes": os.path.getsize(order["path"]), "sha256": sha256_of(order["path"])}
-    except OSError as why:
-        raise Fault(f"{order['path']}: {why.strerror}") from why
+    return {"bytes": os.path.getsize(order["path"]), "sha256": sha256_of(order["path"])}
 
 
 def check_state(order: Order, found: dict[str, int]) -> None:
