@@ -36,7 +36,7 @@ DEBIAN = "/usr/bin/python3"
 if importlib.util.find_spec("distributed") is None and os.access(DEBIAN, os.X_OK) and os.path.realpath(sys.executable) != os.path.realpath(DEBIAN):
     os.execv(DEBIAN, [DEBIAN, *sys.argv])
 
-from session import PEERS, ROOT, Stopped, built, load, load_since, parser_of_turns, print_head, say, status_after, whole_number  # noqa: E402
+from session import ROOT, Stopped, built, load, load_since, parser_of_turns, print_head, say, status_after, whole_number  # noqa: E402
 
 sys.path.append(os.path.join(ROOT, "cluster", "tests"))
 from bills import POLICY, one_warehouse, sku_sets, write_export, write_terms, write_text  # noqa: E402

@@ -29,7 +29,8 @@ def add_files(cluster: Cluster, program: str, files: list[str], yes: bool) -> li
     taken.check(program)
     for part in ("terms", "policies"):
         os.makedirs(cluster.path(part), exist_ok=True)
-    for path, item in [*taken.terms, *taken.policies]:
+    new: list[tuple[str, Term | Policy]] = [*taken.terms, *taken.policies]
+    for path, item in new:
         with open(path, "rb") as file:
             write_synced(cluster.path(item.file), file.read())
         cluster.check_file(item.file, item.sha256)

@@ -1,7 +1,5 @@
 """Reports and coverage of all shards: each hour is asked for once, and the answers are added up exactly."""
 
-import csv
-import io
 import subprocess
 from collections import defaultdict
 from collections.abc import Callable
@@ -93,6 +91,11 @@ def amount(number: int) -> str:
     return f"{'-' if number < 0 else ''}{abs(number) // 10**9}.{abs(number) % 10**9:09d}"
 
 
+def record_of(fields: list[str]) -> str:
+    """A record of a CSV, quoted only where it must be."""
+    return ",".join('"' + field.replace('"', '""') + '"' if set(field) & set(',"\r\n') else field for field in fields) + "\n"
+
+
 def coverage(cluster: Cluster, engine: Engine, program: str, options: Any) -> str:
     """The coverage of all shards. Each number is a sum over hours, so those of the shards add up exactly."""
     whole = range_of(options.low, options.high)
@@ -106,10 +109,7 @@ def coverage(cluster: Cluster, engine: Engine, program: str, options: Any) -> st
     # In the order in which the commitments were added.
     names = [term.id for term in cluster.manifest.terms if term.kind == "commit" and term.id in sums]
     if options.format == "csv":
-        out = io.StringIO()
-        writer = csv.writer(out, lineterminator="\n")
-        writer.writerows([COVERAGE, *([name, *kinds[name], *map(amount, sums[name])] for name in names)])
-        return out.getvalue()
+        return "".join(map(record_of, [COVERAGE, *([name, *kinds[name], *map(amount, sums[name])] for name in names)]))
     lines = [["Commitment", "Kind", "Unit", "Capacity", "Used", "Unused", "Share", "UsedCost", "UnusedCost", "BilledCost"], None]
     for name in names:
         quantities, costs = sums[name][:3], sums[name][3:]

@@ -9,14 +9,14 @@ from typing import Any
 
 import dask
 import distributed
-from distributed.comm import CommClosedError
 
-from focusd_cluster.faults import Fault
+from focusd_cluster.faults import Busy, Fault
 from focusd_cluster.tasks import Order
 
 # How often the engine runs a task again that found its folder busy, and, on a local cluster, whose worker died.
 RETRIES = 600
-LOST = (OSError, CommClosedError, distributed.CancelledError, TimeoutError)
+# A connection that was closed is an OSError.
+LOST = (OSError, distributed.CancelledError, TimeoutError)
 
 
 class Engine:
@@ -35,6 +35,8 @@ class Engine:
                 yield future.result()
             except distributed.KilledWorker:
                 yield {"name": name, "fault": f"{name}: workers died while they worked on it: {future.exception()}. What to do: run the command again"}
+            except Busy:
+                yield {"name": name, "fault": f"{name}: another program has the folder open. What to do: wait until it ends, and run the command again"}
             except LOST as why:
                 raise Fault(f"the scheduler was lost ({type(why).__name__}: {why}). What to do: run the command again") from why
             except Exception as why:
@@ -60,7 +62,9 @@ def raise_faults(answers: list[Order]) -> None:
 def engine_of(scheduler: str | None, local: int) -> Iterator[Engine]:
     """The engine at an address, or one with so many worker processes on this machine."""
     with contextlib.ExitStack() as stack:
-        logging.getLogger("distributed").setLevel(logging.CRITICAL)
+        # What the engine logs of connections that it closes is nothing that a person could act on.
+        for name in ("distributed", "asyncio", "tornado"):
+            logging.getLogger(name).setLevel(logging.CRITICAL + 1)
         if not scheduler:
             scratch = stack.enter_context(tempfile.TemporaryDirectory(prefix="focusd-cluster-", ignore_cleanup_errors=True))
             dask.config.set({"distributed.scheduler.allowed-failures": RETRIES, "temporary-directory": scratch})

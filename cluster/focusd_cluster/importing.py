@@ -1,5 +1,6 @@
 """Exports are cut into parts, and the parts are imported into their shards."""
 
+import hashlib
 import os
 import re
 import shutil
@@ -64,9 +65,11 @@ def check_hashes(export: Export, found: list[Order]) -> None:
 
 
 def cut_order(cluster: Cluster, program: str, origin: str, number: int, path: str) -> Order:
-    """The order to cut a file. What it is cut into has a folder of its own, by the length and the time of the file."""
+    """The order to cut a file. The parts have a folder of their own, named by the length and the time of the file, and by the commitments that it was
+    cut with: so what an earlier run left is taken only where it is the same."""
     manifest, path = cluster.manifest, os.path.abspath(path)
-    commitments = [cluster.path(term.file) for term in manifest.terms if term.kind == "commit"] if manifest.piles > 1 else []
+    commitments = [term for term in manifest.terms if term.kind == "commit"] if manifest.piles > 1 else []
+    digest = hashlib.sha256("".join(term.sha256 for term in commitments).encode()).hexdigest()[:16]
     try:
         found = os.stat(path)
     except OSError as why:
@@ -76,8 +79,8 @@ def cut_order(cluster: Cluster, program: str, origin: str, number: int, path: st
         "program": program,
         "path": path,
         "stamp": [found.st_size, found.st_mtime_ns],
-        "words": split_words(manifest, commitments),
-        "out": cluster.path("parts", origin, f"{number}-{found.st_size}-{found.st_mtime_ns}"),
+        "words": split_words(manifest, [cluster.path(term.file) for term in commitments]),
+        "out": cluster.path("parts", origin, f"{number}-{found.st_size}-{found.st_mtime_ns}-{digest}"),
     }
 
 

@@ -117,13 +117,17 @@ class Manifest:
 
     def asked(self, whole: Range) -> list[tuple[Shard, list[Range]]]:
         """The shards that are asked for a range, each with its hours: each pile is asked for each hour once."""
-        found = []
+        found: list[tuple[Shard, list[Range]]] = []
         for pile in range(1, self.piles + 1):
-            own = [(shard, overlap(shard.hours, whole)) for shard in self.shards.values() if shard.pile == pile and shard.hours]
-            own = [(shard, hours) for shard, hours in own if hours]
-            found += [(shard, [hours]) for shard, hours in own]
-            rest = gaps(whole, [hours for _, hours in own])
-            found += [(self.shards[rest_name(pile, self.piles)], rest)] if rest else []
+            own = []
+            for shard in self.shards.values():
+                hours = overlap(shard.hours, whole) if shard.pile == pile and shard.hours else None
+                if hours:
+                    own.append(hours)
+                    found.append((shard, [hours]))
+            rest = gaps(whole, own)
+            if rest:
+                found.append((self.shards[rest_name(pile, self.piles)], rest))
         return found
 
 

@@ -6,6 +6,8 @@ the terms of the shard, and an import finds its posts by their numbers.
 """
 
 import csv
+import functools
+import io
 import json
 import os
 import re
@@ -13,6 +15,7 @@ import shutil
 import subprocess
 import time
 import uuid
+from collections.abc import Callable
 from typing import Any
 
 from focusd_cluster.faults import Busy, Fault
@@ -44,18 +47,23 @@ def ran(words: list[str], given: bytes = b"") -> subprocess.CompletedProcess[byt
     return done
 
 
-def guarded(run: Any, order: Order) -> Order:
-    """What a task returns: what it found, with the seconds that it took, or its fault with the name of the shard or the file."""
-    started = time.monotonic()
-    try:
-        found = run(order)
-    except Fault as why:
-        return {"name": order["name"], "fault": f"{order['name']}: {why}"}
-    except OSError as why:
-        return {"name": order["name"], "fault": f"{order['name']}: {why.filename}: {why.strerror}"}
-    except (ValueError, LookupError) as why:
-        return {"name": order["name"], "fault": f"{order['name']}: focusd wrote what isn't known here: {why!r}"}
-    return {"name": order["name"], "seconds": time.monotonic() - started, **found}
+def task(run: Callable[[Order], Order]) -> Callable[[Order], Order]:
+    """A task: what it returns is what it found, with the seconds that it took, or its fault with the name of the shard or the file."""
+
+    @functools.wraps(run)
+    def guarded(order: Order) -> Order:
+        started, name = time.monotonic(), order["name"]
+        try:
+            found = run(order)
+        except Fault as why:
+            return {"name": name, "fault": f"{name}: {why}"}
+        except OSError as why:
+            return {"name": name, "fault": f"{name}: {why.filename}: {why.strerror}"}
+        except (ValueError, LookupError) as why:
+            return {"name": name, "fault": f"{name}: focusd wrote what isn't known here: {why!r}"}
+        return {"name": name, "seconds": time.monotonic() - started, **found}
+
+    return guarded
 
 
 def served(order: Order, script: bytes, *more: str) -> list[bytes]:
@@ -85,13 +93,9 @@ def script_of(terms: list[tuple[str, str, str]]) -> bytes:
     return b"".join(lines) + b"state\n"
 
 
+@task
 def fill(order: Order) -> Order:
     """Makes a shard where it is new, sends it its terms, and imports its parts of an export."""
-    return guarded(filled, order)
-
-
-def filled(order: Order) -> Order:
-    """What `fill` finds."""
     is_new = order["entries"] is None
     if is_new:
         os.makedirs(order["folder"], exist_ok=True)
@@ -134,13 +138,9 @@ def filled(order: Order) -> Order:
     return {**counts, "new": new, "known": known, "warning": warning}
 
 
+@task
 def cut(order: Order) -> Order:
     """Cuts a file of an export into parts. The receipt lies beside them, and all get their place at once, by a rename."""
-    return guarded(parts_of, order)
-
-
-def parts_of(order: Order) -> Order:
-    """What `cut` finds."""
     receipt = os.path.join(order["out"], RECEIPT)
     if not os.path.exists(receipt):
         cut_into(order, f"{order['out']}.{uuid.uuid4().hex}")
@@ -174,13 +174,9 @@ def cut_into(order: Order, own: str) -> None:
         shutil.rmtree(own, ignore_errors=True)
 
 
+@task
 def measure(order: Order) -> Order:
     """The length and the SHA-256 of a file."""
-    return guarded(measured, order)
-
-
-def measured(order: Order) -> Order:
-    """What `measure` finds."""
     return {"bytes": os.path.getsize(order["path"]), "sha256": sha256_of(order["path"])}
 
 
@@ -204,13 +200,16 @@ def check_folder(order: Order) -> None:
         raise Fault("the folder is missing. What to do: take it from a back-up")
 
 
+def check_shard(order: Order) -> None:
+    """Opens a shard, and refuses one that doesn't hold what the manifest says."""
+    check_folder(order)
+    entries, rows, commitments = state_in(served(order, b"state\n"))
+    check_state(order, {"entries": entries, "rows": rows, "commitments": commitments})
+
+
+@task
 def ask(order: Order) -> Order:
     """The direct reports of a shard, one for each of the ranges that it is asked for."""
-    return guarded(asked, order)
-
-
-def asked(order: Order) -> Order:
-    """What `ask` finds."""
     check_folder(order)
     documents = []
     for low, high in order["ranges"]:
@@ -221,32 +220,20 @@ def asked(order: Order) -> Order:
     return {"documents": documents}
 
 
+@task
 def cover(order: Order) -> Order:
     """The coverage of a shard: the records of all ranges that it is asked for, without heads."""
-    return guarded(covered, order)
-
-
-def covered(order: Order) -> Order:
-    """What `cover` finds."""
-    check_folder(order)
-    entries, rows, commitments = state_in(served(order, b"state\n"))
-    check_state(order, {"entries": entries, "rows": rows, "commitments": commitments})
+    check_shard(order)
     records = []
     for low, high in order["ranges"]:
         text = ran([order["program"], "coverage", "--dir", order["folder"], "--from", low, "--to", high, "--format", "csv"]).stdout.decode()
-        head, *rest = csv.reader(text.splitlines(keepends=True), strict=True)
+        head, *rest = csv.reader(io.StringIO(text, newline=""), strict=True)
         records += [dict(zip(head, record, strict=True)) for record in rest]
     return {"records": records}
 
 
+@task
 def look(order: Order) -> Order:
-    """What a shard holds, beside what the manifest says."""
-    return guarded(looked, order)
-
-
-def looked(order: Order) -> Order:
-    """What `look` finds."""
-    check_folder(order)
-    entries, rows, commitments = state_in(served(order, b"state\n"))
-    check_state(order, {"entries": entries, "rows": rows, "commitments": commitments})
+    """Whether a shard holds what the manifest says."""
+    check_shard(order)
     return {}

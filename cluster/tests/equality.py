@@ -109,7 +109,8 @@ def hour(clusters, room, rows, commitments, piles):
     lines = list(expected.lines_of_hour(kept.commitments, kept.rows[first], first))
     right = kept.report_of("team", lines).split("\n", 1)[1].encode()
     clusters.compare("the hour in piles", answer, right)
-    purchases, unused = (sum(test(line) for line in lines) for test in (lambda it: it.category == "Purchase" and it.owner[0], lambda it: it.owner[2] == "Unused"))
+    purchases = sum(line.category == "Purchase" for line in lines)
+    unused = sum(line.owner[2] == "Unused" for line in lines)
     print(f"\none hour of {rows:,} rows with {commitments} commitments in {piles} piles: {len(lines):,} lines, {purchases} of purchases, {unused} unused; ")
     print(f"a report in {took:.1f} s: {'the same' if answer == right else 'ANOTHER'}", flush=True)
 
