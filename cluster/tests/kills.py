@@ -13,6 +13,7 @@ It needs python3-distributed. Exit status: 0 all is right, 1 something isn't.
 
 import os
 import random
+import re
 import shutil
 import signal
 import subprocess
@@ -111,8 +112,9 @@ def main():
                     killer.run(folder, "import", "--origin", f"export-{number}", export, most=5)
                 found = [killer.run(folder, *words, most=3) for words in (REPORT, COVERAGE)]
                 status = run_cluster("status", "--dir", folder, scheduler=cluster.scheduler_address, program=program)
-                if found != wanted or f"\nRows      {rows:,}, ".encode() not in status.stdout or status.returncode:
-                    sys.exit(f"round {rounds}, {' '.join(shape)}: the answers differ\n{status.stdout.decode()}{status.stderr.decode()}")
+                if found != wanted or not re.search(rf"\nRows +{rows:,}, ", status.stdout.decode()) or status.returncode:
+                    said = f"{status.stdout.decode()}{status.stderr.decode()}"
+                    sys.exit(f"round {rounds}, {' '.join(shape)}: the same answers: {[*map(bytes.__eq__, found, wanted)]}, wanted {rows:,} rows\n{said}")
                 print(f"round {rounds}, {' '.join(shape)}: the same bytes; so far {killer.workers} workers and {killer.clients} clients were killed", flush=True)
                 shutil.rmtree(folder)
                 time.sleep(0.1)
