@@ -259,7 +259,7 @@ def by_clickhouse(path, room):
         with open(path, "rb") as file:
             file.seek(3)
             ask("INSERT INTO charge FORMAT CSVWithNames", file.read())
-        found = ask(f"SELECT visitParamExtractString(Tags, '{TAG}'), sum(toDecimal128(BilledCost, 12)) FROM charge GROUP BY 1 FORMAT TabSeparated")
+        found = ask(f"SELECT visitParamExtractString(Tags, '{TAG}') AS g, sum(toDecimal128(BilledCost, 12)) FROM charge GROUP BY g FORMAT TabSeparated")
     finally:
         server.terminate()
         server.wait()
@@ -283,8 +283,12 @@ def peers(pieces, client, room, program):
 
     for name, way in {"focusd, one warehouse": by_focusd, **ways}.items():
         say(name)
-        with Clock() as took:
-            found = way()
+        try:
+            with Clock() as took:
+                found = way()
+        except (OSError, subprocess.SubprocessError, ValueError) as why:
+            yield f"| {name} | {rows:,} | failed: {why} | |"
+            continue
         off = max(abs(found.get(group, 0) - right.get(group, 0)) for group in {*found, *right})
         yield f"| {name} | {rows:,} | {took.seconds:.1f} | {off:,} |"
 

@@ -68,7 +68,7 @@ def engine_of(scheduler: str | None, local: int) -> Iterator[Engine]:
         if not scheduler:
             scratch = stack.enter_context(tempfile.TemporaryDirectory(prefix="focusd-cluster-", ignore_cleanup_errors=True))
             dask.config.set({"distributed.scheduler.allowed-failures": RETRIES, "temporary-directory": scratch})
-            options: dict[str, Any] = {"dashboard_address": None, "silence_logs": logging.CRITICAL, "local_directory": scratch}
+            options: dict[str, Any] = {"dashboard_address": ":0", "silence_logs": logging.CRITICAL, "local_directory": scratch}
             started = distributed.LocalCluster(n_workers=local, threads_per_worker=1, processes=True, **options)
             scheduler = stack.enter_context(started).scheduler_address
         try:

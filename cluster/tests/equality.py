@@ -4,8 +4,8 @@
     python3 -B cluster/tests/equality.py out/focusd
     python3 -B cluster/tests/equality.py out/focusd --rows 100000 --local 2 --only shards
 
-1. `shards`: a month of 744 hours with 40 commitments and a policy, in 1, 7, 31 and 744 shards. Reports over the month, by day and by month, in each
-   format, and the coverage, beside one warehouse that holds all.
+1. `shards`: a month of 744 hours with 40 commitments and a policy, in 1, 7, 31 and 744 shards. Reports over the month, by day and by month, and
+   over other hours, and the coverage, beside one warehouse that holds all.
 2. `hour`: one hour of 300,000 rows with 300 commitments, more than a warehouse takes, in 5 piles. The report is compared with sums that
    examples/expected.py makes of the lines of the hour, without focusd.
 
@@ -22,7 +22,7 @@ import tempfile
 import time
 import tomllib
 
-from bills import POLICY, TOP, one_warehouse, printed, questions, sku_sets, write_export, write_terms, write_text
+from bills import POLICY, TOP, one_warehouse, printed, sku_sets, write_export, write_terms, write_text
 
 sys.path.append(os.path.join(TOP, "bench"))
 import expected  # noqa: E402
@@ -33,6 +33,7 @@ from focusd_cluster.engine import engine_of  # noqa: E402
 
 MONTH = datetime.datetime(2024, 10, 1)
 HOURS = 744
+MONTH_RANGE = ["--from", "2024-10", "--to", "2024-11"]
 SHAPES = {"1": ("--by", "month"), "7": ("--by", "month", "--into", "7"), "31": ("--by", "day"), "744": ("--by", "hour")}
 
 
@@ -66,7 +67,9 @@ def shards(clusters, room, rows):
     terms = write_terms(f"{room}/terms", 40, sku_sets(rows, HOURS, MONTH), HOURS, MONTH)
     terms.append(write_text(f"{room}/policy.toml", POLICY))
     whole = one_warehouse(clusters.program, f"{room}/whole", [export], terms)
-    asked = questions("2024-10-01", "2024-11-01", ["day", "month"]) + questions("2024-09-20", "2024-10-12T07:00Z", [])
+    asked = [["report", "--tag", "team", *MONTH_RANGE, *more] for more in ([], ["--format", "csv"], *(["--by", by, "--format", "json"] for by in ("day", "month")))]
+    asked += [["coverage", *MONTH_RANGE, *more] for more in ([], ["--format", "csv"])]
+    asked += [["report", "--tag", "team", "--from", "2024-09-20", "--to", "2024-10-12T07:00Z", "--format", "json"]]
     wanted = [printed(clusters.program, words[0], "--dir", whole, *words[1:]) for words in asked]
     print(f"{rows:,} rows, 40 commitments, {len(asked)} answers each\n\n| shards | import, s | a report, s | answers that are the same |\n|---:|---:|---:|---:|")
     for name, shape in SHAPES.items():

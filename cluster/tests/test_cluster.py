@@ -51,7 +51,7 @@ def setUpModule():  # noqa: N802
     stack = contextlib.ExitStack()
     unittest.addModuleCleanup(stack.close)
     ROOM = stack.enter_context(tempfile.TemporaryDirectory())
-    options = {"dashboard_address": None, "silence_logs": 50, "local_directory": ROOM}
+    options = {"dashboard_address": ":0", "silence_logs": 50, "local_directory": ROOM}
     SCHEDULER = stack.enter_context(distributed.LocalCluster(n_workers=2, threads_per_worker=1, processes=True, **options)).scheduler_address
     Bill.make(ROOM)
 
