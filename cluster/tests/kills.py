@@ -25,7 +25,7 @@ from bills import COMMAND, POLICY, one_warehouse, printed, run_cluster, sku_sets
 
 import dask
 import distributed
-from command_line import parser_of, whole_number
+from command_line import parser_of, say, whole_number
 
 HOURS = 96
 RANGE = ("--from", "2024-09-01", "--to", "2024-09-06")
@@ -77,6 +77,7 @@ class Killer:
             if out is None:
                 continue
             if client.returncode == 0:
+                say(f"{words[0]} ended well after {killed} kills, {self.left} are left")
                 return out
             # A worker that died may end a command with a fault that says to run it again.
             if b"run the command again" not in error and b"isn't finished" not in error:

@@ -119,10 +119,10 @@ class Folder(unittest.TestCase):
 class Answers(Folder):
     """A cluster answers as one warehouse does, to the byte."""
 
-    def check(self, *shape, shards):
+    def check(self, *shape, shards, bys=("day", "month")):
         self.fill(*shape)
         self.assertEqual(len(self.shards()), shards)
-        for words in questions(*RANGE, ["day", "month"]):
+        for words in questions(*RANGE, bys):
             with self.subTest(words=words):
                 self.assertEqual(self.done(*words), printed(PROGRAM, words[0], "--dir", Bill.whole, *words[1:]).decode())
 
@@ -133,7 +133,7 @@ class Answers(Folder):
         self.check("--by", "day", shards=5)
 
     def test_by_hour(self):
-        self.check("--by", "hour", shards=62)
+        self.check("--by", "hour", shards=62, bys=["day"])
         words = ["report", "--tag", "team", "--from", "2024-09-30T23:00Z", "--to", "2024-10-01T02:00Z", "--by", "hour", "--format", "csv"]
         self.assertEqual(self.done(*words), printed(PROGRAM, words[0], "--dir", Bill.whole, *words[1:]).decode())
 
