@@ -32,6 +32,8 @@ def import_export(cluster: Cluster, engine: Engine, program: str, origin: str, f
     export = manifest.export(origin)
     if export and export.state == DONE:
         check_hashes(export, engine.all(measure, [{"name": path, "path": os.path.abspath(path)} for path in files]))
+        # A command that was killed at its end may have left them.
+        shutil.rmtree(cluster.path("parts", origin), ignore_errors=True)
         return f"imported 0 rows into {len(export.shards)} shards, {export.rows:,} were there already"
     say(f"cutting {len(files)} files")
     try:
