@@ -1,6 +1,6 @@
 -- How many records a text has in which no byte ends one.
-use Rattle.std.proofs.Common.{◌≡◌, ◌⊎◌, ◌<◌, ◌≤◌, ◌+◌, ◌==◌, ℕ, zero, suc, Bool, true, false, Option, Some, None, List, [], ◌∷◌, ◌++◌, take, drop, length, refl, sym, ap, ◌∙◌, arith, inl, inr, if◌then◌else◌, ◌-◌, length-append, length-drop, take-append-drop, take_all}
-use Rattle.std.proofs.lemmas.Bool.{cases_Bool, eqb-true}
+use Rattle.std.proofs.Common.{◌≡◌, ◌⊎◌, ◌<◌, ◌≤◌, ◌+◌, ◌==◌, ℕ, Bool, true, false, Option, Some, None, List, [], ◌∷◌, take, drop, length, refl, sym, ap, ◌∙◌, arith, inl, inr, if◌then◌else◌, ◌-◌, length-append, length-drop, take-append-drop, take_all}
+use Rattle.std.proofs.lemmas.Bool.{cases_Bool}
 use Rattle.std.proofs.Math.Seq.{drop-append_seam}
 use Rattle.std.specs.Prelude.{⊤}
 use Rattle.std.specs.List.{list_any}
@@ -11,10 +11,12 @@ use Rattle.csv.specs.declared.parser.State.{State}
 use Rattle.csv.specs.declared.parser.State.TheVariants as st
 use Rattle.fw_cut.specs.Records.{Record, all_records, is_content}
 use Rattle.fw_cut.specs.Cutting.{Cuts, HasNoEnd}
+use Rattle.fw_cut.specs.Headers.{head_of, records_but}
 use Rattle.fw_cut.specs.Parts.{Counted, IsPart, RecordsThen, body_of, most_records}
 use Rattle.fw_cut.specs.declared.cutter.Part.{Part}
 use Rattle.fw_cut.specs.declared.cutting.Cut.{Cut}
-use Rattle.fw_cut.proofs.RecordFacts.{none-of-none, no-end-count}
+use Rattle.fw_cut.proofs.HeaderFacts.{but-of-none}
+use Rattle.fw_cut.proofs.RecordFacts.{no-end-count}
 
 -- a record has begun
 abbrev inside : State → Bool
@@ -108,7 +110,7 @@ open-at-end to f f2 p p2 (c ∷ x) h = elim (cases_Bool (is_content c)) [
       rw e (open-at-end to (fields_after (step default_config st.StartRecord c).1 f p) f2 (field_after (step default_config st.StartRecord c).1 c p) p2 x k)
 ]
 
-open-count : (x : List ℕ) → HasNoEnd x → length (all_records x) ≡ (if list_any is_content x then 1 else 0)
+pub open-count : (x : List ℕ) → HasNoEnd x → length (all_records x) ≡ (if list_any is_content x then 1 else 0)
 open-count x h = no-end-count x h.to h.fields h.field h.fed ∙ ap (λ b. if b then 1 else 0) (open-at-end h.to [] h.fields [] h.field x h.fed)
 
 -- ---- the records of a text that has as many as a part at most
@@ -141,21 +143,21 @@ count-same text cut c few (inr e) = by c.all
 -- ---- the records of parts
 
 -- so many records were counted of those that were left
-abbrev pub CountedOf : Option (List ℕ) → Option (List ℕ) → ℕ → Type 0
-CountedOf None new count = ⊤
-CountedOf (Some old) None count = ⊥
-CountedOf (Some old) (Some new) count = length (all_records old) ≡ count + length (all_records new)
+abbrev pub CountedOf : List ℕ → Option (List ℕ) → Option (List ℕ) → ℕ → Type 0
+CountedOf head None new count = ⊤
+CountedOf head (Some old) None count = ⊥
+CountedOf head (Some old) (Some new) count = length (records_but head old) ≡ count + length (records_but head new)
 
-pub counted-none : (k : Option (List ℕ)) → CountedOf k k 0
-counted-none None = tt
-counted-none (Some xs) = omega arith
+pub counted-none : (head : List ℕ) (k : Option (List ℕ)) → CountedOf head k k 0
+counted-none head None = tt
+counted-none head (Some xs) = omega arith
 
-pub counted-on : (a b c : Option (List ℕ)) (bytes : List ℕ) (count more : ℕ) → CountedOf a b count → RecordsThen b bytes c → more ≡ length (all_records bytes) → CountedOf a c (count + more)
-counted-on None b c bytes count more h r is = tt
-counted-on (Some xs) None c bytes count more h r is = absurd h
-counted-on (Some xs) (Some ys) None bytes count more h r is = r
-counted-on (Some xs) (Some ys) (Some zs) bytes count more h r is =
-    omega (arith, h, is, ap length r.1, length-append (all_records bytes) (all_records zs))
+pub counted-on : (head : List ℕ) (a b c : Option (List ℕ)) (skipped bytes : List ℕ) (count more : ℕ) → CountedOf head a b count → RecordsThen head b skipped bytes c → more ≡ length (all_records bytes) → CountedOf head a c (count + more)
+counted-on head None b c skipped bytes count more h r is = tt
+counted-on head (Some xs) None c skipped bytes count more h r is = absurd h
+counted-on head (Some xs) (Some ys) None skipped bytes count more h r is = r
+counted-on head (Some xs) (Some ys) (Some zs) skipped bytes count more h r is =
+    omega (arith, h, is, ap length r.1, length-append (all_records bytes) (records_but head zs))
 
 -- the bytes behind the header are those of the part
 pub body-is : (header : List ℕ) (old new : Option (List ℕ)) (part : Part) (p : IsPart header old new part) → (body_of part ≡ p.bytes) × (part.header ≤ length part.text.items)
@@ -165,15 +167,18 @@ body-is header old new part p =
     (ap (λ n. drop n part.text.items) p.header_len ∙ ap (drop (length header)) p.text ∙ drop-append_seam header p.bytes, omega (arith, size, whole, p.header_len))
 
 -- a part more was counted
-pub counted-part : (a b c : Option (List ℕ)) (header : List ℕ) (part : Part) → IsPart header b c part → (count n more : ℕ) → CountedOf a b count → n ≡ length (all_records (body_of part)) → more ≡ count + n → CountedOf a c more
-counted-part a b c header part p count n more h is sum =
+pub counted-part : (ho : List ℕ) (a b c : Option (List ℕ)) (header : List ℕ) (part : Part) → header ≡ ho → IsPart header b c part → (count n more : ℕ) → CountedOf (head_of ho) a b count → n ≡ length (all_records (body_of part)) → more ≡ count + n
+    → CountedOf (head_of ho) a c more
+counted-part ho a b c header part same p count n more h is sum =
     let body = body-is header b c part p in
     let size : n ≡ length (all_records p.bytes) = is ∙ ap (λ (l : List ℕ). length (all_records l)) body.0 in
-    rw sum (counted-on a b c p.bytes count n h p.next size)
+    let next : RecordsThen (head_of ho) b part.skipped.items p.bytes c = rw same at p.next in
+    rw sum (counted-on (head_of ho) a b c part.skipped.items p.bytes count n h next size)
 
-pub counted-all : (a b : Option (List ℕ)) (count : ℕ) → CountedOf a b count → IsAtEnd b → Counted a count
-counted-all None b count h end = tt
-counted-all (Some xs) None count h end = absurd h
-counted-all (Some xs) (Some ys) count h end =
-    let none : length (all_records ys) ≡ 0 = rw end (ap length none-of-none) in
+pub counted-all : (head : List ℕ) (a b : Option (List ℕ)) (count : ℕ) → CountedOf head a b count → IsAtEnd b → Counted head a count
+counted-all head None b count h end = tt
+counted-all head (Some xs) None count h end = absurd h
+counted-all head (Some xs) (Some ys) count h end =
+    let nothing = but-of-none head in
+    let none : length (records_but head ys) ≡ 0 = rw end (ap length nothing) in
     omega (arith, h, none)

@@ -8,7 +8,7 @@ use Rattle.csv.proofs.ReadFacts.{feeds-push}
 use Rattle.std.proofs.lemmas.Bool.{cases_Bool}
 use Rattle.std.proofs.lemmas.List.{take_more, drop-drop}
 use Rattle.fw_cut.specs.Places.{state_of, IsBehind, Does, GoesOn}
-use Rattle.fw_cut.specs.Records.{Record, Spells, all_records}
+use Rattle.fw_cut.specs.Records.{Record, Spells, IsWhole, all_records}
 use Rattle.fw_cut.proofs.RecordFacts.{records-whole, records-spelled, no-end-behind}
 use Rattle.fw_cut.specs.Cutting.{Cuts, HasNoEnd}
 use Rattle.fw_cut.specs.declared.cutting.Cut.{Cut}
@@ -49,7 +49,7 @@ next-byte : (text : List ℕ) (start at : ℕ) → start ≤ at → get_or (drop
 next-byte text start at low = get_or-drop start text (at - start) 0 ∙ ap (λ n. get_or text n 0) (omega (arith, low))
 
 -- the bytes up to a place and from there on
-front-split : (l : List ℕ) (s i : ℕ) → s ≤ i → take i l ≡ take s l ++ take (i - s) (drop s l)
+pub front-split : (l : List ℕ) (s i : ℕ) → s ≤ i → take i l ≡ take s l ++ take (i - s) (drop s l)
 front-split l s i low =
     let at : i ≡ s + (i - s) = omega (arith, low) in
     ap (λ n. take n l) at ∙ take-add s (i - s) l
@@ -60,7 +60,7 @@ feeds-next : (s s1 : State) (f f1 : List (List ℕ)) (p p1 text : List ℕ) (i :
 feeds-next s s1 f f1 p p1 text i lt h = let more = take_more text i 0 lt in rw more (feeds-push default_config s s1 f f1 p p1 (take i text) (get_or text i 0) h)
 
 -- the bytes from the cut to behind the place
-fed-next : (text : List ℕ) (most at : ℕ) (p : Place) (cut : Cut) (next : Step) (s : Scanned text most at p cut) → at < length text → Does (step default_config (state_of p) (get_or text at 0)) next
+pub fed-next : (text : List ℕ) (most at : ℕ) (p : Place) (cut : Cut) (next : Step) (s : Scanned text most at p cut) → at < length text → Does (step default_config (state_of p) (get_or text at 0)) next
     → (ends : Bool) → next.ends ≡ ends
     → (fields : Record) × (field : List ℕ) × Feeds default_config s.state [] [] (take (at + 1 - cut.end) (drop cut.end text)) (state_of next.place) fields field ends
 fed-next text most at p cut next s lt does ends is =
@@ -172,6 +172,12 @@ scanned-ended text most at records p e few = record {
   order = omega arith;
   fed = let none : at + 1 - (at + 1) ≡ 0 = omega arith in rw none (refl, refl, refl, refl);
 }
+
+-- the records up to the cut are whole, and so many
+pub scanned-cuts : (text : List ℕ) (most at : ℕ) (p : Place) (cut : Cut) (s : Scanned text most at p cut) → IsWhole (take cut.end text) × (length (all_records (take cut.end text)) ≡ cut.records)
+scanned-cuts text most at p cut s =
+    let is = records-whole s.state (take cut.end text) s.rows s.whole s.behind in
+    ((λ more. records-spelled s.state (take cut.end text) more s.rows s.whole s.behind ∙ ap (λ l. l ++ all_records more) (sym is)), ap length is ∙ s.count)
 
 -- what is cut off, where it is spelled
 cuts : (text : List ℕ) (most : ℕ) (cut : Cut) (rows : List Record) (state : State) → Spells st.StartRecord (take cut.end text) rows state → IsBehind state → length rows ≡ cut.records

@@ -1,6 +1,8 @@
 mod RecordFacts
+mod HeaderFacts
 mod RunFacts
 mod CutFacts
+mod StopFacts
 mod PieceFacts
 mod PartFacts
 mod CountFacts

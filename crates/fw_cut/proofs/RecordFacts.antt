@@ -21,22 +21,22 @@ unfolding next_record
 next-return f p [] = refl
 next-return f p (c ∷ rest) = let e = step-behind c in rw e refl
 
-next-behind : (s : State) (f : Record) (p xs : List ℕ) → IsBehind s → next_record default_config s f p xs ≡ next_record default_config st.StartRecord f p xs
+pub next-behind : (s : State) (f : Record) (p xs : List ℕ) → IsBehind s → next_record default_config s f p xs ≡ next_record default_config st.StartRecord f p xs
 next-behind s f p xs (inl e) = rw e refl
 next-behind s f p xs (inr e) = rw e (next-return f p xs)
 
-records-behind : (n : ℕ) (s : State) (xs : List ℕ) → IsBehind s → records_from default_config n s xs ≡ records_from default_config n st.StartRecord xs
+pub records-behind : (n : ℕ) (s : State) (xs : List ℕ) → IsBehind s → records_from default_config n s xs ≡ records_from default_config n st.StartRecord xs
 unfolding records_from
 records-behind zero s xs b = refl
 records-behind (suc n) s xs b = ap (records_next (records_from default_config n)) (next-behind s [] [] xs b)
 
 -- ---- how many records are looked for makes no difference once it is more than there are bytes
 
-left_of : Option Read → ℕ
+pub left_of : Option Read → ℕ
 left_of None = 0
 left_of (Some p) = length p.2
 
-shrinks : (s : State) (f : Record) (p y : List ℕ) → left_of (next_record default_config s f p y) ≤ length y - 1
+pub shrinks : (s : State) (f : Record) (p y : List ℕ) → left_of (next_record default_config s f p y) ≤ length y - 1
 unfolding next_record left_of
 shrinks s f p [] = elim (cases_Bool (ends_at_end s)) [ inl e ↦ rw e (omega arith) | inr e ↦ rw e (omega arith) ]
 shrinks s f p (c ∷ rest) = elim (cases_Bool (is_end (step default_config s c).1)) [
@@ -46,7 +46,7 @@ shrinks s f p (c ∷ rest) = elim (cases_Bool (is_end (step default_config s c).
       rw e (omega (arith, h))
 ]
 
-none-left : (n : ℕ) → records_from default_config n st.StartRecord [] ≡ []
+pub none-left : (n : ℕ) → records_from default_config n st.StartRecord [] ≡ []
 unfolding records_from next_record
 none-left zero = refl
 none-left (suc n) = refl
@@ -56,7 +56,7 @@ same-next : (m n : ℕ) (o : Option Read) → ((p : Read) → o ≡ Some p → r
 same-next m n None h = refl
 same-next m n (Some p) h = ap (λ (t : List Record). p.0 ∷ t) (h p refl)
 
-left-is : (o : Option Read) (p : Read) → o ≡ Some p → left_of o ≡ length p.2
+pub left-is : (o : Option Read) (p : Read) → o ≡ Some p → left_of o ≡ length p.2
 unfolding left_of
 left-is o p e = rw e refl
 
@@ -76,7 +76,7 @@ same_fuel (suc m) (suc n) s (c ∷ rest) a b =
 
 -- ---- records that are spelled
 
-fed-end : (s s2 : State) (f f2 : Record) (p p2 x y : List ℕ) → Feeds default_config s f p x s2 f2 p2 true → next_record default_config s f p (x ++ y) ≡ Some (f2, s2, y)
+pub fed-end : (s s2 : State) (f f2 : Record) (p p2 x y : List ℕ) → Feeds default_config s f p x s2 f2 p2 true → next_record default_config s f p (x ++ y) ≡ Some (f2, s2, y)
 unfolding Feeds next_record
 fed-end s s2 f f2 p p2 [] y h = cc h.3
 fed-end s s2 f f2 p p2 (c ∷ x) y h = elim (cases_Bool (is_end (step default_config s c).1)) [
@@ -85,7 +85,7 @@ fed-end s s2 f f2 p p2 (c ∷ x) y h = elim (cases_Bool (is_end (step default_co
       rw e (fed-end (step default_config s c).0 s2 (fields_after (step default_config s c).1 f p) f2 (field_after (step default_config s c).1 c p) p2 x y k)
 ]
 
-spelled : (n k : ℕ) (s t : State) (x y : List ℕ) (rows : List Record) → Spells s x rows t → n ≡ length rows + k → records_from default_config n s (x ++ y) ≡ rows ++ records_from default_config k t y
+pub spelled : (n k : ℕ) (s t : State) (x y : List ℕ) (rows : List Record) → Spells s x rows t → n ≡ length rows + k → records_from default_config n s (x ++ y) ≡ rows ++ records_from default_config k t y
 unfolding Spells records_from
 spelled n k s t x y [] h e = let z : n ≡ k = omega (arith, e) in rw (h.0, h.1, z) refl
 spelled zero k s t x y (r ∷ rs) h e = absurd (omega arith)
@@ -125,7 +125,7 @@ goes : (s : State) (f : Record) (p : List ℕ) (c : ℕ) (x : List ℕ) → is_e
 unfolding next_record
 goes s f p c x e = rw e refl
 
-fed-on : (s to : State) (f f2 : Record) (p p2 x : List ℕ) → Feeds default_config s f p x to f2 p2 false → next_record default_config s f p x ≡ next_record default_config to f2 p2 []
+pub fed-on : (s to : State) (f f2 : Record) (p p2 x : List ℕ) → Feeds default_config s f p x to f2 p2 false → next_record default_config s f p x ≡ next_record default_config to f2 p2 []
 unfolding Feeds
 fed-on s to f f2 p p2 [] h = rw (h.0, h.1, h.2) refl
 fed-on s to f f2 p p2 (c ∷ x) h = elim (cases_Bool (is_end (step default_config s c).1)) [

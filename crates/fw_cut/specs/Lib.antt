@@ -1,4 +1,5 @@
 pub mod Places
 pub mod Records
 pub mod Cutting
+pub mod Headers
 pub mod Parts

@@ -29,8 +29,8 @@ fn record_count(text: &[u8]) -> usize
     cut.records
 }
 
-// Whether there is a byte that ends no line.
-fn has_content(text: &[u8]) -> bool
+/// Whether there is a byte that ends no line.
+pub(crate) fn has_content(text: &[u8]) -> bool
     ensures { result ≡ list_any is_content text.now }
 {
     text.iter().any(|byte| *byte != b'\n' && *byte != b'\r')

@@ -1,13 +1,15 @@
 //! The parts of a text that is read piece by piece.
-ghost use Rattle.std.specs.Prelude.{◌≡◌, ◌≤◌, ◌^◌, length, take, drop, IfOk, IfSome, OnOk};
+ghost use Rattle.std.specs.Prelude.{◌≡◌, ◌≤◌, ◌^◌, [], length, take, drop, IfOk, IfSome, OnOk};
 ghost use Rattle.std.specs.Io.KnownBytes.{Keeps};
-ghost use Rattle.fw_cut.specs.Records.{mark_len};
-ghost use Rattle.fw_cut.specs.Parts.{left_of, BeginsWith, Counted, IsPart, CanEnd};
+ghost use Rattle.fw_cut.specs.Headers.{head_of, Passes};
+ghost use Rattle.fw_cut.specs.Parts.{left_of, BeginsWith, Counted, IsPart, CanEnd, Skips};
 
 use crate::counting::part_count;
 use crate::cutting::cut_off;
 use crate::fault::CutFault;
+use crate::heads::{head_of, is_again, mark_len};
 use crate::input::fill;
+use crate::stopping::{cut_before, header_at};
 use fw_charge::MOST_POST_ROWS;
 use std::alloc::{AllocError, Global};
 use std::io::Read;
@@ -23,6 +25,29 @@ pub struct Part {
     pub header: usize,
     /// Whether nothing is left behind this part.
     pub is_last: bool,
+    /// The header where it stands again in front of these records, with the empty lines before it and what ends it; else nothing. It is in no part's
+    /// text.
+    pub skipped: Vec<u8>,
+}
+
+impl Part {
+    // The same part behind bytes that were skipped.
+    fn behind(self, bytes: Vec<u8>) -> Part
+        ensures { result ≡ record self { skipped = bytes } }
+    {
+        let Part {
+            text,
+            header,
+            is_last,
+            skipped: _none,
+        } = self;
+        Part {
+            text,
+            header,
+            is_last,
+            skipped: bytes,
+        }
+    }
 }
 
 impl Drop for Part {
@@ -31,6 +56,7 @@ impl Drop for Part {
             text: _,
             header: _,
             is_last: _,
+            skipped: _,
         } = self;
     }
 }
@@ -78,18 +104,6 @@ const PART_BYTES: usize = 2 * 1024 * 1024;
 
 /// The most bytes of a record.
 const RECORD_BYTES: usize = 4 * 1024 * 1024;
-
-/// How many bytes of a text are its byte order mark.
-#[tactic(auto, unfolding(crate::specs::Records::mark_len))]
-fn mark_len(text: &[u8]) -> usize
-    ensures value { result ≡ mark_len text.now }
-    ensures within { result ≤ length text.now }
-{
-    match text {
-        [0xEF, 0xBB, 0xBF, ..] => 3,
-        _ => 0,
-    }
-}
 
 /// The bytes from a place on.
 fn rest_of(alloc: Global, text: &[u8], from: usize) -> Result<Vec<u8>, AllocError>
@@ -166,10 +180,57 @@ impl<R: Read> Cutter<R> {
     /// The next part: the header, and the records that are next, as many as there are within 2 MiB and at most [`MOST_POST_ROWS`]. The last part has all
     /// that is left, which may be no record. A record that is longer is in a part of its own or with those behind it within 4 MiB.
     ///
+    /// A record that has exactly the bytes of the header is the header again, as where texts with one header stand one behind the other. A part
+    /// ends before it, and the next part skips it.
+    ///
     /// # Errors
     /// `TooLong` for a record of more than 4 MiB, `Read` where a read failed, `NoMemory`. After an error the cutter is of no further use.
     pub fn next_part(&mut self, alloc: Global) -> Result<Part, CutFault>
         ensures part { IfOk result (λ part. IsPart self.old.header (left_of R.remaining self.old) (left_of R.remaining self.new) part) }
+        ensures header { OnOk result (self.new.header ≡ self.old.header) }
+    {
+        let skipped = self.pass_header(alloc)?;
+        let part = self.next_records(alloc)?;
+        Ok(part.behind(skipped))
+    }
+
+    // Skips the header where it stands again next. The answer is what was skipped.
+    fn pass_header(&mut self, alloc: Global) -> Result<Vec<u8>, CutFault>
+        ensures skips { IfOk result (λ skipped. Skips (head_of self.old.header) (left_of R.remaining self.old) (left_of R.remaining self.new) skipped.items) }
+        ensures header { OnOk result (self.new.header ≡ self.old.header) }
+    {
+        self.read_on(PART_BYTES)?;
+        let end = self.front_header();
+        let skipped = self.skip(alloc, end)?;
+        Ok(skipped)
+    }
+
+    // How many of the bytes that were read are the header again, where it is next.
+    fn front_header(&self) -> usize
+        ensures { Passes (head_of self.now.header) self.now.buffer self.now.at_end result }
+    {
+        header_at(head_of(&self.header), &self.buffer, self.at_end)
+    }
+
+    // Skips the header, which has so many bytes. The answer is what was skipped.
+    fn skip(&mut self, alloc: Global, end: usize) -> Result<Vec<u8>, CutFault>
+        requires { Passes (head_of self.old.header) self.old.buffer self.old.at_end end }
+        ensures skips { IfOk result (λ skipped. Skips (head_of self.old.header) (left_of R.remaining self.old) (left_of R.remaining self.new) skipped.items) }
+        ensures header { OnOk result (self.new.header ≡ self.old.header) }
+    {
+        let mut skipped = Vec::new(alloc);
+        if end > 0 {
+            skipped.extend_from_slice(&self.buffer[..end])?;
+            put_rest(&mut self.spare, &self.buffer, end)?;
+            mem::swap(&mut self.buffer, &mut self.spare);
+        }
+        Ok(skipped)
+    }
+
+    // The part of the records that are next.
+    fn next_records(&mut self, alloc: Global) -> Result<Part, CutFault>
+        ensures part { IfOk result (λ part. IsPart self.old.header (left_of R.remaining self.old) (left_of R.remaining self.new) part) }
+        ensures none { IfOk result (λ part. part.skipped.items ≡ []) }
         ensures header { OnOk result (self.new.header ≡ self.old.header) }
     {
         self.read_on(PART_BYTES)?;
@@ -190,7 +251,7 @@ impl<R: Read> Cutter<R> {
     /// # Errors
     /// Those of [`Cutter::next_part`]; `TooLong` also where there are more records than 64 bits count.
     pub fn count_left(&mut self, alloc: Global) -> Result<u64, CutFault>
-        ensures { IfOk result (λ count. Counted (left_of R.remaining self.old) count) }
+        ensures { IfOk result (λ count. Counted (head_of self.old.header) (left_of R.remaining self.old) count) }
     {
         let mut count: u64 = 0;
         for _ in 0..u64::MAX {
@@ -219,24 +280,29 @@ impl<R: Read> Cutter<R> {
         Ok(())
     }
 
-    // Where the next part ends, if what was read has a whole record or is all.
+    // Where the next part ends, if what was read has a whole record or is all: where the header stands again, if not later.
     fn end_of_part(&self) -> Option<usize>
         ensures { IfSome result (λ end. CanEnd self.now end (take end self.now.buffer)) }
     {
-        let cut = cut_off(&self.buffer, MOST_RECORDS);
-        if self.at_end && cut.records < MOST_RECORDS {
-            return Some(self.buffer.len());
+        let head = head_of(&self.header);
+        let stop = cut_before(head, &self.buffer, MOST_RECORDS);
+        if self.at_end && stop.header == 0 && stop.records < MOST_RECORDS {
+            let (_, rest) = self.buffer.split_at(stop.end);
+            if !is_again(head, rest) {
+                return Some(self.buffer.len());
+            }
         }
-        if cut.records == 0 {
+        if stop.records == 0 && stop.header == 0 {
             return None;
         }
-        Some(cut.end)
+        Some(stop.end)
     }
 
     // The part that ends at a place of what was read.
     fn taken(&mut self, alloc: Global, end: usize) -> Result<Part, CutFault>
         requires { CanEnd self.old end (take end self.old.buffer) }
         ensures part { IfOk result (λ part. IsPart self.old.header (left_of R.remaining self.old) (left_of R.remaining self.new) part) }
+        ensures none { IfOk result (λ part. part.skipped.items ≡ []) }
         ensures header { OnOk result (self.new.header ≡ self.old.header) }
     {
         let mut text = Vec::new(alloc);
@@ -248,6 +314,7 @@ impl<R: Read> Cutter<R> {
             text,
             header: self.header.len(),
             is_last: self.at_end && self.buffer.is_empty(),
+            skipped: Vec::new(alloc),
         })
     }
 }

@@ -8,8 +8,10 @@ mod counting;
 mod cutter;
 mod cutting;
 mod fault;
+mod heads;
 mod input;
 mod place;
+mod stopping;
 
 pub use cutter::{Cutter, Part};
 pub use cutting::{Cut, cut_off};

@@ -1,4 +1,4 @@
-use Rattle.std.proofs.Common.{◌≡◌, ◌∙◌, sym, true, false, take, drop, length, inl, inr, arith}
+use Rattle.std.proofs.Common.{◌≡◌, ◌∙◌, sym, true, false, drop, inl, inr, arith}
 use Rattle.std.specs.List.{list_any}
 use Rattle.fw_cut.specs.Cutting.{Cuts}
 use Rattle.fw_cut.specs.Parts.{most_records}
