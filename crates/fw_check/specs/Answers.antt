@@ -16,11 +16,15 @@ plural count = if count == 1 then [] else codes "s"
 abbrev pub counted_text : ℕ → List ℕ → List ℕ
 counted_text count word = decimal count ++ (codes " " ++ (word ++ plural count))
 
--- `FILE: 5 records, 3 of them with faults; 5 faults`
+-- `; 2 repeated headers skipped`; nothing where there is none
+unfoldable pub repeated_text : ℕ → List ℕ
+repeated_text count = if count == 0 then [] else codes "; " ++ (counted_text count (codes "repeated header") ++ codes " skipped")
+
+-- `FILE: 5 records, 3 of them with faults; 5 faults`, and what was skipped
 abbrev pub summary_text : List ℕ → Checker → List ℕ
 summary_text name c =
     name ++ (codes ": " ++ (counted_text c.records (codes "record") ++ (codes ", " ++ (decimal c.bad_records ++ (codes " of them with faults; "
-    ++ (counted_text c.faults (codes "fault") ++ line_end))))))
+    ++ (counted_text c.faults (codes "fault") ++ (repeated_text c.repeated ++ line_end)))))))
 
 -- how many rows there are, in how many hours, and their costs
 abbrev pub sums_text : Statistics → List ℕ
@@ -43,11 +47,15 @@ key name = 34 ∷ (name ++ (34 ∷ 58 ∷ []))
 abbrev pub member : List ℕ → List ℕ
 member name = 44 ∷ key name
 
+-- how many times the header stood again; nothing where it didn't
+unfoldable pub json_repeated : ℕ → List ℕ
+json_repeated count = if count == 0 then [] else member (codes "repeatedHeaders") ++ decimal count
+
 -- the name of the file, as a JSON string, and the counts
 abbrev pub json_head : List ℕ → Checker → List ℕ
 json_head file c =
     (123 ∷ key (codes "file")) ++ (file ++ (member (codes "records") ++ (decimal c.records ++ (member (codes "badRecords") ++ (decimal c.bad_records
-    ++ (member (codes "faults") ++ (decimal c.faults ++ (member (codes "findings") ++ 91 ∷ []))))))))
+    ++ (member (codes "faults") ++ (decimal c.faults ++ (json_repeated c.repeated ++ (member (codes "findings") ++ 91 ∷ [])))))))))
 
 -- The answer as JSON: the name of the file and the counts, the findings, and the statistics. Where there is no finding, nothing stands between the brackets
 pub record IsJsonAnswer (c : Checker) (text : List ℕ) : Type 0 where

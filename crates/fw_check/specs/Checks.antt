@@ -55,6 +55,10 @@ with_currency count c = record c { seen = record c.seen { currencies = counted b
 abbrev pub records_in : Part → List ℕ
 records_in part = drop (min part.header (length part.text.items)) part.text.items
 
+-- how many times the header stands again in front of a part's records: once, or not at all
+abbrev pub headers_again : Part → ℕ
+headers_again part = min (length part.skipped.items) 1
+
 -- with records that are rows: the rows and the lines are counted, and each record under the checker's currency
 abbrev pub with_read : List ℕ → List Charge → CheckValue → CheckValue
 with_read text rows c =

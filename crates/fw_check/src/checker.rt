@@ -6,7 +6,7 @@ ghost use Rattle.fw_rows.specs.Rows.{RowsRead};
 ghost use Rattle.fw_rows.specs.declared.column.Column.{Column as ColumnValue};
 ghost use Rattle.fw_rows.specs.declared.fault.RecordFault.{RecordFault};
 ghost use Rattle.fw_rows.specs.declared.fault.RowFault.TheVariants.{DoubleColumn, MissingColumn, NoRows, Record};
-ghost use Rattle.fw_check.specs.Checks.{checked, nothing_checked, with_currency, with_fault, with_header, with_read, records_in};
+ghost use Rattle.fw_check.specs.Checks.{checked, headers_again, nothing_checked, with_currency, with_fault, with_header, with_lines, with_read, records_in};
 ghost use Rattle.fw_check.specs.Counts.{kept};
 ghost use Rattle.fw_check.specs.Faults.{column_text, place_value};
 
@@ -69,6 +69,8 @@ pub struct Checker {
     pub records: u64,
     /// How many lines were seen.
     pub lines: u64,
+    /// How many times the header stood again among the records.
+    pub repeated: u64,
     /// How many records break a rule.
     pub bad_records: u64,
     /// How many faults there are.
@@ -87,6 +89,7 @@ impl Drop for Checker {
             known: _,
             records: _,
             lines: _,
+            repeated: _,
             bad_records: _,
             faults: _,
             findings: _,
@@ -98,7 +101,8 @@ impl Drop for Checker {
 impl Checker {
     /// A checker of texts in this currency that has seen nothing.
     pub fn new(alloc: Global, currency: Currency) -> Checker
-        ensures { checked result ≡ nothing_checked currency }
+        ensures nothing { checked result ≡ nothing_checked currency }
+        ensures repeated { result.repeated ≡ 0 }
     {
         Checker {
             currency,
@@ -106,6 +110,7 @@ impl Checker {
             known: KnownTexts::new(alloc),
             records: 0,
             lines: 0,
+            repeated: 0,
             bad_records: 0,
             faults: 0,
             findings: Vec::new(alloc),
@@ -255,6 +260,16 @@ impl Checker {
     {
         self.line_end = line_end;
         self.lines = self.lines.saturating_add(line_ends(header, line_end));
+    }
+
+    /// Passes over the header where it stands again in front of a part's records, before these are checked. Its lines are counted, and so is it.
+    pub fn pass_repeated(&mut self, part: &Part)
+        ensures counted { checked self.new ≡ with_lines part.now.skipped.items (checked self.old) }
+        ensures repeated { self.new.repeated ≡ kept (self.old.repeated + headers_again part.now) }
+    {
+        let skipped = part.skipped.as_slice();
+        self.lines = self.lines.saturating_add(line_ends(skipped, self.line_end));
+        self.repeated = self.repeated.saturating_add(skipped.len().min(1) as u64);
     }
 
     /// Checks the records of a part. The answer is the header's fault, if it has one, or `NoMemory`.

@@ -1,6 +1,6 @@
 //! What was found, as text and as JSON.
 ghost use Rattle.std.specs.Prelude.{◌≡◌, [], length, string_bytes, IfOk};
-ghost use Rattle.fw_check.specs.Answers.{IsAnswer, IsJsonAnswer, counted_text, json_head, plural, sums_text, summary_text};
+ghost use Rattle.fw_check.specs.Answers.{IsAnswer, IsJsonAnswer, counted_text, json_head, json_repeated, plural, repeated_text, sums_text, summary_text};
 ghost use Rattle.fw_table.specs.Shown.{shown_text};
 
 use crate::checker::Checker;
@@ -40,7 +40,20 @@ fn summary_text(alloc: Global, name: &str, checker: &Checker) -> Result<String, 
     let records = counted_text(alloc, checker.records, "record")?;
     let bad = checker.bad_records;
     let faults = counted_text(alloc, checker.faults, "fault")?;
-    format!(in alloc; "{name}: {records}, {bad} of them with faults; {faults}\n")
+    let repeated = repeated_text(alloc, checker.repeated)?;
+    format!(in alloc; "{name}: {records}, {bad} of them with faults; {faults}{repeated}\n")
+}
+
+// How many times the header stood again, as a further clause; nothing where it didn't.
+#[tactic(auto, unfolding(crate::specs::Answers::repeated_text))]
+fn repeated_text(alloc: Global, count: u64) -> Result<String, AllocError>
+    ensures { IfOk result (λ text. string_bytes text ≡ repeated_text count) }
+{
+    if count == 0 {
+        return Ok(String::new(alloc));
+    }
+    let headers = counted_text(alloc, count, "repeated header")?;
+    format!(in alloc; "; {headers} skipped")
 }
 
 // A count and what is counted, as `5 records`.
@@ -174,9 +187,21 @@ fn json_head(alloc: Global, file: &str, checker: &Checker) -> Result<String, All
     let records = checker.records;
     let bad = checker.bad_records;
     let faults = checker.faults;
+    let repeated = json_repeated(alloc, checker.repeated)?;
     format!(in alloc;
-        "{{\"file\":{file},\"records\":{records},\"badRecords\":{bad},\"faults\":{faults},\"findings\":["
+        "{{\"file\":{file},\"records\":{records},\"badRecords\":{bad},\"faults\":{faults}{repeated},\"findings\":["
     )
+}
+
+// How many times the header stood again, as a further member; nothing where it didn't.
+#[tactic(auto, unfolding(crate::specs::Answers::json_repeated))]
+fn json_repeated(alloc: Global, count: u64) -> Result<String, AllocError>
+    ensures { IfOk result (λ text. string_bytes text ≡ json_repeated count) }
+{
+    if count == 0 {
+        return Ok(String::new(alloc));
+    }
+    format!(in alloc; ",\"repeatedHeaders\":{count}")
 }
 
 // The groups of faults as JSON objects; nothing where there is none.
