@@ -56,8 +56,8 @@ impl Taker for Reading {
         let text = part.text.as_slice();
         match read_columns_after(rt.alloc(), text, self.currency, &mut self.known) {
             Ok(rows) => self.keep(rt, walk, part, rows),
-            // What follows the last record, as a line feed, is no post.
-            Err(RowFault::NoRows) if walk.record > 1 => Ok(true),
+            // What follows the last record, as a line feed, is no post, and neither is a header that another one follows.
+            Err(RowFault::NoRows) if walk.record > 1 || !part.is_last => Ok(true),
             Err(fault) => walk.refuse(rt, part, fault, letters(&self.currency)),
         }
     }

@@ -74,6 +74,7 @@ impl Taker for Check {
 
     fn take(&mut self, rt: &HostRuntime, walk: &mut Walk<'_>, part: &Part) -> Result<bool, Fault> {
         let before = self.checker.records;
+        self.checker.pass_repeated(part);
         match self.checker.check(rt.alloc(), part) {
             Ok(()) => {
                 walk.took(rt, part, self.checker.records.saturating_sub(before));

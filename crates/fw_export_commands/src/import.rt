@@ -84,16 +84,16 @@ fn import_all(
     import.watch_others(rt.alloc())?;
     let mut walk = Walk::new(rt, is_quiet, files);
     if walk_files(rt, files, &mut walk, import)? {
-        print_imported(rt, import)
+        print_imported(rt, import, walk.repeated)
     } else {
         Ok(ExitCode::FAILURE)
     }
 }
 
 // Says what was imported, and warns where the origin has posts that count behind those of the files.
-fn print_imported(rt: &HostRuntime, import: &Import<'_>) -> Result<ExitCode, Fault> {
+fn print_imported(rt: &HostRuntime, import: &Import<'_>, repeated: u64) -> Result<ExitCode, Fault> {
     look_behind(rt, import)?;
-    let answer = imported_text(rt.alloc(), import)?;
+    let answer = imported_text(rt.alloc(), import, repeated)?;
     print_answer(rt, answer.as_bytes())
 }
 
@@ -115,13 +115,25 @@ fn look_behind(rt: &HostRuntime, import: &Import<'_>) -> Result<(), AllocError> 
     Ok(())
 }
 
-// What was imported.
-fn imported_text(alloc: Global, import: &Import<'_>) -> Result<String, AllocError> {
+// What was imported, and how many repeated headers were skipped, where there are any.
+fn imported_text(alloc: Global, import: &Import<'_>, repeated: u64) -> Result<String, AllocError> {
     let added = import.added;
     let same = import.same;
     let posts = import.number.saturating_sub(1);
     let rows = if added == 1 { "row" } else { "rows" };
     let were = if same == 1 { "was" } else { "were" };
     let entries = if posts == 1 { "post" } else { "posts" };
-    format!(in alloc; "imported {added} {rows}, {same} {were} there already; {posts} {entries}\n")
+    let skipped = skipped_text(alloc, repeated)?;
+    format!(in alloc;
+        "imported {added} {rows}, {same} {were} there already; {posts} {entries}{skipped}\n"
+    )
+}
+
+// How many repeated headers were skipped, as a further clause; nothing where there is none.
+fn skipped_text(alloc: Global, repeated: u64) -> Result<String, AllocError> {
+    if repeated == 0 {
+        return Ok(String::new(alloc));
+    }
+    let headers = if repeated == 1 { "header" } else { "headers" };
+    format!(in alloc; "; {repeated} repeated {headers} skipped")
 }

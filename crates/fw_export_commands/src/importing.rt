@@ -154,8 +154,10 @@ impl Taker for Import<'_> {
     fn take(&mut self, rt: &HostRuntime, walk: &mut Walk<'_>, part: &Part) -> Result<bool, Fault> {
         match self.post(rt, part)? {
             Ok(taken) => self.count(rt, walk, part, taken),
-            // What follows the last record, as a line feed, is no post.
-            Err(ImportFault::Rows(RowFault::NoRows)) if walk.record > 1 => Ok(true),
+            // What follows the last record, as a line feed, is no post, and neither is a header that another one follows.
+            Err(ImportFault::Rows(RowFault::NoRows)) if walk.record > 1 || !part.is_last => {
+                Ok(true)
+            }
             Err(fault) => {
                 walk.progress.end(rt);
                 explain(rt, self, walk, part, fault)

@@ -1,6 +1,6 @@
 //! Where a walk over exports stands, and what it says of them.
 ghost use Rattle.std.specs.Prelude.{◌≡◌, ◌+◌, false, IfOk, OnOk};
-ghost use Rattle.fw_check.specs.Checks.{records_in};
+ghost use Rattle.fw_check.specs.Checks.{headers_again, records_in};
 ghost use Rattle.fw_check.specs.Counts.{kept};
 ghost use Rattle.fw_check.specs.Lines.{line_ends_in};
 
@@ -24,6 +24,8 @@ pub struct Walk<'a> {
     pub record: u64,
     /// The byte that ends lines.
     pub line_end: u8,
+    /// How many times a header stood again, in all exports so far.
+    pub repeated: u64,
     /// How far all exports are read.
     pub progress: Progress,
 }
@@ -36,6 +38,7 @@ impl Drop for Walk<'_> {
             line: _,
             record: _,
             line_end: _,
+            repeated: _,
             progress: _,
         } = self;
     }
@@ -50,6 +53,7 @@ impl<'a> Walk<'a> {
             line: 1,
             record: 1,
             line_end: b'\n',
+            repeated: 0,
             progress: Progress::new(rt, is_quiet, files),
         }
     }
@@ -73,6 +77,24 @@ impl<'a> Walk<'a> {
         self.line = line_ends(header, line_end).saturating_add(1);
         self.line_end = line_end;
         self.progress.took(rt, 0, header.len());
+    }
+
+    // It stands behind the header, where that stands again in front of a part's records.
+    pub(crate) fn pass_repeated(&mut self, rt: &HostRuntime, part: &Part)
+        ensures line { self.new.line ≡
+            kept (self.old.line + line_ends_in self.old.line_end part.now.skipped.items) }
+        ensures record { self.new.record ≡ self.old.record }
+        ensures repeated { self.new.repeated ≡
+            kept (self.old.repeated + headers_again part.now) }
+        ensures ends { self.new.line_end ≡ self.old.line_end }
+    {
+        let skipped = part.skipped.as_slice();
+        let headers = skipped.len().min(1) as u64;
+        self.line = self.line.saturating_add(line_ends(skipped, self.line_end));
+        self.repeated = self.repeated.saturating_add(headers);
+        if headers > 0 {
+            self.progress.took(rt, 0, skipped.len());
+        }
     }
 
     /// It stands behind a part, which has so many rows.

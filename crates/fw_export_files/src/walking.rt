@@ -99,7 +99,10 @@ fn take_next<T: Taker>(
     taker: &mut T,
 ) -> Result<Taken, Fault> {
     match cutter.next_part(rt.alloc()) {
-        Ok(part) => take_part(rt, &part, walk, taker),
+        Ok(part) => {
+            walk.pass_repeated(rt, &part);
+            take_part(rt, &part, walk, taker)
+        }
         Err(fault) => {
             walk.not_cut(rt, fault)?;
             Ok(Taken::Refused)

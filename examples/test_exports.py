@@ -1,0 +1,151 @@
+#!/usr/bin/env python3
+"""Runs `focusd check`, `import` and `replace` of a built program over exports as providers ship them.
+
+    examples/test_exports.py out/focusd
+    examples/test_exports.py out/focusd Headers.test_two_files_in_one_stream
+
+A TEST is a class, or a test of one; without any all are run. What a stream of several files must give is what a stream without the further
+headers gives.
+"""
+import argparse
+import json
+import os
+import pathlib
+import subprocess
+import sys
+import tempfile
+import unittest
+
+HERE = pathlib.Path(__file__).resolve().parent
+PROGRAM = ""
+COLUMNS = "BilledCost,EffectiveCost,BillingCurrency,ChargeCategory,ChargePeriodStart,ChargePeriodEnd,Tags"
+MARK = b"\xef\xbb\xbf"
+TOTALS = ("--from", "2024-09", "--to", "2024-10")
+
+
+def record(number, cost=None):
+    """A record of an export: an hour of use, whose tags have a line feed within quotes in each seventh."""
+    hour = f"2024-09-{number // 24 % 30 + 1:02}T{number % 24:02}:00Z"
+    tags = '"{""team"":\n""web""}"' if number % 7 == 0 else ""
+    return f"{cost or number},{number},USD,Usage,{hour},{hour.replace(':00Z', ':30Z')},{tags}"
+
+
+def text(numbers, end="\n", mark=b"", last=True, header=COLUMNS):
+    """An export of these records; the last one is ended or not."""
+    lines = [header, *(record(it) for it in numbers)]
+    return mark + (end.join(lines) + (end if last else "")).encode()
+
+
+class Exports(unittest.TestCase):
+    """A folder for exports and warehouses."""
+
+    def setUp(self):
+        room = tempfile.TemporaryDirectory()
+        self.addCleanup(room.cleanup)
+        self.top = pathlib.Path(room.name)
+
+    def focusd(self, *words, given=b""):
+        """The status, standard output and standard error of a run."""
+        ran = subprocess.run([PROGRAM, *words], input=given, capture_output=True, cwd=self.top)
+        return ran.returncode, ran.stdout.decode(), ran.stderr.decode()
+
+    def file(self, name, content):
+        (self.top / name).write_bytes(content)
+        return name
+
+    def house(self, name, given, *files):
+        """A new warehouse with what is imported: what the import printed."""
+        (self.top / name).mkdir()
+        return self.focusd("import", "--dir", name, "--create", "--origin", "aws", "--quiet", *(files or ["-"]), given=given)
+
+    def answers(self, name):
+        """What a warehouse says of its rows."""
+        return self.focusd("report", "--dir", name, "--by", "team", *TOTALS), self.focusd("export", "--dir", name, *TOTALS)
+
+
+class Headers(Exports):
+    """A header that stands again."""
+
+    def test_two_files_in_one_stream(self):
+        one, two = text(range(1, 40)), text(range(40, 90))
+        self.assertEqual(self.focusd("check", "-", given=one + two)[1].split("\n")[0], "standard input: 89 records, 0 of them with faults; 0 faults; 1 repeated header skipped")
+        self.assertEqual(self.house("both", one + two), (0, "imported 89 rows, 0 were there already; 2 posts; 1 repeated header skipped\n", ""))
+        self.file("one.csv", one), self.file("two.csv", two)
+        self.assertEqual(self.house("each", b"", "one.csv", "two.csv"), (0, "imported 89 rows, 0 were there already; 2 posts\n", ""))
+        self.assertEqual(self.answers("both"), self.answers("each"))
+        # Both have the same posts.
+        again = self.focusd("import", "--dir", "both", "--origin", "aws", "--quiet", "one.csv", "two.csv")
+        self.assertEqual(again, (0, "imported 0 rows, 89 were there already; 2 posts\n", ""))
+        again = self.focusd("import", "--dir", "each", "--origin", "aws", "--quiet", "-", given=one + two)
+        self.assertEqual(again, (0, "imported 0 rows, 89 were there already; 2 posts; 1 repeated header skipped\n", ""))
+
+    def test_a_replacement(self):
+        self.house("both", text(range(1, 40)))
+        replaced = self.focusd("replace", "--dir", "both", "--origin", "aws", "--quiet", self.file("new.csv", text(range(1, 30)) + text(range(30, 80))))
+        self.assertEqual((replaced[0], replaced[2]), (0, ""), replaced)
+        self.house("each", text(range(1, 80)))
+        self.assertEqual(self.answers("both"), self.answers("each"))
+
+    def test_line_ends_and_marks(self):
+        """A header with a byte order mark, with each line end, and without one at the end of the stream."""
+        for end in ("\n", "\r\n", "\r"):
+            for first in (b"", MARK):
+                for second in (b"", MARK):
+                    streams = [
+                        (text(range(1, 9), end, first) + text(range(9, 20), end, second), 19, 1),
+                        (text(range(1, 9), end, first) + end.encode() * 3 + text(range(9, 20), end, second, last=False), 19, 1),
+                        (text(range(1, 9), end, first) + text([], end, second, last=False), 8, 1),
+                        (text(range(1, 9), end, first) + text([], end, second) * 2, 8, 2),
+                        (text([], end, first) + text([], end, second) * 3 + text(range(1, 20), end), 19, 4),
+                    ]
+                    for stream, records, headers in streams:
+                        word = "header" if headers == 1 else "headers"
+                        found = self.focusd("check", "-", given=stream)
+                        self.assertEqual(found[0], 0, (stream, found))
+                        self.assertEqual(found[1].split("\n")[0], f"standard input: {records} records, 0 of them with faults; 0 faults; {headers} repeated {word} skipped", stream)
+
+    def test_in_json(self):
+        one, two = text(range(1, 5)), text(range(5, 9))
+        self.assertEqual(json.loads(self.focusd("check", "--format", "json", "-", given=one + two)[1])["repeatedHeaders"], 1)
+        self.assertNotIn("repeatedHeaders", self.focusd("check", "--format", "json", "-", given=one)[1])
+
+    def test_what_only_looks_like_the_header(self):
+        """Records that begin like the header, miss its last byte, have quotes around it or blanks behind it are records."""
+        for line in (COLUMNS + "x", COLUMNS[:-1], COLUMNS + ",", '"' + COLUMNS.replace(",", '","') + '"', COLUMNS + " ", COLUMNS.lower(), " " + COLUMNS):
+            found = self.focusd("check", "-", given=text(range(1, 5)) + line.encode() + b"\n")
+            self.assertEqual(found[0], 1, line)
+            self.assertIn("standard input: 5 records, 1 of them with faults;", found[1])
+
+    def test_lines_behind_a_header(self):
+        """Lines count a header that is skipped, and records don't."""
+        stream = text(range(1, 5)) + b"\n" + text(range(5, 9)) + record(9, "x").encode() + b"\n"
+        line = stream[: stream.index(b"x,9")].count(b"\n") + 1
+        found = self.focusd("check", "-", given=stream)
+        self.assertIn(f"  standard input:{line}: record 9: \"x\"\n", found[1])
+        status, printed, said = self.house("both", stream)
+        self.assertEqual((status, printed), (1, ""))
+        self.assertIn(f"focusd: standard input:{line}: record 9, BilledCost: \"x\": V5 Cost: expected ", said)
+
+    def test_only_headers(self):
+        self.assertEqual(self.focusd("check", "-", given=text([]) * 3)[0], 1)
+        status, printed, said = self.house("none", text([]) * 3)
+        self.assertEqual((status, printed), (1, ""))
+        self.assertIn("V14 NoRows", said)
+
+    def test_long_files(self):
+        """Posts of 4,096 rows and less: those of the files one by one."""
+        files = [text(range(1, 5000)), text(range(5000, 9097)), text(range(9097, 9100))]
+        names = [self.file(f"{place}.csv", it) for place, it in enumerate(files)]
+        self.assertEqual(self.house("each", b"", *names)[1], "imported 9099 rows, 0 were there already; 5 posts\n")
+        again = self.focusd("import", "--dir", "each", "--origin", "aws", "--quiet", "-", given=b"".join(files))
+        self.assertEqual(again, (0, "imported 0 rows, 9099 were there already; 5 posts; 2 repeated headers skipped\n", ""))
+
+
+if __name__ == "__main__":
+    parser = argparse.ArgumentParser(description=__doc__, formatter_class=argparse.RawDescriptionHelpFormatter)
+    parser.add_argument("program", metavar="PROGRAM", help="the built program")
+    parser.add_argument("tests", metavar="TEST", nargs="*", help="a class, or a test of one")
+    options = parser.parse_args()
+    PROGRAM = str(pathlib.Path(options.program).resolve())
+    os.chdir(HERE)
+    unittest.main(argv=[sys.argv[0], *options.tests])
