@@ -8,13 +8,18 @@ A TEST is a class, or a test of one; without any all are run. What a stream of s
 headers gives.
 """
 import argparse
+import bz2
+import gzip
+import io
 import json
+import lzma
 import os
 import pathlib
 import subprocess
 import sys
 import tempfile
 import unittest
+import zipfile
 
 HERE = pathlib.Path(__file__).resolve().parent
 PROGRAM = ""
@@ -139,6 +144,68 @@ class Headers(Exports):
         self.assertEqual(self.house("each", b"", *names)[1], "imported 9099 rows, 0 were there already; 5 posts\n")
         again = self.focusd("import", "--dir", "each", "--origin", "aws", "--quiet", "-", given=b"".join(files))
         self.assertEqual(again, (0, "imported 0 rows, 9099 were there already; 5 posts; 2 repeated headers skipped\n", ""))
+
+
+def zipped(content):
+    """A zip archive with this as its one file."""
+    out = io.BytesIO()
+    with zipfile.ZipFile(out, "w") as archive:
+        archive.writestr("costs.csv", content)
+    return out.getvalue()
+
+
+class Formats(Exports):
+    """Files that are no CSV in UTF-8: what is said of each, and the command that is named."""
+
+    CSV = text(range(1, 200))
+    FORMATS = [
+        ("costs.csv.gz", gzip.compress(CSV), "it is compressed by gzip", "gunzip -c", ""),
+        ("costs.zip", zipped(CSV), "it is a zip archive or a spreadsheet", "unzip -p", "; save a spreadsheet as CSV"),
+        ("costs.csv.zst", b"\x28\xb5\x2f\xfd\x00", "it is compressed by zstd", "zstd -dc", ""),
+        ("costs.csv.bz2", bz2.compress(CSV), "it is compressed by bzip2", "bunzip2 -c", ""),
+        ("costs.csv.xz", lzma.compress(CSV), "it is compressed by xz", "xz -dc", ""),
+        ("utf16.csv", CSV.decode().encode("utf-16"), "it is UTF-16", "iconv -f UTF-16 -t UTF-8", "; or save it as UTF-8"),
+        ("big.csv", b"\xfe\xff" + CSV.decode().encode("utf-16-be"), "it is UTF-16", "iconv -f UTF-16 -t UTF-8", "; or save it as UTF-8"),
+    ]
+
+    def commands(self, folder):
+        """The commands that take exports, each with its words before the files."""
+        return [("check",), ("import", "--dir", folder, "--origin", "aws"), ("replace", "--dir", folder, "--origin", "aws")]
+
+    def test_each_format(self):
+        self.house("costs", text(range(1, 5)))
+        for name, content, kind, command, remedy in self.FORMATS:
+            self.file(name, content)
+            for words in self.commands("costs"):
+                behind = "focusd: nothing was replaced\n" if words[0] == "replace" else ""
+                todo = f"{command} {name} | focusd {words[0]} ... -{remedy}"
+                self.assertEqual(self.focusd(*words, name), (1, "", f"focusd: {name}: {kind}. What to do: {todo}\n{behind}"))
+                todo = f"... | {command} | focusd {words[0]} ... -{remedy}"
+                self.assertEqual(self.focusd(*words, "-", given=content), (1, "", f"focusd: standard input: {kind}. What to do: {todo}\n{behind}"))
+
+    def test_a_parquet_file(self):
+        self.file("costs.parquet", b"PAR1" + bytes(99))
+        self.assertEqual(self.focusd("check", "costs.parquet"), (1, "", "focusd: costs.parquet: it is a Parquet file. What to do: export it as CSV\n"))
+
+    def test_a_name_that_a_shell_reads_otherwise(self):
+        for name in ("my costs.gz", "a;b.gz", "$HOME.gz"):
+            self.assertIn("What to do: gunzip -c FILE | focusd check ... -\n", self.focusd("check", self.file(name, gzip.compress(self.CSV)))[2])
+
+    def test_short_files(self):
+        """Files of each length below that of what is looked at, and the first bytes of each format."""
+        for count in range(8):
+            self.assertEqual(self.focusd("check", self.file("short.csv", self.CSV[:count]))[0], 1)
+        for _, content, kind, _, _ in self.FORMATS:
+            self.assertIn(kind, self.focusd("check", self.file("short.csv", content[:6]))[2])
+
+    def test_a_mark_is_read(self):
+        self.assertEqual(self.focusd("check", "-", given=MARK + self.CSV)[0], 0)
+
+    def test_the_command_that_is_named(self):
+        """What is named gives the same rows."""
+        self.file("costs.csv.gz", gzip.compress(self.CSV))
+        ran = subprocess.run(["sh", "-c", f"gunzip -c costs.csv.gz | {PROGRAM} check -"], capture_output=True, cwd=self.top)
+        self.assertEqual((ran.returncode, ran.stdout.decode()), self.focusd("check", "-", given=self.CSV)[:2])
 
 
 if __name__ == "__main__":

@@ -52,6 +52,10 @@ impl Reading {
 }
 
 impl Taker for Reading {
+    fn command(&self) -> &'static str {
+        "replace"
+    }
+
     fn take(&mut self, rt: &HostRuntime, walk: &mut Walk<'_>, part: &Part) -> Result<bool, Fault> {
         let text = part.text.as_slice();
         match read_columns_after(rt.alloc(), text, self.currency, &mut self.known) {

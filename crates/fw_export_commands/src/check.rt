@@ -61,6 +61,10 @@ impl Check {
 }
 
 impl Taker for Check {
+    fn command(&self) -> &'static str {
+        "check"
+    }
+
     fn goes_on(&self) -> bool {
         true
     }

@@ -2,6 +2,7 @@
 #![tactic(auto)]
 
 mod faults;
+mod foreign;
 mod opening;
 mod taker;
 mod walk;

@@ -5,6 +5,11 @@ use fw_cut::{CutFault, Part};
 
 /// What a command does with the exports that the command line names, each part by part.
 pub trait Taker {
+    /// The command that takes exports, by its name on the command line.
+    fn command(&self) -> &'static str {
+        "import"
+    }
+
     /// Whether the exports behind one with a fault are taken too.
     fn goes_on(&self) -> bool {
         false

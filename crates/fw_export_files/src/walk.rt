@@ -5,6 +5,7 @@ ghost use Rattle.fw_check.specs.Counts.{kept};
 ghost use Rattle.fw_check.specs.Lines.{line_ends_in};
 
 use crate::faults::{code_of, column_of};
+use crate::foreign::{Foreign, what_to_do};
 use fw_check::{Located, line_ends, locate};
 use fw_console::{Fault, Progress};
 use fw_cut::{CutFault, Part};
@@ -114,6 +115,22 @@ impl<'a> Walk<'a> {
         self.progress.end(rt);
         let name = self.shown.as_str();
         let _ = eprintln!(rt; "focusd: {name}: F1 Read: {why}");
+    }
+
+    // Says that the file, or standard input, is of another format, and what to do about that with this command.
+    pub(crate) fn say_foreign(
+        &mut self,
+        rt: &HostRuntime,
+        format: Foreign,
+        is_input: bool,
+        command: &str,
+    ) -> Result<(), Fault> {
+        self.progress.end(rt);
+        let (name, is) = (self.shown.as_str(), format.is);
+        let file = if is_input { None } else { Some(name) };
+        let remedy = what_to_do(rt.alloc(), &format, file, command)?;
+        let _ = eprintln!(rt; "focusd: {name}: {is}. What to do: {remedy}");
+        Ok(())
     }
 
     // Says why the export can't be cut from here on. The answer is false. The error says that memory ran out.

@@ -31,7 +31,7 @@ fn walk_file<T: Taker>(
     walk: &mut Walk<'_>,
     taker: &mut T,
 ) -> Result<bool, Fault> {
-    match open_export(rt, file, walk)? {
+    match open_export(rt, file, walk, taker.command())? {
         Some(source) => walk_source(rt, source, walk, taker),
         None => Ok(false),
     }
