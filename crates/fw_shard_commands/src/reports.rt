@@ -129,15 +129,16 @@ impl Reports {
         document: DirectDocument,
         tag: Option<&str>,
     ) -> Result<bool, Fault> {
-        let wanted = match (tag, self.all.as_slice().first()) {
-            (Some(tag), _) => tag,
-            (None, Some(first)) => first.document.tag.as_str(),
-            (None, None) => document.tag.as_str(),
-        };
-        if document.tag.as_str() != wanted {
-            return other_tag(rt, name.as_str(), document.tag.as_str(), wanted);
+        if let Some(wanted) = tag {
+            if document.tag.as_str() != wanted {
+                return other_tag(rt, name.as_str(), document.tag.as_str(), wanted);
+            }
         }
         if let Some(first) = self.all.as_slice().first() {
+            let wanted = first.document.tag.as_str();
+            if document.tag.as_str() != wanted {
+                return other_tag(rt, name.as_str(), document.tag.as_str(), wanted);
+            }
             if document.currency != first.document.currency {
                 return other_currency(rt, name.as_str(), &document, &first.document);
             }
