@@ -151,6 +151,10 @@ impl Taker for Dealing<'_> {
         Ok(!self.is_other)
     }
 
+    fn command(&self) -> &'static str {
+        "split"
+    }
+
     fn take(&mut self, rt: &HostRuntime, walk: &mut Walk<'_>, part: &Part) -> Result<bool, Fault> {
         let read = read_columns_after(rt.alloc(), &part.text, self.currency, &mut self.known);
         match read {
@@ -161,8 +165,8 @@ impl Taker for Dealing<'_> {
                 self.rows = self.rows.saturating_add(rows);
                 Ok(is_dealt)
             }
-            // What follows the last record, as a line feed, is no row.
-            Err(RowFault::NoRows) if walk.record > 1 => Ok(true),
+            // What follows the last record, as a line feed, is no row; nor is a header that stands again.
+            Err(RowFault::NoRows) if walk.record > 1 || !part.is_last => Ok(true),
             Err(fault) => walk.refuse(rt, part, fault, letters(&self.currency)),
         }
     }
