@@ -7,7 +7,7 @@
 An export of so many rows over a month is made in pieces of 1,000,000 rows. Measured are, in turn:
 
 1. An import of all pieces into shards by worker processes, beside one process that imports as many pieces as one warehouse takes: rows a second by
-   the clock, the most memory of a program and of a worker.
+   the clock, the rows of the largest shard, and the most memory of a program and of a worker. The pieces are read once before each import.
 2. A report over the month, by number of shards, under 40 commitments and a policy; and what the engine costs a task that does nothing.
 3. The same grouped sums by peers, with no commitments: dask.dataframe on the same workers and SQLite, both in floats, and ClickHouse in decimals,
    each with its greatest difference of a sum in nanos.
@@ -121,6 +121,20 @@ def memory_of_worker():
     return psutil.Process().memory_info().rss
 
 
+def rows_of_shards(folder):
+    """How many rows each shard of a cluster has."""
+    with open(os.path.join(folder, "manifest.json"), encoding="utf-8") as file:
+        return [shard["rows"] for shard in json.load(file)["shards"].values()]
+
+
+def warm(paths):
+    """Reads files, so that an import finds them in the system's cache, as far as they fit there."""
+    for path in paths:
+        with open(path, "rb", buffering=0) as file:
+            while file.read(1 << 22):
+                pass
+
+
 def clusters(engine, pieces, program, options, room):
     """Imports and reports by shape: lines of two tables, and the reports."""
     from focusd_cluster.command_line import main
@@ -140,11 +154,15 @@ def clusters(engine, pieces, program, options, room):
                 return out.buffer.read(), clock
 
         run("add", "--create", "--by", shape, *pieces.terms)
+        warm(pieces.paths)
         say(f"import by {shape}")
         _, took = run("import", "--origin", "month", *pieces.paths)
         workers = max(engine.client.run(memory_of_worker).values()) / 1e6
-        shards = len(os.listdir(os.path.join(folder, "shards"))) - 1
-        imports.append(f"| {shards:,} shards, {options.local} workers | {pieces.rows:,} | {took.seconds:.1f} | {pieces.rows / took.seconds:,.0f} | {peak(notes)} | {workers:.0f} |")
+        sizes = rows_of_shards(folder)
+        shards, most = len(sizes) - 1, max(sizes)
+        imports.append(
+            f"| {shards:,} shards, {options.local} workers | {pieces.rows:,} | {took.seconds:.1f} | {pieces.rows / took.seconds:,.0f} | {most:,} | {peak(notes)} | {workers:.0f} |"
+        )
         times = []
         for _ in range(options.turns):
             say(f"report over {shards} shards")
@@ -164,9 +182,10 @@ def one_process(pieces, program, room):
         rows, count = rows + pieces.sizes[count], count + 1
     say(f"import of {rows:,} rows by one process")
     folder = one_warehouse(program, os.path.join(room, "one"), [], pieces.terms)
+    warm(pieces.paths[:count])
     with Clock() as took:
         subprocess.run([timed, "import", "--dir", folder, "--quiet", "--origin", "month", *pieces.paths[:count]], check=True, stdout=subprocess.DEVNULL)
-    line = f"| one warehouse, one process | {rows:,} | {took.seconds:.1f} | {rows / took.seconds:,.0f} | {peak(notes)} | |"
+    line = f"| one warehouse, one process | {rows:,} | {took.seconds:.1f} | {rows / took.seconds:,.0f} | {rows:,} | {peak(notes)} | |"
     with Clock() as took:
         answer = subprocess.run([timed, "report", "--dir", folder, "--tag", "team", *RANGE, "--format", "csv"], check=True, stdout=subprocess.PIPE).stdout
     report = f"| one warehouse | {rows:,} | {took.seconds:.2f} | | {peak(notes)} |"
@@ -311,7 +330,7 @@ def run(options):
     print(f"### A cluster of {pieces.rows:,} rows, {pieces.bytes / 1e6:,.0f} MB, under 40 commitments\n")
     print_head(options)
     print(f"{load_since(before)}\n")
-    print("| import | rows | s | rows/s by the clock | most MB of a program | MB of a worker |\n|---|---:|---:|---:|---:|---:|")
+    print("| import | rows | s | rows/s by the clock | rows of the largest shard | most MB of a program | MB of a worker |\n|---|---:|---:|---:|---:|---:|---:|")
     print("\n".join([*imports, line]))
     print("\n| shards | rows | the best report, s | the worst, s | most MB of a program |\n|---:|---:|---:|---:|---:|")
     print("\n".join([*reports, report]))

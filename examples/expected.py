@@ -11,17 +11,24 @@ knows contents that are all right, the first wrong field of a purchase that is
 added to a commitment, and lines that name no post to withdraw; at anything
 else it stops with status 1 and says what it met, so that it never makes up an
 answer.
+
+Scripts ask for a report by one tag. Tests ask it for more: reports by several
+keys under filters and maps (Selection), exports that are imported with columns
+kept as tags (with_columns_as_tags) or in the dialect of GCP (focus_of_gcp),
+and the rows that lines are exported as (Warehouse.exported).
 """
 import argparse
 import csv
 import datetime
 import decimal
 import io
+import itertools
 import json
 import re
 import sys
 import tomllib
 from collections import defaultdict
+from dataclasses import dataclass
 from fractions import Fraction
 
 REQUIRED = "BilledCost EffectiveCost BillingCurrency ChargeCategory ChargePeriodStart ChargePeriodEnd".split()
@@ -53,6 +60,17 @@ LINES_HEADER = (
     "Hour ChargeCategory CommitmentDiscountId CommitmentDiscountCategory CommitmentDiscountStatus BilledCost EffectiveCost "
     "ConsumedQuantity SkuId SubAccountId"
 ).split()
+MOST_KEYS = 4
+# The columns by which lines are grouped and filtered as by a tag, and where a line has them.
+LINE_COLUMNS = {
+    "SkuId": lambda line: line.sku,
+    "SubAccountId": lambda line: line.account or "",
+    "ChargeCategory": lambda line: line.category,
+    "CommitmentDiscountId": lambda line: line.owner[0],
+    "CommitmentDiscountStatus": lambda line: line.owner[2],
+}
+GCP_TIME = re.compile(r"(\d{4}-\d\d-\d\d) (\d\d:\d\d:\d\d) UTC", re.ASCII)
+MARK = b"\xef\xbb\xbf"
 
 
 class Unknown(Exception):
@@ -95,6 +113,20 @@ def record(fields):
 def sized(text):
     """A text behind the line that says how many bytes it has."""
     return f"bytes {len(text.encode())}\n{text}"
+
+
+def records_of(text):
+    """The header of a CSV, and its records one after the other."""
+    lines = csv.reader(io.StringIO(text.removeprefix(MARK).decode(), newline=""), strict=True)
+    records = (fields for fields in lines if fields)
+    return next(records), records
+
+
+def csv_of(header, records):
+    """The CSV of a header and records."""
+    out = io.StringIO(newline="")
+    csv.writer(out, lineterminator="\n").writerows([header, *records])
+    return out.getvalue().encode()
 
 
 class Times:
@@ -145,6 +177,60 @@ def tags_of(text, known={}):
     return known[text]
 
 
+def pairs_of(text):
+    """The members of a JSON object, in order and each as often as it stands there; none for the empty text."""
+    pairs = json.loads(text, object_pairs_hook=list) if text else []
+    if not isinstance(pairs, list):
+        raise Unknown(f"the tags {text!r}")
+    return pairs
+
+
+def object_of(pairs):
+    """A JSON object with these members, in order and each as often as it is among them."""
+    return "{" + ",".join(f"{json.dumps(key)}:{json.dumps(value)}" for key, value in pairs) + "}" if pairs else ""
+
+
+def with_columns_as_tags(text, keeps):
+    """An export whose rows have columns as tags too, each kept as COLUMN or as COLUMN=TAG. An empty field is no tag. A row
+    that has the tag already is refused, by its number and the tag."""
+    header, records = records_of(text)
+    keeps = [(column, tag or column) for column, _, tag in (keep.partition("=") for keep in keeps)]
+    for column in [column for column, _ in keeps] + ["Tags"]:
+        if header.count(column) > 1 or column != "Tags" and column not in header:
+            raise Unknown(f"the column {column!r} of the header {header}")
+    at = header.index("Tags") if "Tags" in header else len(header)
+    out = []
+    for number, fields in enumerate(records, 1):
+        fields = fields if at < len(header) else [*fields, ""]
+        pairs = pairs_of(fields[at])
+        for column, tag in keeps:
+            value = fields[header.index(column)]
+            if value and tag in dict(pairs):
+                raise Refused(f"the tag {tag!r} of record {number}")
+            pairs += [(tag, value)] if value else []
+        out.append([*fields[:at], object_of(pairs), *fields[at + 1 :]])
+    return csv_of([*header[:at], "Tags", *header[at + 1 :]], out)
+
+
+def focus_of_gcp(text):
+    """The FOCUS export that one in the dialect of GCP stands for: a time `2024-09-01 00:00:00 UTC` is `2024-09-01T00:00:00Z`,
+    and a list of tags, objects with `key` and `value`, is the object with these members."""
+    header, records = records_of(text)
+    out = []
+    for fields in records:
+        for at, column in enumerate(header):
+            if column in ("ChargePeriodStart", "ChargePeriodEnd"):
+                time = GCP_TIME.fullmatch(fields[at])
+                fields[at] = f"{time[1]}T{time[2]}Z" if time else fields[at]
+            elif column == "Tags" and fields[at]:
+                tags = json.loads(fields[at])
+                if not isinstance(tags, list) or any(set(tag) != {"key", "value"} for tag in tags):
+                    raise Unknown(f"the tags {fields[at]!r}")
+                fields[at] = object_of([(tag["key"], tag["value"]) for tag in tags])
+        out.append(fields)
+    return csv_of(header, out)
+
+
 class Row:
     """A charge row."""
 
@@ -165,7 +251,7 @@ class Row:
         ]
         if not all(right):
             raise Unknown(f"the row {fields}")
-        self.hour = start // 3_600
+        self.start, self.end, self.hour = start, end, start // 3_600
         self.is_clock_hour = start % 3_600 == 0 and end == start + 3_600
         self.billed, self.effective = nanos(fields["BilledCost"]), nanos(fields["EffectiveCost"])
         try:
@@ -273,10 +359,11 @@ def shares(total, weights):
 
 
 class Line:
-    """A line of an hour."""
+    """A line of an hour. Its row is the one that it is of, and None where it is of a commitment alone."""
 
-    def __init__(self, hour, category, owner, billed, effective, quantity, sku, account, tags, weight=0):
+    def __init__(self, hour, category, owner, billed, effective, quantity, sku, account, tags, weight=0, row=None):
         self.weight = weight  # of a used or unused line: its part of the commitment's capacity
+        self.row = row
         self.hour, self.category, self.owner = hour, category, owner
         self.billed, self.effective, self.quantity = billed, effective, quantity
         self.sku, self.account, self.tags = sku, account, tags
@@ -296,7 +383,7 @@ def lines_of_hour(commitments, rows, hour):
     for row in rows:
         if not row.is_eligible():
             owner = (row.id, row.kind, row.status)
-            yield Line(hour, row.category, owner, row.billed, row.effective, row.quantity, row.sku, row.account, row.tags)
+            yield Line(hour, row.category, owner, row.billed, row.effective, row.quantity, row.sku, row.account, row.tags, row=row)
     rows = [row for row in rows if row.is_eligible()]
     left = [row.quantity for row in rows]
     for c in sorted(commitments, key=lambda c: (c.kind == "Spend", c.start, c.id.encode())):
@@ -320,13 +407,94 @@ def lines_of_hour(commitments, rows, hour):
         weights = [weight for _, _, weight in taken] + [capacity] * (capacity > 0)
         parts = shares(c.amount(hour), weights)
         for (row, quantity, weight), part in zip(taken, parts):
-            yield Line(hour, "Usage", (c.id, c.kind, "Used"), 0, part, quantity, row.sku, row.account, row.tags, weight)
+            yield Line(hour, "Usage", (c.id, c.kind, "Used"), 0, part, quantity, row.sku, row.account, row.tags, weight, row)
         if capacity:
             yield Line(hour, "Usage", (c.id, c.kind, "Unused"), 0, parts[-1], None, "", c.account, c.tags, capacity)
     for row, u in zip(rows, left):
         if u:
             billed, effective = row.billed * u // row.quantity, row.effective * u // row.quantity
-            yield Line(hour, row.category, ("", "", ""), billed, effective, u, row.sku, row.account, row.tags)
+            yield Line(hour, row.category, ("", "", ""), billed, effective, u, row.sku, row.account, row.tags, row=row)
+
+
+@dataclass(frozen=True)
+class Key:
+    """What lines are grouped and filtered by: a tag, or a column of lines."""
+
+    name: str
+    is_column: bool = False
+
+    @staticmethod
+    def named(word):
+        """The key that a filter or a map names: one of the columns, or else a tag. With `tag:` in front it is the tag in any case."""
+        return Key(word, True) if word in LINE_COLUMNS else Key(word.removeprefix("tag:"))
+
+    def of(self, line):
+        """The text that a line has of it, empty where it has none."""
+        return LINE_COLUMNS[self.name](line) if self.is_column else line.tags.get(self.name, "")
+
+
+class Mapping:
+    """How the values of a key are rewritten, by a table of a map file: ASCII letters are made small where it folds; the empty
+    text becomes another one; other values are looked up."""
+
+    def __init__(self, table):
+        self.key = Key.named(table.pop("key"))
+        self.folds, self.empty, self.values = table.pop("fold", False), table.pop("empty", None), table.pop("values", {})
+        if table or "" in self.values:
+            raise Unknown(f"the fields {sorted(table)} of a map, or a value for the empty text")
+
+    def of(self, text):
+        if text == "" and self.empty is not None:
+            return self.empty
+        # Of bytes, lower() changes ASCII letters alone.
+        text = text.encode().lower().decode() if self.folds else text
+        return self.values.get(text, text)
+
+
+def maps_of(text):
+    """The maps of a map file."""
+    tables = tomllib.loads(text.decode())
+    maps = [Mapping(table) for table in tables.pop("map", [])]
+    if tables or len({it.key for it in maps}) < len(maps):
+        raise Unknown(f"the map file {text!r}")
+    return maps
+
+
+class Selection:
+    """What a report is asked for: the keys that lines are grouped by; filters, pairs of a key and a value, which all have to
+    hold; and maps, through which both see values. A key of `where` has to have one of its values, and one of `where_not` none
+    of them."""
+
+    def __init__(self, keys, where=(), where_not=(), maps=()):
+        if not 1 <= len(keys) <= MOST_KEYS:
+            raise Unknown(f"{len(keys)} keys")
+        self.keys, self.where, self.where_not = list(keys), defaultdict(set), defaultdict(set)
+        for filters, pairs in ((self.where, where), (self.where_not, where_not)):
+            for key, value in pairs:
+                filters[key].add(value)
+        self.maps = {it.key: it for it in maps}
+
+    def is_one_tag(self):
+        """Whether it is a report by one tag and nothing else, in which the policy counts."""
+        return len(self.keys) == 1 and not (self.keys[0].is_column or self.where or self.where_not or self.maps)
+
+    def value(self, key, line):
+        text = key.of(line)
+        return self.maps[key].of(text) if key in self.maps else text
+
+    def takes(self, line):
+        one_of = all(self.value(key, line) in values for key, values in self.where.items())
+        return one_of and not any(self.value(key, line) in values for key, values in self.where_not.items())
+
+    def sums(self, lines):
+        """BilledCost and EffectiveCost of each group of the lines that it takes. A group has the values of all keys."""
+        sums = defaultdict(lambda: (0, 0))
+        for line in lines:
+            if self.takes(line):
+                group = tuple(self.value(key, line) for key in self.keys)
+                billed, effective = sums[group]
+                sums[group] = billed + line.billed, effective + line.effective
+        return sums
 
 
 def charged(direct, policy):
@@ -414,11 +582,7 @@ class Warehouse:
         return f"state {self.entries} {self.row_count()} {len(self.commitments)} {int(self.policy is not None)}\n"
 
     def post(self, text):
-        if text.startswith(b"\xef\xbb\xbf"):
-            text = text[3:]
-        records = csv.reader(io.StringIO(text.decode(), newline=""), strict=True)
-        records = (fields for fields in records if fields)
-        header = next(records)
+        header, records = records_of(text)
         if any(header.count(c) != 1 for c in REQUIRED) or any(header.count(c) > 1 for c in OPTIONAL):
             raise Unknown(f"the header {header}")
         places = {c: header.index(c) for c in REQUIRED + OPTIONAL if c in header}
@@ -451,6 +615,15 @@ class Warehouse:
                 self.rows[row.hour].append(row)
 
         return refusal, 4 + sum(row.size() for row in rows), keep
+
+    def import_export(self, origin, text):
+        """Takes an export of any length as the next posts of an origin, each of as many rows as a post can have."""
+        header, records = records_of(text)
+        while part := list(itertools.islice(records, MOST_ROWS)):
+            number = self.origins[origin] + 1
+            answer = self.enter(origin, str(number), self.post, csv_of(header, part))
+            if answer != f"accepted {self.entries}\n":
+                raise Unknown(f"post {number} of {origin}: {answer}")
 
     def commit(self, text):
         return self.commit_of(Commitment(tomllib.loads(text.decode()), self.times), small(text))
@@ -554,6 +727,31 @@ class Warehouse:
         lines = self.lines_between(low, high)
         return "refused Q1 Range\n" if lines is None else self.report_of(key, lines)
 
+    def charges(self, key, direct):
+        """What each group of a tag is charged where these are the direct costs."""
+        return charged(direct, self.policy) if self.policy and self.policy["key"] == key else direct
+
+    def selected(self, selection, lines):
+        """What each group of a selection of these lines has: BilledCost, EffectiveCost and, in a report by one tag and nothing
+        else, ChargedCost."""
+        sums = selection.sums(lines)
+        if not selection.is_one_tag():
+            return dict(sums)
+        charges = self.charges(selection.keys[0].name, {group: effective for (group,), (_, effective) in sums.items()})
+        return {(group,): (*sums.get((group,), (0, 0)), cost) for group, cost in charges.items()}
+
+    def exported(self, line):
+        """The row that a line is exported as, by column: amounts in nanos, times in seconds since 1970, tags as a dict; None where
+        it is null. A line of a row has the row's period, unit and class, and one of a commitment alone the hour that it is of."""
+        row = line.row
+        return {
+            "BilledCost": line.billed, "EffectiveCost": line.effective, "BillingCurrency": self.currency, "ChargeCategory": line.category,
+            "ChargeClass": row.corrects or None if row else None, "ChargePeriodStart": row.start if row else line.hour * 3_600,
+            "ChargePeriodEnd": row.end if row else (line.hour + 1) * 3_600, "CommitmentDiscountId": line.owner[0] or None,
+            "CommitmentDiscountCategory": line.owner[1] or None, "CommitmentDiscountStatus": line.owner[2] or None, "ConsumedQuantity": line.quantity,
+            "ConsumedUnit": row.unit or None if row else None, "SkuId": line.sku or None, "SubAccountId": line.account or None, "Tags": dict(line.tags),
+        }  # fmt: skip
+
     def report_of(self, key, lines):
         """The report by a tag over these lines."""
         billed, direct = defaultdict(int), defaultdict(int)
@@ -563,16 +761,16 @@ class Warehouse:
             direct[group] += line.effective
         if sum(abs(cost) for cost in direct.values()) > MOST_TOTAL:
             return "refused Q2 TotalTooLarge\n"
-        charges = charged(direct, self.policy) if self.policy and self.policy["key"] == key else direct
+        charges = self.charges(key, direct)
         text = record(REPORT_HEADER)
         for group in sorted(charges, key=str.encode):
             text += record([group, *map(spelled, (billed[group], direct.get(group, 0), charges[group]))])
         return sized(text)
 
 
-def answers(script):
-    """The answers to the commands of a script, one after the other."""
-    warehouse = Warehouse()
+def answers(script, warehouse=None):
+    """The answers to the commands of a script, one after the other, over a warehouse or a new one."""
+    warehouse = warehouse or Warehouse()
     entries = {"post": warehouse.post, "commit": warehouse.commit, "policy": warehouse.set_policy, "add": warehouse.add_purchase}
     for line in script:
         words = line.decode().rstrip("\n").split(" ")

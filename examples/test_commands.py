@@ -39,6 +39,8 @@ COVERAGE_HEADER = [
     "CommitmentDiscountId", "CommitmentDiscountCategory", "Unit", "Capacity", "Used", "Unused", "UsedCost", "UnusedCost", "BilledCost",
 ]  # fmt: skip
 MONTH = ("--from", "2024-01", "--to", "2024-02")
+# What is said where the policy of commitments.script, which is for teams, is not of the tag that is asked for.
+OTHER_POLICY = "the policy is for the tag team, so ChargedCost is EffectiveCost\n"
 # What is said of a record and of a header that is too long.
 TOO_LONG = "V16 LongRecord: expected a record of at most 4 MiB. Look for a quote that is not closed, in this record or before it.\n"
 LONG_HEADER = "H3 LongHeader: expected a header of at most 2 MiB. Look for a quote in the header that is not closed, and whether the file is a CSV at all.\n"
@@ -62,6 +64,16 @@ def no_house(folder):
     """What a command says of a folder without a warehouse."""
     remedy = "Give the right folder, or make one by --create of focusd run, import or load."
     return f"focusd: S1 NoHouse\n{folder}: the folder holds no warehouse. What to do: {remedy}\n"
+
+
+def applied(key, entry, sender):
+    """What a report of a tag says of the policy for it, which is that entry of the warehouse, and of that sender and number."""
+    return f"costs are shared by the policy for the tag {key}: entry {entry}, {sender}\n"
+
+
+def no_key(key, there):
+    """What a report says of a tag that no row and no commitment of its range has, where these are there."""
+    return f"focusd: no row and no commitment of the range has the tag {key}; the tags there are: {there}\n"
 
 
 def focusd(*words, given=b""):
@@ -224,10 +236,12 @@ class Commands(unittest.TestCase):
     def tearDownClass(cls):
         cls.made.cleanup()
 
-    def asked(self, *words):
-        """What a command over the warehouse prints."""
+    def asked(self, *words, saying=""):
+        """What a command over the warehouse prints, and nothing but this on standard error; of a report for teams the policy too."""
         status, printed, said = focusd(words[0], "--dir", self.folder, *words[1:])
-        self.assertEqual((status, said), (0, ""), words)
+        if words[0] == "report" and words[words.index("--tag") + 1] == "team" and "--direct" not in words:
+            saying += applied("team", 10, "year 10")
+        self.assertEqual((status, said), (0, saying), words)
         return printed
 
     def report(self, key, low, high):
@@ -238,9 +252,9 @@ class Commands(unittest.TestCase):
         return text, [(row[0], *(expected.nanos(it) for it in row[1:])) for row in rows]
 
     def test_report_csv(self):
-        for key in ("team", "env", "no such tag"):
+        for key, said in (("team", ""), ("env", no_key("env", "team") + OTHER_POLICY), ("no such tag", no_key("no such tag", "team") + OTHER_POLICY)):
             text, _ = self.report(key, "2024-01-01T00:00Z", "2024-02-01T00:00Z")
-            self.assertEqual(self.asked("report", "--tag", key, *MONTH, "--format", "csv"), text)
+            self.assertEqual(self.asked("report", "--tag", key, *MONTH, "--format", "csv", saying=said), text)
 
     def test_report_table(self):
         _, rows = self.report("team", "2024-01-01T00:00Z", "2024-02-01T00:00Z")
@@ -634,6 +648,7 @@ class OnlyAsked(unittest.TestCase):
     """What commands that ask leave of a folder, and what commands that write leave of one without a warehouse."""
 
     EXPORT = str(HERE / "focus-export.csv")
+    NO_TAG = "focusd: no row and no commitment of the range has the tag team; the tags there are: none\n"
     # Each command that asks, with what is its own behind --dir.
     ASKING = (
         ("report", "--tag", "team", *MONTH), ("lines", *MONTH), ("coverage", *MONTH), ("status",), ("verify",), ("dump",),
@@ -677,7 +692,8 @@ class OnlyAsked(unittest.TestCase):
         before = self.found(self.folder)
         for words in self.ASKING:
             status, _, said = self.asked(words)
-            self.assertEqual((status, said), (0, ""), words)
+            # The range of the report has no row, and so none with the tag.
+            self.assertEqual((status, said.replace(self.NO_TAG, "")), (0, ""), words)
             self.assertEqual(self.found(self.folder), before, words)
         self.assertEqual(self.compacted(self.folder)[0], 0)
         self.assertEqual(self.found(self.folder), before)
@@ -786,6 +802,228 @@ class OnlyAsked(unittest.TestCase):
                 self.assertTrue(ran.stderr.decode().startswith(f"focusd: K1 Io\n{self.folder}: {why}. What to do: "), ran.stderr)
 
 
+class Ranges(unittest.TestCase):
+    """Questions whose range comes from the rows, or is a month. The ranges are worked out by hand, and the answers over them by expected.py."""
+
+    HEADER = "BilledCost,EffectiveCost,BillingCurrency,ChargeCategory,ChargePeriodStart,ChargePeriodEnd,Tags"
+    COMMITMENT = (
+        'id = "cd"\ncategory = "Usage"\nstart = "2024-02-10T00:00Z"\nhours = 24\ncapacity = "1"\nunit = "Hours"\nskus = ["s"]\n'
+        '[tags]\nowner = "us"\n[[purchase]]\nat = "2024-02-09T00:00Z"\nbilled = "24"\n'
+    )
+
+    def setUp(self):
+        made = tempfile.TemporaryDirectory()
+        self.addCleanup(made.cleanup)
+        self.folder = made.name
+
+    def row(self, start, tags="{}"):
+        quoted = tags.replace('"', '""')
+        return f'1.5,1.25,USD,Usage,{start},2030-01-01T00:00Z,"{quoted}"'
+
+    def post(self, number, *rows):
+        """A post of an origin's number, as a script has it."""
+        return "\n".join([f"post o {number} {len(rows) + 1}", self.HEADER, *rows, ""])
+
+    def make(self, script):
+        """Makes the warehouse of a script, each entry of which is accepted; returns what expected.py keeps of it."""
+        status, printed, said = focusd("run", "--dir", self.folder, "--create", "--strict", given=script.encode())
+        self.assertEqual((status, said), (0, ""), printed)
+        return warehouse_of(script.encode())
+
+    def script(self):
+        """Rows of four hours that count, the first and the last of the withdrawn ones before and behind them."""
+        return (
+            self.post(1, self.row("2024-02-29T05:30Z", '{"team":"a"}'), self.row("2024-01-31T22:59Z", '{"team":"b"}'))
+            + self.post(2, self.row("2023-06-01T00:00Z", '{"gone":"c"}'), self.row("2024-09-01T00:00Z"))
+            + self.post(3, self.row("2024-03-02T07:00Z", '{"team":""}'), self.row("2024-03-01T00:00Z"))
+            + "withdraw o 4 2\n"
+        )
+
+    def test_the_hours_that_have_rows(self):
+        kept = self.make(self.script())
+        first, end = "2024-01-31T22:00Z", "2024-03-02T08:00Z"
+        for words, low, high in (
+            ((), first, end),
+            (("--from", "2024-02"), "2024-02-01T00:00Z", end),
+            (("--to", "2024-02-15"), first, "2024-02-15T00:00Z"),
+            (("--last", "1", "month"), "2024-03-01T00:00Z", "2024-04-01T00:00Z"),
+            (("--last", "2", "months"), "2024-02-01T00:00Z", "2024-04-01T00:00Z"),
+            (("--last", "12", "months"), "2023-04-01T00:00Z", "2024-04-01T00:00Z"),
+            (("--last", "1", "day"), "2024-03-02T00:00Z", "2024-03-03T00:00Z"),
+            (("--last", "3", "days"), "2024-02-29T00:00Z", "2024-03-03T00:00Z"),
+            (("--last", "1", "hour"), "2024-03-02T07:00Z", end),
+            (("--last", "40", "hours"), "2024-02-29T16:00Z", end),
+        ):
+            self.check(kept, words, low, high, f"from {low} to {high}\n")
+        for month, low, high in (("2024-02", "2024-02-01T00:00Z", "2024-03-01T00:00Z"), ("2024-12", "2024-12-01T00:00Z", "2025-01-01T00:00Z")):
+            self.check(kept, ("--month", month), low, high, "")
+
+    def check(self, kept, words, low, high, said):
+        """A report, lines and a coverage answer over this range, and say this of it."""
+        report = ("report", "--dir", self.folder, "--tag", "team", *words)
+        table = no_key("team", "none") if words == ("--month", "2024-12") else ""
+        self.assertEqual(focusd(*report, "--format", "csv"), (0, kept.report("team", low, high).split("\n", 1)[1], said + table), words)
+        status, printed, told = focusd(*report, "--format", "json")
+        self.assertEqual((status, told), (0, said + table))
+        self.assertEqual((json.loads(printed)["from"], json.loads(printed)["to"]), (low, high))
+        status, printed, told = focusd(*report, "--direct")
+        self.assertEqual((status, told), (0, said))
+        self.assertEqual(focusd("lines", "--dir", self.folder, *words), (0, kept.lines(low, high).split("\n", 1)[1], said), words)
+        given = focusd("coverage", "--dir", self.folder, "--from", low, "--to", high)
+        self.assertEqual(focusd("coverage", "--dir", self.folder, *words), (0, given[1], said), words)
+
+    def test_what_is_wrong(self):
+        self.make(self.script())
+        month, last = "is not a month from 1970-01 to 9999-12, as 2024-09\n", "is not a number of hours, days or months from 1 to 26,304, as 3 months\n"
+        for words, named in (
+            (("--month", "2024-13"), f'focusd: --month: "2024-13" {month}'),
+            (("--month", "1969-12"), f'focusd: --month: "1969-12" {month}'),
+            (("--month", "2024-02-01"), f'focusd: --month: "2024-02-01" {month}'),
+            (("--last", "0", "months"), f'focusd: --last: "0" "months" {last}'),
+            (("--last", "26305", "hours"), f'focusd: --last: "26305" "hours" {last}'),
+            (("--last", "3", "weeks"), f'focusd: --last: "3" "weeks" {last}'),
+            (("--last", "-1", "days"), "'-1'"),
+            (("--last", "3"), "--last <N> <UNIT>"),
+            (("--from", "soon"), 'focusd: --from: "soon" is not a time'),
+            (("--to", "1969-12"), 'focusd: --to: "1969-12" is not a time'),
+            (("--month", "2024-02", "--from", "2024-01"), "cannot be used with"),
+            (("--month", "2024-02", "--last", "1", "day"), "cannot be used with"),
+            (("--last", "1", "day", "--to", "2024-01"), "cannot be used with"),
+        ):
+            for question in (("report", "--tag", "team"), ("lines",), ("coverage",)):
+                status, printed, said = focusd(*question, "--dir", self.folder, *words)
+                self.assertEqual((status, printed), (2, ""), words)
+                self.assertIn(named, said, words)
+
+    def test_rows_over_more_hours_than_a_range_has(self):
+        # 26,304 hours are the three years from 2020, of which one is a leap year, and one hour more is too many.
+        self.make(self.post(1, self.row("2020-01-01T00:00Z"), self.row("2022-12-31T23:59Z")))
+        self.assertEqual(focusd("lines", "--dir", self.folder)[0], 0)
+        focusd("run", "--dir", self.folder, given=self.post(2, self.row("2023-01-01T00:00Z")).encode())
+        wanted = (
+            "from 2020-01-01T00:00Z to 2023-01-01T01:00Z\n"
+            "focusd: Q1 Range: the range has no hour, or more than 26,304 (three years). "
+            "The end comes after the start and is not in the range: --from 2024-01 --to 2024-02 is January.\n"
+            "What to do: ask for some of the hours that have rows, as by --month 2024-09 or --last 3 months\n"
+        )
+        for question in (("report", "--tag", "team"), ("lines",), ("coverage",)):
+            self.assertEqual(focusd(*question, "--dir", self.folder), (2, "", wanted), question)
+        self.assertEqual(focusd("lines", "--dir", self.folder, "--last", "36", "months")[0], 0)
+
+    def test_no_row_that_counts(self):
+        wanted = (
+            f"focusd: {self.folder}: the warehouse has no row that counts, so the rows give no range\n"
+            "What to do: import an export, or give the range by --from and --to\n"
+        )
+        for script in ("", self.post(1, self.row("2024-01-01T00:00Z")) + "withdraw o 2 1\n"):
+            words = ("run", "--dir", self.folder) if script else ("run", "--dir", self.folder, "--create")
+            self.assertEqual(focusd(*words, given=script.encode())[0], 0)
+            for question in (("report", "--tag", "team"), ("lines",), ("coverage",)):
+                for range_words in ((), ("--from", "2024-01"), ("--to", "2024-02"), ("--last", "1", "day")):
+                    self.assertEqual(focusd(*question, "--dir", self.folder, *range_words), (1, "", wanted), question)
+                self.assertEqual(focusd(*question, "--dir", self.folder, "--month", "2024-01")[0], 0)
+
+    def test_tags_that_are_not_there(self):
+        many = json.dumps({f"k{number:02}": "v" for number in range(25, 0, -1)})
+        self.make(
+            self.post(1, self.row("2024-01-01T00:00Z", many), self.row("2024-03-01T00:00Z", '{"team":"","\\u001b":"x"}'))
+            + self.post(2, self.row("2024-01-01T00:00Z", '{"gone":"c"}'))
+            + "withdraw o 3 2\n"
+            + f"commit o 4 {self.COMMITMENT.count(chr(10))}\n{self.COMMITMENT}"
+        )
+        twenty = ", ".join(f"k{number:02}" for number in range(1, 21))
+        for key, words, said in (
+            ("k25", ("--month", "2024-01"), ""),
+            ("gone", ("--month", "2024-01"), no_key("gone", f"{twenty} and 5 more")),
+            ("team", ("--month", "2024-01"), no_key("team", f"{twenty} and 5 more")),
+            # A tag without a text is there, and so is one of a commitment that runs, or was paid for, in the range.
+            ("team", ("--month", "2024-03"), ""),
+            ("owner", ("--from", "2024-02-10T23:00Z", "--to", "2024-02-11"), ""),
+            ("owner", ("--from", "2024-02-09", "--to", "2024-02-09T01:00Z"), ""),
+            ("owner", ("--from", "2024-02-09T01:00Z", "--to", "2024-02-10"), no_key("owner", "none")),
+            ("owner", ("--month", "2024-03"), no_key("owner", "\\u{1b}, team")),
+            ("k01", ("--month", "2024-02"), no_key("k01", "owner")),
+        ):
+            for form in ("table", "csv", "json", "html"):
+                status, _, told = focusd("report", "--dir", self.folder, "--tag", key, *words, "--format", form)
+                self.assertEqual((status, told), (0, said), (key, words))
+
+    def test_a_policy_for_another_tag(self):
+        policy = 'key = "team"\n[[rule]]\nfrom = "shared"\nproportional = true\n'
+        self.make(self.post(1, self.row("2024-01-01T00:00Z", '{"team":"a","env":"b"}')) + f"policy o 2 4\n{policy}")
+        report = ("report", "--dir", self.folder, "--month", "2024-01")
+        for key, said in (("team", applied("team", 2, "o 2")), ("env", OTHER_POLICY)):
+            status, _, told = focusd(*report, "--tag", key)
+            self.assertEqual((status, told), (0, said))
+        self.assertEqual(focusd(*report, "--tag", "env", "--direct")[2], "")
+
+
+class Strict(unittest.TestCase):
+    """Strict runs: what is printed stays as it is, and the status says whether each entry that was sent is there. Counted by hand."""
+
+    HEADER = Ranges.HEADER + "\n"
+    ROW = '1,1,USD,Tax,2024-01-01T00:00Z,2024-01-01T01:00Z,"{""team"":""a""}"\n'
+    # A group whose text has lines that look like refusals.
+    LIES = '1,1,USD,Tax,2024-01-01T00:00Z,2024-01-01T01:00Z,"{""team"":""a\\ngap 2\\nrefused V1 Fields 2\\nbad end\\nbytes 900\\n""}"\n'
+
+    def post(self, number, row):
+        return f"post o {number} 2\n{self.HEADER}{row}"
+
+    def check(self, script, count):
+        """A strict run prints what another one prints, and says how many entries were refused."""
+        said = f"focusd: {count} {'entry was' if count == 1 else 'entries were'} refused\n" if count else ""
+        plain = focusd("run", given=script.encode())
+        self.assertEqual((plain[0], plain[2]), (0, ""))
+        self.assertEqual(focusd("run", "--strict", given=script.encode()), (3 if count else 0, plain[1], said), script)
+        with tempfile.TemporaryDirectory() as folder:
+            words = ("run", "--strict", "--dir", folder, "--create", "--workers", "2")
+            self.assertEqual(focusd(*words, given=script.encode()), (3 if count else 0, plain[1], said), script)
+        return plain[1]
+
+    def test_what_refuses_an_entry(self):
+        right = self.post(1, self.ROW)
+        january = "2024-01-01T00:00Z 2024-02-01T00:00Z"
+        for script, count in (
+            ("", 0),
+            (right, 0),
+            (right + right, 0),
+            (right + self.post(3, self.ROW), 1),
+            (right + self.post(2, "1,1\n"), 1),
+            (self.post(0, self.ROW) + right, 1),
+            ("pots o 1 2\n", 1),
+            (right + "post o 2 2\nBilledCost\n", 1),
+            (right + f"withdraw o 2 1\nwithdraw o 3 1\nwithdraw o 4 1\n{right}", 2),
+            # A question that is refused is no entry, and what stands in a report is no answer.
+            (right + "report team 2024-02-01T00:00Z 2024-01-01T00:00Z\nstate\ncheckpoint\n", 0),
+            (self.post(1, self.LIES) + f"report team {january}\nlines {january}\nstate\n", 0),
+            (self.post(1, self.LIES) + f"report team {january}\nlines {january}\n{self.post(3, self.ROW)}report team {january}\n", 1),
+        ):
+            self.check(script, count)
+        printed = self.check(self.post(1, self.LIES) + f"report team {january}\n", 0)
+        self.assertIn("\ngap 2\nrefused V1 Fields 2\nbad end\nbytes 900\n", printed)
+
+    def test_a_fault_goes_first(self):
+        self.assertEqual(full("run", "--strict", given=b"nonsense\n"), (1, "focusd: F2 Write\n"))
+        self.assertEqual(focusd("run", "--strict", "--currency", "eu", given=b"nonsense\n"), (2, "", "focusd: currency\n"))
+        self.assertEqual(focusd("run", "--strict", "--dir", "/no such folder", given=b"nonsense\n")[0], 1)
+
+    def test_loads(self):
+        with tempfile.TemporaryDirectory() as room:
+            right, short = pathlib.Path(room, "right.csv"), pathlib.Path(room, "short.csv")
+            right.write_text(self.HEADER + self.ROW)
+            short.write_text(self.HEADER + "1,1\n")
+            words = ("load", "--strict", "--dir", f"{room}/costs")
+            pathlib.Path(room, "costs").mkdir()
+            lines = "1 accepted\n2 refused V1 Fields 1\n3 refused V1 Fields 1\nstale 0\nstate 1 1 0 0\n"
+            self.assertEqual(focusd(*words, "--create", right, short, short), (3, lines, "focusd: 2 entries were refused\n"))
+            lines = "1 already 1\n2 accepted\nstale 0\nstate 2 2 0 0\n"
+            self.assertEqual(focusd(*words, right, right), (0, lines, ""))
+            lines = "1 already 1\n2 already 1\n3 refused V1 Fields 1\nstale 0\nstate 2 2 0 0\n"
+            self.assertEqual(focusd(*words, right, right, short), (3, lines, "focusd: 1 entry was refused\n"))
+            self.assertEqual(focusd("load", right, short)[0], 0)
+            self.assertEqual(focusd("load", "--strict", *[right] * 65)[0], 1)
+
+
 class WithdrawnPosts(Commands):
     """The same over the rows of that script in several posts, of which some were withdrawn. Its own post was withdrawn too."""
 
@@ -815,6 +1053,7 @@ class Outside(unittest.TestCase):
 
     TEXT = "a\x1b[2Jb\nTotal  999.00\u202e\x85"
     SHOWN = r"a\u{1b}[2Jb\u{a}Total  999.00\u{202e}\u{85}"
+    APPLIED = applied(SHOWN, 3, "a 3")
 
     def setUp(self):
         room = tempfile.TemporaryDirectory()
@@ -847,7 +1086,7 @@ class Outside(unittest.TestCase):
             (("status", "--dir", self.folder), None),
         ):
             status, printed, said = focusd(*words)
-            self.assertEqual((status, said), (0, ""), words)
+            self.assertEqual((status, said), (0, self.APPLIED if words[0] == "report" else ""), words)
             self.assertIn(self.SHOWN, printed, words)
             self.assertNotRegex(printed, "[\x00-\x09\x0b-\x1f\x7f-\x9f\u061c\u200e\u200f\u2028-\u202e\u2066-\u2069]", words)
             if count:
@@ -858,7 +1097,7 @@ class Outside(unittest.TestCase):
     def test_pages(self):
         for words in ((), ("--by", "day")):
             status, printed, said = focusd("report", "--dir", self.folder, "--tag", self.TEXT, *MONTH, "--format", "html", *words)
-            self.assertEqual((status, said), (0, ""), words)
+            self.assertEqual((status, said), (0, self.APPLIED), words)
             self.assertNotRegex(printed, self.ACTING, words)
             page = Page(printed)
             self.assertEqual(page.titles[0], f"Costs by {self.SHOWN}")
@@ -1241,7 +1480,7 @@ class Files(unittest.TestCase):
 
     def test_a_folder_in_place_of_a_file(self):
         folder = str(self.room)
-        said = f"focusd: {folder}: F1 Read: it is a folder, and not a file\n"
+        said = f"focusd: {folder}: F1 Read: it is a folder that has no file whose name ends in .csv\n"
         for words, wanted in (
             (("check", folder), said),
             (("import", "--dir", self.folder, "--origin", "a", folder), said),
@@ -1773,6 +2012,12 @@ billed = "1.5"
             self.file("f.toml", f'{name} = "1"\n')
             self.refused("f.toml: id is missing: ", file)
 
+    def test_a_file_of_32_mib_and_one_of_a_byte_more(self):
+        """A comment makes a file as long as one may be, and longer."""
+        longest = self.COMMITMENT + "#" * (2**25 - len(self.COMMITMENT.encode()))
+        self.refused("f.toml: it has more than 32 MiB (F3 TooLong)\n", self.file("f.toml", longest + "#"))
+        self.assertEqual(self.add(self.file("f.toml", longest))[0], 0)
+
     def test_a_policy_that_takes_the_place_of_another(self):
         first, other = self.file("team.toml", self.POLICY), self.file("cost.toml", self.POLICY.replace("team", "cost-center"))
         self.assertEqual(self.add(first)[0], 0)
@@ -2045,6 +2290,7 @@ class Dumps(unittest.TestCase):
         "CommitmentDiscountCategory", "CommitmentDiscountStatus", "ConsumedQuantity", "ConsumedUnit", "SkuId", "SubAccountId", "Tags",
     )  # fmt: skip
     PLAIN = ("1", "2.5", "USD", "Usage", "2024-01-01T00:00:00Z", "2024-01-01T01:00:00Z", "", "", "", "", "1", "Hours", "vm", "", "")
+    LEFT_OUT = "^(focusd: no row and no commitment of the range has the tag .*; the tags there are: .*|the policy is for the tag .*, so ChargedCost is EffectiveCost|costs are shared by the policy for the tag .*)$"
     # Texts that CSV, JSON and TOML each have their own trouble with.
     ODD = (
         'say "hi", twice ""', "two\nlines", "carriage\rreturn and\r\nboth", ",", '"', "\n", " blanks around ", "back\\slash \\n \\u0041", "'", "#[=]{,}", "=1+1", "0012",
@@ -2057,9 +2303,11 @@ class Dumps(unittest.TestCase):
         return made.name
 
     def done(self, *words, given=b""):
-        """What a run prints that has to go well."""
+        """What a run prints that has to go well. On standard error stands at most what a report leaves out, and its policy: each folder is asked for tags that it may not have."""
         status, printed, said = focusd(*words, given=given)
-        self.assertEqual((status, said), (0, ""), words)
+        self.assertEqual(status, 0, words)
+        for line in said.splitlines():
+            self.assertRegex(line, self.LEFT_OUT, words)
         return printed
 
     def made(self, script, *currency):
@@ -2257,9 +2505,10 @@ class Month(unittest.TestCase):
     def test_each_command_prints_what_stands_under_it(self):
         month = (HERE.parent / "README.md").read_text(encoding="utf-8").split("\n## A month\n")[1].split("\n## ")[0]
         blocks = "\n".join(line[4:] for line in month.split("\n") if line.startswith("    "))
+        blocks = re.sub(r" \\\n +", " ", blocks)
         steps = [step.split("\n", 1) for step in blocks.removeprefix("$ ").split("\n$ ")]
         words = " ".join(step[0] for step in steps)
-        for command in ("check", "import", "add", "report", "coverage", "replace", "dump"):
+        for command in ("check", "import", "add", "report", "export", "replace", "dump"):
             self.assertIn(f"focusd {command} ", words)
         with tempfile.TemporaryDirectory() as folder:
             pathlib.Path(folder, "examples").symlink_to(HERE)
@@ -2267,10 +2516,15 @@ class Month(unittest.TestCase):
             shell = {**os.environ, "PATH": f"{folder}:{os.environ['PATH']}"}
             for command, *shown in steps:
                 with self.subTest(command):
+                    if command.startswith("sqlite3 ") and not shutil.which("sqlite3"):
+                        self.skipTest("there is no sqlite3")
                     ran = subprocess.run(["sh", "-c", command], cwd=folder, env=shell, capture_output=True)
-                    self.assertEqual((ran.returncode, ran.stderr.decode()), (0, ""))
+                    self.assertEqual(ran.returncode, 0, ran.stderr)
+                    # What is said beside an answer comes first.
                     if shown:
-                        self.assertEqual(ran.stdout.decode(), f"{shown[0]}\n")
+                        self.assertEqual((ran.stderr + ran.stdout).decode(), f"{shown[0]}\n")
+                    else:
+                        self.assertEqual(ran.stderr, b"")
 
 
 class Bodies(unittest.TestCase):
@@ -2348,7 +2602,7 @@ class Bodies(unittest.TestCase):
         script = f"{self.script}lines {low} {high}\n".encode()
         self.assertEqual(focusd("run", "--dir", folder, given=script), (0, "already 3\n" * 3 + self.answers + self.lines, ""))
         words = ("--dir", folder, "--from", low, "--to", high)
-        self.assertEqual(focusd("report", *words, "--tag", "team", "--format", "csv"), (0, self.report, ""))
+        self.assertEqual(focusd("report", *words, "--tag", "team", "--format", "csv"), (0, self.report, applied("team", 3, "billing 3")))
         self.assertEqual(focusd("lines", *words), (0, self.lines.split("\n", 1)[1], ""))
 
     def test_each_layout_has_the_same_reports_and_lines(self):

@@ -22,6 +22,8 @@ HEADER = "BilledCost,EffectiveCost,BillingCurrency,ChargeCategory,ChargePeriodSt
 MONTHS = ("--from", "2024-09", "--to", "2024-11")
 # The most rows of a post.
 MOST_ROWS = 4096
+# What a report says where no row has its tag.
+NO_TAG = r"focusd: no row and no commitment of the range has the tag team; the tags there are: none\n"
 COMMITMENT = """id = "cd-1"
 category = "Usage"
 start = "2024-09-01T00:00Z"
@@ -116,7 +118,13 @@ class Corrections(unittest.TestCase):
             ("lines", *MONTHS),
             ("coverage", *MONTHS, "--format", "csv"),
         ]
-        return [self.do(command, *rest, folder=folder) for command, *rest in words]
+        return [self.asked(command, *rest, folder=folder) for command, *rest in words]
+
+    def asked(self, command, *words, folder=None):
+        """The answer to a question. Where no row of the range has the tag, a line says so."""
+        status, printed, said = self.focusd(command, folder or self.folder, *words)
+        self.assertEqual((status, re.sub(NO_TAG, "", said)), (0, ""), printed)
+        return printed, said
 
     def has_just(self, *sent, commitment=False):
         """The warehouse answers as one that was sent these exports alone, in this order."""

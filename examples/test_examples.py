@@ -1,6 +1,7 @@
 #!/usr/bin/env python3
 """Tests of the examples: that each kept file is what its program makes, and that the answers are right."""
 import csv
+import datetime
 import decimal
 import io
 import os
@@ -253,6 +254,214 @@ class Example(unittest.TestCase):
                 ran = answers_to(line.encode())
                 self.assertEqual((ran.returncode, ran.stdout), (1, b""))
                 self.assertTrue(re.match("expected.py: this program has no answer to ", ran.stderr.decode()))
+
+
+class Selections(unittest.TestCase):
+    """The oracle on reports by several keys, filters and maps, on kept columns, on the dialect of GCP, and on exported lines: all
+    done by hand."""
+
+    HEADER = (
+        "BilledCost,EffectiveCost,BillingCurrency,ChargeCategory,ChargePeriodStart,ChargePeriodEnd,CommitmentDiscountId,CommitmentDiscountCategory,"
+        "CommitmentDiscountStatus,ConsumedQuantity,ConsumedUnit,SkuId,SubAccountId,Tags\n"
+    )
+    # An hour and a half of which the commitment covers one; a tax of a month; what a provider's plan covered; and a credit whose team is null.
+    ROWS = (
+        '9,6,USD,Usage,2024-01-01T00:00Z,2024-01-01T01:00Z,,,,1.5,Hours,vm,a1,"{""team"":""Web""}"\n'
+        "2,2,USD,Tax,2024-01-01T00:00Z,2024-02-01T00:00Z,,,,,,,a2,\n"
+        '0,4,USD,Usage,2024-01-01T00:00Z,2024-01-01T01:00Z,plan,Spend,Used,1,Hours,x,a1,"{""team"":""web""}"\n'
+        '-1,-1,USD,Credit,2024-01-01T00:30Z,2024-01-02T00:00Z,,,,,,,,"{""team"":null}"\n'
+    )
+    COMMITMENT = (
+        b'id = "c"\ncategory = "Usage"\nstart = "2024-01-01T00:00Z"\nhours = 1\ncapacity = "1"\nunit = "Hours"\nskus = ["vm"]\n'
+        b'[tags]\nteam = "platform"\n[[purchase]]\nat = "2024-01-01T00:20Z"\nbilled = "1e-8"\n'
+    )
+    # Of the row of 1.5 hours the commitment's ten nanos are what the covered hour costs, and a third of its costs is left.
+    ONE = 10**9
+    TEAM, CATEGORY, ID, ACCOUNT = expected.Key("team"), *(expected.Key(it, True) for it in ("ChargeCategory", "CommitmentDiscountId", "SubAccountId"))
+
+    def setUp(self):
+        self.kept = expected.Warehouse()
+        self.kept.enter("a", "1", self.kept.commit, self.COMMITMENT)
+        self.kept.import_export("b", (self.HEADER + self.ROWS).encode())
+
+    def lines(self):
+        return list(self.kept.lines_between("2024-01-01T00:00Z", "2024-01-01T01:00Z"))
+
+    def selected(self, *keys, **more):
+        return self.kept.selected(expected.Selection(keys, **more), self.lines())
+
+    def test_keys(self):
+        one = self.ONE
+        by_team = {
+            ("", ""): (-one, -one), ("", "a2"): (2 * one, 2 * one), ("Web", "a1"): (3 * one, 2 * one + 10),
+            ("platform", ""): (10, 0), ("web", "a1"): (0, 4 * one),
+        }  # fmt: skip
+        self.assertEqual(self.selected(self.TEAM, self.ACCOUNT), by_team)
+        self.assertEqual(self.selected(self.ACCOUNT, self.TEAM), {group[::-1]: costs for group, costs in by_team.items()})
+        by_id = {
+            ("Credit", ""): (-one, -one), ("Purchase", "c"): (10, 0), ("Tax", ""): (2 * one, 2 * one),
+            ("Usage", ""): (3 * one, 2 * one), ("Usage", "c"): (0, 10), ("Usage", "plan"): (0, 4 * one),
+        }  # fmt: skip
+        self.assertEqual(self.selected(self.CATEGORY, self.ID), by_id)
+        status, sku = expected.Key("CommitmentDiscountStatus", True), expected.Key("SkuId", True)
+        self.assertEqual(self.selected(status), {("",): (4 * one + 10, 3 * one), ("Used",): (0, 4 * one + 10)})
+        by_sku = {
+            ("", "", "c", ""): (10, 0), ("", "", "", ""): (-one, -one), ("", "a2", "", ""): (2 * one, 2 * one),
+            ("vm", "a1", "c", "Used"): (0, 10), ("vm", "a1", "", ""): (3 * one, 2 * one), ("x", "a1", "plan", "Used"): (0, 4 * one),
+        }  # fmt: skip
+        self.assertEqual(self.selected(sku, self.ACCOUNT, self.ID, status), by_sku)
+        # A tag may be called as a column is.
+        self.assertEqual(self.selected(expected.Key("SkuId"), self.CATEGORY)["", "Tax"], (2 * one, 2 * one))
+        for keys in ([], [self.TEAM] * 5):
+            self.assertRaises(expected.Unknown, expected.Selection, keys)
+
+    def test_filters(self):
+        one = self.ONE
+        usage, tax, web, none = (self.CATEGORY, "Usage"), (self.CATEGORY, "Tax"), (self.TEAM, "web"), (self.TEAM, "")
+        for where, where_not, wanted in (
+            ([usage], [], {("Web",): (3 * one, 2 * one + 10), ("web",): (0, 4 * one)}),
+            ([usage, tax], [], {("",): (2 * one, 2 * one), ("Web",): (3 * one, 2 * one + 10), ("web",): (0, 4 * one)}),
+            ([usage, web], [], {("web",): (0, 4 * one)}),
+            ([tax, web], [], {}),
+            ([], [usage, tax], {("",): (-one, -one), ("platform",): (10, 0)}),
+            ([usage], [web], {("Web",): (3 * one, 2 * one + 10)}),
+            ([usage], [usage], {}),
+            ([none], [], {("",): (one, one)}),
+            ([], [none, web], {("Web",): (3 * one, 2 * one + 10), ("platform",): (10, 0)}),
+            ([(self.ID, "c")], [], {("Web",): (0, 10), ("platform",): (10, 0)}),
+        ):
+            with self.subTest(where=where, where_not=where_not):
+                self.assertEqual(self.selected(self.TEAM, where=where, where_not=where_not), wanted)
+        for word, name in (("tag:SkuId", "SkuId"), ("team", "team"), ("tag:team", "team"), ("skuId", "skuId")):
+            self.assertEqual(expected.Key.named(word), expected.Key(name))
+        self.assertEqual(expected.Key.named("SkuId"), expected.Key("SkuId", True))
+
+    def test_maps(self):
+        one = self.ONE
+        text = '[[map]]\nkey = "tag:team"\nfold = true\nempty = "none"\nvalues = { web = "shop", Web = "never" }\n'
+        text += '[[map]]\nkey = "ChargeCategory"\nvalues = { Tax = "Usage" }\n'
+        maps = expected.maps_of(text.encode())
+        wanted = {("none",): (one, one), ("platform",): (10, 0), ("shop",): (3 * one, 6 * one + 10)}
+        self.assertEqual(self.selected(self.TEAM, maps=maps), wanted)
+        # Filters see what the maps made of values.
+        taxes_are_usage = {("none",): (2 * one, 2 * one), ("shop",): (3 * one, 6 * one + 10)}
+        self.assertEqual(self.selected(self.TEAM, maps=maps, where=[(self.CATEGORY, "Usage")]), taxes_are_usage)
+        self.assertEqual(self.selected(self.TEAM, maps=maps, where=[(self.TEAM, "web")]), {})
+        self.assertEqual(self.selected(self.TEAM, maps=maps, where_not=[(self.TEAM, "none"), (self.TEAM, "shop")]), {("platform",): (10, 0)})
+        ways = {
+            'fold = true': [("ÀÉ Web", "ÀÉ web"), ("", "")],
+            'empty = "none"': [("", "none"), ("Web", "Web"), ("none", "none")],
+            'values = { Web = "a", a = "b" }': [("Web", "a"), ("web", "web"), ("a", "b")],
+        }
+        for way, pairs in ways.items():
+            for old, new in pairs:
+                self.assertEqual(expected.maps_of(f'[[map]]\nkey = "k"\n{way}\n'.encode())[0].of(old), new, way)
+        for text in ('other = 1\n', '[[map]]\nkey = "k"\nother = 1\n', '[[map]]\nkey = "k"\n[[map]]\nkey = "tag:k"\n'):
+            self.assertRaises(expected.Unknown, expected.maps_of, text.encode())
+
+    def test_the_policy_counts_where_one_tag_is_all_that_is_asked_for(self):
+        one = self.ONE
+        self.kept.enter("a", "2", self.kept.set_policy, b'key = "team"\n[[rule]]\nfrom = ""\nto = { web = 3, lab = 1 }\n')
+        wanted = {
+            ("",): (one, one, 0), ("Web",): (3 * one, 2 * one + 10, 2 * one + 10), ("lab",): (0, 0, one // 4),
+            ("platform",): (10, 0, 0), ("web",): (0, 4 * one, 4 * one + one * 3 // 4),
+        }  # fmt: skip
+        self.assertEqual(self.selected(self.TEAM), wanted)
+        text = self.kept.report("team", "2024-01-01T00:00Z", "2024-01-01T01:00Z")
+        rows = list(csv.reader(text.splitlines()))[2:]
+        self.assertEqual({(group,): tuple(map(expected.nanos, costs)) for group, *costs in rows}, wanted)
+        self.assertEqual(self.selected(expected.Key("other")), {("",): (4 * one + 10, 7 * one + 10, 7 * one + 10)})
+        direct = {group: costs[:2] for group, costs in wanted.items() if group != ("lab",)}
+        self.assertEqual(self.selected(self.TEAM, where_not=[(self.CATEGORY, "None")]), direct)
+        self.assertEqual(self.selected(self.TEAM, maps=expected.maps_of(b'[[map]]\nkey = "none"\nfold = true\n')), direct)
+        self.assertEqual(self.selected(self.ACCOUNT)["a2",], (2 * one, 2 * one))
+
+    def test_selections_add_up(self):
+        """Over two days of commitments: groups of two keys to those of one, a filter and its opposite to the whole, and groups
+        that a map joins to one."""
+        kept = expected.Warehouse()
+        list(expected.answers(iter(io.BytesIO(read(HERE, "commitments.script")).readline, b""), kept))
+        lines = list(kept.lines_between("2023-12-30T00:00Z", "2024-01-05T00:00Z"))
+
+        def sums(*keys, **more):
+            return dict(expected.Selection(keys, **more).sums(lines))
+
+        def added(groups):
+            found = {}
+            for group, costs in groups:
+                found[group] = tuple(map(sum, zip(found.get(group, (0, 0)), costs)))
+            return found
+
+        both, team = sums(self.TEAM, self.ID), sums(self.TEAM)
+        self.assertGreater(len(both), 20)
+        self.assertEqual(added(((group[0],), costs) for group, costs in both.items()), team)
+        self.assertEqual(added(((group[1],), costs) for group, costs in both.items()), sums(self.ID))
+        some = [(self.ID, "ri-m5"), (self.ID, "")]
+        parts = [sums(self.TEAM, where=some), sums(self.TEAM, where_not=some)]
+        self.assertTrue(all(parts))
+        self.assertEqual(added(item for part in parts for item in part.items()), team)
+        mapped = sums(self.TEAM, maps=expected.maps_of(b'[[map]]\nkey = "team"\nempty = "data"\nvalues = { web = "data" }\n'))
+        self.assertEqual(mapped, added((("data",) if group[0] in ("", "web") else group, costs) for group, costs in team.items()))
+
+    def test_columns_that_are_kept(self):
+        text = '\ufeffService,Tags,Unit Name,Cost\n"a, ""b""","{""t"":""old"",""t"":""x"",""n"":null}",h,1\n,,h,2\né,,,3\n'
+        found = expected.with_columns_as_tags(text.encode(), ["Service", "Unit Name=unit=2"])
+        header, records = expected.records_of(found)
+        self.assertEqual(header, ["Service", "Tags", "Unit Name", "Cost"])
+        records = list(records)
+        tags = [expected.tags_of(record[1]) for record in records]
+        self.assertEqual(tags, [{"t": "x", "n": "", "Service": 'a, "b"', "unit=2": "h"}, {"unit=2": "h"}, {"Service": "é"}])
+        self.assertEqual([[record[0], *record[2:]] for record in records], [['a, "b"', "h", "1"], ["", "h", "2"], ["é", "", "3"]])
+        # Without a column of tags there is one behind the others.
+        found = expected.with_columns_as_tags(b"A,B\n1,2\n,3\n", ["A=B", "B=A"])
+        self.assertEqual(found.decode(), 'A,B,Tags\n1,2,"{""B"":""1"",""A"":""2""}"\n,3,"{""A"":""3""}"\n')
+        for keeps, tag in ((["Cost=t"], "t"), (["Cost=n"], "n"), (["Cost", "Unit Name=Cost"], "Cost")):
+            with self.assertRaises(expected.Refused) as refused:
+                expected.with_columns_as_tags(text.encode(), keeps)
+            self.assertEqual(str(refused.exception), f"the tag {tag!r} of record 1")
+        # A tag that is there is no fault where the field is empty.
+        expected.with_columns_as_tags(b'A,Tags\n,"{""A"":""1""}"\n', ["A"])
+        for text in (b"B\n1\n", b"A,A\n1,2\n", b"A,Tags,Tags\n1,,\n"):
+            self.assertRaises(expected.Unknown, expected.with_columns_as_tags, text, ["A"])
+
+    def test_the_dialect_of_gcp(self):
+        tags = '"[{""key"": ""team"", ""value"": ""a, \'b\'""}, {""value"": ""é"", ""key"": ""x/y""}]"'
+        text = "ChargePeriodStart,Other,Tags,ChargePeriodEnd\n"
+        text += f"2024-09-01 00:00:00 UTC,2024-09-01 00:00:00 UTC,{tags},2024-09-01 23:59:59 UTC\n2024-09-01T00:00Z,,[],\n,,,\n"
+        header, records = expected.records_of(expected.focus_of_gcp(text.encode()))
+        self.assertEqual(header, ["ChargePeriodStart", "Other", "Tags", "ChargePeriodEnd"])
+        first, *others = records
+        self.assertEqual([first[0], first[1], first[3]], ["2024-09-01T00:00:00Z", "2024-09-01 00:00:00 UTC", "2024-09-01T23:59:59Z"])
+        self.assertEqual(expected.tags_of(first[2]), {"team": "a, 'b'", "x/y": "é"})
+        self.assertEqual(others, [["2024-09-01T00:00Z", "", "", ""], ["", "", "", ""]])
+        for tags in ('{"a":"b"}', '[{"key":"a"}]', '[{"key":"a","value":"b","more":1}]'):
+            self.assertRaises(expected.Unknown, expected.focus_of_gcp, expected.csv_of(["Tags"], [[tags]]))
+
+    def test_an_export_of_several_posts(self):
+        rows = "".join(f"{number},1,USD,Usage,2024-01-01T00:00Z,2024-01-01T01:00Z\n" for number in range(1, 4098))
+        kept = expected.Warehouse()
+        kept.import_export("long", ("BilledCost,EffectiveCost,BillingCurrency,ChargeCategory,ChargePeriodStart,ChargePeriodEnd\n" + rows).encode())
+        self.assertEqual((kept.state(), len(kept.posts["long", 1]), len(kept.posts["long", 2])), ("state 2 4097 0 0\n", 4096, 1))
+        lines = kept.lines_between("2024-01-01T00:00Z", "2024-01-02T00:00Z")
+        self.assertEqual([line.billed for line in lines], [number * self.ONE for number in range(1, 4098)])
+
+    def test_exported_lines(self):
+        first = 473_352 * 3600
+        self.assertEqual(datetime.datetime.fromtimestamp(first, datetime.timezone.utc).isoformat(), "2024-01-01T00:00:00+00:00")
+        columns = "BilledCost EffectiveCost ChargeCategory ChargePeriodStart ChargePeriodEnd CommitmentDiscountId".split()
+        columns += "CommitmentDiscountCategory CommitmentDiscountStatus ConsumedQuantity ConsumedUnit SkuId SubAccountId Tags".split()
+        found = [self.kept.exported(line) for line in self.lines()]
+        one, hour = self.ONE, 3600
+        wanted = [
+            [10, 0, "Purchase", first, first + hour, "c", "Usage", None, None, None, None, None, {"team": "platform"}],
+            [2 * one, 2 * one, "Tax", first, first + 31 * 24 * hour, None, None, None, None, None, None, "a2", {}],
+            [0, 4 * one, "Usage", first, first + hour, "plan", "Spend", "Used", one, "Hours", "x", "a1", {"team": "web"}],
+            [-one, -one, "Credit", first + hour // 2, first + 24 * hour, None, None, None, None, None, None, None, {"team": ""}],
+            [0, 10, "Usage", first, first + hour, "c", "Usage", "Used", one, "Hours", "vm", "a1", {"team": "Web"}],
+            [3 * one, 2 * one, "Usage", first, first + hour, None, None, None, one // 2, "Hours", "vm", "a1", {"team": "Web"}],
+        ]
+        self.assertEqual([[row[it] for it in columns] for row in found], wanted)
+        self.assertEqual({(row["BillingCurrency"], row["ChargeClass"]) for row in found}, {("USD", None)})
 
 
 if __name__ == "__main__":

@@ -65,7 +65,7 @@ class Exports(unittest.TestCase):
 
     def answers(self, name):
         """What a warehouse says of its rows."""
-        return self.focusd("report", "--dir", name, "--by", "team", *TOTALS), self.focusd("export", "--dir", name, *TOTALS)
+        return self.focusd("report", "--dir", name, "--tag", "team", "--by", "hour", "--format", "csv", *TOTALS)
 
 
 class Headers(Exports):
@@ -206,6 +206,84 @@ class Formats(Exports):
         self.file("costs.csv.gz", gzip.compress(self.CSV))
         ran = subprocess.run(["sh", "-c", f"gunzip -c costs.csv.gz | {PROGRAM} check -"], capture_output=True, cwd=self.top)
         self.assertEqual((ran.returncode, ran.stdout.decode()), self.focusd("check", "-", given=self.CSV)[:2])
+
+
+class Folders(Exports):
+    """A folder in place of a file stands for the files in it whose names end in `.csv`."""
+
+    def setUp(self):
+        super().setUp()
+        (self.top / "month" / "below.csv").mkdir(parents=True)
+        (self.top / "none").mkdir()
+        # the byte order of the names is neither the order in which they are made nor that of a dictionary
+        self.names = ["10.csv", "9.csv", "B.csv", "a.csv", "ä.csv"]
+        for name, first in zip(reversed(self.names), (81, 61, 41, 21, 1)):
+            self.file(f"month/{name}", text(range(first, first + 20)))
+        for name in ("month/a.CSV", "month/a.csv.gz", "month/acsv", "month/below.csv/x.csv"):
+            self.file(name, b"no export")
+        self.paths = [f"month/{name}" for name in self.names]
+
+    def test_the_same_as_its_files(self):
+        for name, files in (("one", ["month"]), ("slash", ["month/"]), ("many", self.paths)):
+            self.house(name, b"", *files)
+        self.assertEqual(self.answers("one"), self.answers("many"))
+        self.assertEqual(self.answers("slash"), self.answers("many"))
+
+    def test_the_posts_are_those_of_its_files(self):
+        """An import of the files goes on one of the folder, and the other way round."""
+        self.house("costs", b"", *self.paths[:3])
+        ran = self.focusd("import", "--dir", "costs", "--origin", "aws", "month")
+        self.assertEqual(ran, (0, "imported 40 rows, 60 were there already; 5 posts\n", ""))
+        ran = self.focusd("import", "--dir", "costs", "--origin", "aws", *self.paths)
+        self.assertEqual(ran, (0, "imported 0 rows, 100 were there already; 5 posts\n", ""))
+
+    def test_among_files(self):
+        self.file("first.csv", text(range(200, 210)))
+        self.house("folder", b"", "first.csv", "month")
+        self.house("files", b"", "first.csv", *self.paths)
+        self.assertEqual(self.answers("folder"), self.answers("files"))
+
+    def test_each_is_checked_in_order(self):
+        status, printed, said = self.focusd("check", "month")
+        self.assertEqual((status, said), (0, ""))
+        heads = [line for line in printed.splitlines() if line.endswith("faults")]
+        self.assertEqual(heads, [f"{path}: 20 records, 0 of them with faults; 0 faults" for path in self.paths])
+        status, printed, said = self.focusd("check", "--format", "json", "month")
+        self.assertEqual([json.loads(line)["file"] for line in printed.splitlines()], self.paths)
+
+    def test_a_replacement(self):
+        self.house("costs", text(range(1, 5)))
+        ran = self.focusd("replace", "--dir", "costs", "--origin", "aws", "month")
+        self.assertEqual((ran[0], ran[2]), (0, ""))
+        self.house("files", b"", *self.paths)
+        self.assertEqual(self.answers("costs"), self.answers("files"))
+
+    def test_parts(self):
+        ran = self.focusd("split", "--out", "parts", "month")
+        self.assertEqual((ran[0], ran[2]), (0, ""))
+        self.assertTrue(ran[1].startswith("split 100 rows into "))
+
+    def test_a_fault_names_the_file_with_its_folder(self):
+        # Record 42 has two lines.
+        self.file("month/B.csv", text(range(41, 46)) + record(46, "much").encode() + b"\n")
+        said = self.focusd("import", "--dir", "costs", "--create", "--origin", "aws", "month")[2]
+        self.assertTrue(said.startswith("focusd: month/B.csv:8: record 6, BilledCost: "), said)
+        status, printed, said = self.focusd("check", "month")
+        self.assertEqual((status, printed.count(": 20 records")), (1, 4))
+
+    def test_a_folder_without_exports(self):
+        said = "focusd: none: F1 Read: it is a folder that has no file whose name ends in .csv\n"
+        for words in (("check",), ("import", "--dir", "costs", "--create", "--origin", "aws")):
+            self.assertEqual(self.focusd(*words, "none"), (1, "", said))
+        status, printed, said = self.focusd("check", "none", "month")
+        self.assertEqual((status, printed.count(": 20 records")), (1, 5))
+
+    def test_a_name_that_is_no_text(self):
+        """A folder whose files can't all be named is refused whole."""
+        (pathlib.Path(os.fsdecode(os.fsencode(self.top / "month") + b"/\xff.csv"))).write_bytes(text(range(1, 3)))
+        status, printed, said = self.focusd("check", "month")
+        self.assertEqual((status, printed), (1, ""))
+        self.assertTrue(said.startswith("focusd: month: F1 Read: "), said)
 
 
 if __name__ == "__main__":

@@ -62,7 +62,10 @@ class Case(unittest.TestCase):
     def do(self, *words, given=b""):
         """What a run prints that has to go well."""
         status, output, error = focusd(*map(str, words), given=given)
-        self.assertEqual((status, error), (0, ""), words)
+        # Of a report the policy that it applied is said.
+        applied = "costs are shared by the policy for the tag team: entry 10, policy 1\n"
+        is_applied = words[0] == "report" and words[2] == getattr(self, "one", "") and "--direct" not in words
+        self.assertEqual((status, error), (0, applied if is_applied else ""), words)
         return output
 
     def fails(self, status, what, *words, given=b""):
@@ -417,20 +420,54 @@ class Split(Case):
     def test_faults_leave_no_parts(self):
         lines = [record("01-01T00", "a"), record("01-01T01", "a")]
         wrong = {
-            "V1 Fields": "1,1,USD",
-            "ChargePeriodEnd": "1,1,USD,Usage,2024-01-01T00:00Z,2023-01-01T00:00Z,a,",
-            "ChargePeriodStart": "1,1,USD,Usage,yesterday,2024-01-01T00:30Z,a,",
-            "BilledCost": record("01-01T00", "a").replace("1,1,USD", "x,1,USD"),
-            "EUR": record("01-01T00", "a").replace("USD", "EUR"),
+            "V1 Fields": b"1,1,USD",
+            ": 9 fields; the header has 8: V1": record("01-01T00", "a").encode() + b",",
+            'ChargePeriodStart: "yesterday": V7 Time': b"1,1,USD,Usage,yesterday,2024-01-01T00:30Z,a,",
+            "ChargePeriodStart: \"\": V7 Time": b'1,1,USD,Usage,"",2024-01-01T00:30Z,a,',
+            "V2 NotUtf8": b"1,1,USD,Usage,2024-01-01T00:00Z\xff,2024-01-01T00:30Z,a,",
         }
         for place, (what, line) in enumerate(wrong.items()):
-            name = self.file(f"{place}.csv", "\n".join([HEADER, *lines, line, ""]))
+            name = self.file(f"{place}.csv", b"\n".join([HEADER.encode(), *(line.encode() for line in lines), line, b""]))
             out = self.top / f"out-{place}"
             status, output, error = focusd("split", "--out", str(out), name)
             self.assertEqual((status, output), (1, b""), what)
             self.assertIn(f"{name}:4: record 3", error)
             self.assertIn(what, error)
             self.assertEqual(list(out.iterdir()), [])
+        for header, what in ((HEADER.replace("BilledCost", "Cost"), "H1 MissingColumn"), (HEADER + ",Tags", "H2 DoubleColumn")):
+            self.fails(1, what, "split", "--out", self.top / "h", "-", given="\n".join([header, *lines]).encode())
+        for text in (HEADER, HEADER + "\n", HEADER + "\n\n"):
+            self.fails(1, "V14 NoRows", "split", "--out", self.top / "h", "-", given=text.encode())
+
+    def test_other_faults_are_left_to_the_import(self):
+        """A record is read as far as it is dealt by, and stays as it is: the import of its part finds its fault."""
+        wrong = [
+            "1,1,USD,Usage,2024-01-01T00:00Z,2023-01-01T00:00Z,a,",
+            record("01-02T00", "a").replace("1,1,USD", "x,1,USD"),
+            record("01-03T00", "a").replace("USD", "EUR"),
+            record("01-04T00", "a", "{"),
+        ]
+        for place, end in enumerate(("\n", "\r\n")):
+            parts = self.split(end.join([HEADER, *wrong, ""]))
+            self.assertEqual(len(parts), len(wrong))
+            for line, (name, part) in zip(wrong, sorted(parts.items())):
+                self.assertEqual(part.split(), [HEADER, line])
+                path = self.file(name, part.encode())
+                self.fails(1, f"{path}:2: record 1", "import", "--dir", self.top / f"{place}-{name}", "--create", "--origin", "a", path)
+
+    def test_fields_that_records_are_dealt_by(self):
+        """Quoted, with pairs of quotes, behind fields with commas and line ends, in another order of columns."""
+        header = "Tags,SkuId,ChargePeriodStart,BilledCost,EffectiveCost,BillingCurrency,ChargeCategory,ChargePeriodEnd"
+        given = ["--commitments", self.file("c.toml", commitment("c", "a,b", "x")), "--commitments", self.file("d.toml", commitment("d", "y"))]
+        rest = "1,1,USD,Usage,2024-01-01T01:00Z"
+        lines = [
+            f'"{{""a"": ""1,2\n3""}}","a,b","2024-01-01T00:00Z",{rest}', f',y,2024-01-01T00:00Z,{rest}', f'"",x,"2024-01-""01T00:00Z",{rest}',
+            f'"{{}}",  ,2024-01-01T00:00:00+00:00,{rest}',
+        ]  # fmt: skip
+        good = [lines[0], lines[1], lines[3]]
+        parts = self.split("\n".join([header, *good, ""]), "--into", "2", *given)
+        self.assertEqual(parts, {"2024-01-01.1.csv": "\n".join([header, good[0], good[2], ""]), "2024-01-01.2.csv": "\n".join([header, good[1], ""])})
+        self.fails(1, "q.csv:5: record 3, ChargePeriodStart", "split", "--out", self.top / "p", self.file("q.csv", "\n".join([header, *lines, ""])))
 
     def test_files_that_are_there(self):
         text = "\n".join([HEADER, record("01-01T00", "a"), record("01-02T00", "a"), ""]).encode()

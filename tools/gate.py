@@ -1,7 +1,7 @@
 #!/usr/bin/env python3
 """Runs the toolchain's gate, `rt ci`, and tries the must-fail edits that are due, within a budget.
 
-    tools/gate.py                      proves every crate and its tests, and tries edits for 40 minutes of the processor, by their costs
+    tools/gate.py                      proves every crate and its tests, and tries edits for 15 minutes of the processor, by their costs
     tools/gate.py --budget MINUTES     another budget
     tools/gate.py --all                tries every edit
     tools/gate.py --owed               tries every edit that is due, crate by crate, and writes down each crate that is done; it can be stopped and run again
@@ -44,7 +44,7 @@ from meter import Meter, processor, table
 # The crates that are programs: what is built of them is kept.
 PROGRAMS = ("focusd", "fw_first_look", "fw_simulate")
 # The budget for edits, in minutes of the processor.
-BUDGET = 40
+BUDGET = 15
 # A line of `rt ci` that says no more than that all is well with one item.
 ITEM = re.compile(r"(fn|struct|enum|union|impl|trait|type|const|static) \S.*: (proved|assumed)$|statements |crate .*: modules ")
 # A line of `rt ci` that says that a crate is proved and built.

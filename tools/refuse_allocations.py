@@ -17,13 +17,17 @@ The program out/fw_simulate is run on each script of crates/fw_simulate/stdin, a
 answers of a run with no allocation refused; or with others, at or behind a line that says that memory ran out, or that the device failed, as a
 volume in memory does that can't grow; or with `fw_simulate: no memory` and status 1, and none but right answers.
 
-Where a run allocates more than --most times, the first --most are refused, and as many as half of that, spread over the rest.
+Where a run allocates more than --most times, the first --most are refused, and as many as half of that, spread over the rest. `--most 0` refuses each.
+
+What stands before an allocation is run once for many of them, by tools/refuse_allocation.c: at each a copy of the process goes on with the refusal.
+Where that can't be, as beside other threads or with a file that is open, the program is run anew.
 
 Exit status: 0 where every run was as it has to be, 1 where one wasn't, 2 where nothing could be run.
 """
 
 import os
 import re
+import resource
 import shutil
 import signal
 import struct
@@ -60,27 +64,108 @@ ON_THREADS = {"fw_test_threads"}
 MOST = 400
 # How long one run of a test may take, in seconds.
 LIMIT = 60
+# How many allocations one process refuses, each in a copy of itself: their outputs are kept until it has ended.
+TOGETHER = 1_000
+# What stands before the outputs of a copy: the allocation's number, the status of the process, and for each of its two outputs how many bytes the
+# process had written there before it, and how many the copy wrote.
+END = struct.Struct("=Qq4Q")
+NOT_TRIED = -1
 
 
 def numbers(allocations, most):
-    """Which allocations of so many are refused."""
+    """Which allocations of so many are refused; each of them where `most` is 0."""
+    most = most or allocations
     first = list(range(1, min(allocations, most) + 1))
     rest, spread = allocations - most, most // 2
-    return first + [most + 1 + place * rest // spread for place in range(min(spread, rest))] if rest > 0 else first
+    step = max(1, rest // spread) if spread else 1
+    return first + [most + 1 + place * step for place in range(min(spread, rest))]
+
+
+def environment(shim, number, cell):
+    return {"PATH": "/usr/bin:/bin", "LANG": "C.UTF-8", "LD_PRELOAD": shim, "REFUSE": str(number), "REFUSE_COUNT": cell.name}
+
+
+def new_cell(room):
+    """A file with a number of 8 bytes, which is 0."""
+    cell = tempfile.NamedTemporaryFile(dir=room)
+    cell.write(bytes(8))
+    cell.flush()
+    return cell
 
 
 def run(words, given, number, shim, room):
     """One run of a program with this allocation refused (0: none): its allocations, its status, and its two outputs."""
-    with tempfile.NamedTemporaryFile(dir=room) as cell:
-        cell.write(bytes(8))
-        cell.flush()
-        environment = {"PATH": "/usr/bin:/bin", "LANG": "C.UTF-8", "LD_PRELOAD": shim, "REFUSE": str(number), "REFUSE_COUNT": cell.name}
+    with new_cell(room) as cell, tempfile.TemporaryDirectory(dir=room) as work:
         try:
-            done = subprocess.run(words, cwd=room, env=environment, input=given, capture_output=True, timeout=LIMIT, check=False)
+            done = subprocess.run(
+                words, cwd=work, env=environment(shim, number, cell), input=given, capture_output=True, timeout=LIMIT, check=False
+            )  # fmt: skip
         except subprocess.TimeoutExpired:
             return 0, None, b"", f"it had not ended after {LIMIT} seconds".encode()
         cell.seek(0)
         return struct.unpack("=Q", cell.read(8))[0], done.returncode, done.stdout, done.stderr
+
+
+class NotRun(Exception):
+    """A process that refuses allocations in copies of itself didn't end as it has to."""
+
+
+def copies(words, given, piece, shim, room):
+    """Runs of a program, each with one of the allocations of a piece refused and begun as a copy of one process: for each its number, its status and
+    its two outputs. The status is NOT_TRIED where there can be no copy."""
+    with new_cell(room) as cell, tempfile.NamedTemporaryFile(dir=room) as ends, tempfile.TemporaryDirectory(dir=room) as work:
+        with tempfile.TemporaryFile(dir=room) as input, tempfile.TemporaryFile(dir=room) as out, tempfile.TemporaryFile(dir=room) as error:
+            input.write(given)
+            input.seek(0)
+            more = {"REFUSE_STEP": str(piece[1] - piece[0]), "REFUSE_LAST": str(piece[-1]), "REFUSE_ENDS": ends.name}
+            done = subprocess.run(words, cwd=work, env=environment(shim, piece[0], cell) | more, stdin=input, stdout=out, stderr=error, check=False)
+            before = [content_of(file) for file in (out, error)]
+        if done.returncode != 0:
+            raise NotRun(f"{' '.join(words)}: status {done.returncode} where copies of it have allocations refused:\n{shown(before[1])}")
+        for number, status, kept, written in read_ends(ends):
+            outputs = [all[:size] + more for all, size, more in zip(before, kept, written)]
+            yield number, status, *outputs
+
+
+def content_of(file):
+    file.seek(0)
+    return file.read()
+
+
+def read_ends(ends):
+    """What copies wrote down as they ended."""
+    while head := ends.read(END.size):
+        number, status, *sizes = END.unpack(head)
+        written = [ends.read(size) for size in sizes[2:]]
+        if status != NOT_TRIED:
+            status = os.waitstatus_to_exitcode(status)
+        yield number, None if status == -signal.SIGALRM else status, sizes[:2], written
+
+
+def pieces(numbers):
+    """Numbers that grow, cut into those that grow by the same step, of which no piece has more than are refused together."""
+    found = []
+    for number in numbers:
+        piece = found[-1] if found else []
+        if piece and len(piece) < TOGETHER and (len(piece) == 1 or number - piece[-1] == piece[1] - piece[0]):
+            piece.append(number)
+        else:
+            found.append([number])
+    return found
+
+
+def runs(words, given, piece, shim, room):
+    """Runs of a program, each with one of the allocations of a piece refused: for each its number, its status and its two outputs."""
+    alone = list(piece)
+    if len(piece) > 1:
+        alone = []
+        for number, status, out, error in copies(words, given, piece, shim, room):
+            if status == NOT_TRIED:
+                alone.append(number)
+            else:
+                yield number, status, out, error
+    for number in alone:
+        yield number, *run(words, given, number, shim, room)[1:]
 
 
 def is_right(status, said):
@@ -90,20 +175,6 @@ def is_right(status, said):
         return status == 0
     is_answered, is_stopped = status > 0, status == -signal.SIGABRT and STOPPED.search(said) is not None
     return (is_answered or is_stopped) and error.group(1) in OUT_OF_MEMORY
-
-
-def sweep_test(program, name, test, most, shim, room):
-    """All runs of a test: how many allocations it makes, how many were refused, and what went wrong."""
-    allocations, status, said, error = run([program, test], b"", 0, shim, room)
-    if status != 0:
-        return 0, 0, [f"{name}: test {test} fails with no allocation refused:\n{shown(said + error)}"]
-    wrong = []
-    chosen = numbers(allocations, most)
-    for number in chosen:
-        _, status, said, error = run([program, test], b"", number, shim, room)
-        if not is_right(status, shown(said + error)):
-            wrong.append(f"{name}: test {test} with allocation {number} of {allocations} refused ended with status {status}:\n{shown(said + error)}")
-    return allocations, len(chosen), wrong
 
 
 def shown(text):
@@ -123,39 +194,80 @@ def commands_of(script):
     return commands
 
 
-def sweep_case(program, name, most, shim, room):
-    """All runs of the program on a case: how many allocations it makes, how many were refused, and what went wrong."""
-    with open(os.path.join(CASES, f"{name}.script"), "rb") as file:
-        script = file.read()
-    words, commands = [program, "run"], commands_of(script)
-    allocations, status, right, _ = run(words, script, 0, shim, room)
-    wrong = [] if status == 0 and len(answers_of(right)) == len(commands) else [f"{name}: a run with no allocation refused has not one answer a command"]
-    without = {}
+class Swept:
+    """A program on an input, which is run with its allocations refused."""
 
-    def answers_without(missed):
+    def __init__(self, name, words, given, shim, room):
+        self.name, self.words, self.given, self.shim, self.room = name, words, given, shim, room
+        self.allocations, self.right, self.wrong = 0, b"", []
+
+    def begin(self):
+        """The run with no allocation refused."""
+        self.allocations, status, self.right, error = run(self.words, self.given, 0, self.shim, self.room)
+        if status != 0 or not self.is_whole(self.right):
+            self.wrong.append(f"{self.name} fails with no allocation refused:\n{shown(self.right + error)}")
+            self.allocations = 0
+
+    def refuse(self, piece):
+        """The runs with one of these allocations refused, each in turn."""
+        found = {}
+        for number, status, said, error in runs(self.words, self.given, piece, self.shim, self.room):
+            key = status, said, error
+            if key not in found:
+                found[key] = self.is_right(status, said, error)
+            if not found[key]:
+                self.wrong.append(f"{self.name} with allocation {number} of {self.allocations} refused: status {status}\n{shown(said + error)}")
+
+    def is_whole(self, said):
+        """Whether the run with no allocation refused wrote all that it should."""
+        return True
+
+    def is_right(self, status, said, error):
+        """Whether a run under a refused allocation ended as it has to."""
+        raise NotImplementedError
+
+
+class Test(Swept):
+    def is_right(self, status, said, error):
+        return is_right(status, shown(said + error))
+
+
+class Case(Swept):
+    """The program on a script of examples/cases."""
+
+    def __init__(self, *given):
+        super().__init__(*given)
+        self.commands = commands_of(self.given)
+        self.without = {}
+
+    def is_whole(self, said):
+        return len(answers_of(said)) == len(self.commands)
+
+    def answers_without(self, missed):
         """The answers to the script without the command at this place."""
-        if missed not in without:
-            kept = [command for place, command in enumerate(commands) if place != missed]
-            without[missed] = answers_of(run(words, b"".join(kept), 0, shim, room)[2])
-        return without[missed]
+        if missed not in self.without:
+            kept = [command for place, command in enumerate(self.commands) if place != missed]
+            self.without[missed] = answers_of(run(self.words, b"".join(kept), 0, self.shim, self.room)[2])
+        return self.without[missed]
 
-    def is_case_right(answers):
+    def is_right(self, status, said, error):
+        if status == 1 and error == NOT_BEGUN and not said:
+            return True
+        return status == 0 and (said == self.right or self.has_missed_one(answers_of(said)))
+
+    def has_missed_one(self, answers):
         """Whether one command ran out of memory, and nothing else is different."""
         if answers.count(NO_MEMORY) != 1:
             return False
         missed = answers.index(NO_MEMORY)
-        return answers[:missed] + answers[missed + 1 :] == answers_without(missed)
+        return answers[:missed] + answers[missed + 1 :] == self.answers_without(missed)
 
-    chosen = numbers(allocations, most)
-    for number in chosen:
-        _, status, said, error = run(words, script, number, shim, room)
-        answers = answers_of(said)
-        if status == 1 and error == NOT_BEGUN and not said:
-            continue
-        if status == 0 and (said == right or is_case_right(answers)):
-            continue
-        wrong.append(f"{name}: with allocation {number} of {allocations} refused, status {status} and these answers:\n{shown(said + error)}")
-    return allocations, len(chosen), wrong
+
+class Simulated(Swept):
+    """The simulator on a script."""
+
+    def is_right(self, status, said, error):
+        return is_simulated(self.right, status, said, error)
 
 
 def scripts_of_simulator():
@@ -183,29 +295,43 @@ def is_simulated(right, status, said, error):
     return any(OUT_OF_MEMORY_LINE.search(line) for line in lines[: first + 1]) and len(lines) <= len(wanted) + 1
 
 
-def sweep_script(script, most, shim, room):
-    """All runs of the simulator on a script: how many allocations it makes, how many were refused, and what went wrong."""
-    allocations, status, right, error = run([SIMULATOR], script, 0, shim, room)
-    if status != 0:
-        return 0, 0, [f"fw_simulate fails with no allocation refused:\n{shown(right + error)}"]
-    wrong = []
-    chosen = numbers(allocations, most)
-    for number in chosen:
-        _, status, said, error = run([SIMULATOR], script, number, shim, room)
-        if not is_simulated(right, status, said, error):
-            wrong.append(f"fw_simulate with allocation {number} of {allocations} refused ended with status {status}:\n{shown(script + said + error)}")
-    return allocations, len(chosen), wrong
-
-
 def tests_of(program):
     """The full names of a program's tests."""
     listed = subprocess.run([program, "--list"], stdout=subprocess.PIPE, check=True, text=True).stdout
     return [line.removesuffix(": test") for line in listed.splitlines() if line.endswith(": test")]
 
 
+def swept_of(name, shim, room):
+    """What is run of a name, and how that is called."""
+    if name == "program":
+        cases = sorted(it for it in os.listdir(CASES) if it.endswith(".script"))
+        return [Case(it, [PROGRAM, "run"], read(os.path.join(CASES, it)), shim, room) for it in cases], "cases"
+    if name == "fw_simulate":
+        return [Simulated(name, [SIMULATOR], script, shim, room) for script in scripts_of_simulator()], "scripts"
+    program = os.path.join(TESTS, name)
+    return [Test(f"{name}: test {test}", [program, test], b"", shim, room) for test in tests_of(program)], "tests"
+
+
+def read(path):
+    with open(path, "rb") as file:
+        return file.read()
+
+
+def sweep(name, options, shim, room, pool):
+    """Runs what a name stands for, with its allocations refused: how many were, and what is wrong."""
+    swept, kind = swept_of(name, shim, room)
+    list(pool.map(Swept.begin, swept))
+    chosen = [(it, piece) for it in swept for piece in pieces(numbers(it.allocations, options.most))]
+    list(pool.map(lambda it: it[0].refuse(it[1]), chosen))
+    allocations, refused = sum(it.allocations for it in swept), sum(len(piece) for _, piece in chosen)
+    which = "each of them was refused" if refused == allocations else f"{refused:,} were refused"
+    print(f"{name}: {len(swept)} {kind} make {allocations:,} allocations; {which}, one a run", flush=True)
+    return refused, [wrong for it in swept for wrong in it.wrong]
+
+
 def main():
     parser = parser_of(__doc__)
-    parser.add_argument("--most", type=int, default=MOST, metavar="N", help=f"how many allocations of a test to refuse (default: {MOST})")
+    parser.add_argument("--most", type=int, default=MOST, metavar="N", help=f"how many allocations of a test to refuse; 0: each (default: {MOST})")
     add_jobs(parser, "tests")
     parser.add_argument("names", nargs="*", metavar="NAME", help="a crate whose tests to run, `program` or `fw_simulate` (default: all but the tests on threads)")
     options = parser.parse_args()
@@ -216,30 +342,19 @@ def main():
         lacking = "C compiler" if not compiler else "built test in out/tests: run tools/gate.py first"
         print(f"tools/refuse_allocations.py: there is no {lacking}", file=sys.stderr)
         return 2
+    # A test that is stopped leaves no core.
+    resource.setrlimit(resource.RLIMIT_CORE, (0, 0))
     faults = refused = 0
     with tempfile.TemporaryDirectory(prefix="refuse-") as room:
         shim = os.path.join(room, "refuse.so")
         subprocess.run([compiler, "-O1", "-shared", "-fPIC", "-o", shim, SHIM, "-ldl"], check=True)
         with ThreadPoolExecutor(max(1, options.jobs)) as pool:
             for name in names:
-                if name == "program":
-                    items, kind = sorted(it[: -len(".script")] for it in os.listdir(CASES) if it.endswith(".script")), "cases"
-                    swept = list(pool.map(lambda case: sweep_case(PROGRAM, case, options.most, shim, room), items))
-                elif name == "fw_simulate":
-                    items, kind = scripts_of_simulator(), "scripts"
-                    swept = list(pool.map(lambda script: sweep_script(script, options.most, shim, room), items))
-                else:
-                    program = os.path.join(TESTS, name)
-                    items, kind = tests_of(program), "tests"
-                    swept = list(pool.map(lambda test: sweep_test(program, name, test, options.most, shim, room), items))
-                allocations, runs = sum(it[0] for it in swept), sum(it[1] for it in swept)
-                print(f"{name}: {len(items)} {kind} make {allocations} allocations; {runs} were refused, one a run", flush=True)
-                refused += runs
-                for wrong in (it for _, _, some in swept for it in some):
-                    faults += 1
-                    if faults <= 20:
-                        print(wrong)
-    print(f"{refused} allocations refused, {faults} wrong answers")
+                more, wrong = sweep(name, options, shim, room, pool)
+                refused += more
+                faults += len(wrong)
+                print("".join(f"{it}\n" for it in wrong[:20]), end="", flush=True)
+    print(f"{refused:,} allocations refused, {faults} wrong answers")
     return 1 if faults or not refused else 0
 
 

@@ -368,13 +368,13 @@ class Bash(AtThePrompt, unittest.TestCase):
         return sorted(done.stdout.split("\0")[:-1]) if done.stdout != "\0" else []
 
     def test_what_is_offered(self):
-        commands = "add charge check checkpoint compact coverage dump explain help import lines load replace report run split status verify withdraw".split()
-        options = ["--create", "--currency", "--dir", "--help", "--origin", "--quiet"]
+        commands = "add charge check checkpoint commitments compact compare coverage dump explain export help import lines load policy replace report run split status verify withdraw".split()
+        options = ["--create", "--currency", "--dir", "--help", "--keep", "--origin", "--quiet"]
         folder = self.room.folder_with(["-x.csv", "a b.csv", "a$(touch PWNED).csv"], ["costs now"])
         for words, offered in (
             ([""], sorted(commands)),
             (["-"], ["--help", "--version"]),
-            (["c"], ["charge", "check", "checkpoint", "compact", "coverage"]),
+            (["c"], ["charge", "check", "checkpoint", "commitments", "compact", "compare", "coverage"]),
             (["help", ""], sorted(set(commands) - {"help"})),
             (["import", "-"], options),
             (["import", "--q"], ["--quiet"]),

@@ -8,6 +8,7 @@ import collections
 import os
 import random
 import re
+import subprocess
 import sys
 import tempfile
 import unittest
@@ -102,6 +103,36 @@ class Csv(unittest.TestCase):
             (b"\xef\xbb\xbfa", [[b"a"]]), (b'"', [[b""]]), (b'a,"', [[b"a", b""]]),
         ):  # fmt: skip
             self.assertEqual(list(texts.records(text)), records, text)
+
+
+class Exports(unittest.TestCase):
+    """What the commands that read exports make of a text, where a post of a script would read another."""
+
+    def test_a_header_that_stands_again_is_no_record(self):
+        again = SIX.replace(b"BilledCost", b'"BilledCost"')
+        for text, kept, counts in (
+            (SIX + b"\n" + ROW + b"\n" + SIX + b"\n" + ROW, SIX + b"\n" + ROW + b"\n" + ROW, [1, 1]),
+            (SIX + b"\r\n" + SIX + b"\r\n" + ROW, SIX + b"\r\n\n" + ROW, [0, 1]),
+            (SIX + b"\n\n\xef\xbb\xbf" + SIX, SIX + b"\n\n", [0, 0]),
+            (b"\xef\xbb\xbf\n" + SIX + b"\n" + SIX, b"\xef\xbb\xbf\n" + SIX + b"\n", [0, 0]),
+            # The same names in other bytes are a record.
+            (SIX + b"\n" + again + b"\n", SIX + b"\n" + again + b"\n", [1]),
+            (b"", b"", [0]),
+        ):  # fmt: skip
+            self.assertEqual(texts.without_repeats(text), (kept, counts), text)
+
+    def test_a_repeated_header_is_counted_and_the_rows_are_the_others(self):
+        checked = readers.Checked(SIX + b"\n" + ROW + b"\n" + SIX + b"\n" + ROW + b"\n")
+        self.assertEqual((checked.repeated, checked.records, len(checked.rows), checked.is_clean), (1, 2, 2, True))
+        checked = readers.Checked(SIX + b"\n" + SIX + b"\n")
+        self.assertEqual((checked.repeated, checked.whole, checked.is_clean), (1, readers.NO_ROWS, False))
+
+    def test_what_is_no_csv_in_utf_8_has_no_line(self):
+        checked = readers.Checked(b"\xff\xfe" + SIX + b"\n" + ROW)
+        self.assertTrue(checked.is_foreign and not checked.is_clean)
+        self.assertFalse(checked.fault(None, ["it is UTF-16"]))
+        self.assertTrue(checked.fault(None, []))
+        self.assertTrue(checked.fault({"records": 1}, ["it is UTF-16"]))
 
 
 class Json(unittest.TestCase):
@@ -309,7 +340,12 @@ class CommandLines(unittest.TestCase):
             ("run --workers=64", "runs"), ("run --workers 65", "wrong"), ("run --create --create", "wrong"), ("run --create=yes", "wrong"), ("run --dir", "wrong"),
             ("run --dir --create", "wrong"), ("run x", "wrong"), ("run --currency usd", "wrong"), ("import --dir d --origin o", "wrong"), ("check -", "runs"),
             ("check -- --no", "runs"), ("explain", "runs"), ("explain V5", "runs"), ("explain V5 V6", "wrong"), (report, "runs"), (report + " --top 1001", "wrong"), (report + " --by week", "wrong"),
-            (report.replace("2024-02", "2024-01"), "wrong"), (report.replace("2024-01", "2020-01"), "wrong"), ("run --no --help", "wrong"), ("run --help --no", "help"),
+            ("report --dir d --tag t", "runs"), ("report --dir d --tag t --from 2024-01", "runs"), ("report --dir d --tag t --to x", "wrong"),
+            ("lines --dir d --month 2024-09", "runs"), ("lines --dir d --month 2024-9", "wrong"), ("lines --dir d --month 2024-09 --to 2024-10", "wrong"),
+            ("coverage --dir d --last 3 months", "runs"), ("coverage --dir d --last 1 day", "runs"), ("coverage --dir d --last 0 days", "wrong"),
+            ("coverage --dir d --last 3", "wrong"), ("coverage --dir d --last=3 months", "wrong"), ("coverage --dir d --last 3 weeks", "wrong"),
+            ("coverage --dir d --last 3 months --month 2024-09", "wrong"), ("run --strict", "runs"), ("run --strict=yes", "wrong"), ("split --no-sync --out o f", "runs"),
+            ("split --currency USD --out o f", "wrong"), ("replace --dir d --origin o --from 2024-01 f", "wrong"), (report.replace("2024-02", "2024-01"), "wrong"), (report.replace("2024-01", "2020-01"), "wrong"), ("run --no --help", "wrong"), ("run --help --no", "help"),
         ):  # fmt: skip
             self.assertEqual(command_oracle.meaning(line.encode().split()), meaning, line)
         self.assertEqual(command_oracle.meaning([b"run", b"--dir", b"\xff"]), "wrong")
@@ -317,6 +353,12 @@ class CommandLines(unittest.TestCase):
     def test_words_are_kept(self):
         for word in (b"", b"--dir=", b"\xff\0\\x", b"a b\n"):
             self.assertEqual(readers.unescaped(readers.escaped(word)), word)
+
+    def test_another_currency_than_that_of_the_folder_is_a_wrong_word(self):
+        words = (b"import", b"--currency", b"EUR", b"--dir", b"house", b"--origin", b"v", b"rows.csv")
+        for given, error, is_right in ((words, b"the warehouse in house is in USD\n", True), (words, b"no\n", False), (words[3:], b"it is in USD\n", False)):
+            ended = running.Ended(2, b"", b"focusd: --currency: " + error, 0.0, 0.0, 0)
+            self.assertEqual(readers.CommandLines.is_right_end(given, ended), is_right, error)
 
 
 class Changes(unittest.TestCase):
@@ -462,7 +504,7 @@ class Driver(unittest.TestCase):
                 inputs = [reader.mutated(chance, pool) for _ in range(reader.together)]
                 for place, why in reader.faults(inputs, session):
                     with tempfile.TemporaryDirectory() as folder:
-                        finder = fuzz.Finder(type("Options", (), {"program": "", "limit": 1, "found": folder}), {"seed": 3})
+                        finder = fuzz.Finder(type("Options", (), {"program": "", "limit": 1, "peer": None, "found": folder}), {"seed": 3})
                         finder.session = session
                         kept = finder.found(reader, inputs, place, why)
                         again, ones = fuzz.case_of(kept[0])
@@ -504,6 +546,44 @@ class Driver(unittest.TestCase):
             found += [files] if answers[0] != "sound" == answers[1] else []
         folder_oracle.rises = right
         self.assertTrue(found)
+
+    def test_another_program_has_to_answer_the_same(self):
+        class Beside(Planted):
+            def __init__(self, *bug):
+                super().__init__(*bug)
+                self.peer, self.given = "expert", b""
+
+            def run(self, words, given=b"", size=None):
+                return running.Ended(0, oracle.answers(given), b"", 0, 0, 0)
+
+            def run_peer(self, given):
+                self.given = given
+                return super().run([], given)
+
+        reader = readers.READERS["csv"]
+        right, wrong = readers.ROWS, readers.ROWS.replace(b"Usage", b"?")
+        session = Beside(rb"V3 Category", b"V4 Class")
+        ((place, why),) = reader.faults([right, wrong, right], session, random.Random(3))
+        self.assertEqual(place, 1)
+        self.assertIn("expert: the program answers", why)
+        self.assertIn(b"\nreport ", session.given)
+        self.assertNotIn(b"\nlines ", session.given)
+        self.assertEqual(reader.faults([right, wrong], Beside(rb"\0", b""), random.Random(3)), [])
+        # It takes no entries but posts and withdrawals.
+        self.assertEqual(readers.READERS["toml"].faults([readers.COMMITMENT], Beside(rb"accepted", b"refused"), random.Random(3)), [])
+
+    def test_sigterm_ends_it_with_its_counts(self):
+        with tempfile.TemporaryDirectory() as folder:
+            words = [sys.executable, "-B", fuzz.__file__, "--program", "/bin/false", "--reader", "json", "--seconds", "600", "--jobs", "2", "--most", "1000000"]
+            run = subprocess.Popen([*words, "--found", folder], stdout=subprocess.PIPE, text=True)
+            # Each answer of this program is wrong, so the first case says that the jobs have begun.
+            first = run.stdout.readline()
+            run.terminate()
+            said = run.communicate(timeout=120)[0]
+        self.assertIn("FOUND", first)
+        self.assertRegex(said, r"(?m)^[\d,]+ inputs in [\d,]+ executions, \d+ s: ")
+        self.assertRegex(said, r"(?m)^\d[\d,.]* processor seconds, ")
+        self.assertEqual(run.returncode, 1)
 
     def test_a_right_program_has_no_fault(self):
         for name in ("csv", "json", "toml"):

@@ -215,10 +215,67 @@ class Changes(unittest.TestCase):
             self.assertEqual(gate.number(due.plan(top, before.kit).due), 0)
 
 
+# A program that reads its input by threes, and allocates after each; then beside a file that stands in its folder, and then without one.
+ALLOCATES = r"""
+#include <fcntl.h>
+#include <stdlib.h>
+#include <unistd.h>
+static void needs(const char *otherwise) {
+    void *volatile memory = malloc(100);
+    if (memory == NULL) {
+        char left[100];
+        ssize_t length = read(0, left, sizeof left);
+        write(1, otherwise, 1);
+        write(1, left, length);
+        _exit(*otherwise == 's' ? 1 : 0);
+    }
+    free(memory);
+}
+int main(void) {
+    char bytes[3];
+    for (int turn = 0; turn < 3; turn++) {
+        write(1, bytes, read(0, bytes, 3));
+        write(2, ".", 1);
+        needs("s");
+    }
+    int file = open("file", O_CREAT | O_RDWR, 0600);
+    needs("f");
+    close(file);
+    needs("g");
+    unlink("file");
+    needs("s");
+    return 0;
+}
+"""
+
+
 class Refusals(unittest.TestCase):
+    def test_copies_of_a_process_end_as_processes_of_their_own(self):
+        with tempfile.TemporaryDirectory() as room:
+            program, shim = os.path.join(room, "program"), os.path.join(room, "shim.so")
+            subprocess.run(["cc", "-x", "c", "-w", "-o", program, "-"], input=ALLOCATES.encode(), check=True)
+            subprocess.run(["cc", "-shared", "-fPIC", "-o", shim, refuse_allocations.SHIM, "-ldl"], check=True)
+            given = [program], b"abcdefghijkl"
+            singly = {number: refuse_allocations.run(*given, number, shim, room)[1:] for number in range(1, 7)}
+            copied = {number: ended for number, *ended in refuse_allocations.copies(*given, [1, 2, 3, 4, 5, 6], shim, room)}
+            self.assertEqual(singly[2], (1, b"abcdefsghijkl", b".."))
+            self.assertEqual([number for number, ended in copied.items() if ended[0] == refuse_allocations.NOT_TRIED], [4, 5])
+            for number in (1, 2, 3, 6):
+                self.assertEqual(tuple(copied[number]), singly[number])
+            together = {number: tuple(ended) for number, *ended in refuse_allocations.runs(*given, [1, 2, 3, 4, 5, 6], shim, room)}
+            self.assertEqual(together, singly)
+            self.assertEqual([number for number, *_ in refuse_allocations.runs(*given, [2, 4, 6], shim, room)], [2, 6, 4])
+
+    def test_numbers_of_one_step_are_refused_together(self):
+        self.assertEqual(refuse_allocations.pieces([1, 2, 3, 5, 8, 9]), [[1, 2, 3], [5, 8], [9]])
+        most = refuse_allocations.TOGETHER
+        self.assertEqual([len(piece) for piece in refuse_allocations.pieces(range(1, 2 * most + 2))], [most, most, 1])
+        self.assertEqual(refuse_allocations.pieces([]), [])
+
     def test_each_allocation_is_refused_where_there_are_few(self):
         self.assertEqual(refuse_allocations.numbers(3, 400), [1, 2, 3])
         self.assertEqual(refuse_allocations.numbers(0, 400), [])
+        self.assertEqual(refuse_allocations.numbers(3, 0), [1, 2, 3])
 
     def test_the_rest_is_sampled_where_there_are_many(self):
         chosen = refuse_allocations.numbers(1000, 10)

@@ -9,7 +9,7 @@ from focusd_cluster.engine import Engine
 from focusd_cluster.faults import Fault
 from focusd_cluster.filling import fill_order, filled
 from focusd_cluster.importing import Say
-from focusd_cluster.manifest import Cluster, Policy, Term, sha256_of, write_synced
+from focusd_cluster.manifest import Cluster, Policy, Term, digest_of, has_digest, write_synced
 from focusd_cluster.piles import check_new, piles_of
 from focusd_cluster.tasks import Order, ran, script_of
 
@@ -33,7 +33,7 @@ def add_files(cluster: Cluster, program: str, files: list[str], yes: bool) -> li
     for path, item in new:
         with open(path, "rb") as file:
             write_synced(cluster.path(item.file), file.read())
-        cluster.check_file(item.file, item.sha256)
+        cluster.check_file(item.file, item.digest)
     manifest.terms += [term for _, term in taken.terms]
     manifest.policies += [policy for _, policy in taken.policies]
     cluster.save()
@@ -50,31 +50,31 @@ class Taken:
 
     def line_of(self, path: str) -> str:
         """Takes a file, unless it is there already: what is said of it."""
-        table, sha256 = read(path)
+        table = read(path)
         kind = kind_of(path, table)
-        return self.policy(path, table, sha256) if kind == "policy" else self.term(path, kind, table, sha256)
+        return self.policy(path, table) if kind == "policy" else self.term(path, kind, table)
 
-    def policy(self, path: str, table: dict[str, Any], sha256: str) -> str:
+    def policy(self, path: str, table: dict[str, Any]) -> str:
         """Takes a policy."""
         before, key = [*self.manifest.policies, *(policy for _, policy in self.policies)], str(table.get("key", ""))
-        if before and before[-1].sha256 == sha256:
+        if before and has_digest(path, before[-1].digest):
             return f"{path}: policy by {key!r} is there already, the same"
         if before and before[-1].key != key and not self.yes:
             raise Fault(f"{path}: the policy takes the place of one by another key, {before[-1].key!r} (A4 OtherKey). What to do: give --yes if that is right")
-        self.policies.append((path, Policy(key, f"policies/{len(before) + 1}.toml", sha256)))
+        self.policies.append((path, Policy(key, f"policies/{len(before) + 1}.toml", digest_of(path))))
         return f"{path}: policy by {key!r}: policy {len(before) + 1}"
 
-    def term(self, path: str, kind: str, table: dict[str, Any], sha256: str) -> str:
+    def term(self, path: str, kind: str, table: dict[str, Any]) -> str:
         """Takes a commitment or a purchase."""
         before, name = [*self.manifest.terms, *(term for _, term in self.terms)], str(table.get("id", ""))
         word = "commitment" if kind == "commit" else "purchase for commitment"
-        if any((term.kind, term.sha256) == (kind, sha256) for term in before) and not (kind == "add" and self.yes):
+        if any(term.kind == kind and has_digest(path, term.digest) for term in before) and not (kind == "add" and self.yes):
             return f"{path}: {word} {name} is there already, the same"
         if kind == "commit" and any((term.kind, term.id) == (kind, name) for term in before):
             raise Fault(f"{path}: a commitment {name} with other terms is there (J2 DoubleId)")
         if kind == "commit":
             check_new(self.manifest, path)
-        self.terms.append((path, Term(kind, name, f"terms/{len(before) + 1}.toml", sha256, 1)))
+        self.terms.append((path, Term(kind, name, f"terms/{len(before) + 1}.toml", digest_of(path), 1)))
         return f"{path}: {word} {name}: term {len(before) + 1}"
 
     def check(self, program: str) -> None:
@@ -98,12 +98,11 @@ class Taken:
             term.pile = piles.get(term.id, 1)
 
 
-def read(path: str) -> tuple[dict[str, Any], str]:
-    """What a TOML file says, and its SHA-256."""
+def read(path: str) -> dict[str, Any]:
+    """What a TOML file says."""
     try:
         with open(path, "rb") as file:
-            table = tomllib.load(file)
-        return table, sha256_of(path)
+            return tomllib.load(file)
     except OSError as why:
         raise Fault(f"{path}: {why.strerror}") from why
     except ValueError as why:
@@ -128,7 +127,7 @@ def judge(cluster: Cluster, program: str, pile: int, files: list[str], yes: bool
     """Adds files to a warehouse with the terms of a pile, which is then removed."""
     manifest = cluster.manifest
     with tempfile.TemporaryDirectory(prefix="focusd-cluster-") as folder:
-        terms = [(term.kind, cluster.path(term.file), term.sha256) for term in manifest.terms_of(pile)]
+        terms = [(term.kind, cluster.path(term.file), term.digest) for term in manifest.terms_of(pile)]
         ran([program, "run", "--dir", folder, "--create", "--currency", manifest.currency], script_of(terms))
         said = ran([program, "add", "--dir", folder, "--origin", "new", *(["--yes"] if yes else []), *files]).stdout.decode()
     same = [line for line in said.splitlines() if " is there already, the same" in line]

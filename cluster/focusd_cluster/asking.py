@@ -65,7 +65,7 @@ def report(cluster: Cluster, engine: Engine, program: str, options: Any) -> byte
     whole = range_of(options.low, options.high)
     policies = cluster.manifest.policies[-1:]
     for policy in policies:
-        cluster.check_file(policy.file, policy.sha256)
+        cluster.check_file(policy.file, policy.digest)
     found = answers(cluster, engine, program, whole, ask, {"tag": options.tag, "by": options.by})
     words = [program, "charge", "--tag", options.tag, "--from", text_of(whole[0]), "--to", text_of(whole[1]), "--format", options.format]
     words += ["--by", options.by] if options.by else []

@@ -67,9 +67,11 @@ def engine_of(scheduler: str | None, local: int) -> Iterator[Engine]:
             logging.getLogger(name).setLevel(logging.CRITICAL + 1)
         if not scheduler:
             scratch = stack.enter_context(tempfile.TemporaryDirectory(prefix="focusd-cluster-", ignore_cleanup_errors=True))
-            dask.config.set({"distributed.scheduler.allowed-failures": RETRIES, "temporary-directory": scratch})
+            # A worker waits for its program: what the engine would note of that a hundred times a second costs more than it tells.
+            dask.config.set({"distributed.scheduler.allowed-failures": RETRIES, "distributed.worker.profile.enabled": False, "temporary-directory": scratch})
             options: dict[str, Any] = {"dashboard_address": ":0", "silence_logs": logging.CRITICAL, "local_directory": scratch}
-            started = distributed.LocalCluster(n_workers=local, threads_per_worker=1, processes=True, **options)
+            # Two tasks at hand: while the program of one waits for the disk, that of the other computes.
+            started = distributed.LocalCluster(n_workers=local, threads_per_worker=2, processes=True, **options)
             scheduler = stack.enter_context(started).scheduler_address
         try:
             client = distributed.Client(scheduler, timeout=30, set_as_default=False)

@@ -48,17 +48,21 @@ def fill_order(cluster: Cluster, shard: Shard, program: str) -> Order:
         "program": program,
         "folder": cluster.shard_folder(shard),
         "currency": manifest.currency,
-        "terms": [(term.kind, cluster.path(term.file), term.sha256) for term in manifest.terms_of(shard.pile)],
+        "terms": [(term.kind, cluster.path(term.file), term.digest) for term in manifest.terms_of(shard.pile)],
         "entries": shard.entries,
         "rows": shard.rows,
         "parts": [],
+        "replaces": False,
     }
 
 
-def filled(cluster: Cluster, engine: Engine, orders: list[tuple[Shard, Order]], note: Callable[[Shard, Order], None]) -> None:
-    """Fills shards, and notes each that is done. What went right is kept where other shards had faults, which are raised together."""
+def filled(
+    cluster: Cluster, engine: Engine, orders: list[tuple[Shard, Order]], note: Callable[[Shard, Order], None], saved: Callable[[], None] = lambda: None
+) -> None:
+    """Fills shards, and notes each that is done. What went right is kept where other shards had faults, which are raised together. `saved` is called each
+    time that the manifest says what is done so far."""
     shards = {order["name"]: shard for shard, order in orders}
-    faults, saved = [], time.monotonic()
+    faults, last = [], time.monotonic()
     try:
         for answer in engine.done(fill, [order for _, order in orders]):
             if "fault" in answer:
@@ -68,9 +72,11 @@ def filled(cluster: Cluster, engine: Engine, orders: list[tuple[Shard, Order]], 
             shard.entries, shard.rows, shard.commitments = answer["entries"], answer["rows"], answer["commitments"]
             shard.terms = answer["terms"]
             note(shard, answer)
-            if time.monotonic() - saved > SAVE_EVERY:
+            if time.monotonic() - last > SAVE_EVERY:
                 cluster.save()
-                saved = time.monotonic()
+                saved()
+                last = time.monotonic()
     finally:
         cluster.save()
+        saved()
     raise_faults(faults)

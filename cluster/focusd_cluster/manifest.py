@@ -13,16 +13,37 @@ A manifest is written to another file, synced, and renamed: so a reader finds th
 import contextlib
 import dataclasses
 import fcntl
+import functools
 import hashlib
 import json
 import os
+import zlib
 from collections.abc import Iterator
 
 from focusd_cluster.faults import Fault
 from focusd_cluster.hours import Range, gaps, hour_of, overlap, text_of
 
-FORMAT = 1
+FORMAT = 2
 MANIFEST = "manifest.json"
+
+
+class Crc32:
+    """A CRC-32, with what a digest of `hashlib` has. An export is long, and this costs a fifth of the quickest digest."""
+
+    def __init__(self) -> None:
+        self.sum = 0
+
+    def update(self, data: bytes | memoryview) -> None:
+        self.sum = zlib.crc32(data, self.sum)
+
+    def hexdigest(self) -> str:
+        return f"{self.sum:08x}"
+
+
+# How digests of files are made; each has the name of its own before it.
+DIGESTS = {"blake2b": functools.partial(hashlib.blake2b, digest_size=32), "crc32": Crc32, "sha256": hashlib.sha256}
+# That of a new commitment, purchase or policy, and that of a new export.
+OF_TERMS, OF_EXPORTS = "blake2b", "crc32"
 # How far an export is: its files were cut and its rows are on the way to the shards, or all are there.
 CUT, DONE = "cut", "done"
 
@@ -34,7 +55,7 @@ class Term:
     kind: str  # "commit" or "add", as in a script
     id: str
     file: str
-    sha256: str
+    digest: str
     pile: int
 
 
@@ -44,7 +65,7 @@ class Policy:
 
     key: str
     file: str
-    sha256: str
+    digest: str
 
 
 @dataclasses.dataclass
@@ -53,7 +74,7 @@ class Source:
 
     path: str
     bytes: int
-    sha256: str
+    digest: str
 
 
 @dataclasses.dataclass
@@ -66,6 +87,7 @@ class Export:
     rows: int = 0
     shards: dict[str, int] = dataclasses.field(default_factory=dict)  # the rows for each shard
     done: list[str] = dataclasses.field(default_factory=list)  # the shards that have theirs
+    touched: list[str] = dataclasses.field(default_factory=list)  # the shards that may have rows of an earlier version of the files
 
 
 @dataclasses.dataclass
@@ -155,8 +177,12 @@ def new_manifest(currency: str, by: str, piles: int) -> Manifest:
 def from_json(text: bytes) -> Manifest:
     """The manifest that a text is."""
     table = json.loads(text)
-    if table.pop("format") != FORMAT:
+    if table.pop("format") not in (1, FORMAT):
         raise ValueError("another format")
+    # Format 1 has the SHA-256 of each file.
+    for item in [*table["terms"], *table["policies"], *(file for export in table["exports"] for file in export["files"])]:
+        if "sha256" in item:
+            item["digest"] = f"sha256:{item.pop('sha256')}"
     table["terms"] = [Term(**term) for term in table["terms"]]
     table["policies"] = [Policy(**policy) for policy in table["policies"]]
     for export in table["exports"]:
@@ -185,10 +211,18 @@ def sync_folder(path: str) -> None:
         os.close(folder)
 
 
-def sha256_of(path: str) -> str:
-    """The SHA-256 of a file."""
-    with open(path, "rb") as file:
-        return hashlib.file_digest(file, "sha256").hexdigest()
+def digest_of(path: str, name: str = OF_TERMS) -> str:
+    """The digest of a file, with the name of how it is made before it."""
+    made, room = DIGESTS[name](), memoryview(bytearray(1 << 20))
+    with open(path, "rb", buffering=0) as file:
+        while count := file.readinto(room):
+            made.update(room[:count])
+    return f"{name}:{made.hexdigest()}"
+
+
+def has_digest(path: str, digest: str) -> bool:
+    """Whether a file is the one of a digest."""
+    return digest_of(path, digest.partition(":")[0]) == digest
 
 
 class Cluster:
@@ -227,13 +261,13 @@ class Cluster:
         except (ValueError, KeyError, TypeError, AttributeError) as why:
             raise Fault(f"{self.path(MANIFEST)}: it is no manifest of a cluster ({why}). What to do: take it from a back-up") from why
 
-    def check_file(self, file: str, sha256: str) -> None:
+    def check_file(self, file: str, digest: str) -> None:
         """Refuses a term or a policy whose file isn't the one that was added."""
         try:
-            found = sha256_of(self.path(file))
+            is_same = has_digest(self.path(file), digest)
         except OSError as why:
             raise Fault(f"{self.path(file)}: {why.strerror}. What to do: take it from a back-up") from why
-        if found != sha256:
+        if not is_same:
             raise Fault(f"{self.path(file)}: it isn't the file that was added. What to do: take it from a back-up")
 
     @contextlib.contextmanager

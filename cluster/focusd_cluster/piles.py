@@ -28,7 +28,7 @@ def piles_of(program: str, manifest: Manifest, commitments: list[str]) -> dict[s
 
 def split_words(manifest: Manifest, commitments: list[str]) -> list[str]:
     """The command that cuts an export for a cluster, but for where to."""
-    words = ["split", "--by", manifest.by, "--into", str(manifest.piles), "--currency", manifest.currency, "--format", "json", "--quiet"]
+    words = ["split", "--by", manifest.by, "--into", str(manifest.piles), "--format", "json", "--quiet", "--no-sync"]
     return [*words, *(word for path in commitments for word in ("--commitments", path))]
 
 

@@ -19,7 +19,7 @@ from collections.abc import Callable
 from typing import Any
 
 from focusd_cluster.faults import Busy, Fault
-from focusd_cluster.manifest import sha256_of, sync_folder
+from focusd_cluster.manifest import OF_EXPORTS, digest_of, has_digest, sync_folder
 
 Order = dict[str, Any]
 
@@ -29,7 +29,8 @@ IS_BUSY = b"another process has this folder open"
 # How long a task waits before it says that the folder is busy: with the retries of the engine this is how long an orphan may take.
 PAUSE = 1.0
 STATE = re.compile(rb"state (\d+) (\d+) (\d+) ([01])")
-IMPORTED = re.compile(r"imported (\d+) rows?, (\d+) (?:was|were) there already")
+IMPORTED = re.compile(r"imported (\d+) rows?, (\d+) (?:was|were) there already; (\d+) posts?")
+REPLACED = re.compile(r"replaced by ([\d,]+)")
 RECEIPT = "receipt.json"
 
 
@@ -71,20 +72,19 @@ def served(order: Order, script: bytes, *more: str) -> list[bytes]:
     return ran([order["program"], "run", "--dir", order["folder"], *more], script).stdout.splitlines()
 
 
-def state_in(answers: list[bytes]) -> tuple[int, int, int]:
+def state_in(answers: list[bytes]) -> dict[str, int]:
     """Entries, rows and commitments, as the last answer says."""
     found = STATE.fullmatch(answers[-1]) if answers else None
     if not found:
         raise Fault(f"focusd answered {answers[-1:]!r} where the state was asked for")
-    entries, rows, commitments, _ = map(int, found.groups())
-    return entries, rows, commitments
+    return dict(zip(("entries", "rows", "commitments"), map(int, found.groups())))
 
 
 def script_of(terms: list[tuple[str, str, str]]) -> bytes:
     """The script that sends terms to a shard, each under its place, and asks for the state."""
     lines = []
-    for number, (kind, path, sha256) in enumerate(terms, 1):
-        if sha256_of(path) != sha256:
+    for number, (kind, path, digest) in enumerate(terms, 1):
+        if not has_digest(path, digest):
             raise Fault(f"{path}: it isn't the file that was added. What to do: take it from a back-up")
         with open(path, "rb") as file:
             content = file.read()
@@ -95,76 +95,138 @@ def script_of(terms: list[tuple[str, str, str]]) -> bytes:
 
 @task
 def fill(order: Order) -> Order:
-    """Makes a shard where it is new, sends it its terms, and imports its parts of an export."""
-    is_new = order["entries"] is None
+    """Makes a shard where it is new, sends it its terms, and has it take its parts of an export."""
+    held = with_terms(order)
+    if order["replaces"]:
+        found = replaced(order)
+    elif order["parts"]:
+        found = imported(order, held)
+    else:
+        found = {**held, "new": 0, "known": 0, "warning": ""}
+    if found["commitments"] != sum(kind == "commit" for kind, _, _ in order["terms"]):
+        raise Fault(f"it has {found['commitments']} commitments, and the cluster has {len(order['terms'])} terms for it")
+    wanted = order["rows"] + found["new"] + found["known"]
+    if found["rows"] != wanted:
+        raise Fault(f"it has {found['rows']:,} rows, and {wanted:,} were imported into it. What to do: take the folder from a back-up")
+    return {**found, "terms": len(order["terms"])}
+
+
+def with_terms(order: Order) -> dict[str, int]:
+    """Makes a shard where it is new, and sends it its terms: what it holds."""
+    is_new, script = order["entries"] is None, script_of(order["terms"])
     if is_new:
         os.makedirs(order["folder"], exist_ok=True)
         sync_folder(os.path.dirname(order["folder"]))
         try:
-            served(order, b"", "--create", "--currency", order["currency"])
+            answers = served(order, script, "--create", "--currency", order["currency"])
         except Fault as why:
             if "S7 Exists" not in str(why):
                 raise
-    elif not os.path.isdir(order["folder"]):
+            answers = served(order, script)
+    elif os.path.isdir(order["folder"]):
+        answers = served(order, script)
+    else:
         raise Fault("the folder is missing. What to do: take it from a back-up")
-    answers = served(order, script_of(order["terms"]))
     for answer, (kind, path, _) in zip(answers, order["terms"]):
         if not answer.startswith((b"accepted ", b"already ")):
             raise Fault(f"{os.path.basename(path)} ({kind}) was answered {answer.decode()!r}")
-    entries, rows, commitments = state_in(answers)
-    before = entries - sum(answer.startswith(b"accepted ") for answer in answers)
+    held = state_in(answers)
+    before = held["entries"] - sum(answer.startswith(b"accepted ") for answer in answers)
     if not is_new and before < order["entries"]:
         raise Fault(f"it has {before} entries, and had {order['entries']}. What to do: take the folder from a back-up that isn't older")
-    new, known, warning = 0, 0, ""
-    if order["parts"]:
-        for path, size in order["parts"]:
-            if os.path.getsize(path) != size:
-                raise Fault(f"{path} isn't whole. What to do: remove its folder, and import again")
-        words = [order["program"], "import", "--dir", order["folder"], "--origin", order["origin"], "--quiet", *(path for path, _ in order["parts"])]
-        done = ran(words)
-        found, warning = IMPORTED.search(done.stdout.decode()), done.stderr.decode("utf-8", "replace")
-        if not found:
-            raise Fault("focusd import ended without its line")
-        new, known = int(found[1]), int(found[2])
-        if new + known != order["part_rows"]:
-            raise Fault(f"its parts have {order['part_rows']:,} rows, and {new + known:,} were imported")
-        # A shard that took rows is written anew, so that it opens fast.
-        entries, rows, commitments = state_in(served(order, b"checkpoint\nstate\n" if new else b"state\n"))
-    if commitments != sum(kind == "commit" for kind, _, _ in order["terms"]):
-        raise Fault(f"it has {commitments} commitments, and the cluster has {len(order['terms'])} terms for it")
-    if rows != order["rows"] + new + known:
-        raise Fault(f"it has {rows:,} rows, and {order['rows'] + new + known:,} were imported into it. What to do: take the folder from a back-up")
-    counts = {"entries": entries, "rows": rows, "commitments": commitments, "terms": len(order["terms"])}
-    return {**counts, "new": new, "known": known, "warning": warning}
+    return held
+
+
+def part_words(order: Order) -> list[str]:
+    """The paths of a shard's parts, each of which has its length."""
+    for path, size in order["parts"]:
+        if os.path.getsize(path) != size:
+            raise Fault(f"{path} isn't whole. What to do: run the command again")
+    return [path for path, _ in order["parts"]]
+
+
+def imported(order: Order, held: dict[str, int]) -> Order:
+    """Imports a shard's parts: what it holds then. Where all posts are new, they are the entries that came."""
+    words = [order["program"], "import", "--dir", order["folder"], "--origin", order["origin"], "--quiet", *part_words(order)]
+    done = ran(words)
+    found = IMPORTED.search(done.stdout.decode())
+    if not found:
+        raise Fault("focusd import ended without its line")
+    new, known, posts = map(int, found.groups())
+    if new + known != order["part_rows"]:
+        raise Fault(f"its parts have {order['part_rows']:,} rows, and {new + known:,} were imported")
+    if known:
+        holds = state_in(served(order, b"state\n"))
+    else:
+        holds = {**held, "entries": held["entries"] + posts, "rows": held["rows"] + new}
+    return {**holds, "new": new, "known": known, "warning": done.stderr.decode("utf-8", "replace")}
+
+
+def replaced(order: Order) -> Order:
+    """Has a shard's parts take the place of what an earlier version of the export's files left in it: what it holds then."""
+    command = ["replace", "--quiet", *part_words(order)] if order["parts"] else ["withdraw", "--all", "--yes"]
+    done = ran([order["program"], command[0], "--dir", order["folder"], "--origin", order["origin"], *command[1:]])
+    rows = REPLACED.search(done.stdout.decode())
+    if order["parts"] and not (rows and int(rows[1].replace(",", "")) == order["part_rows"]):
+        raise Fault(f"its parts have {order['part_rows']:,} rows, and focusd replace said {done.stdout.decode().strip()!r}")
+    answers = served(order, b"checkpoint\nstate\n")
+    return {**state_in(answers), "new": order["part_rows"], "known": 0, "warning": done.stderr.decode("utf-8", "replace") if order["parts"] else ""}
+
+
+@task
+def check(order: Order) -> Order:
+    """What `focusd check` says of the faults of a file; nothing where it has none."""
+    words = [order["program"], "check", "--currency", order["currency"], order["path"]]
+    try:
+        done = subprocess.run(words, stdin=subprocess.DEVNULL, capture_output=True, check=False)
+    except OSError as why:
+        raise Fault(f"{words[0]}: {why.strerror}") from why
+    # Behind the faults stands what is in the rows without one.
+    faults = done.stdout.decode("utf-8", "replace").partition("\nrows ")[0] + done.stderr.decode("utf-8", "replace")
+    return {"said": faults.strip() if done.returncode else ""}
 
 
 @task
 def cut(order: Order) -> Order:
-    """Cuts a file of an export into parts. The receipt lies beside them, and all get their place at once, by a rename."""
+    """Cuts a file of an export into parts. The receipt lies beside them, and all get their place at once, by a rename. Parts that aren't whole are cut
+    again, but for those of shards that have taken theirs."""
     receipt = os.path.join(order["out"], RECEIPT)
-    if not os.path.exists(receipt):
+    found = receipt_in(order)
+    if not found:
+        if os.path.isdir(order["out"]):
+            shutil.rmtree(order["out"])
         cut_into(order, f"{order['out']}.{uuid.uuid4().hex}")
-    with open(receipt, "rb") as file:
-        return {**json.load(file), "out": order["out"]}
+        with open(receipt, "rb") as file:
+            found = json.load(file)
+    return {**found, "out": order["out"]}
+
+
+def receipt_in(order: Order) -> Order | None:
+    """The receipt of the parts that an earlier run cut, where those that are still wanted are whole."""
+    try:
+        with open(os.path.join(order["out"], RECEIPT), "rb") as file:
+            found: Order = json.load(file)
+        for part in found["files"]:
+            if part["file"] not in order["taken"] and os.path.getsize(os.path.join(order["out"], part["file"])) != part["bytes"]:
+                return None
+    except (OSError, ValueError):
+        return None
+    return found
 
 
 def cut_into(order: Order, own: str) -> None:
     """Cuts the file into a folder of this run's own, which then gets its name, if none has it yet."""
-    found = {"bytes": order["stamp"][0], "sha256": sha256_of(order["path"])}
+    found = {"bytes": order["stamp"][0], "digest": digest_of(order["path"], OF_EXPORTS)}
     os.makedirs(os.path.dirname(own), exist_ok=True)
     try:
         found |= json.loads(ran([order["program"], *order["words"], "--out", own, order["path"]]).stdout)
+        forget(order["path"])
         after = os.stat(order["path"])
         if [after.st_size, after.st_mtime_ns] != order["stamp"]:
             raise Fault("it changed while it was read. What to do: import it again")
-        for name in os.listdir(own):
-            with open(os.path.join(own, name), "rb") as file:
-                os.fsync(file.fileno())
+        # What a machine that stops loses of the parts is found by their lengths and their rows, and they are cut again.
         with open(os.path.join(own, RECEIPT), "w", encoding="utf-8") as file:
             json.dump(found, file, ensure_ascii=False)
-            file.flush()
-            os.fsync(file.fileno())
-        sync_folder(own)
         # Fails where another run of this task was first: its parts are the same.
         os.rename(own, order["out"])
     except OSError:
@@ -174,10 +236,16 @@ def cut_into(order: Order, own: str) -> None:
         shutil.rmtree(own, ignore_errors=True)
 
 
+def forget(path: str) -> None:
+    """Tells the system that a file isn't read again soon, so that it keeps the parts in memory in its place."""
+    with open(path, "rb") as file:
+        os.posix_fadvise(file.fileno(), 0, 0, os.POSIX_FADV_DONTNEED)
+
+
 @task
 def measure(order: Order) -> Order:
-    """The length and the SHA-256 of a file."""
-    return {"bytes": os.path.getsize(order["path"]), "sha256": sha256_of(order["path"])}
+    """The length of a file, and its digest, made as one is that is known."""
+    return {"bytes": os.path.getsize(order["path"]), "digest": digest_of(order["path"], order["known"].partition(":")[0])}
 
 
 def check_state(order: Order, found: dict[str, int]) -> None:
@@ -203,8 +271,7 @@ def check_folder(order: Order) -> None:
 def check_shard(order: Order) -> None:
     """Opens a shard, and refuses one that doesn't hold what the manifest says."""
     check_folder(order)
-    entries, rows, commitments = state_in(served(order, b"state\n"))
-    check_state(order, {"entries": entries, "rows": rows, "commitments": commitments})
+    check_state(order, state_in(served(order, b"state\n")))
 
 
 @task

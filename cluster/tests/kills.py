@@ -103,7 +103,7 @@ def main():
         wanted = [printed(program, words[0], "--dir", whole, *words[1:]) for words in (REPORT, COVERAGE)]
         rows = int(printed(program, "run", "--dir", whole, given=b"state\n").split()[2])
         more = {"dashboard_address": ":0", "silence_logs": 60, "local_directory": f"{room}/scratch"}
-        with distributed.LocalCluster(n_workers=options.local, threads_per_worker=1, processes=True, **more) as cluster:
+        with distributed.LocalCluster(n_workers=options.local, threads_per_worker=2, processes=True, **more) as cluster:
             killer, rounds = Killer(cluster, program, random.Random(options.seed), options.kills), 0
             while killer.left > 0:
                 rounds += 1

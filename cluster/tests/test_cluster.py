@@ -40,6 +40,9 @@ START = datetime.datetime(2024, 9, 29, 5)
 ROWS, HOURS = 3_000, 60
 RANGE = ("2024-09-28", "2024-10-03T02:00Z")
 WARNING = re.compile(r"focusd-cluster: \d+ shards gave a warning, .*has rows of .*|All of them count\. ")
+# The end and the start of a row's period, and the amount at the start of a record, in the exports that are made here.
+START_TIME = re.compile(r'("2024-[^"]*Z"),"2024-[^"]*Z"')
+AMOUNT = re.compile(r'[0-9.]+,(?="USD",)')
 PROGRAM, SCHEDULER, ROOM = "", "", ""
 
 
@@ -52,7 +55,7 @@ def setUpModule():  # noqa: N802
     unittest.addModuleCleanup(stack.close)
     ROOM = stack.enter_context(tempfile.TemporaryDirectory())
     options = {"dashboard_address": ":0", "silence_logs": 50, "local_directory": ROOM}
-    SCHEDULER = stack.enter_context(distributed.LocalCluster(n_workers=2, threads_per_worker=1, processes=True, **options)).scheduler_address
+    SCHEDULER = stack.enter_context(distributed.LocalCluster(n_workers=2, threads_per_worker=2, processes=True, **options)).scheduler_address
     Bill.make(ROOM)
 
 
@@ -309,11 +312,99 @@ class Faults(Folder):
         shutil.rmtree(self.folder)
         self.assertIn("No such file", self.refused("status"))
 
-    def test_an_export_with_a_fault(self):
-        bad = write_text(f"{self.room.name}/bad.csv", read(Bill.exports[1]).replace('"USD"', '"EUR"', 1))
-        self.assertIn("V6 Currency", self.refused("import", "--origin", "bad", bad))
+    def test_a_record_that_cannot_be_dealt(self):
+        """Nothing is in a shard before all files are cut."""
+        bad = write_text(f"{self.room.name}/bad.csv", START_TIME.sub(r'\1,"yesterday"', read(Bill.exports[1]), count=1))
+        self.assertIn("V7 Time", self.refused("import", "--origin", "bad", bad))
         self.assertFalse(os.listdir(f"{self.folder}/parts"))
         self.done(*self.QUESTIONS[0])
+
+
+class Mending(Folder):
+    """An export with a row that a shard refuses, where other shards have taken their parts."""
+
+    def setUp(self):
+        super().setUp()
+        self.good = read(Bill.exports[1])
+        self.export = f"{self.room.name}/export.csv"
+
+    def check_whole(self):
+        """The answers are those of one warehouse, and each shard holds what the manifest says."""
+        for words in questions(*RANGE, []):
+            self.assertEqual(self.done(*words), printed(PROGRAM, words[0], "--dir", Bill.whole, *words[1:]).decode())
+        self.assertIn(f"{ROWS + ROWS // 2:,}", self.done("status"))
+
+    def check_mending(self, bad, *shape):
+        """Imports an export with a fault, and then the mended one: what the first import said."""
+        self.done("add", "--create", *shape, *Bill.terms)
+        self.done("import", "--origin", "export-1", Bill.exports[0])
+        write_text(self.export, bad)
+        error = self.refused("import", "--origin", "export-2", self.export)
+        self.assertIn("the import of export-2 isn't finished", self.refused(*Again.REPORT))
+        self.assertEqual(error, self.refused("import", "--origin", "export-2", self.export))
+        write_text(self.export, self.good)
+        self.assertIn(f"imported {ROWS // 2:,} rows", self.done("import", "--origin", "export-2", self.export))
+        self.check_whole()
+        self.assertFalse(os.listdir(f"{self.folder}/parts"))
+        self.assertIn(" were there already", self.done("import", "--origin", "export-2", self.export))
+        return error
+
+    def spoiled(self):
+        """The export with a wrong amount in the middle, and the line where it is."""
+        lines = self.good.split("\n")
+        place = next(place for place in range(len(lines) // 2, len(lines)) if AMOUNT.match(lines[place]))
+        return "\n".join([*lines[:place], AMOUNT.sub("1.2.3,", lines[place]), *lines[place + 1 :]]), place + 1
+
+    def test_a_wrong_amount(self):
+        bad, line = self.spoiled()
+        error = self.check_mending(bad)
+        self.assertIn(f"{self.export}:{line}: ", error)
+        self.assertIn("1.2.3", error)
+        self.assertNotIn(f"{self.folder}/parts", error)
+
+    def test_a_wrong_amount_in_piles(self):
+        self.check_mending(self.spoiled()[0], "--by", "month", "--into", "3")
+
+    def test_rows_that_are_gone(self):
+        """The first version has a day that the mended one hasn't, and a row less in another."""
+        record = next(line for line in self.good.split("\n")[1:] if AMOUNT.match(line) and line.endswith('"'))
+        stray = re.sub(r"2024-\d\d-\d\dT", "2024-10-09T", record)
+        self.check_mending(self.spoiled()[0].replace(f"{record}\n", "", 1) + stray + "\n")
+        self.assertIn("2024-10-09", self.shards())
+
+    def test_an_export_that_changes_twice(self):
+        """A version, another one, and the first again: parts that were taken and removed are cut again."""
+        bad, _ = self.spoiled()
+        self.done("add", "--create", *Bill.terms)
+        self.done("import", "--origin", "export-1", Bill.exports[0])
+        other = write_text(f"{self.room.name}/other.csv", bad.replace("1.2.3,", "1.2.3.4,"))
+        write_text(self.export, bad)
+        for path in (self.export, other, self.export):
+            self.refused("import", "--origin", "export-2", path)
+        write_text(self.export, self.good)
+        self.done("import", "--origin", "export-2", self.export)
+        self.check_whole()
+
+
+    def test_a_part_that_is_not_what_was_cut(self):
+        """A machine that stops may leave a part with its length and other bytes: the parts are cut again."""
+        self.done("add", "--create", *Bill.terms)
+        self.done("import", "--origin", "export-1", Bill.exports[0])
+        write_text(self.export, self.good)
+        # A program that cuts, and imports nothing.
+        stopped = write_text(f"{self.room.name}/stopped", f'#!/bin/sh\n[ "$1" = import ] && exit 1\nexec {PROGRAM} "$@"\n')
+        os.chmod(stopped, 0o755)
+        self.refused("import", "--program", stopped, "--origin", "export-2", self.export)
+        parts = [os.path.join(at, name) for at, _, names in os.walk(f"{self.folder}/parts") for name in names if name.endswith(".csv")]
+        text = read(parts[0])
+        head, _, records = text.partition("\n")
+        write_text(parts[0], head + "\n" + AMOUNT.sub(lambda found: "x" * (len(found[0]) - 1) + ",", records, count=1))
+        self.assertEqual(len(read(parts[0])), len(text))
+        error = self.refused("import", "--origin", "export-2", self.export)
+        self.assertIn("a part of them was damaged", error)
+        self.assertFalse(os.path.exists(f"{self.folder}/parts/export-2"))
+        self.done("import", "--origin", "export-2", self.export)
+        self.check_whole()
 
 
 class Parts(unittest.TestCase):
@@ -349,7 +440,11 @@ class Parts(unittest.TestCase):
             again = manifest.Cluster(folder)
             again.load()
             self.assertEqual(again.manifest, kept.manifest)
-            write_text(f"{folder}/manifest.json", '{"format": 2}')
+            old = read(f"{folder}/manifest.json").replace('"format": 2', '"format": 1').replace('"digest": "', '"sha256": "')
+            write_text(f"{folder}/manifest.json", old)
+            again.load()
+            self.assertEqual(again.manifest.exports[0].files, [manifest.Source("/a", 3, "sha256:00")])
+            write_text(f"{folder}/manifest.json", '{"format": 3}')
             self.assertRaises(Fault, again.load)
 
     def test_layout(self):

@@ -14,9 +14,9 @@ CURRENCY = re.compile(r"[A-Z]{3}")
 
 
 class Option:
-    """An option of a command: whether it takes a value, has to be given, what values it takes, and whether it can be given again."""
+    """An option of a command: how many values it takes, whether it has to be given, what values these are, and whether it can be given again."""
 
-    def __init__(self, takes=True, required=False, rule=None, repeats=False):
+    def __init__(self, takes=1, required=False, rule=None, repeats=False):
         self.takes, self.required, self.rule, self.repeats = takes, required, rule, repeats
 
 
@@ -29,24 +29,33 @@ def number_from(least, most):
     return lambda text: re.fullmatch(r"\+?[0-9]+", text) and least <= int(text) <= most
 
 
-DIR, FLAG = Option(required=True), Option(takes=False)
-FROM_TO = {"from": Option(required=True), "to": Option(required=True)}
+DIR, FLAG = Option(required=True), Option(takes=0)
 PERHAPS = {"from": Option(), "to": Option()}
+# What says which hours a question covers; what it leaves open comes from the rows.
+HOURS = {**PERHAPS, "month": Option(), "last": Option(takes=2)}
+UNITS = ("hour", "hours", "day", "days", "month", "months")
 # An origin, where a command looks at it before it does anything.
 ORIGIN = re.compile(r"[A-Za-z0-9._-]{1,64}")
 # The options of each command, and the least and the most of the words that it takes beside.
 MANY = 10**9
+COLUMNS = ("SkuId", "SubAccountId", "ChargeCategory", "CommitmentDiscountId", "CommitmentDiscountStatus")
 COMMANDS = {
-    "run": ({"currency": Option(), "dir": Option(), "create": FLAG, "workers": Option(rule=number_from(1, 64))}, 0, 0),
-    "import": ({"dir": DIR, "create": FLAG, "currency": Option(), "origin": DIR, "quiet": FLAG}, 1, MANY),
+    "run": ({"currency": Option(), "dir": Option(), "create": FLAG, "workers": Option(rule=number_from(1, 64)), "strict": FLAG}, 0, 0),
+    "import": ({"dir": DIR, "create": FLAG, "currency": Option(), "origin": DIR, "keep": Option(repeats=True), "quiet": FLAG}, 1, MANY),
     "load": (
-        {"currency": Option(), "dir": Option(), "create": FLAG, "analysts": Option(rule=number_from(1, 16)), "origin": Option()}, 1, MANY,
+        {"currency": Option(), "dir": Option(), "create": FLAG, "analysts": Option(rule=number_from(1, 16)), "origin": Option(), "strict": FLAG}, 1, MANY,
     ),
     "add": ({"dir": DIR, "origin": DIR, "dry-run": FLAG, "yes": FLAG}, 1, MANY),
     "check": ({"format": Option(rule=one_of("text", "json")), "currency": Option(), "quiet": FLAG}, 1, MANY),
     "report": (
-        {"dir": DIR, "tag": DIR, **FROM_TO, "by": Option(rule=one_of("hour", "day", "month")), "top": Option(),
-         "format": Option(rule=one_of("table", "csv", "json", "html")), "direct": FLAG}, 0, 0,
+        {"dir": DIR, "tag": Option(repeats=True), "column": Option(rule=one_of(*COLUMNS), repeats=True), "where": Option(repeats=True),
+         "where-not": Option(repeats=True), "map": Option(), "total-only": FLAG, **HOURS, "by": Option(rule=one_of("hour", "day", "month")),
+         "top": Option(), "as-of": Option(), "policy": Option(), "format": Option(rule=one_of("table", "csv", "json", "html")), "direct": FLAG}, 0, 0,
+    ),
+    "compare": (
+        {"dir": DIR, "tag": Option(repeats=True), "column": Option(rule=one_of(*COLUMNS), repeats=True), "by": Option(),
+         "where": Option(repeats=True), "where-not": Option(repeats=True), "map": Option(), **HOURS, "before": Option(), "before-to": Option(),
+         "top": Option(), "as-of": Option(), "policy": Option(), "format": Option(rule=one_of("table", "csv", "json"))}, 0, 0,
     ),
     "charge": (
         {"tag": Option(), "policy": Option(), **PERHAPS, "by": Option(rule=one_of("hour", "day", "month")), "top": Option(),
@@ -54,12 +63,18 @@ COMMANDS = {
     ),
     "split": (
         {"by": Option(rule=one_of("hour", "day", "month")), "into": Option(), "commitments": Option(repeats=True), "out": DIR,
-         "currency": Option(), "format": Option(rule=one_of("text", "json")), "quiet": FLAG}, 1, MANY,
+         "no-sync": FLAG, "format": Option(rule=one_of("text", "json")), "quiet": FLAG}, 1, MANY,
     ),
-    "lines": ({"dir": DIR, **FROM_TO}, 0, 0),
-    "coverage": ({"dir": DIR, **FROM_TO, "format": Option(rule=one_of("table", "csv"))}, 0, 0),
+    "lines": ({"dir": DIR, **HOURS, "as-of": Option()}, 0, 0),
+    "export": ({"dir": DIR, **HOURS, "format": Option(rule=one_of("csv", "jsonl"))}, 0, 0),
+    "coverage": ({"dir": DIR, **HOURS, "as-of": Option(), "format": Option(rule=one_of("table", "csv"))}, 0, 0),
+    "commitments": (
+        {"dir": DIR, "tag": Option(repeats=True), "column": Option(rule=one_of(*COLUMNS), repeats=True), **HOURS,
+         "by": Option(rule=one_of("hour", "day", "month")), "as-of": Option(), "format": Option(rule=one_of("table", "csv", "json"))}, 0, 0,
+    ),
+    "policy": ({"dir": DIR}, 1, 1),
     "status": ({"dir": DIR}, 0, 0),
-    "verify": ({"dir": DIR}, 0, 0),
+    "verify": ({"dir": DIR, "digest": FLAG, "expect": Option()}, 0, 0),
     "checkpoint": ({"dir": DIR}, 0, 0),
     "compact": ({"dir": DIR, "into": DIR, "quiet": FLAG}, 0, 0),
     "replace": ({"dir": DIR, "origin": DIR, **PERHAPS, "dry-run": FLAG, "quiet": FLAG}, 1, MANY),
@@ -116,21 +131,23 @@ def read_words(command, words):
             if name == "help" and not equals:
                 raise Settled(HELP)
             option = options.get(name)
-            if option is None or name in given and not option.repeats or equals and not option.takes:
+            if option is None or name in given and not option.repeats or equals and option.takes != 1:
                 raise Settled(WRONG)
             if option.takes and not equals:
-                if at == len(words) or words[at].startswith("-") and words[at] != "-":
+                values = words[at : at + option.takes]
+                if len(values) < option.takes or any(value.startswith("-") and value != "-" for value in values):
                     raise Settled(WRONG)
-                value = words[at]
-                at += 1
+                value = " ".join(values)
+                at += option.takes
             if option.rule and not option.rule(value):
                 raise Settled(WRONG)
-            given[name] = value
+            given[name] = [*given.get(name, []), value] if option.repeats else value
         elif word.startswith("-") and word != "-":
             raise Settled(HELP if word[1] == "h" else WRONG)
         else:
             others.append(word)
-            if len(others) > most:
+            # What is asked of policies is checked where it stands, before a later -h.
+            if len(others) > most or command == "policy" and word != "list":
                 raise Settled(WRONG)
     if len(others) > most:
         raise Settled(WRONG)
@@ -143,7 +160,15 @@ def rules_hold(command, given, others):
         return False
     if "top" in given and not number_from(1, 1_000)(given["top"]):
         return False
-    if "direct" in given and ("top" in given or "format" in given):
+    if "as-of" in given and not number_from(0, 2**64 - 1)(given["as-of"]):
+        return False
+    if "expect" in given and not re.fullmatch(r"[0-9A-Fa-f]{64}", given["expect"]):
+        return False
+    if command == "policy" and others != ["list"]:
+        return False
+    if command == "report" and not keys_hold(given):
+        return False
+    if command == "compare" and not comparison_holds(given):
         return False
     if command == "split" and not number_from(1, 1_000)(given.get("into", "1")):
         return False
@@ -151,14 +176,70 @@ def rules_hold(command, given, others):
         return all(time_of(given[name]) is not None for name in ("from", "to") if name in given)
     if command != "load" and not ORIGIN.fullmatch(given.get("origin", "a")):
         return False
+    if command == "import" and not keeps_hold(given.get("keep", [])):
+        return False
     if command == "withdraw" and ("seq" in given) + ("all" in given) + ("from" in given or "to" in given) != 1:
         return False
     if "seq" in given and not number_from(1, 2**64 - 1)(given["seq"]):
         return False
-    if "from" not in given and "to" not in given:
-        return True
-    if "from" not in given or "to" not in given:
+    if "from" in given and "to" in given:
+        return "month" not in given and "last" not in given and range_holds(command, given)
+    if command in ("replace", "withdraw"):
+        return "from" not in given and "to" not in given
+    return hours_hold(given)
+
+
+def keeps_hold(keeps):
+    """Whether each kept column has a name, and its tag one that no other has."""
+    pairs = [keep.split("=", 1) if "=" in keep else [keep, keep] for keep in keeps]
+    tags = [tag for _column, tag in pairs]
+    named = all(column not in ("", "Tags") and 1 <= len(tag.encode()) <= 1_024 for column, tag in pairs)
+    return named and len(set(tags)) == len(tags)
+
+
+def keys_hold(given):
+    """Whether the options of a report name its groups, and filters by a key and a value."""
+    tags, columns = given.get("tag", []), given.get("column", [])
+    if "policy" in given and (len(tags) != 1 or {"direct", "column", "where", "where-not", "map", "total-only"} & set(given)):
         return False
+    if "direct" in given:
+        return len(tags) == 1 and not {"top", "format", "column", "where", "where-not", "map", "total-only"} & set(given)
+    if "total-only" in given:
+        named = not tags and not columns and "top" not in given
+    else:
+        named = 1 <= len(tags) + len(columns) <= 4 and len(set(tags)) == len(tags) and len(set(columns)) == len(columns)
+    return named and all("=" in word for name in ("where", "where-not") for word in given.get(name, []))
+
+
+def comparison_holds(given):
+    """Whether the options of a comparison name its groups, and times before that are times."""
+    if "before-to" in given and "before" not in given or any(time_of(given[name]) is None for name in ("before", "before-to") if name in given):
+        return False
+    one_more = given.get("by")
+    if one_more in ("hour", "day", "month"):
+        return False
+    if "policy" in given and (len(given.get("tag", [])) != 1 or {"column", "by", "where", "where-not", "map"} & set(given)):
+        return False
+    tags, columns = list(given.get("tag", [])), list(given.get("column", []))
+    if one_more is not None:
+        (columns if one_more in COLUMNS else tags).append(one_more.removeprefix("tag:"))
+    return keys_hold({**given, "tag": tags, "column": columns})
+
+
+def hours_hold(given):
+    """Whether the options say which hours a question covers, where they don't give the whole range."""
+    if ("from" in given or "to" in given) + ("month" in given) + ("last" in given) > 1:
+        return False
+    if "month" in given:
+        return len(given["month"].encode()) == 7 and time_of(given["month"]) is not None
+    if "last" in given:
+        count, _, unit = given["last"].partition(" ")
+        return bool(number_from(1, MOST_HOURS)(count)) and unit in UNITS
+    return all(time_of(given[name]) is not None for name in ("from", "to") if name in given)
+
+
+def range_holds(command, given):
+    """Whether both ends of a range are times, and it has hours, as few as a question covers."""
     low, high = time_of(given["from"]), time_of(given["to"])
     return low is not None and high is not None and low < high and (high - low <= MOST_HOURS or command in ("replace", "withdraw"))
 

@@ -9,10 +9,12 @@
 A crash, a run that doesn't end, one that holds more than 20 bytes for each byte of input and 64 MB, and an answer that isn't the oracle's are
 made smaller and kept in a folder of their own below tools/fuzz/found, with the seed. README.md says what each reader runs.
 
+By --peer PROGRAM another program, as bench/peers/expert, runs the scripts of the readers csv and json too, and has to answer the same.
+
 By --memory FOLDER inputs that went a new way through the oracle are kept there, and taken from there by the next run.
 
 It prints how often each answer came, so that those that never came are seen. Inputs depend on the seed, the number of jobs, the readers, and
-on what --memory has; how many there are depends on --seconds or --runs.
+on what --memory has; how many there are depends on --seconds or --runs. SIGTERM ends it early, with what it has counted.
 
 Exit status: 0 where nothing was wrong, 1 where something was, 2 where the program can't be run.
 """
@@ -25,6 +27,8 @@ import multiprocessing
 import os
 import random
 import re
+import resource
+import signal
 import sys
 import tempfile
 import time
@@ -59,9 +63,9 @@ def answers_known():
 
 # What these readers can't bring about, and what does.
 ELSEWHERE = {
-    "refused E3": "aims.py: a post of more than 4 MiB", "refused J1": "examples/make_limits.py", "F1": "tools/failing_calls.py", "F2": "examples/test_commands.py",
+    "refused E3": "aims.py: a post of more than 4 MiB", "refused J1": "examples/make_limits.py", "refused J5": "examples/test_commands.py", "F1": "tools/failing_calls.py", "F2": "examples/test_commands.py",
     "F3": "a script past 2^30 bytes", "G1": "examples/test_commands.py", "G2": "tools/refuse_allocations.py", "G3": "tools/refuse_allocations.py",
-    "S3": "tools/failing_calls.py", "S6": "tools/folders.py, part full", "D1": "examples/test_commands.py",
+    "S3": "tools/failing_calls.py", "S6": "tools/folders.py, part full", "S8": "examples/test_commands.py", "D1": "examples/test_commands.py",
 }  # fmt: skip
 
 
@@ -70,7 +74,7 @@ class Tally:
 
     def __init__(self):
         self.answers, self.executions, self.inputs, self.peak = collections.Counter(), 0, 0, 0
-        self.kept = []
+        self.processor, self.kept = 0.0, []
 
     def add(self, session):
         self.answers.update(session.answers)
@@ -81,6 +85,7 @@ class Tally:
     def print_out(self, seconds):
         rate = f"{self.executions / seconds:.0f} executions and {self.inputs / seconds:.0f} inputs a second" if seconds else ""
         print(f"{self.inputs:,} inputs in {self.executions:,} executions, {seconds:.0f} s: {rate}; the most that a run held: {self.peak >> 10:,} kB")
+        print(f"{self.processor:,.1f} processor seconds, of the program and of what runs it")
         known = answers_known()
         came = [f"{name} {self.answers[name]:,}" for name in known if self.answers[name]]
         print("\nanswers:\n" + "\n".join(wrapped(came)))
@@ -89,6 +94,12 @@ class Tally:
             print("\nothers:\n" + "\n".join(wrapped(f"{name} {self.answers[name]:,}" for name in others)))
         never = [name for name in known if not self.answers[name]]
         print("\nnever: " + ("; ".join(f"{name} ({ELSEWHERE[name]})" if name in ELSEWHERE else name for name in never) or "none"))
+
+
+def processor():
+    """The processor seconds of this process, and of those that it ran."""
+    used = [resource.getrusage(who) for who in (resource.RUSAGE_SELF, resource.RUSAGE_CHILDREN)]
+    return sum(it.ru_utime + it.ru_stime for it in used)
 
 
 def wrapped(items, width=100):
@@ -107,7 +118,7 @@ class Finder:
 
     def __init__(self, options, told):
         self.options, self.told = options, told
-        self.session = Session(options.program, options.limit)
+        self.session = Session(options.program, options.limit, options.peer)
         self.alike = collections.Counter()
 
     def found(self, reader, inputs, place, why):
@@ -164,18 +175,20 @@ def remember(memory, reader, one):
 
 def work(options, number, answers):
     """One job: changes inputs until its time or its runs are over."""
+    stopped = []
+    signal.signal(signal.SIGTERM, lambda *_: stopped.append(True))
     with tempfile.TemporaryDirectory(dir=room()) as folder:
         os.chdir(folder)
-        session, chance = Session(options.program, options.limit), random.Random(f"{options.seed}/{number}")
+        session, chance = Session(options.program, options.limit, options.peer), random.Random(f"{options.seed}/{number}")
         finder = Finder(options, {"seed": options.seed, "job": number, "jobs": options.jobs})
         pools = {reader.name: list(reader.corpus().values()) + remembered(options.memory, reader) for reader in options.readers}
         # The ways that the corpus goes are known.
         for reader in options.readers:
             learn(reader, pools[reader.name], session)
-        session = Session(options.program, options.limit)
+        session = Session(options.program, options.limit, options.peer)
         kept, end, turn = [], time.monotonic() + (options.seconds or 10**9), 0
         most = options.runs // options.jobs if options.runs else 10**12
-        while time.monotonic() < end and session.inputs < most and len(kept) < options.most:
+        while not stopped and time.monotonic() < end and session.inputs < most and len(kept) < options.most:
             turn += 1
             (reader,) = chance.choices(options.readers, [SHARES[reader.name] / reader.together for reader in options.readers])
             pool = pools[reader.name]
@@ -194,7 +207,7 @@ def work(options, number, answers):
                     print(f"FOUND {os.path.relpath(case[0], TOP)} by execution {session.executions:,}: {case[1]}", flush=True)
         session.answers.update({fault.split(" ")[0]: count for fault, count in oracle.AMOUNT_FAULTS.items()})
         os.chdir("/")
-        answers.put((session, kept))
+        answers.put((session, kept, processor()))
 
 
 def learn(reader, inputs, session):
@@ -210,15 +223,17 @@ def fuzz(options):
     jobs = [context.Process(target=work, args=(options, number, answers)) for number in range(options.jobs)]
     for job in jobs:
         job.start()
+    signal.signal(signal.SIGTERM, lambda *_: [job.terminate() for job in jobs])
     left = len(jobs)
     while left:
         try:
-            session, kept = answers.get(timeout=5)
+            session, kept, used = answers.get(timeout=5)
         except Exception:  # noqa: BLE001 (queue.Empty, of a module that this one doesn't need)
             if any(job.exitcode for job in jobs):
                 raise OSError("a job ended by itself") from None
             continue
         tally.add(session)
+        tally.processor += used
         tally.kept += kept
         left -= 1
     for job in jobs:
@@ -232,7 +247,7 @@ def run_corpus(options):
     tally, began, wrong = Tally(), time.monotonic(), 0
     with tempfile.TemporaryDirectory(dir=room()) as folder:
         os.chdir(folder)
-        session = Session(options.program, options.limit)
+        session = Session(options.program, options.limit, options.peer)
         for reader in options.readers:
             corpus = reader.corpus()
             groups = [(name, [one]) for name, one in corpus.items()]
@@ -253,6 +268,7 @@ def run_corpus(options):
         session.answers.update({fault.split(" ")[0]: count for fault, count in oracle.AMOUNT_FAULTS.items()})
         os.chdir("/")
     tally.add(session)
+    tally.processor = processor()
     tally.print_out(time.monotonic() - began)
     print(f"\n{wrong} wrong")
     return wrong
@@ -262,7 +278,7 @@ def run_case(options):
     reader, inputs = case_of(os.path.abspath(options.case))
     with tempfile.TemporaryDirectory(dir=room()) as folder:
         os.chdir(folder)
-        faults = reader.faults(inputs, Session(options.program, options.limit))
+        faults = reader.faults(inputs, Session(options.program, options.limit, options.peer))
         os.chdir("/")
     for _, why in faults:
         print(why)
@@ -290,10 +306,12 @@ def read_command_line(words=None):
     parser.add_argument("--limit", type=float, default=20.0, help="how many seconds of the processor a run may take (default: 20)")
     parser.add_argument("--most", type=whole_number, default=20, help="a job ends after it has kept so many cases (default: 20)")
     parser.add_argument("--memory", metavar="FOLDER", help="keeps inputs that went a new way, and takes those of earlier runs")
+    parser.add_argument("--peer", metavar="PROGRAM", help="another program that answers scripts of posts, as bench/peers/expert: it has to answer the same")
     parser.add_argument("--found", metavar="FOLDER", default=FOUND, help="where cases are kept (default: tools/fuzz/found)")
     options = parser.parse_args(words)
     options.program, options.found = os.path.abspath(options.program), os.path.abspath(options.found)
     options.memory = os.path.abspath(options.memory) if options.memory else None
+    options.peer = os.path.abspath(options.peer) if options.peer else None
     options.readers = [READERS[name] for name in options.reader or READERS]
     if not (options.corpus or options.case or options.runs):
         options.seconds = options.seconds or 60

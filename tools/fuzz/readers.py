@@ -5,6 +5,8 @@ where it may be any of them, and what is wrong. `session` runs the program and c
 """
 
 import collections
+import copy
+import itertools
 import json
 import os
 import re
@@ -62,8 +64,8 @@ def entry(word, origin, content, number=b"1"):
 class Session:
     """Runs the program in a folder of its own, which is the current one, and counts what it is answered."""
 
-    def __init__(self, program, limit):
-        self.program, self.limit = program, limit
+    def __init__(self, program, limit, peer=None):
+        self.program, self.limit, self.peer = program, limit, peer
         self.executions = self.inputs = 0
         self.answers = collections.Counter()
         self.peak = 0
@@ -84,6 +86,11 @@ class Session:
         if why:
             self.alarm = self.alarm or f"{' '.join(map(printed, words))}: {why}; it wrote {clipped(ended.error)}"
         return ended
+
+    def run_peer(self, given):
+        """Runs the other program, which takes the same scripts."""
+        self.executions += 1
+        return running.run([self.peer], given, self.limit)
 
     def may_hold_more(self, memory, bound):
         """Whether a run may have held more than the bound. What this process holds is counted with it, so now and then it is measured alone."""
@@ -171,6 +178,15 @@ class Compared:
             at += len(answer)
         return len(self.answers) - 1, f"status {ended.status}, more output {clipped(ended.out[at:])!r}, standard error {clipped(ended.error)!r}"
 
+    def peer_fault(self, script, session):
+        """The same of the other program, which is asked for no lines."""
+        commands = [command.text for command in oracle.commands_of(script)]
+        places = [place for place, text in enumerate(commands) if not text.startswith(b"lines ")]
+        asked = copy.copy(self)
+        asked.answers = [self.answers[place] for place in places]
+        fault = asked.fault(session.run_peer(b"".join(commands[place] for place in places)))
+        return (places[fault[0]], f"{session.peer}: {fault[1]}") if fault else None
+
 
 class Reader:
     """A reader with inputs that are bytes."""
@@ -221,6 +237,8 @@ class ScriptReader(Reader):
     together = 40
     prelude = b""
     questions = ASKED
+    # Whether the other program takes such inputs.
+    has_peer = False
 
     def commands(self, place, one):
         """The commands of an input."""
@@ -245,6 +263,8 @@ class ScriptReader(Reader):
         alarm = session.take_alarm()
         if alarm:
             return [(None, alarm)]
+        if not fault and session.peer and self.has_peer:
+            fault = compared.peer_fault(script, session)
         if fault:
             return [(places[fault[0]] if fault[0] < len(places) else None, fault[1])]
         if chance is None or chance.random() < 0.3:
@@ -258,6 +278,7 @@ class ScriptReader(Reader):
 
 class Csv(ScriptReader):
     name, extension = "csv", ".csv"
+    has_peer = True
 
     def commands(self, place, one):
         return [entry(b"post", b"i%d" % place, one)]
@@ -308,24 +329,32 @@ class Csv(ScriptReader):
 
     def import_faults(self, inputs, names, session):
         """Files that are right, and behind them one that isn't, are imported; then the folder is asked."""
-        warehouse, taken, rows, bad = oracle.Oracle(), [], 0, None
+        warehouse, taken, rows, posts, repeated, bad = oracle.Oracle(), [], 0, 0, 0, None
         for name, one in zip(names, inputs):
+            if is_foreign(one):
+                continue
+            one, counts = texts.without_repeats(one)
             try:
                 found = oracle.rows_of(one, b"USD")
             except oracle.Refused as fault:
                 code = str(fault).split(" ")[0] if is_ended(one, next(texts.records(one), None)) else "V14"
                 # An import cuts what has too many rows for a post.
-                bad = bad or (name, code) if code != "V15" else bad
+                bad = bad or (name, code, whole_posts(one, counts)) if code != "V15" else bad
                 continue
             taken.append(name)
-            rows += len(found)
-            warehouse.enter(b"import", b"%d" % len(taken), lambda _, found=found: warehouse.post_of(found), b"")
+            repeated += len(counts) - 1
+            # A post ends before a header that stands again.
+            for count in filter(None, counts):
+                rows, posts = rows + count, posts + 1
+                part, found = found[:count], found[count:]
+                warehouse.enter(b"import", b"%d" % posts, lambda _, part=part: warehouse.post_of(part), b"")
         if not taken:
             return []
         lay((None, None))
         size = sum(map(len, inputs))
         ended = session.run(["import", "--dir", HOUSE, "--create", "--origin", "import", *taken], size=size)
-        wanted = f"imported {rows} {'row' if rows == 1 else 'rows'}, 0 were there already; {len(taken)} {'post' if len(taken) == 1 else 'posts'}\n".encode()
+        skipped = f"; {counted(repeated, 'repeated header')} skipped" if repeated else ""
+        wanted = f"imported {counted(rows, 'row')}, 0 were there already; {counted(posts, 'post')}{skipped}\n".encode()
         alarm = session.take_alarm()
         if alarm or ended.status != 0 or ended.out != wanted:
             return [(None, alarm or f"import of right files: status {ended.status}, {clipped(ended.out)!r} {clipped(ended.error)!r}, not {wanted!r}")]
@@ -333,21 +362,49 @@ class Csv(ScriptReader):
             ended = session.run(["import", "--dir", HOUSE, "--origin", "other", bad[0]], size=size)
             if ended.status != 1 or not re.search(rb"\b%s\b" % bad[1].encode(), ended.error):
                 return [(names.index(bad[0]), f"import of a file with {bad[1]}: status {ended.status}, {clipped(ended.out)!r} {clipped(ended.error)!r}")]
+            for number, part in enumerate(bad[2], 1):
+                warehouse.enter(b"other", b"%d" % number, lambda _, part=part: warehouse.post_of(part), b"")
         fault = Compared(ASKED, warehouse).fault(session.run(["run", "--dir", HOUSE], ASKED, size=size))
         return [(None, f"after an import: {fault[1]}")] if fault else []
+
+
+def whole_posts(text, counts):
+    """The rows of each post in front of the one with the first fault of a CSV, whose header stood again behind so many records each."""
+    found = texts.records(text)
+    names = next(found, None)
+    if not is_ended(text, names) or header_faults(names):
+        return []
+    header, posts = oracle.Header(names), []
+    for count in counts:
+        try:
+            part = [header.row(fields, b"USD") for fields in itertools.islice(found, count)]
+        except oracle.Refused:
+            return posts
+        posts += [part] if part else []
+    return posts
+
+
+def counted(number, noun):
+    return f"{number} {noun}{'s' if number != 1 else ''}"
 
 
 class Checked:
     """What `focusd check` has to say of a CSV."""
 
     def __init__(self, text):
+        self.is_foreign = is_foreign(text)
+        # A header that stands again among the records is passed over, and counted.
+        text, counts = texts.without_repeats(text)
+        self.repeated = len(counts) - 1
         found = texts.records(text)
         names = next(found, None)
         # The faults of the whole text, each with its column, and those of records, each with the record's number.
         self.whole = header_faults(names) if is_ended(text, names) else NO_ROWS
         self.rows, self.faults, self.currencies = [], [], collections.Counter()
         self.records, self.is_clean = 0, False
-        if self.whole:
+        if self.whole or self.is_foreign:
+            # Nothing behind the header is read.
+            self.repeated = 0
             return
         header, number = oracle.Header(names), 0
         for number, fields in enumerate(found, 1):
@@ -362,6 +419,8 @@ class Checked:
 
     def fault(self, told, complaints):
         """What is wrong with what is told of the file."""
+        if self.is_foreign:
+            return "" if told is None and complaints else "its first bytes aren't those of a CSV in UTF-8, and it isn't refused for that"
         if told is None:
             return f"there is no line of the file, which has {self.records} records; standard error {complaints}"
         tags = collections.Counter(key for row in self.rows for key in row.tags)
@@ -369,6 +428,7 @@ class Checked:
             "records": self.records, "badRecords": len(self.faults), "rows": len(self.rows), "hours": len({row.hour for row in self.rows}),
             "billed": expected.spelled(sum(row.billed for row in self.rows)), "effective": expected.spelled(sum(row.effective for row in self.rows)),
             "categories": {word: sum(row.category == word for row in self.rows) for word in folder_oracle.CATEGORIES}, "tags": dict(tags),
+            "repeatedHeaders": self.repeated or None,
         }  # fmt: skip
         other = [f"{name} is {told.get(name)}, not {value}" for name, value in wanted.items() if told.get(name) != value]
         other += self.finding_faults(told.get("findings", []))
@@ -399,6 +459,15 @@ class Checked:
 NO_ROWS = [("V14", "")]
 
 
+# The first bytes of files that are no CSV in UTF-8: gzip, zip, zstd, bzip2, xz, Parquet and UTF-16.
+FOREIGN = (b"\x1f\x8b", b"PK\x03\x04", b"\x28\xb5\x2f\xfd", b"BZh", b"\xfd7zXZ", b"PAR1", b"\xff\xfe", b"\xfe\xff")
+
+
+def is_foreign(text):
+    """Whether a command that reads exports refuses the text for its first bytes."""
+    return text.startswith(FOREIGN)
+
+
 def is_ended(text, names):
     """Whether the text goes on behind its header, which has these names, or at least ends it."""
     return names is not None and next(texts.records(text + b"x")) == names
@@ -420,6 +489,7 @@ def is_text(field):
 
 class Json(ScriptReader):
     name, extension = "json", ".json"
+    has_peer = True
 
     def commands(self, place, one):
         quoted = b'"' + one.replace(b'"', b'""') + b'"'
@@ -759,6 +829,11 @@ class CommandLines(Reader):
             return bool(ended.out or ended.error)
         if words[0] == b"explain" and ended.status == 2:
             return bool(re.match(rb"focusd: [^\n]+ is no code", ended.error))
+        if ended.status == 3 and b"--strict" in words:
+            return bool(re.search(rb"focusd: \d+ [^\n]+ refused\n", ended.error))
+        # The folder's warehouse is in USD, so another currency is a wrong word.
+        if ended.status == 2 and any(word.startswith(b"--currency") for word in words):
+            return b"USD" in ended.error
         return ended.status == 0 or ended.status == 1 and bool(re.match(rb"[^\n]", ended.error))
 
     def smaller(self, words, fails, most):

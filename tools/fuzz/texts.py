@@ -4,7 +4,11 @@ They take bytes, and know each text, right or wrong: they are the oracle's own, 
 crate (`csv`, `serde_json`, `jiff`) is as that crate documents it, and as the program in bench/peers has it.
 """
 
+import functools
 import re
+
+# How many texts are kept with what they spell: most inputs differ in few texts.
+MOST_KEPT = 1 << 14
 
 # ---- amounts
 
@@ -19,6 +23,7 @@ class NoAmount(Exception):
     """The fault of a text that is no amount."""
 
 
+@functools.lru_cache(MOST_KEPT)
 def nanos(text):
     """The amount that a text spells, in units of 10^-9, rounded to the nearest one and on a tie to the even one."""
     if not text:
@@ -201,6 +206,7 @@ def is_zone_offset(text):
     return reader.at == len(text)
 
 
+@functools.lru_cache(MOST_KEPT)
 def second(text):
     """The second since 1970 that a text names, which is whole and not before 1970."""
     found = Instant(text).second()
@@ -227,9 +233,14 @@ BYTE_ORDER_MARK = b"\xef\xbb\xbf"
 
 def records(text):
     """The records of a CSV, each a list of fields."""
+    return (fields for fields, _, _ in placed_records(text))
+
+
+def placed_records(text):
+    """The records of a CSV, each a list of fields, the place of its first byte, and that of the byte that ends it."""
     at, end = (3 if text.startswith(BYTE_ORDER_MARK) else 0), len(text)
     while True:
-        at = EMPTY_LINES.match(text, at).end()
+        begin = at = EMPTY_LINES.match(text, at).end()
         if at == end:
             return
         fields = []
@@ -239,9 +250,26 @@ def records(text):
             if text[at : at + 1] != b",":
                 break
             at += 1
-        yield fields
+        yield fields, begin, at
         # One of CR, LF and CRLF ends a record; a bare LF behind it would be an empty line anyway.
         at += 1
+
+
+def without_repeats(text):
+    """A CSV without the records that are the bytes of its header again, and how many records stand before each of these, and behind the last. A byte
+    order mark may stand before each."""
+    kept, last, counts, header = [], 0, [0], None
+    for _, begin, end in placed_records(text):
+        record = text[begin:end]
+        if header is None:
+            header = record
+        elif record.removeprefix(BYTE_ORDER_MARK) == header:
+            kept.append(text[last:begin])
+            last = end + 1
+            counts.append(0)
+        else:
+            counts[-1] += 1
+    return b"".join([*kept, text[last:]]), counts
 
 
 def field_at(text, at):

@@ -1,6 +1,7 @@
 //! `focusd load`: files are loaded side by side.
 use clap::ArgMatches;
-use fw_command_line::{ANALYSTS, CREATE, CURRENCY, DIR, FILES, ORIGIN};
+use fw_command_line::{ANALYSTS, CREATE, CURRENCY, DIR, FILES, ORIGIN, STRICT};
+use fw_commands::{Refusals, strict_status};
 use fw_console::{
     Creates, Fault, Heard, WRONG_USE, advised, closed, is_folder, let_go, open_folder,
     print_answer, read_currency,
@@ -37,6 +38,7 @@ pub(crate) fn load_files<R: Threads + Wait + Sync>(
         origin: options.get_str(ORIGIN).unwrap_or("f"),
         analysts: options.get_one(ANALYSTS).unwrap_or(1),
     };
+    let is_strict = options.get_flag(STRICT);
     match options.get_str(DIR) {
         Some(folder) => {
             let creates = if options.get_flag(CREATE) {
@@ -44,12 +46,12 @@ pub(crate) fn load_files<R: Threads + Wait + Sync>(
             } else {
                 Creates::Never
             };
-            let loaded = load_folder(rt, threads, folder, creates, job);
+            let loaded = load_folder(rt, threads, folder, creates, job, is_strict);
             Ok(advised(rt, folder, loaded))
         }
         None => match Store::create(rt.alloc(), NullVolume::new(), currency) {
             Ok(store) => {
-                let (store, loaded) = load_into(rt, threads, store, job);
+                let (store, loaded) = load_into(rt, threads, store, job, is_strict);
                 let_go(store, loaded)
             }
             Err((_, fault)) => Err(Fault::Store(fault)),
@@ -134,9 +136,10 @@ fn load_folder<R: Threads + Wait + Sync>(
     folder: &str,
     creates: Creates,
     job: Job<'_>,
+    is_strict: bool,
 ) -> Result<ExitCode, Fault> {
     let store = open_folder(rt, folder, creates)?.into_store()?;
-    let (store, loaded) = load_into(rt, threads, store, job);
+    let (store, loaded) = load_into(rt, threads, store, job, is_strict);
     closed(store, loaded)
 }
 
@@ -146,12 +149,21 @@ fn load_into<R: Threads + Wait + Sync, V: Volume + Drop + Send>(
     threads: &R,
     store: Store<V>,
     job: Job<'_>,
+    is_strict: bool,
 ) -> (Store<V>, Result<ExitCode, Fault>) {
     let mut progress = FileProgress::new(rt, job.texts.len());
     let mut lines = Vec::new(rt.alloc());
     let (store, fault) = load(threads, rt.alloc(), store, job, &mut lines, &mut progress);
     let loaded = print_loaded(rt, lines.as_slice(), fault);
-    (store, loaded)
+    let status = strict_status(rt, is_strict, refused_in(lines.as_slice()), loaded);
+    (store, status)
+}
+
+// How many files were refused, by the lines of a load.
+fn refused_in(lines: &[u8]) -> u64 {
+    let mut refusals = Refusals::new(true);
+    refusals.see(lines);
+    refusals.count()
 }
 
 // Prints the lines of a load, and the fault that ended it, if one did. The lines are in memory, so where they couldn't be written it ran out.

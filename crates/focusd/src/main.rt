@@ -1,21 +1,23 @@
 //! `focusd` keeps a warehouse of cloud charges, and answers what they cost.
 //!
 //! What it computes stands in libraries: `fw_serve::serve` runs scripts over any reader, writer and volume, and `fw_views` writes what the
-//! commands for people print. `fw_command_line` is the command line, and `fw_commands`, `fw_export_commands`, `fw_add_commands` and
-//! `fw_correct_commands` and `fw_shard_commands` are what the commands do over folders and the standard streams. This crate reads the words of the command line and
-//! runs the command that they name. `load`, which needs threads that wait, is here too.
+//! commands for people print. `fw_command_line` is the command line, and `fw_commands`, `fw_export_commands`, `fw_add_commands`,
+//! `fw_correct_commands`, `fw_shard_commands` and `fw_compare_commands` are what the commands do over folders and the standard streams. This crate
+//! reads the words of the command line and runs the command that they name. `load`, which needs threads that wait, is here too.
 #![tactic(auto)]
 
 mod load;
 
 use clap::ArgMatches;
 use clap::error::ErrorKind;
-use fw_add_commands::add_files;
+use fw_add_commands::{PolicyFile, add_files, policy_file};
 use fw_command_line::command_line;
 use fw_commands::{
-    make_checkpoint, print_coverage, print_dump, print_explanation, print_lines, print_report,
-    print_status, serve_script, verify_folder,
+    list_policies, make_checkpoint, print_commitments, print_coverage, print_dump,
+    print_explanation, print_export, print_lines, print_report, print_status, serve_script,
+    verify_folder,
 };
+use fw_compare_commands::print_comparison;
 use fw_console::{Fault, WRONG_USE, printed, stopped, wrong_use};
 use fw_correct_commands::{compact_folder, replace_rows, withdraw_posts};
 use fw_export_commands::{check_files, import_files};
@@ -102,9 +104,13 @@ fn run_command<R: Threads + Wait + Sync>(
         Some(("replace", options)) => replace_rows(rt, options),
         Some(("withdraw", options)) => withdraw_posts(rt, options),
         Some(("check", options)) => check_files(rt, options),
-        Some(("report", options)) => print_report(rt, options),
+        Some(("report", options)) => report(rt, options),
+        Some(("compare", options)) => print_comparison(rt, options),
         Some(("lines", options)) => print_lines(rt, options),
+        Some(("export", options)) => print_export(rt, options),
         Some(("coverage", options)) => print_coverage(rt, options),
+        Some(("commitments", options)) => print_commitments(rt, options),
+        Some(("policy", options)) => Ok(list_policies(rt, options)),
         Some(("status", options)) => Ok(print_status(rt, options)),
         Some(("verify", options)) => Ok(verify_folder(rt, options)),
         Some(("checkpoint", options)) => Ok(make_checkpoint(rt, options)),
@@ -114,6 +120,15 @@ fn run_command<R: Threads + Wait + Sync>(
         Some(("charge", options)) => charge_reports(rt, options),
         Some(("explain", options)) => print_explanation(rt, options),
         _ => Ok(wrong_use(rt, "no command")),
+    }
+}
+
+// Prints the report that the options ask for, under the policy of a file where they name one.
+fn report(rt: &HostRuntime, options: &ArgMatches<'_>) -> Result<ExitCode, Fault> {
+    match &policy_file(rt, options)? {
+        PolicyFile::Policy(policy) => print_report(rt, options, Some(policy)),
+        PolicyFile::None => print_report(rt, options, None),
+        PolicyFile::Refused => Ok(ExitCode::FAILURE),
     }
 }
 

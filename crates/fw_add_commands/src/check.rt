@@ -1,12 +1,11 @@
 //! All files are read and checked before the first is added.
 use crate::bought::print_bought;
 use crate::faults::{say_fault, say_old_side, say_refusal};
-use crate::files::text_of;
 use crate::matched::print_matches;
 use crate::printing::print_line;
 use crate::texts::{Given, document_text, name_text, replaced_text};
 use fw_adding::{AddFault, Outcome, Tried, try_document};
-use fw_console::Fault;
+use fw_console::{Fault, toml_of};
 use fw_documents::{Document, read_document};
 use fw_entry::CommandKind;
 use fw_entry_bytes::Form;
@@ -83,7 +82,7 @@ fn check_file(
     file: &str,
 ) -> Result<bool, Fault> {
     let name = shown_text(rt.alloc(), file)?;
-    match text_of(rt, file)? {
+    match toml_of(rt, file)? {
         Some(text) => check_text(rt, job, trial, name.as_str(), text.as_slice()),
         None => Ok(false),
     }

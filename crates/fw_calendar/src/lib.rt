@@ -8,6 +8,6 @@ mod steps;
 mod texts;
 mod times;
 
-pub use steps::{Period, Step, periods};
+pub use steps::{Period, Step, last_periods, periods};
 pub use texts::hour_text;
-pub use times::read_time;
+pub use times::{read_month, read_time};

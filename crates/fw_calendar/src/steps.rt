@@ -1,10 +1,12 @@
 //! Steps of the calendar: hours, days and months, in UTC.
-ghost use Rattle.std.specs.Prelude.{◌≡◌, ◌≤◌, ◌<◌, IfOk, string_bytes};
-ghost use Rattle.fw_calendar.specs.Periods.{ArePeriods, IsPeriod, IsPlace};
+ghost use Rattle.std.specs.Prelude.{◌≡◌, ◌≤◌, ◌<◌, ◌+◌, IfOk, string_bytes};
+ghost use Rattle.fw_calendar.specs.Periods.{ArePeriods, AreLast, IsPeriod, IsPlace, IsStart};
 ghost use Rattle.fw_calendar.specs.Shown.{IsStepText};
 ghost use Rattle.fw_calendar.specs.declared.steps.Step.TheVariants.{Month};
+ghost use Rattle.fw_charge.specs.Charge.{last_hour};
 
 use crate::texts::{date_of, day_text, hour_text, month_text};
+use fw_charge::LAST_HOUR;
 use std::alloc::{AllocError, Global};
 
 /// How many hours a day has.
@@ -93,6 +95,42 @@ pub fn periods(alloc: Global, step: Step, from: u64, to: u64) -> Result<Vec<Peri
         start = end;
     }
     Ok(periods)
+}
+
+/// The last `count` hours, days or months up to and including the one in which an hour lies, each whole: fewer where the calendar begins,
+/// in 1970, within them.
+pub fn last_periods(step: Step, count: u64, hour: u64) -> Period
+    requires some { 1 ≤ count }
+    requires dated { hour ≤ last_hour }
+    ensures { AreLast step count hour result }
+{
+    Period {
+        from: start_of_last(step, count, hour),
+        to: end_of_whole(step, hour),
+    }
+}
+
+// The first hour of the last `count` hours, days or months up to the one in which an hour lies.
+fn start_of_last(step: Step, count: u64, hour: u64) -> u64
+    requires { 1 ≤ count }
+    ensures { IsStart step count hour result }
+{
+    let Some(before) = step.place(hour).checked_sub(count) else {
+        return 0;
+    };
+    let mut start = hour;
+    while start > 0 && step.place(start - 1) > before {
+        start -= 1;
+    }
+    start
+}
+
+/// The hour after the last one of the hour, the day or the month in which an hour lies, which no later hour shares.
+pub(crate) fn end_of_whole(step: Step, hour: u64) -> u64
+    requires { hour ≤ last_hour }
+    ensures { IsPeriod step hour (last_hour + 1) (record { from = hour; to = result }) }
+{
+    end_of(step, hour, u64::from(LAST_HOUR) + 1)
 }
 
 // Where the period that begins at an hour ends, in a range that ends at `to`.

@@ -1,8 +1,10 @@
 //! How a time reads.
-ghost use Rattle.std.specs.Prelude.{◌≡◌, ◌≤◌, ◌*◌, ℕ, IfOk, IfSome, MatchOption};
+ghost use Rattle.std.specs.Prelude.{◌≡◌, ◌≤◌, ◌*◌, ℕ, IfOk, IfSome, MatchOption, length};
+ghost use Rattle.fw_calendar.specs.Periods.{IsMonth};
 ghost use Rattle.fw_calendar.specs.Times.{IsTimeText, tail_of};
 ghost use Rattle.fw_charge.specs.Charge.{last_second, seconds_per_hour, last_hour};
 
+use crate::steps::{Period, Step, end_of_whole};
 use fw_charge::SECONDS_PER_HOUR;
 use fw_instants::second_of;
 use std::alloc::{AllocError, Global};
@@ -24,6 +26,26 @@ pub fn read_time(alloc: Global, text: &str) -> Result<Option<u64>, AllocError>
     instant.push_str(tail_of(text))?;
     match second_of(instant.as_str()) {
         Some(second) => Ok(whole_hour(second)),
+        None => Ok(None),
+    }
+}
+
+/// The hours of a month that is written as `2024-01`. `None` where the text isn't that of a month from 1970 to 9999. The one error is
+/// that memory ran out.
+pub fn read_month(alloc: Global, text: &str) -> Result<Option<Period>, AllocError>
+    ensures value { IfOk result (λ month. MatchOption month
+        ((h : ℕ) → length text.now ≡ 7 → ¬ IsTimeText text.now h)
+        (λ period. (length text.now ≡ 7) × IsTimeText text.now period.from)) }
+    ensures whole { IfOk result (λ month. IfSome month IsMonth) }
+{
+    if text.len() != MONTH_LENGTH {
+        return Ok(None);
+    }
+    match read_time(alloc, text)? {
+        Some(from) => Ok(Some(Period {
+            from,
+            to: end_of_whole(Step::Month, from),
+        })),
         None => Ok(None),
     }
 }

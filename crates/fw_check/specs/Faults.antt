@@ -30,6 +30,7 @@ CanStandIn fault.Status c = c ≡ Some column.CommitmentDiscountStatus
 CanStandIn fault.Quantity c = c ≡ Some column.ConsumedQuantity
 CanStandIn fault.BadTags c = c ≡ Some column.Tags
 CanStandIn fault.TooLong c = IsSome c
+CanStandIn fault.TagTwice c = c ≡ Some column.Tags
 
 -- a place of a fault: the line, the number of the record, and the part of the value that is shown
 pub record PlaceValue : Type 0 where

@@ -190,6 +190,7 @@ pub(crate) fn column_of(
         RecordFault::Quantity => Some(Column::ConsumedQuantity),
         RecordFault::BadTags => Some(Column::Tags),
         RecordFault::TooLong => Some(too_long(header, record)),
+        RecordFault::TagTwice => Some(Column::Tags),
     }
 }
 

@@ -13,6 +13,7 @@ use crate::findings::{column_name, column_of, value_of};
 use fw_cut::{Part, cut_off};
 use fw_explain::explain_fault;
 use fw_rows::RecordFault;
+use memchr::memchr_iter;
 use std::alloc::{AllocError, Global};
 
 /// Where a fault stands, and what is wrong.
@@ -47,7 +48,11 @@ impl Drop for Located {
 pub fn line_ends(text: &[u8], line_end: u8) -> u64
     ensures { result ≡ line_ends_in line_end text.now }
 {
-    text.iter().filter(|byte| **byte == line_end).count() as u64
+    let mut count = 0;
+    for _place in memchr_iter(line_end, text) {
+        count += 1;
+    }
+    count
 }
 
 // Whether a byte ends no line.

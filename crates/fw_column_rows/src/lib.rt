@@ -4,9 +4,11 @@
 #![tactic(auto)]
 
 mod filling;
+mod keeping;
 mod known;
 mod reading;
 mod view;
 
+pub use keeping::read_columns_keeping;
 pub use known::KnownTexts;
 pub use reading::{read_columns, read_columns_after};

@@ -4,6 +4,7 @@ mod AddFacts
 mod KeptFacts
 pub mod PartFacts
 mod PartColumns
+mod PartRows
 pub mod HourFacts
 mod RunFacts
 pub mod SkuFacts

@@ -64,7 +64,7 @@ one_at_most : (t : Option Text) → length (option_to_list t) ≤ 1
 one_at_most None = omega arith
 one_at_most (Some t) = omega arith
 
-two_each : (ts : List TagText) → length (texts_of_tags ts) ≡ 2 * length ts
+pub two_each : (ts : List TagText) → length (texts_of_tags ts) ≡ 2 * length ts
 unfolding texts_of_tags
 two_each [] = refl
 two_each (t ∷ ts) = let rest : length (texts_of_tags ts) ≡ 2 * length ts = two_each ts in omega (arith, rest)
@@ -89,7 +89,7 @@ unfolding with_texts
 no_more names [] = omega arith
 no_more names (t ∷ ts) = let one = with_text_adds_one names t in let rest = no_more (with_text names t) ts in omega (arith, one, rest)
 
-names_few : (rows : List Charge) → All IsCharge rows → length (names_of rows) ≤ most_texts * length rows
+pub names_few : (rows : List Charge) → All IsCharge rows → length (names_of rows) ≤ most_texts * length rows
 unfolding names_of
 names_few rows h =
     let made = no_more [] (flat_map texts_of rows) in
@@ -101,6 +101,26 @@ pub lists_within : (lists : List (List ℕ)) (codes : List ℕ) (xs : List (List
 lists_within lists codes xs h =
     let known : AreKnown lists xs = subst (λ (ls : List (List ℕ)). AreKnown ls xs) (sym h.seen) (AreKnown-seen [] xs) in
     subst (All (λ place. place < length lists)) (sym h.places) (places-within lists xs known)
+
+-- ---- the texts of the rows
+
+pub texts_here : (t : Table) (i : ℕ) → 2 * (length (list_at t i) / 2) ≡ length (list_at t i) → texts_of (charge_at t i) ≡ texts_there t i
+unfolding texts_of texts_there charge_at
+texts_here t i even =
+    let names = t.names in
+    let id = id_of (text_of names (get_or t.discounts.items i 0)) (get_or t.kinds.items i 0) (get_or t.statuses.items i 0) in
+    let tags = texts_even names (list_at t i) even in
+    (λ j. option_to_list (id j) ++ (option_to_list (text_of names (get_or t.units.items i 0)) ++ (option_to_list (text_of names (get_or t.skus.items i 0)) ++ (option_to_list (text_of names (get_or t.sub_accounts.items i 0)) ++ tags j))))
+
+pub texts_everywhere : (t : Table) (n : ℕ) → ((i : ℕ) → i < n → texts_of (charge_at t i) ≡ texts_there t i)
+    → flat_map (texts_there t) (range_with_len 0 n) ≡ flat_map texts_of (map (charge_at t) (range_with_len 0 n))
+texts_everywhere t n each =
+    let places = range_with_len 0 n in
+    let all = λ (ts : List Text). ts in
+    let made = λ (i : ℕ). texts_of (charge_at t i) in
+    let same : map made places ≡ map (texts_there t) places =
+    fill_by_all (texts_there t) (map made places) n [] (length-map-range_with_len made 0 n) (λ k lt. get_or-map-range_with_len made 0 n k k [] lt (omega arith) ∙ each k lt) in
+    sym (flat_map-map all (texts_there t) places) ∙ (ap (flat_map all) (sym same) ∙ (flat_map-map all made places ∙ sym (flat_map-map texts_of (charge_at t) places)))
 
 -- ---- all columns
 module _ (t : Table) (n : ℕ) (size : HaveLength t n) (numbered : AreNumbered t.lists t.tags.items (lists_there t.lists t.tags.items)) (lists : All (IsTagList t.names) t.lists) (have : HaveRows t n)
@@ -133,14 +153,6 @@ module _ (t : Table) (n : ℕ) (size : HaveLength t n) (numbered : AreNumbered t
           tags = list_kept.tags;
         }
 
-    texts_are : texts_of (charge_at t i) ≡ texts_there t i
-    unfolding texts_of texts_there charge_at
-    texts_are =
-        let names = t.names in
-        let id = id_of (text_of names (get_or t.discounts.items i 0)) (get_or t.kinds.items i 0) (get_or t.statuses.items i 0) in
-        let tags = texts_even names (list_at t i) list_kept.even in
-        (λ j. option_to_list (id j) ++ (option_to_list (text_of names (get_or t.units.items i 0)) ++ (option_to_list (text_of names (get_or t.skus.items i 0)) ++ (option_to_list (text_of names (get_or t.sub_accounts.items i 0)) ++ tags j))))
-
   charges : All IsCharge rows
   charges =
       let each : All (λ i. IsCharge (charge_at t i)) (range_with_len 0 n) =
@@ -153,14 +165,7 @@ module _ (t : Table) (n : ℕ) (size : HaveLength t n) (numbered : AreNumbered t
 
   names_are : t.names ≡ names_of rows
   unfolding names_of
-  names_are =
-      let places = range_with_len 0 n in
-      let all = λ (ts : List Text). ts in
-      let made = λ (i : ℕ). texts_of (charge_at t i) in
-      let same : map made places ≡ map (texts_there t) places =
-      fill_by_all (texts_there t) (map made places) n [] (length-map-range_with_len made 0 n) (λ k lt. get_or-map-range_with_len made 0 n k k [] lt (omega arith) ∙ texts_are k lt) in
-      have.names
-      ∙ ap (with_texts []) (sym (flat_map-map all (texts_there t) places) ∙ (ap (flat_map all) (sym same) ∙ (flat_map-map all made places ∙ sym (flat_map-map texts_of (charge_at t) places))))
+  names_are = have.names ∙ ap (with_texts []) (texts_everywhere t n (λ i lt. texts_here t i (list_kept i lt).even))
 
   lists_are : lists_there t.lists t.tags.items ≡ lists_of t.names rows
   unfolding lists_of list_at charge_at tags_of

@@ -1,10 +1,10 @@
 -- Columns that were put together elsewhere and were checked are those of rows.
-use Rattle.std.proofs.Common.{◌≡◌, ℕ, zero, suc, ◌+◌, ◌-◌, ◌<◌, ◌≤◌, ℤ, Bool, true, false, List, [], ◌∷◌, ◌++◌, length, get_or, map, take, drop, Option, Some, None, refl, sym, ap, subst, ◌∙◌, arith, ltb}
-use Rattle.std.specs.Prelude.{All, slice_get, option_to_list, is_some, pos, negsuc, nat_abs, IfSome}
+use Rattle.std.proofs.Common.{◌≡◌, ℕ, zero, suc, ◌+◌, ◌-◌, ◌<◌, ◌≤◌, ℤ, Bool, true, false, List, [], ◌∷◌, ◌++◌, length, get_or, map, take, Option, Some, None, refl, sym, ap, subst, ◌∙◌, arith, append_assoc, length-append, true≢false, ltb}
+use Rattle.std.specs.Prelude.{◌↔◌, All, slice_get, option_to_list, is_some, pos, negsuc, nat_abs, IfNone, IfSome}
 use Rattle.std.specs.List.{list_any, position_or_len, flat_map, range_with_len}
 use Rattle.std.specs.Str.{bytes_eq}
 use Rattle.std.specs.Cmp.Lexicographic.{bytes_decides}
-use Rattle.std.proofs.lemmas.List.{take_more, take_all, get_or-take, length-take-le, take-append-drop}
+use Rattle.std.proofs.lemmas.List.{take_more, take_all, get_or-take, length-take-le}
 use Rattle.std.proofs.lemmas.List.Elements.{All-nil, All-cons, All-head, All-tail, All-push}
 use Rattle.std.proofs.lemmas.Bool.{ltb-true, ltb-false}
 use Rattle.std.proofs.lemmas.List.{append-nil}
@@ -20,10 +20,21 @@ use Rattle.fw_charge.specs.declared.category.Category.TheVariants as category
 use Rattle.fw_row_table.specs.Names.{Text, AreDistinct, place_of, with_text}
 use Rattle.fw_row_table.specs.Texts.{with_texts}
 use Rattle.fw_row_table.specs.Table.{category_at, class_at, kind_at, kind_kept, status_kept, quantity_kept, text_at, text_of, discount_of, quantity_of, tag_of, tags_of}
-use Rattle.fw_columns.specs.Parts.{IsStatusOf, IsShortCode, IsDiscountKept, HaveSeen, AreNumbered, lists_there}
-use Rattle.fw_row_table.proofs.NameFacts.{place-kept, place-there, place_at, text_at_place}
-use Rattle.fw_row_table.proofs.TextFacts.{IsKnown, AreKnown, AreKnown-seen, known_adds_nothing, with_texts-append}
+use Rattle.fw_columns.specs.Parts.{IsStatusOf, IsShortCode, IsDiscountKept, HaveSeen, AreOutOfTurn, AreNumbered, lists_there}
+use Rattle.fw_row_table.proofs.NameFacts.{at_its_end, is_new, place-kept, place_at, text_at_place}
+use Rattle.fw_row_table.proofs.TextFacts.{IsKnown, AreKnown, AreKnown-seen, known_adds_nothing, with_texts-append, with_texts-grows}
 use Rattle.fw_row_table.proofs.ListFacts.{listed_more}
+
+-- ---- what a test answers
+
+pub yes : {A : Type 0} → A → (true ≡ true) ↔ A
+yes a = (λ e. a, λ h. refl)
+
+pub no : {A : Type 0} → (A → ⊥) → (false ≡ true) ↔ A
+no f = (λ e. absurd cc, λ h. absurd (f h))
+
+pub refused : {A : Type 0} (b : Bool) → b ≡ false → (A → b ≡ true) → (false ≡ true) ↔ A
+refused b not_ all = no (λ a. true≢false (sym (all a) ∙ not_))
 
 -- ---- codes that are there
 
@@ -37,11 +48,27 @@ category_kept (suc (suc (suc (suc zero)))) h = refl
 category_kept (suc (suc (suc (suc (suc zero))))) h = refl
 category_kept (suc (suc (suc (suc (suc (suc b)))))) h = absurd cc
 
+pub category_there : (code : ℕ) → category_code (category_at code) ≡ code → is_some (category_of code) ≡ true
+unfolding category_code
+category_there zero h = absurd cc
+category_there (suc zero) h = refl
+category_there (suc (suc zero)) h = refl
+category_there (suc (suc (suc zero))) h = refl
+category_there (suc (suc (suc (suc zero)))) h = refl
+category_there (suc (suc (suc (suc (suc zero))))) h = refl
+category_there (suc (suc (suc (suc (suc (suc b)))))) h = absurd cc
+
 pub class_kept : (code : ℕ) → is_some (class_of code) ≡ true → class_code (class_at code) ≡ code
 unfolding class_code
 class_kept zero h = refl
 class_kept (suc zero) h = refl
 class_kept (suc (suc b)) h = absurd cc
+
+pub class_there : (code : ℕ) → class_code (class_at code) ≡ code → is_some (class_of code) ≡ true
+unfolding class_code
+class_there zero h = refl
+class_there (suc zero) h = refl
+class_there (suc (suc b)) h = absurd cc
 
 kind_stays : (code : ℕ) → is_some (kind_of code) ≡ true → kind_code (Some (kind_at code)) ≡ code
 unfolding kind_code
@@ -49,6 +76,13 @@ kind_stays zero h = absurd cc
 kind_stays (suc zero) h = refl
 kind_stays (suc (suc zero)) h = refl
 kind_stays (suc (suc (suc b))) h = absurd cc
+
+pub kind_there : (code : ℕ) → kind_code (Some (kind_at code)) ≡ code → is_some (kind_of code) ≡ true
+unfolding kind_code
+kind_there zero h = absurd cc
+kind_there (suc zero) h = refl
+kind_there (suc (suc zero)) h = refl
+kind_there (suc (suc (suc b))) h = absurd cc
 
 pub status_there : (c : Category) (code : ℕ) → is_some (status_of code) ≡ true → IsStatusOf c code
 unfolding status_code
@@ -62,6 +96,14 @@ unfolding status_code
 status_null c zero e h = record { kept = refl; there = λ u. absurd (h u) }
 status_null c (suc s) e h = absurd (omega arith)
 
+-- a code of a status that stands for none is that of null, and isn't that of a usage row
+pub status_none : (c : Category) (code : ℕ) → is_some (status_of code) ≡ false → IsStatusOf c code → (code ≡ 0) × (c ≡ category.Usage → ⊥)
+unfolding status_code
+status_none c zero e h = (refl, λ u. let there = h.there u in absurd cc)
+status_none c (suc zero) e h = absurd cc
+status_none c (suc (suc zero)) e h = absurd cc
+status_none c (suc (suc (suc b))) e h = let kept = h.kept in absurd cc
+
 pub quantity_there : (b : Bool) (z : ℤ) → b ≡ true → quantity_kept (quantity_of b z) ≡ z
 unfolding quantity_kept quantity_of
 quantity_there true z e = refl
@@ -71,6 +113,11 @@ pub quantity_null : (b : Bool) (z : ℤ) → pos 0 ≡ z → quantity_kept (quan
 unfolding quantity_kept quantity_of
 quantity_null true z e = refl
 quantity_null false z e = e
+
+pub null_is_zero : (b : Bool) (z : ℤ) → b ≡ false → quantity_kept (quantity_of b z) ≡ z → nat_abs z ≡ 0
+unfolding quantity_kept quantity_of
+null_is_zero true z f e = absurd cc
+null_is_zero false z f e = ap nat_abs (sym e)
 
 pub zero_abs : (z : ℤ) → nat_abs z ≡ 0 → pos 0 ≡ z
 zero_abs (pos zero) e = refl
@@ -92,6 +139,15 @@ short_there names (suc p) place t le is lt e h =
     let here : t ≡ get_or names p [] = sym (get_or_from_slice_get names place t [] e) ∙ ap (λ k. get_or names k []) same in
     record { within = omega (arith, same, lt); short = subst IsShortText here h }
 
+-- the text of a code that isn't null
+pub text_there : (names : List Text) (code place : ℕ) (t : Text) → 1 ≤ code → place ≡ code - 1 → slice_get names place ≡ Some t → IsShortCode names code → IsShortText t
+unfolding text_of text_at
+text_there names zero place t le is e h = absurd (omega arith)
+text_there names (suc p) place t le is e h =
+    let same : place ≡ p = omega (arith, is) in
+    let here : t ≡ get_or names p [] = sym (get_or_from_slice_get names place t [] e) ∙ ap (λ k. get_or names k []) same in
+    subst IsShortText (sym here) h.short
+
 pub discount_null : (names : List Text) (c : Category) (id k s : ℕ) → id ≡ 0 → k ≡ 0 → s ≡ 0 → IsDiscountKept names c id k s
 unfolding text_of discount_of kind_kept status_kept
 discount_null names c zero k s e f g = record { within = omega arith; rules = tt; kind = sym f; status = sym g }
@@ -106,6 +162,21 @@ discount_there names c (suc p) k s e h f g = record {
   kind = kind_stays k f;
   status = g.kept;
 }
+
+-- what the codes of a discount are, where there is none and where there is one
+pub no_discount : (names : List Text) (c : Category) (id k s : ℕ) → id ≡ 0 → IsDiscountKept names c id k s → (k ≡ 0) × (s ≡ 0)
+unfolding text_of discount_of kind_kept status_kept
+no_discount names c zero k s e h = (sym h.kind, sym h.status)
+no_discount names c (suc p) k s e h = absurd (omega arith)
+
+pub some_discount : (names : List Text) (c : Category) (id k s : ℕ) → (id ≡ 0 → ⊥) → IsDiscountKept names c id k s
+    → IsShortCode names id × ((is_some (kind_of k) ≡ true) × IsStatusOf c s)
+unfolding text_of discount_of kind_kept status_kept
+some_discount names c zero k s e h = absurd (e refl)
+some_discount names c (suc p) k s e h = (
+  record { within = h.within; short = h.rules.id },
+  (kind_there k h.kind, record { kept = h.status; there = h.rules.status }),
+)
 
 -- ---- lists up to a place
 
@@ -140,24 +211,45 @@ module _ (names : List Text) (seen : ℕ) where
       let known : IsKnown front (get_or names place []) = subst (IsKnown front) (get_or-take seen names place [] lt) (there front place (omega (arith, size, lt))) in
       record { seen = sym (known_adds_nothing front (get_or names place []) known); few = few }
 
-  new_there : AreDistinct names → seen < length names → (b : Bool) → list_any (bytes_eq (get_or names seen [])) (take seen names) ≡ b → b ≡ false
-  unfolding place_of
-  new_there distinct lt false e = refl
-  new_there distinct lt true e =
-      let front = take seen names in
-      let t = get_or names seen [] in
-      let size : length front ≡ seen = length-take-le seen names (omega (arith, lt)) in
-      let below : position_or_len (bytes_eq t) front < length front = place-there (bytes_eq t) front e in
-      let kept : position_or_len (bytes_eq t) (front ++ drop seen names) ≡ position_or_len (bytes_eq t) front = place-kept (bytes_eq t) front (drop seen names) below in
-      let whole : position_or_len (bytes_eq t) (front ++ drop seen names) ≡ position_or_len (bytes_eq t) names = ap (position_or_len (bytes_eq t)) (take-append-drop seen names) in
-      let here : position_or_len (bytes_eq t) names ≡ seen = place_at names seen [] distinct lt in
-      absurd (omega (arith, size, below, kept, whole, here))
-
   pub seen_new : AreDistinct names → seen < length names → HaveSeen names seen (seen + 1) (text_at names seen ∷ [])
   unfolding with_texts with_text text_at
   seen_new distinct lt =
-      let missing : list_any (bytes_eq (get_or names seen [])) (take seen names) ≡ false = (let b = list_any (bytes_eq (get_or names seen [])) (take seen names) in new_there distinct lt b refl) in
+      let missing : list_any (bytes_eq (get_or names seen [])) (take seen names) ≡ false = is_new names seen seen distinct (omega arith) lt in
       record { seen = rw missing (take_more names seen [] lt); few = omega (arith, lt) }
+
+  -- a text behind the next one comes too early
+  pub seen_early : (place : ℕ) → AreDistinct names → seen < place → place < length names → AreOutOfTurn names seen (text_at names place ∷ [])
+  unfolding with_texts with_text text_at place_of
+  seen_early place distinct early lt = record {
+    others =
+        λ more made.
+        let t = get_or names place [] in
+        let front = take seen names in
+        let size : length front ≡ seen = length-take-le seen names (omega (arith, early, lt)) in
+        let new : list_any (bytes_eq t) front ≡ false = is_new names seen place distinct (omega (arith, early)) lt in
+        let grown = with_texts-grows (front ++ t ∷ []) more in
+        let pushed : with_text front t ≡ front ++ t ∷ [] = rw new refl in
+        let is : names ≡ (front ++ t ∷ []) ++ grown.0 = made ∙ (ap (λ ns. with_texts ns more) pushed ∙ grown.1) in
+        let last : position_or_len (bytes_eq t) (front ++ t ∷ []) ≡ length front = at_its_end front t new in
+        let long : length (front ++ t ∷ []) ≡ length front + 1 = length-append front (t ∷ []) in
+        let kept : position_or_len (bytes_eq t) ((front ++ t ∷ []) ++ grown.0) ≡ position_or_len (bytes_eq t) (front ++ t ∷ []) = place-kept (bytes_eq t) (front ++ t ∷ []) grown.0 (omega (arith, last, long)) in
+        let whole : position_or_len (bytes_eq t) names ≡ position_or_len (bytes_eq t) ((front ++ t ∷ []) ++ grown.0) = ap (position_or_len (bytes_eq t)) is in
+        let here : position_or_len (bytes_eq t) names ≡ place = place_at names place [] distinct lt in
+        absurd (omega (arith, size, last, kept, whole, here, early));
+  }
+
+  pub out_more : (xs ys : List Text) → AreOutOfTurn names seen xs → AreOutOfTurn names seen (xs ++ ys)
+  out_more xs ys out = record { others = λ more made. out.others (ys ++ more) (made ∙ ap (with_texts (take seen names)) (append_assoc xs ys more)) }
+
+pub out_behind : (names : List Text) (a b : ℕ) (xs ys : List Text) → HaveSeen names a b xs → AreOutOfTurn names b ys → AreOutOfTurn names a (xs ++ ys)
+out_behind names a b xs ys one out = record {
+  others =
+      λ more made.
+      out.others more
+      (made
+      ∙ (ap (with_texts (take a names)) (append_assoc xs ys more)
+      ∙ (with_texts-append (take a names) xs (ys ++ more) ∙ ap (λ ns. with_texts ns (ys ++ more)) (sym one.seen))));
+}
 
 pub seen_then : (names : List Text) (a b c : ℕ) (xs ys : List Text) → HaveSeen names a b xs → HaveSeen names b c ys → HaveSeen names a c (xs ++ ys)
 seen_then names a b c xs ys one two =
@@ -179,6 +271,13 @@ pub seen_in_turn : (names : List Text) (a b c d e : ℕ) (id unit sku account ta
 seen_in_turn names a b c d e id unit sku account tags one two three four None h = tt
 seen_in_turn names a b c d e id unit sku account tags one two three four (Some now) h =
     seen_then names a b now id _ one (seen_then names b c now unit _ two (seen_then names c d now sku _ three (seen_then names d e now account tags four h)))
+
+-- and those of a row the last of which are out of turn
+pub out_in_turn : (names : List Text) (a b c d e : ℕ) (id unit sku account tags : List Text) → HaveSeen names a b id → HaveSeen names b c unit → HaveSeen names c d sku → HaveSeen names d e account
+    → (r : Option ℕ) → IfNone r (AreOutOfTurn names e tags) → IfNone r (AreOutOfTurn names a (id ++ (unit ++ (sku ++ (account ++ tags)))))
+out_in_turn names a b c d e id unit sku account tags one two three four (Some now) h = tt
+out_in_turn names a b c d e id unit sku account tags one two three four None h =
+    out_behind names a b id _ one (out_behind names b c unit _ two (out_behind names c d sku _ three (out_behind names d e account tags four h)))
 
 -- ---- tags
 
@@ -210,6 +309,27 @@ texts_more f n =
     ∙ (ap (flat_map all) (map-range_with_len_more f 0 n n (omega arith))
     ∙ (flat_map-append all (map f (range_with_len 0 n)) (f n ∷ [])
     ∙ (λ j. flat_map-map all f (range_with_len 0 n) j ++ last j)))
+
+-- the texts before a place, those at it, and those behind it
+pub texts_around : (f : ℕ → List Text) (i n : ℕ) → i < n → (more : List Text) × (flat_map f (range_with_len 0 n) ≡ flat_map f (range_with_len 0 i) ++ (f i ++ more))
+texts_around f i zero lt = absurd (omega arith)
+texts_around f i (suc n) lt = by (ltb i n) refl (texts_around f i n)
+  where
+    last : flat_map f (range_with_len 0 (suc n)) ≡ flat_map f (range_with_len 0 n) ++ f n
+    last = let next : suc n ≡ n + 1 = omega arith in ap (λ k. flat_map f (range_with_len 0 k)) next ∙ texts_more f n
+
+    by : (b : Bool) → ltb i n ≡ b → (i < n → (more : List Text) × (flat_map f (range_with_len 0 n) ≡ flat_map f (range_with_len 0 i) ++ (f i ++ more)))
+        → (more : List Text) × (flat_map f (range_with_len 0 (suc n)) ≡ flat_map f (range_with_len 0 i) ++ (f i ++ more))
+    by true e around =
+        let before = around (ltb-true i n e) in
+        let front = flat_map f (range_with_len 0 i) in (
+          before.0 ++ f n,
+          last ∙ (ap (λ ts. ts ++ f n) before.1 ∙ (append_assoc front (f i ++ before.0) (f n) ∙ ap (λ ts. front ++ ts) (append_assoc (f i) before.0 (f n)))),
+        )
+    by false e around =
+        let le : n ≤ i = ltb-false i n e in
+        let same : n ≡ i = omega (arith, le, lt) in
+        ([], last ∙ ((λ j. flat_map f (range_with_len 0 (same j)) ++ f (same j)) ∙ ap (λ ts. flat_map f (range_with_len 0 i) ++ ts) (sym (append-nil (f i)))))
 
 -- ---- lists that are numbered
 

@@ -1,5 +1,5 @@
 -- When columns that were put together elsewhere are those of rows.
-use Rattle.std.specs.Prelude.{◌≡◌, ◌<◌, ◌≤◌, ◌*◌, ◌/◌, ◌++◌, ℕ, ℤ, pos, nat_abs, false, List, [], length, map, take, slice_index_or, option_to_list, IfSome, IsSome, All}
+use Rattle.std.specs.Prelude.{◌≡◌, ◌<◌, ◌≤◌, ◌*◌, ◌/◌, ◌++◌, ℕ, ℤ, pos, nat_abs, Bool, false, List, [], length, map, take, slice_index_or, option_to_list, IfSome, IsSome, All}
 use Rattle.std.specs.List.{flat_map, range_with_len}
 use Rattle.fw_money.specs.Amount.{most_nanos}
 use Rattle.fw_charge.specs.Charge.{IsShortText, IsDiscountOf, last_second}
@@ -63,6 +63,10 @@ pub record IsPeriod (from : ℤ) (to : ℕ) : Type 0 where
   pub ordered : nat_abs from ≤ to
   pub dated : to ≤ last_second
 
+-- what a quantity is kept as
+abbrev pub IsQuantityKept : Bool → ℤ → Type 0
+IsQuantityKept is_there quantity = quantity_kept (quantity_of is_there quantity) ≡ quantity
+
 -- the code of a short text, or of null
 pub record IsShortCode (names : List Text) (code : ℕ) : Type 0 where
   pub within : code ≤ length names
@@ -83,13 +87,17 @@ pub record HasValues (t : Table) (i : ℕ) : Type 0 where
   pub period : IsPeriod (slice_index_or t.starts.items i (pos 0)) (slice_index_or t.ends.items i 0)
   pub discount : IsDiscountKept t.names (category_at (slice_index_or t.categories.items i 0)) (slice_index_or t.discounts.items i 0) (slice_index_or t.kinds.items i 0) (slice_index_or t.statuses.items i 0)
   pub count : nat_abs (slice_index_or t.quantities.items i (pos 0)) ≤ most_nanos
-  pub quantity : quantity_kept (quantity_of (slice_index_or t.has_quantity.items i false) (slice_index_or t.quantities.items i (pos 0))) ≡ slice_index_or t.quantities.items i (pos 0)
+  pub quantity : IsQuantityKept (slice_index_or t.has_quantity.items i false) (slice_index_or t.quantities.items i (pos 0))
   pub texts : HaveShortCodes t i
 
 -- the names so far, once texts were seen in turn: the first of all names
 pub record HaveSeen (names : List Text) (before now : ℕ) (texts : List Text) : Type 0 where
   pub seen : take now names ≡ with_texts (take before names) texts
   pub few : now ≤ length names
+
+-- texts that can't be seen next: the names aren't those so far and then those of these texts, whatever texts follow
+pub record AreOutOfTurn (names : List Text) (before : ℕ) (texts : List Text) : Type 0 where
+  pub others : (more : List Text) → ¬ (names ≡ with_texts (take before names) (texts ++ more))
 
 -- the texts of the row at a place in turn
 unfoldable pub texts_there : Table → ℕ → List Text

@@ -1,10 +1,11 @@
 //! Whether columns that were put together elsewhere are those of rows.
-ghost use Rattle.std.specs.Prelude.{◌≡◌, ◌<◌, ◌≤◌, true, [], ◌∷◌, length, map, pos, nat_abs, option_to_list, slice_index_or, All, IfSome, IsTrue};
+ghost use Rattle.std.specs.Prelude.{◌≡◌, ◌<◌, ◌≤◌, ◌↔◌, [], ◌∷◌, List, length, map, pos, nat_abs, option_to_list, slice_index_or, All, IfNone, IfSome, IsTrue};
+ghost use Rattle.fw_charge.specs.Charge.{Charge};
 ghost use Rattle.fw_charge.specs.Codes.{category_code, class_code};
 ghost use Rattle.fw_charge.specs.Tags.{longest_tag_text};
 ghost use Rattle.fw_money.specs.Amount.{most_nanos};
-ghost use Rattle.fw_columns.specs.Parts.{AreNumbered, lists_there, HaveLength, HaveRows, HaveShortCodes, HasValues, IsTagList, IsDiscountKept, IsPeriod, IsShortCode, IsStatusOf, HaveSeen, texts_there};
-ghost use Rattle.fw_row_table.specs.Table.{AreColumns, rows_of, category_at, class_at, quantity_kept, quantity_of, text_at, text_of, tags_of};
+ghost use Rattle.fw_columns.specs.Parts.{AreNumbered, AreOutOfTurn, lists_there, HaveLength, HaveRows, HaveSeen, HaveShortCodes, HasValues, IsDiscountKept, IsPeriod, IsQuantityKept, IsShortCode, IsStatusOf, IsTagList, texts_there};
+ghost use Rattle.fw_row_table.specs.Table.{AreColumns, rows_of, category_at, class_at, text_at, text_of, tags_of};
 ghost use Rattle.fw_bytes.specs.Order.{rise};
 
 use crate::columns::Columns;
@@ -20,6 +21,8 @@ pub fn are_columns(table: &Table) -> bool
     requires numbered { AreNumbered table.now.lists table.now.tags.items (lists_there table.now.lists table.now.tags.items) }
     ensures some { IsTrue result → 0 < length (rows_of table.now) }
     ensures columns { IsTrue result → AreColumns table.now (rows_of table.now) }
+    ensures of_rows { (rows : List Charge) → 0 < length rows
+        → AreColumns table.now rows → IsTrue result }
 {
     // Proves that no text is there twice.
     let _names = table.names.len();
@@ -44,7 +47,7 @@ pub fn are_columns(table: &Table) -> bool
 
 /// Whether each column has as many values as there are billed costs.
 fn have_length(table: &Table) -> bool
-    ensures { IsTrue result → HaveLength table.now (length table.now.billed.items) }
+    ensures { IsTrue result ↔ HaveLength table.now (length table.now.billed.items) }
 {
     let count = table.billed.len();
     table.effective.len() == count
@@ -65,7 +68,7 @@ fn have_length(table: &Table) -> bool
 
 /// Whether no text has more than 1,024 bytes.
 fn are_sized(names: &Names) -> bool
-    ensures { IsTrue result → All (λ text. length text ≤ longest_tag_text) names.now }
+    ensures { IsTrue result ↔ All (λ text. length text ≤ longest_tag_text) names.now }
 {
     for place in 0..names.len() as u32 {
         if names.text(place).len() > Tag::LONGEST {
@@ -78,7 +81,7 @@ fn are_sized(names: &Names) -> bool
 /// Whether each list stands for tags, as texts of at most 1,024 bytes.
 fn are_tag_lists(names: &Names, lists: &Lists) -> bool
     requires { All (λ text. length text ≤ longest_tag_text) names.now }
-    ensures { IsTrue result → All (IsTagList names.now) lists.now }
+    ensures { IsTrue result ↔ All (IsTagList names.now) lists.now }
 {
     for place in 0..lists.len() as u32 {
         if !is_tag_list(names, lists.list(place)) {
@@ -91,7 +94,7 @@ fn are_tag_lists(names: &Names, lists: &Lists) -> bool
 /// Whether a list of places stands for tags.
 fn is_tag_list(names: &Names, list: &[u32]) -> bool
     requires { All (λ text. length text ≤ longest_tag_text) names.now }
-    ensures { IsTrue result → IsTagList names.now list.now }
+    ensures { IsTrue result ↔ IsTagList names.now list.now }
 {
     if list.len() % 2 != 0 {
         return false;
@@ -107,7 +110,7 @@ fn is_tag_list(names: &Names, list: &[u32]) -> bool
 
 /// Whether there is a name at each place.
 fn are_within(names: &Names, list: &[u32]) -> bool
-    ensures { IsTrue result → All (λ place. place < length names.now) list.now }
+    ensures { IsTrue result ↔ All (λ place. place < length names.now) list.now }
 {
     let count = names.len();
     for place in list {
@@ -121,7 +124,7 @@ fn are_within(names: &Names, list: &[u32]) -> bool
 /// Whether the keys at the places of tags rise strictly in the order of their bytes.
 fn keys_rise(names: &Names, list: &[u32]) -> bool
     requires { All (λ place. place < length names.now) list.now }
-    ensures { IsTrue result → rise (map (λ t. t.key) (tags_of names.now list.now)) ≡ true }
+    ensures { result ≡ rise (map (λ t. t.key) (tags_of names.now list.now)) }
 {
     let [first, _, rest @ ..] = list else {
         return true;
@@ -142,28 +145,28 @@ fn keys_rise(names: &Names, list: &[u32]) -> bool
 /// Whether the amount at a place is in range.
 fn is_amount(column: &[i64], place: usize) -> bool
     requires { place < length column.now }
-    ensures { IsTrue result → nat_abs (slice_index_or column.now place (pos 0)) ≤ most_nanos }
+    ensures { IsTrue result ↔ (nat_abs (slice_index_or column.now place (pos 0)) ≤ most_nanos) }
 {
     column[place].unsigned_abs() <= Nanos::MOST as u64
 }
 
 /// Whether a code is that of a category.
 fn is_category(code: u8) -> bool
-    ensures { IsTrue result → category_code (category_at code) ≡ code }
+    ensures { IsTrue result ↔ (category_code (category_at code) ≡ code) }
 {
     Category::from_code(code).is_some()
 }
 
 /// Whether a code is that of a class.
 fn is_class(code: u8) -> bool
-    ensures { IsTrue result → class_code (class_at code) ≡ code }
+    ensures { IsTrue result ↔ (class_code (class_at code) ≡ code) }
 {
     class_from_code(code).is_some()
 }
 
 /// Whether a code is that of a short text, or of null.
 fn is_short_code(names: &Names, code: u32) -> bool
-    ensures { IsTrue result → IsShortCode names.now code }
+    ensures { IsTrue result ↔ IsShortCode names.now code }
 {
     match code.checked_sub(1) {
         None => true,
@@ -173,7 +176,7 @@ fn is_short_code(names: &Names, code: u32) -> bool
 
 /// Whether codes are those that the parts of a discount are kept as, in a row of a category.
 fn is_discount(names: &Names, category: Category, id: u32, kind: u8, status: u8) -> bool
-    ensures { IsTrue result → IsDiscountKept names.now category id kind status }
+    ensures { IsTrue result ↔ IsDiscountKept names.now category id kind status }
 {
     if id == 0 {
         return kind == 0 && status == 0;
@@ -189,7 +192,7 @@ fn is_discount(names: &Names, category: Category, id: u32, kind: u8, status: u8)
 
 /// Whether a code is that of a status that a discount may have in a row of a category.
 fn is_status(category: Category, code: u8) -> bool
-    ensures { IsTrue result → IsStatusOf category code }
+    ensures { IsTrue result ↔ IsStatusOf category code }
 {
     if DiscountStatus::from_code(code).is_some() {
         return true;
@@ -203,7 +206,7 @@ fn is_status(category: Category, code: u8) -> bool
 /// Whether the second at a place and a second after it bound a period.
 fn is_period(starts: &[i64], place: usize, end: u64) -> bool
     requires { place < length starts.now }
-    ensures { IsTrue result → IsPeriod (slice_index_or starts.now place (pos 0)) end }
+    ensures { IsTrue result ↔ IsPeriod (slice_index_or starts.now place (pos 0)) end }
 {
     let start = starts[place];
     start >= 0 && start as u64 <= end && end <= LAST_SECOND
@@ -212,7 +215,7 @@ fn is_period(starts: &[i64], place: usize, end: u64) -> bool
 /// Whether the amount at a place is what a quantity is kept as.
 fn is_quantity(counts: &[i64], place: usize, is_there: bool) -> bool
     requires { place < length counts.now }
-    ensures { IsTrue result → quantity_kept (quantity_of is_there (slice_index_or counts.now place (pos 0))) ≡ slice_index_or counts.now place (pos 0) }
+    ensures { IsTrue result ↔ IsQuantityKept is_there (slice_index_or counts.now place (pos 0)) }
 {
     is_there || counts[place].unsigned_abs() == 0
 }
@@ -221,7 +224,7 @@ fn is_quantity(counts: &[i64], place: usize, is_there: bool) -> bool
 fn has_values(table: &Table, place: usize) -> bool
     requires all { HaveLength table.now (length table.now.billed.items) }
     requires within { place < length table.now.billed.items }
-    ensures { IsTrue result → HasValues table.now place }
+    ensures { IsTrue result ↔ HasValues table.now place }
 {
     if !is_amount(table.billed.as_slice(), place) {
         return false;
@@ -266,7 +269,7 @@ fn has_values(table: &Table, place: usize) -> bool
 fn has_texts(table: &Table, place: usize) -> bool
     requires all { HaveLength table.now (length table.now.billed.items) }
     requires within { place < length table.now.billed.items }
-    ensures { IsTrue result → HaveShortCodes table.now place }
+    ensures { IsTrue result ↔ HaveShortCodes table.now place }
 {
     let names = &table.names;
     if !is_short_code(names, table.units[place]) {
@@ -282,7 +285,9 @@ fn has_texts(table: &Table, place: usize) -> bool
 fn see_place(names: &Names, seen: u32, place: u32) -> Option<u32>
     requires seen { seen ≤ length names.now }
     requires place { place < length names.now }
-    ensures { IfSome result (λ now. HaveSeen names.now seen now (text_at names.now place ∷ [])) }
+    ensures some { IfSome result (λ now.
+        HaveSeen names.now seen now (text_at names.now place ∷ [])) }
+    ensures none { IfNone result (AreOutOfTurn names.now seen (text_at names.now place ∷ [])) }
 {
     prove!(names.len() <= 1 << 30);
     if place < seen {
@@ -298,7 +303,10 @@ fn see_place(names: &Names, seen: u32, place: u32) -> Option<u32>
 fn see_code(names: &Names, seen: u32, code: u32) -> Option<u32>
     requires seen { seen ≤ length names.now }
     requires code { code ≤ length names.now }
-    ensures { IfSome result (λ now. HaveSeen names.now seen now (option_to_list (text_of names.now code))) }
+    ensures some { IfSome result (λ now.
+        HaveSeen names.now seen now (option_to_list (text_of names.now code))) }
+    ensures none { IfNone result
+        (AreOutOfTurn names.now seen (option_to_list (text_of names.now code))) }
 {
     match code.checked_sub(1) {
         None => Some(seen),
@@ -310,7 +318,9 @@ fn see_code(names: &Names, seen: u32, code: u32) -> Option<u32>
 fn see_list(names: &Names, seen: u32, list: &[u32]) -> Option<u32>
     requires seen { seen ≤ length names.now }
     requires list { All (λ place. place < length names.now) list.now }
-    ensures { IfSome result (λ now. HaveSeen names.now seen now (map (text_at names.now) list.now)) }
+    ensures some { IfSome result (λ now.
+        HaveSeen names.now seen now (map (text_at names.now) list.now)) }
+    ensures none { IfNone result (AreOutOfTurn names.now seen (map (text_at names.now) list.now)) }
 {
     let mut now = seen;
     for place in list {
@@ -330,7 +340,9 @@ fn see_row(table: &Table, seen: u32, place: usize) -> Option<u32>
     requires values { HasValues table.now place }
     requires lists { All (IsTagList table.now.names) table.now.lists }
     requires list { slice_index_or table.now.tags.items place 0 < length table.now.lists }
-    ensures { IfSome result (λ now. HaveSeen table.now.names seen now (texts_there table.now place)) }
+    ensures some { IfSome result (λ now.
+        HaveSeen table.now.names seen now (texts_there table.now place)) }
+    ensures none { IfNone result (AreOutOfTurn table.now.names seen (texts_there table.now place)) }
 {
     let names = &table.names;
     let seen = see_code(names, seen, table.discounts[place])?;
@@ -345,7 +357,7 @@ fn have_rows(table: &Table) -> bool
     requires all { HaveLength table.now (length table.now.billed.items) }
     requires lists { All (IsTagList table.now.names) table.now.lists }
     requires tags { All (λ place. place < length table.now.lists) table.now.tags.items }
-    ensures { IsTrue result → HaveRows table.now (length table.now.billed.items) }
+    ensures { IsTrue result ↔ HaveRows table.now (length table.now.billed.items) }
 {
     let mut seen = 0;
     for place in 0..table.billed.len() {

@@ -1,6 +1,6 @@
 //! Columns that were put together elsewhere.
-ghost use Rattle.std.specs.Prelude.{IfOk, IfSome};
-ghost use Rattle.fw_columns.specs.PartsView.{AreParts};
+ghost use Rattle.std.specs.Prelude.{◌↔◌, IfOk, IfSome, IsNone};
+ghost use Rattle.fw_columns.specs.PartsView.{AreParts, HaveNoRows};
 
 use crate::checking::are_columns;
 use crate::columns::Columns;
@@ -46,10 +46,11 @@ pub struct Parts {
 }
 
 impl Columns {
-    /// The columns of the rows that have these columns. `None` where no rows have them, as where a name is no text of a row, or stands
-    /// before one that occurs earlier.
+    /// The columns of the rows that have these columns. `None` exactly where there are no such rows, 1 to 65,536 of them with amounts in range:
+    /// as where a name is no text of a row, or stands before one that occurs earlier.
     pub fn of_parts(alloc: Global, parts: Parts) -> Result<Option<Columns>, AllocError>
-        ensures { IfOk result (λ made. IfSome made (λ columns. AreParts parts columns)) }
+        ensures some { IfOk result (λ made. IfSome made (λ columns. AreParts parts columns)) }
+        ensures exactly { IfOk result (λ made. IsNone made ↔ HaveNoRows parts) }
     {
         let (lists, tags) = parts.tags.split();
         let table = Table {

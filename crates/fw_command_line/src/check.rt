@@ -1,6 +1,7 @@
 //! `focusd check`: all faults of CSV exports, and what is in them.
+use crate::exports::exports_argument;
 use crate::ids::CURRENCY;
-use crate::options::{command_with, files_argument, format_option, quiet_option};
+use crate::options::{command_with, format_option, quiet_option};
 use clap::{Arg, Command};
 use std::alloc::{AllocError, Global};
 
@@ -10,7 +11,10 @@ const FORMATS: [&str; 2] = ["text", "json"];
 const HELP: &str =
     "Each record is checked as a post's record is. Of a record with several faults each one is found: a field at fault is taken
 for a harmless one, and the record is checked again. Faults are grouped by code and column, each group with its first three
-places. Rows, hours, sums and tags are those of the records without a fault. `-` is standard input.
+places. Rows, hours, sums and tags are those of the records without a fault.
+
+`-` is standard input. A folder stands for its files whose names end in `.csv`, in the byte order of their names; folders in it are
+passed over.
 
 No warehouse is read. So it doesn't say what `focusd import` warns of or refuses: rows of hours and sub-accounts that another
 origin has too, posts behind those of the files, rows that won't fit, and ids of commitments of the warehouse.
@@ -40,10 +44,7 @@ fn options<'a>(alloc: Global) -> Result<Vec<Arg<'a>>, AllocError> {
         ),
         cost_currency(alloc),
         quiet_option(alloc),
-        files_argument(
-            alloc,
-            "A CSV with the columns of FOCUS 1.0, or `-` for standard input",
-        ),
+        exports_argument(alloc),
     ]?)
 }
 

@@ -1,5 +1,7 @@
 //! `focusd coverage`: how well commitments were used in a range of time.
-use crate::options::{command_with, folder_option, format_option, from_option, to_option};
+use crate::options::{command_with, folder_option, format_option};
+use crate::past::as_of_option;
+use crate::ranges::{from_option, last_option, month_option, to_option};
 use clap::{Arg, Command};
 use std::alloc::{AllocError, Global};
 
@@ -9,7 +11,9 @@ const FORMATS: [&str; 2] = ["table", "csv"];
 const EXAMPLE: &str =
     "T is a month (2024-01), a date (2024-01-31) or a time on a whole hour (2024-01-31T14:00Z), in UTC, and
 stands for the hour at which it begins. The range has the hours from --from up to, not including, --to, at
-most 26,304 of them: --from 2024-01 --to 2024-02 is January.
+most 26,304 of them: --month 2024-01 is --from 2024-01 --to 2024-02. Without these options it has all hours from
+the first row to the last one, and --last 3 months is the last three months of these; no clock is read. Rows of
+posts that were withdrawn don't count. Where the range comes from the rows, it is said on standard error.
 
 Each line is a commitment that runs in the range, or was paid for there. Capacity is its capacity of each hour
 of its term in the range, in its unit, or in the currency where it is one to a cost; Used is what rows used of
@@ -17,8 +21,10 @@ it, and Share is Used in percent of Capacity. UsedCost and UnusedCost are the Ef
 Used and Unused lines: what its purchases cost, spread over its term. BilledCost is what was paid for it in the
 range. A table shows hundredths and cents, rounded from the exact sums; csv is exact, to the nano.
 
+With --as-of N the answer is as of the first N entries of the warehouse: how it was when focusd status said that it had N entries.
+
 Example: which commitments were paid for and not used in January 2024
-  focusd coverage --dir costs --from 2024-01 --to 2024-02";
+  focusd coverage --dir costs --month 2024-01";
 
 // The options, in the order in which the help has them.
 fn options<'a>(alloc: Global) -> Result<Vec<Arg<'a>>, AllocError> {
@@ -26,6 +32,9 @@ fn options<'a>(alloc: Global) -> Result<Vec<Arg<'a>>, AllocError> {
         folder_option(alloc),
         from_option(alloc),
         to_option(alloc),
+        month_option(alloc)?,
+        last_option(alloc)?,
+        as_of_option(alloc),
         format_option(
             alloc,
             FORMATS.as_slice(),

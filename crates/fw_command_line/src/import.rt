@@ -1,14 +1,15 @@
 //! `focusd import`: CSV exports of any length are taken into a warehouse.
+use crate::exports::exports_argument;
 use crate::ids::ORIGIN;
-use crate::options::{
-    command_with, create_option, currency_option, files_argument, folder_option, quiet_option,
-};
+use crate::keeps::keep_option;
+use crate::options::{command_with, create_option, currency_option, folder_option, quiet_option};
 use clap::{Arg, Command};
 use std::alloc::{AllocError, Global};
 
 const HELP: &str =
     "The records of each FILE are posted in order, as many as a post can have: 4,096 rows, and 2 MiB of the file. `-` is
-standard input. A file's first record is its header, which may be another one in each file.
+standard input. A file's first record is its header, which may be another one in each file. A folder stands for its files whose
+names end in `.csv`, in the byte order of their names; folders in it are passed over.
 
 ORIGIN names the sender: 1 to 64 ASCII letters, digits, `-`, `_` and `.`. The posts of its files are its entries 1, 2, 3 ..
 in the order of the files. So give each export an origin of its own, or list all files of an origin, from the first one on.
@@ -16,6 +17,10 @@ in the order of the files. So give each export an origin of its own, or list all
 An import that was stopped goes on where it stopped: run it again with the same files. Each post that is there already is
 compared with the file; where they differ, as when a file has changed, the import stops and says so. A post is taken whole
 or not at all, and it is on the disk, by the word of the system, before the next one is read.
+
+`--keep` adds a tag to each row: the text that the record has in the column. An empty text adds none. A record whose Tags has the
+tag already is a fault, and so is a header that doesn't have the column once. The tags are part of the rows that are compared: so
+run an import again with the same `--keep` options, else it says that the rows differ.
 
 Where the rows won't fit into the warehouse, that is said, and nothing is imported. Two warnings change no status. One names an
 hour and a sub-account of the new rows of which another origin has rows too: the same export may have been imported before. One
@@ -27,6 +32,9 @@ read and the time that is left.
 Example: an export into a new warehouse, and one that is compressed
   focusd import --dir costs --create --origin aws-2024-01 january.csv
   zcat february.csv.gz | focusd import --dir costs --origin aws-2024-02 -
+
+Example: the name of the service as the tag `service`, and the region as the tag `RegionId`
+  focusd import --dir costs --origin aws-2024-03 --keep ServiceName=service --keep RegionId march.csv
 
 Exit status: 0 where all rows are in the warehouse, 1 where a file or the warehouse was refused or failed, 2 where the command
 line is wrong.";
@@ -50,11 +58,9 @@ fn options<'a>(alloc: Global) -> Result<Vec<Arg<'a>>, AllocError> {
         ),
         currency_option(alloc),
         origin_option(alloc),
+        keep_option(alloc),
         quiet_option(alloc),
-        files_argument(
-            alloc,
-            "A CSV with the columns of FOCUS 1.0, or `-` for standard input",
-        ),
+        exports_argument(alloc),
     ]?)
 }
 

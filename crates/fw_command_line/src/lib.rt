@@ -7,26 +7,38 @@ mod add;
 mod charge;
 mod check;
 mod checkpoint;
+mod commitments;
 mod compact;
+mod compare;
 mod coverage;
 mod dump;
 mod explain;
+mod export;
+mod exports;
 mod ids;
 mod import;
+mod keeps;
 mod line;
 mod lines;
 mod load;
 mod options;
+mod past;
+mod policy;
+mod ranges;
 mod replace;
 mod report;
 mod run;
+mod selection;
 mod split;
 mod status;
 mod verify;
+mod what_if;
 mod withdraw;
 
 pub use ids::{
-    ALL, ANALYSTS, BY, CODE, COMMITMENTS, CREATE, CURRENCY, DIR, DIRECT, DRY_RUN, FILES, FORMAT,
-    FROM, INTO, ORIGIN, OUT, POLICY, QUIET, SEQ, TAG, TO, TOP, WORKERS, YES,
+    ALL, ANALYSTS, AS_OF, BEFORE, BEFORE_TO, BY, CODE, COLUMN, COMMITMENTS, CREATE, CURRENCY,
+    DIGEST, DIR, DIRECT, DRY_RUN, EXPECT, FILES, FORMAT, FROM, INTO, KEEP, LAST, LISTED, MAP,
+    MONTH, NO_SYNC, ORIGIN, OUT, POLICY, QUIET, SEQ, STRICT, TAG, TO, TOP, TOTAL_ONLY, WHERE,
+    WHERE_NOT, WORKERS, YES,
 };
 pub use line::command_line;

@@ -1,7 +1,7 @@
 //! The whole command line.
 use crate::{
-    add, charge, check, checkpoint, compact, coverage, dump, explain, import, lines, load, replace,
-    report, run, split, status, verify, withdraw,
+    add, charge, check, checkpoint, commitments, compact, compare, coverage, dump, explain, export,
+    import, lines, load, policy, replace, report, run, split, status, verify, withdraw,
 };
 use clap::Command;
 use std::alloc::{AllocError, Global};
@@ -58,8 +58,12 @@ enum Name {
     Withdraw,
     Check,
     Report,
+    Compare,
     Lines,
+    Export,
     Coverage,
+    Commitments,
+    Policy,
     Status,
     Verify,
     Checkpoint,
@@ -72,7 +76,7 @@ enum Name {
 
 impl Name {
     /// All commands, in the order in which the help has them.
-    const ALL: [Name; 18] = [
+    const ALL: [Name; 22] = [
         Name::Run,
         Name::Import,
         Name::Load,
@@ -81,8 +85,12 @@ impl Name {
         Name::Withdraw,
         Name::Check,
         Name::Report,
+        Name::Compare,
         Name::Lines,
+        Name::Export,
         Name::Coverage,
+        Name::Commitments,
+        Name::Policy,
         Name::Status,
         Name::Verify,
         Name::Checkpoint,
@@ -104,8 +112,12 @@ impl Name {
             Name::Withdraw => withdraw::command(alloc),
             Name::Check => check::command(alloc),
             Name::Report => report::command(alloc),
+            Name::Compare => compare::command(alloc),
             Name::Lines => lines::command(alloc),
+            Name::Export => export::command(alloc),
             Name::Coverage => coverage::command(alloc),
+            Name::Commitments => commitments::command(alloc),
+            Name::Policy => policy::command(alloc),
             Name::Status => status::command(alloc),
             Name::Verify => verify::command(alloc),
             Name::Checkpoint => checkpoint::command(alloc),

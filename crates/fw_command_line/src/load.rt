@@ -1,6 +1,8 @@
 //! `focusd load`: files are loaded side by side.
 use crate::ids::{ANALYSTS, ORIGIN};
-use crate::options::{command_with, create_option, currency_option, dir_option, files_argument};
+use crate::options::{
+    command_with, create_option, currency_option, dir_option, files_argument, strict_option,
+};
 use clap::{Arg, Command, value_parser};
 use std::alloc::{AllocError, Global};
 
@@ -20,7 +22,8 @@ Example: three files into a new warehouse, then two more
   focusd load --dir costs --create --origin aws-2024-01 one.csv two.csv three.csv
   focusd load --dir costs --origin aws-2024-02 four.csv five.csv
 
-Exit status: 0 where each file was answered, also by `refused`; 1 where the disk failed or had no room; 2 where the command line is wrong.";
+Exit status: 0 where each file was answered, also by `refused`; 1 where the disk failed or had no room; 2 where the command line is wrong;
+3 with --strict where a file was answered neither `accepted` nor `already`.";
 
 // The option that says how many analysts there are.
 fn analysts_option<'a>(alloc: Global) -> Arg<'a> {
@@ -54,6 +57,7 @@ fn options<'a>(alloc: Global) -> Result<Vec<Arg<'a>>, AllocError> {
         ),
         analysts_option(alloc),
         origin_option(alloc),
+        strict_option(alloc),
         files_argument(alloc, "A CSV with the columns of FOCUS 1.0"),
     ]?)
 }

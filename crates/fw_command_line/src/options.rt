@@ -3,7 +3,8 @@ ghost use Rattle.std.specs.Prelude.{◌≡◌, Some, false, true, option_map, co
 ghost use Rattle.clap.specs.declared.builder.action.ArgAction.TheVariants.{SetTrue};
 
 use crate::ids::{
-    BY, CREATE, CURRENCY, DIR, DRY_RUN, FILES, FORMAT, FROM, ORIGIN, QUIET, TAG, TO, TOP, YES,
+    BY, CREATE, CURRENCY, DIR, DRY_RUN, FILES, FORMAT, FROM, ORIGIN, QUIET, STRICT, TAG, TO, TOP,
+    YES,
 };
 use clap::{Arg, ArgAction, Command};
 use std::alloc::{AllocError, Global};
@@ -121,6 +122,16 @@ pub(crate) fn quiet_option<'a>(alloc: Global) -> Arg<'a>
         .help("Prints no progress")
 }
 
+/// The option that has a refused entry end the program with a status of its own.
+pub(crate) fn strict_option<'a>(alloc: Global) -> Arg<'a>
+    ensures { result.action ≡ Some SetTrue }
+{
+    Arg::new(alloc, STRICT)
+        .long("strict")
+        .action(ArgAction::SetTrue)
+        .help("Ends with status 3 where an entry was refused, and says how many were")
+}
+
 /// The option that writes nothing.
 pub(crate) fn dry_run_option<'a>(alloc: Global, help: &'a str) -> Arg<'a>
     ensures { result.action ≡ Some SetTrue }
@@ -150,30 +161,12 @@ pub(crate) fn poster_option<'a>(alloc: Global) -> Arg<'a> {
         .help("Who sent the posts")
 }
 
-// The option that takes a time.
-fn time_option<'a>(alloc: Global, id: &'a str, help: &'a str) -> Arg<'a>
+/// The option that takes a time.
+pub(crate) fn time_option<'a>(alloc: Global, id: &'a str, help: &'a str) -> Arg<'a>
     ensures name { result.long ≡ Some id.entry }
     ensures given { result.required ≡ false }
 {
     Arg::new(alloc, id).long(id).value_name("T").help(help)
-}
-
-// The option that takes a time, where it has to be given.
-fn needed_time<'a>(alloc: Global, id: &'a str, help: &'a str) -> Arg<'a>
-    ensures name { result.long ≡ Some id.entry }
-    ensures required { result.required ≡ true }
-{
-    time_option(alloc, id, help).required(true)
-}
-
-/// The option that says when the range begins.
-pub(crate) fn from_option<'a>(alloc: Global) -> Arg<'a> {
-    needed_time(alloc, FROM, FROM_HELP)
-}
-
-/// The option that says when the range ends.
-pub(crate) fn to_option<'a>(alloc: Global) -> Arg<'a> {
-    needed_time(alloc, TO, TO_HELP)
 }
 
 /// The option that says when the range begins, where there needn't be one.

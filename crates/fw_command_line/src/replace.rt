@@ -1,14 +1,16 @@
 //! `focusd replace`: what an origin sent is replaced by an export that was sent again.
+use crate::exports::exports_argument;
 use crate::options::{
-    command_with, dry_run_option, files_argument, folder_option, perhaps_from_option,
-    perhaps_to_option, poster_option, quiet_option,
+    command_with, dry_run_option, folder_option, perhaps_from_option, perhaps_to_option,
+    poster_option, quiet_option,
 };
 use clap::{Arg, Command};
 use std::alloc::{AllocError, Global};
 
 const HELP: &str =
     "Providers send a month again until it is closed. The rows of the FILEs take the place of those that the origin NAME sent, or, with
---from and --to, of those that it sent for this range. `-` is standard input. The warehouse has to be there.
+--from and --to, of those that it sent for this range. `-` is standard input. A folder stands for its files whose names end in
+`.csv`, in the byte order of their names. The warehouse has to be there.
 
 All files are read first, and where one has a fault nothing is done. They are cut into posts as `focusd import` cuts them. A post
 of the origin that has the same rows stays; the others are withdrawn; and what the files have more is posted. So a month whose
@@ -38,10 +40,7 @@ fn options<'a>(alloc: Global) -> Result<Vec<Arg<'a>>, AllocError> {
         perhaps_to_option(alloc),
         dry_run_option(alloc, "Writes nothing: says what would change"),
         quiet_option(alloc),
-        files_argument(
-            alloc,
-            "A CSV with the columns of FOCUS 1.0, or `-` for standard input",
-        ),
+        exports_argument(alloc),
     ]?)
 }
 

@@ -1,16 +1,21 @@
 //! `focusd report`: what each group of a tag cost in a range of time.
-use crate::ids::{DIRECT, FORMAT, TOP};
-use crate::options::{
-    by_option, command_with, folder_option, from_option, report_format_option, tag_option,
-    to_option, top_option,
+use crate::ids::{COLUMN, DIRECT, FORMAT, MAP, TOP, TOTAL_ONLY, WHERE, WHERE_NOT};
+use crate::options::{by_option, command_with, folder_option, report_format_option, top_option};
+use crate::past::as_of_option;
+use crate::ranges::{from_option, last_option, month_option, to_option};
+use crate::selection::{
+    column_option, map_option, tags_option, total_only_option, where_not_option, where_option,
 };
+use crate::what_if::other_policy_option;
 use clap::{Arg, ArgAction, Command};
 use std::alloc::{AllocError, Global};
 
 const EXAMPLE: &str =
     "T is a month (2024-01), a date (2024-01-31) or a time on a whole hour (2024-01-31T14:00Z), in UTC, and
 stands for the hour at which it begins. The range has the hours from --from up to, not including, --to, at
-most 26,304 of them: --from 2024-01 --to 2024-02 is January.
+most 26,304 of them: --month 2024-01 is --from 2024-01 --to 2024-02. Without these options it has all hours from
+the first row to the last one, and --last 3 months is the last three months of these; no clock is read. Rows of
+posts that were withdrawn don't count. Where the range comes from the rows, it is said on standard error.
 
 Each group is a value of the tag. BilledCost is what was billed; EffectiveCost spreads what commitments cost
 over the hours and rows that used them; ChargedCost shares common costs by the policy. A table and a page
@@ -20,19 +25,49 @@ With --by the range is cut where a new hour, day or month begins, and each perio
 BilledCost and EffectiveCost of a group sum to those of the whole range; its ChargedCost can differ by a few
 nanos, since shares of common costs are rounded in each period. The sum over all groups doesn't differ.
 
+Where no row and no commitment of the range has the tag, or the policy is for another one, that is said on standard
+error.
+
+With several --tag and --column, four at most, a group is a list of values, one of each. --where KEY=VALUE counts the
+lines alone on which KEY is VALUE; given several times for one KEY, it is one of the VALUEs. --where-not KEY=VALUE leaves
+such lines out. All filters have to hold. KEY is a tag, or one of the columns SkuId, SubAccountId, ChargeCategory,
+CommitmentDiscountId and CommitmentDiscountStatus; tag:KEY is always a tag. An empty VALUE is a line without KEY.
+--map FILE has other texts stand for values, before filters and groups see them:
+    [[map]]
+    key = \"environment\"
+    fold = true
+    empty = \"unknown\"
+    values = { prod = \"production\", prd = \"production\" }
+Such a report has no ChargedCost: a policy shares the costs of a whole range by one tag.
+
 With --top N only the N groups that are charged most over the whole range have lines of their own; one line,
 (others), has the sums of all others.
+
+With --as-of N the answer is as of the first N entries of the warehouse: how it was when focusd status said that it had N
+entries. Posts that were withdrawn later count in it; purchases, rows and policies that were added later don't. Whatever is
+accepted later, that answer stays the same. So write the number down when a month is closed. focusd compact makes
+a warehouse of other entries.
+
+With --policy FILE the report is the one under the policy of FILE, a TOML text as focusd add takes it: what the groups would be
+charged, or what they were by an earlier policy. Nothing is written, and the policy of the warehouse stays what it is. The tag
+of that policy has to be the one --tag. On standard error stands which policy a report applied.
 
 With --direct the sums of BilledCost and EffectiveCost are printed before the policy, in nanos, as one document of JSON. Such
 documents of several warehouses, which hold together what one would, are added by `focusd charge`.
 
 Examples:
-  what each team cost in January 2024
-    focusd report --dir costs --tag team --from 2024-01 --to 2024-02
-  the five teams that cost most, day by day
-    focusd report --dir costs --tag team --from 2024-01 --to 2024-02 --by day --top 5
-  a page with a chart, to open in a browser
-    focusd report --dir costs --tag team --from 2024-01 --to 2024-07 --by month --format html > costs.html
+  what each team cost, in all hours that have rows
+    focusd report --dir costs --tag team
+  the five teams that cost most in January 2024, day by day
+    focusd report --dir costs --tag team --month 2024-01 --by day --top 5
+  a page of half a year with a chart, to open in a browser
+    focusd report --dir costs --tag team --last 6 months --by month --format html > costs.html
+  what teams spend on production, by account
+    focusd report --dir costs --tag team --column SubAccountId --where environment=production
+  January as it was when the warehouse had 1,204 entries
+    focusd report --dir costs --tag team --month 2024-01 --as-of 1204
+  January under a policy that isn't accepted yet
+    focusd report --dir costs --tag team --month 2024-01 --policy new-policy.toml
   the sums by team, for a program
     focusd report --dir costs --tag team --from 2024-01 --to 2024-02 --format json | jq '.total'";
 
@@ -45,18 +80,32 @@ fn direct_option<'a>(alloc: Global) -> Result<Arg<'a>, AllocError> {
             "Prints the costs before the policy as a document, which focusd charge adds to others",
         )
         .conflicts_with(TOP)?
-        .conflicts_with(FORMAT)
+        .conflicts_with(FORMAT)?
+        .conflicts_with(COLUMN)?
+        .conflicts_with(WHERE)?
+        .conflicts_with(WHERE_NOT)?
+        .conflicts_with(MAP)?
+        .conflicts_with(TOTAL_ONLY)
 }
 
 // The options, in the order in which the help has them.
 fn options<'a>(alloc: Global) -> Result<Vec<Arg<'a>>, AllocError> {
     Ok(vec![in alloc;
         folder_option(alloc),
-        tag_option(alloc).required(true),
+        tags_option(alloc),
+        column_option(alloc),
+        where_option(alloc),
+        where_not_option(alloc),
+        map_option(alloc),
+        total_only_option(alloc)?,
         from_option(alloc),
         to_option(alloc),
+        month_option(alloc)?,
+        last_option(alloc)?,
         by_option(alloc),
         top_option(alloc),
+        as_of_option(alloc),
+        other_policy_option(alloc)?,
         report_format_option(alloc),
         direct_option(alloc)?,
     ]?)

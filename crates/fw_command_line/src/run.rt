@@ -1,6 +1,6 @@
 //! `focusd run`: a script is read from standard input and answered.
 use crate::ids::WORKERS;
-use crate::options::{command_with, create_option, currency_option, dir_option};
+use crate::options::{command_with, create_option, currency_option, dir_option, strict_option};
 use clap::{Arg, Command, value_parser};
 use std::alloc::{AllocError, Global};
 
@@ -35,8 +35,11 @@ Other lines are answered `bad command`; an entry with too few lines after it `ba
 With --dir the warehouse is kept in two files of the folder, `left` and `right`. An entry is answered `accepted` only when it is
 on the disk, by the word of the system. Only one program at a time can have the folder open.
 
+With --strict a script that lost an entry ends with status 3, and a line on standard error says how many answers are `refused`,
+`gap`, `bad command`, `bad end`, `store` or `no memory`. What is printed stays the same.
+
 Exit status: 0 where the script was served, 1 where the folder, reading, writing or memory failed (with one line `focusd: CODE
-NAME` on standard error), 2 where the command line is wrong.
+NAME` on standard error), 2 where the command line is wrong, 3 with --strict where there is such an answer.
 
 Example: what a script has is kept in a folder, and the answers in a file
   focusd run --dir costs --create < october.script > october.answers";
@@ -65,6 +68,7 @@ fn options<'a>(alloc: Global) -> Result<Vec<Arg<'a>>, AllocError> {
             "Creates the warehouse in the folder; without --dir it changes nothing",
         ),
         workers_option(alloc),
+        strict_option(alloc),
     ]?)
 }
 

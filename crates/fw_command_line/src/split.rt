@@ -1,8 +1,10 @@
 //! `focusd split`: CSV exports are cut into parts by time and SKU.
-use crate::ids::{BY, COMMITMENTS, INTO, OUT};
-use crate::options::{
-    STEPS, command_with, currency_option, files_argument, format_option, quiet_option,
-};
+ghost use Rattle.std.specs.Prelude.{◌≡◌, Some};
+ghost use Rattle.clap.specs.declared.builder.action.ArgAction.TheVariants.{SetTrue};
+
+use crate::exports::exports_argument;
+use crate::ids::{BY, COMMITMENTS, INTO, NO_SYNC, OUT};
+use crate::options::{STEPS, command_with, format_option, quiet_option};
 use clap::{Arg, ArgAction, Command};
 use std::alloc::{AllocError, Global};
 
@@ -12,14 +14,16 @@ const FORMATS: [&str; 2] = ["text", "json"];
 const HELP: &str =
     "The rows of the FILEs are dealt to parts by the hour, day or month in which ChargePeriodStart lies, in UTC. A part is an export
 with the header of the FILEs and the records as they are, in their order: 2024-09-01T00.csv, 2024-09-01.csv or 2024-09.csv in the
-folder of --out, which is made where it isn't there. `-` is standard input.
+folder of --out, which is made where it isn't there. `-` is standard input. A folder as FILE stands for its files whose names end in
+`.csv`, in the byte order of their names.
 
 With --into N each period is dealt to up to N piles, as 2024-09-01.1.csv. SKUs that one commitment lists stay together: name the
 commitments by --commitments. Rows of other SKUs go to the pile with the fewest rows. The same commitments, in the same order, give
 the same piles in each period and run. --format json lists the parts, and in which pile each commitment belongs.
 
-Each record is checked as `focusd import` checks it, so the parts can be imported. No file is overwritten. The parts have their names
-once all FILEs are read; until then, and where a run was stopped, they end in `.part`. A fault removes them.
+Of a record only the number of its fields, ChargePeriodStart and, with --into, SkuId are read. Any other fault is found where its part
+is imported: `focusd check` lists the faults of the FILEs. No file is overwritten. The parts have their names once all FILEs are read;
+until then, and where a run was stopped, they end in `.part`. A fault removes them.
 
 Example: a year of exports by day, for warehouses of a day each
   focusd split --by day --out days 2024-*.csv
@@ -61,6 +65,16 @@ fn out_option<'a>(alloc: Global) -> Arg<'a> {
         .help("The folder of the parts")
 }
 
+// The option that leaves it to the system when the parts are on the disk.
+fn no_sync_option<'a>(alloc: Global) -> Arg<'a>
+    ensures { result.action ≡ Some SetTrue }
+{
+    Arg::new(alloc, NO_SYNC)
+        .long("no-sync")
+        .action(ArgAction::SetTrue)
+        .help("Doesn't wait until the parts are on the disk: where the machine stops, cut again")
+}
+
 // The options, in the order in which the help has them.
 fn options<'a>(alloc: Global) -> Result<Vec<Arg<'a>>, AllocError> {
     Ok(vec![in alloc;
@@ -68,7 +82,7 @@ fn options<'a>(alloc: Global) -> Result<Vec<Arg<'a>>, AllocError> {
         into_option(alloc),
         commitments_option(alloc),
         out_option(alloc),
-        currency_option(alloc).help("The currency that all costs must have: three capital letters"),
+        no_sync_option(alloc),
         format_option(
             alloc,
             FORMATS.as_slice(),
@@ -76,10 +90,7 @@ fn options<'a>(alloc: Global) -> Result<Vec<Arg<'a>>, AllocError> {
             "How the answer is written",
         ),
         quiet_option(alloc),
-        files_argument(
-            alloc,
-            "A CSV with the columns of FOCUS 1.0, or `-` for standard input",
-        ),
+        exports_argument(alloc),
     ]?)
 }
 

@@ -1,6 +1,10 @@
 //! `focusd verify`: whether the files of a warehouse are sound.
-use crate::options::folder_command;
-use clap::Command;
+ghost use Rattle.std.specs.Prelude.{◌≡◌, Some};
+ghost use Rattle.clap.specs.declared.builder.action.ArgAction.TheVariants.{SetTrue};
+
+use crate::ids::{DIGEST, EXPECT};
+use crate::options::{command_with, folder_option};
+use clap::{Arg, ArgAction, Command};
 use std::alloc::{AllocError, Global};
 
 const EXAMPLE: &str =
@@ -8,15 +12,46 @@ const EXAMPLE: &str =
 it. Nothing is changed. Prints `sound` and what the warehouse holds, with status 0; or, with status 1, what is
 wrong: `focusd: S2 Corrupt` and on the next line the file and the byte of the first fault.
 
-Example:
-  focusd verify --dir costs";
+A sound file isn't always the one that was written: where a byte of an amount was changed, the row has another amount
+and keeps all rules. --digest finds that. It prints the SHA-256 of the currency and of all entries in order, as
+64 hex digits: the same before and after a checkpoint, in a copy of the folder, and in the warehouse that a dump makes.
+Each entry that is added changes it. --expect compares: where the digest is another one, both are named, with status 1.
+
+Examples:
+  focusd verify --dir costs
+  what was written, and whether it is still there
+    focusd verify --dir costs --digest > costs.digest
+    focusd verify --dir costs --expect $(cat costs.digest)";
+
+// The option that prints the digest.
+fn digest_option<'a>(alloc: Global) -> Arg<'a>
+    ensures { result.action ≡ Some SetTrue }
+{
+    Arg::new(alloc, DIGEST)
+        .long("digest")
+        .action(ArgAction::SetTrue)
+        .help("Prints the digest of all entries, and nothing else")
+}
+
+// The option that names the digest that the warehouse should have.
+fn expect_option<'a>(alloc: Global) -> Arg<'a> {
+    Arg::new(alloc, EXPECT)
+        .long("expect")
+        .value_name("HEX")
+        .help("Compares the digest with this one, of 64 hex digits")
+}
 
 /// The command's part of the command line.
 pub(crate) fn command<'a>(alloc: Global) -> Result<Command<'a>, AllocError> {
-    folder_command(
+    command_with(
         alloc,
         "verify",
         "Reads a warehouse whole, and says whether its files are sound",
         EXAMPLE,
+        vec![in alloc;
+            folder_option(alloc),
+            digest_option(alloc),
+            expect_option(alloc),
+        ]?,
     )
 }

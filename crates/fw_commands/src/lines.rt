@@ -1,14 +1,14 @@
 //! `focusd lines`: each line behind the costs of a range of time.
-use crate::ask::ask;
+use crate::ask::{Asked, ask_hours};
+use crate::range::{read_hours, wrong_hours};
 use clap::ArgMatches;
-use fw_console::{Fault, read_range, wrong_time};
-use fw_views::Question;
+use fw_console::Fault;
 use std::process::ExitCode;
 
 /// Prints the lines of the range that the options name.
 pub fn print_lines(rt: &HostRuntime, options: &ArgMatches<'_>) -> Result<ExitCode, Fault> {
-    match read_range(rt.alloc(), options)? {
-        Ok((from, to)) => Ok(ask(rt, options, &Question::Lines { from, to })),
-        Err(option) => Ok(wrong_time(rt, options, option)),
+    match read_hours(rt.alloc(), options)? {
+        Ok(hours) => Ok(ask_hours(rt, options, hours, &Asked::Lines)),
+        Err(option) => Ok(wrong_hours(rt, options, option)),
     }
 }

@@ -1,102 +1,94 @@
 //! `focusd report`: what each group of a tag cost in a range of time.
-ghost use Rattle.std.specs.Prelude.{◌≡◌, ◌≤◌, IfSome};
-ghost use Rattle.std.specs.Process.{exit_status};
-ghost use Rattle.fw_console.specs.Statuses.{wrong_use_status};
-
-use crate::ask::ask;
+use crate::ask::{Asked, ask_hours};
+use crate::policy::GivenPolicy;
+use crate::range::{read_hours, wrong_hours};
+use crate::wanted::{is_selection, read_wanted};
 use clap::ArgMatches;
-use fw_calendar::Step;
-use fw_command_line::{BY, DIRECT, FORMAT, TAG, TOP};
-use fw_console::{Fault, WRONG_USE, read_range, wrong_time};
-use fw_query::Query;
-use fw_series::{Format, ReportOptions};
-use fw_views::Question;
+use fw_command_line::{BY, DIRECT, POLICY, TAG};
+use fw_console::{Fault, read_options, step_of, wrong_top, wrong_use};
+use fw_series::ReportOptions;
+use fw_terms::Policy;
+use fw_views::AskedHours;
 use std::process::ExitCode;
 
-/// The most groups that `--top` takes.
-const MOST_TOP: usize = 1_000;
-
-/// Prints the report that the options ask for.
-pub fn print_report(rt: &HostRuntime, options: &ArgMatches<'_>) -> Result<ExitCode, Fault> {
-    let (from_hour, to_hour) = match read_range(rt.alloc(), options)? {
-        Ok(range) => range,
-        Err(option) => return Ok(wrong_time(rt, options, option)),
+/// Prints the report that the options ask for: under the policy of the file that they name, where it is given, and else under that of the warehouse.
+pub fn print_report(
+    rt: &HostRuntime,
+    options: &ArgMatches<'_>,
+    policy: Option<&Policy>,
+) -> Result<ExitCode, Fault> {
+    let hours = match read_hours(rt.alloc(), options)? {
+        Ok(hours) => hours,
+        Err(option) => return Ok(wrong_hours(rt, options, option)),
     };
+    if is_selection(options) {
+        return print_selection(rt, options, hours);
+    }
     let key = options.get_str(TAG).unwrap_or("");
-    let query = Query {
-        key,
-        from_hour,
-        to_hour,
-    };
     if options.get_flag(DIRECT) {
         let step = step_of(options.get_str(BY));
-        return Ok(ask(rt, options, &Question::Direct { query, step }));
+        return Ok(ask_hours(rt, options, hours, &Asked::Direct { key, step }));
     }
     match read_options(options) {
-        Ok(shown) => Ok(ask(
-            rt,
-            options,
-            &Question::Report {
-                query,
-                options: shown,
-            },
-        )),
+        Ok(shown) => print_groups(rt, options, hours, key, shown, policy),
         Err(text) => Ok(wrong_top(rt, text)),
     }
 }
 
-/// How the options have a report cut and written, or the value of `--top` that is no number of groups.
-pub fn read_options<'o>(options: &'o ArgMatches<'_>) -> Result<ReportOptions, &'o str> {
-    let top = match options.get_str(TOP) {
-        Some(text) => match read_top(text) {
-            Some(top) => Some(top),
-            None => return Err(text),
-        },
-        None => None,
+// Prints the report by a tag, under the policy of the warehouse or the one of a file.
+fn print_groups(
+    rt: &HostRuntime,
+    options: &ArgMatches<'_>,
+    hours: AskedHours,
+    key: &str,
+    shown: ReportOptions,
+    policy: Option<&Policy>,
+) -> Result<ExitCode, Fault> {
+    let Some(policy) = policy else {
+        return Ok(ask_report(rt, options, hours, key, shown, None));
     };
-    Ok(ReportOptions {
-        step: step_of(options.get_str(BY)),
-        top,
-        format: format_of(options.get_str(FORMAT)),
-    })
-}
-
-/// The period that a word of `--by` names.
-pub fn step_of(word: Option<&str>) -> Option<Step> {
-    match word {
-        Some("hour") => Some(Step::Hour),
-        Some("day") => Some(Step::Day),
-        Some("month") => Some(Step::Month),
-        _ => None,
+    let file = options.get_str(POLICY).unwrap_or("");
+    let given = GivenPolicy { file, policy };
+    if policy.key() != key {
+        return Ok(given.refuse(rt)?);
     }
+    Ok(ask_report(rt, options, hours, key, shown, Some(given)))
 }
 
-// The format that a word of `--format` names.
-fn format_of(word: Option<&str>) -> Format {
-    match word {
-        Some("csv") => Format::Csv,
-        Some("json") => Format::Json,
-        Some("html") => Format::Html,
-        _ => Format::Table,
+// Asks for the report by a tag.
+fn ask_report(
+    rt: &HostRuntime,
+    options: &ArgMatches<'_>,
+    hours: AskedHours,
+    key: &str,
+    shown: ReportOptions,
+    policy: Option<GivenPolicy<'_>>,
+) -> ExitCode {
+    let asked = Asked::Report {
+        key,
+        options: shown,
+        policy,
+    };
+    ask_hours(rt, options, hours, &asked)
+}
+
+// Prints the report by several keys, or under filters and maps, that the options ask for.
+fn print_selection(
+    rt: &HostRuntime,
+    options: &ArgMatches<'_>,
+    hours: AskedHours,
+) -> Result<ExitCode, Fault> {
+    if options.get_flag(DIRECT) {
+        return Ok(wrong_use(rt, "--direct: a direct report is by one --tag"));
     }
-}
-
-// The number of groups that `--top` says, if it is one.
-fn read_top(text: &str) -> Option<usize>
-    ensures { IfSome result (λ top. 1 ≤ top × top ≤ 1000) }
-{
-    match text.parse::<usize>() {
-        Ok(top) if top >= 1 && top <= MOST_TOP => Some(top),
-        _ => None,
+    if options.contains_id(POLICY) {
+        return Ok(wrong_use(
+            rt,
+            "--policy: a policy shares the costs of all lines, by one --tag",
+        ));
     }
-}
-
-/// Says that the value of `--top` is no number of groups.
-pub fn wrong_top(rt: &HostRuntime, text: &str) -> ExitCode
-    ensures { exit_status result ≡ wrong_use_status }
-{
-    let _ = eprintln!(rt;
-        "focusd: --top: {text:?} is not a number of groups from 1 to 1,000, as 5"
-    );
-    ExitCode::from(WRONG_USE)
+    match read_wanted(rt, options)? {
+        Ok(wanted) => Ok(ask_hours(rt, options, hours, &Asked::Selection(&wanted))),
+        Err(status) => Ok(status),
+    }
 }

@@ -4,8 +4,9 @@ ghost use Rattle.std.specs.Process.{exit_status};
 ghost use Rattle.fw_console.specs.Statuses.{wrong_use_status};
 ghost use Rattle.fw_serve.specs.Served.{most_workers};
 
+use crate::strict::{Watched, strict_status};
 use clap::ArgMatches;
-use fw_command_line::{CREATE, CURRENCY, DIR, WORKERS};
+use fw_command_line::{CREATE, CURRENCY, DIR, STRICT, WORKERS};
 use fw_console::{
     Creates, Fault, Heard, advised_on_terminal, let_go, open_folder, read_currency, tell_failure,
     wrong_use,
@@ -31,8 +32,9 @@ pub fn serve_script(
         return Ok(wrong_currency(rt, options));
     };
     let workers = read_workers(options);
+    let is_strict = options.get_flag(STRICT);
     let Some(folder) = options.get_str(DIR) else {
-        let served = serve_memory(rt, threads, currency, workers);
+        let served = serve_memory(rt, threads, currency, workers, is_strict);
         return Ok(advised_on_terminal(rt, "", served));
     };
     let creates = if options.get_flag(CREATE) {
@@ -40,7 +42,7 @@ pub fn serve_script(
     } else {
         Creates::Never
     };
-    let served = serve_folder(rt, threads, folder, creates, workers);
+    let served = serve_folder(rt, threads, folder, creates, workers, is_strict);
     Ok(advised_on_terminal(rt, folder, served))
 }
 
@@ -72,6 +74,7 @@ fn serve_folder(
     folder: &str,
     creates: Creates,
     workers: u32,
+    is_strict: bool,
 ) -> Result<ExitCode, Fault>
     requires some_workers { 1 ≤ workers }
     requires few_workers { workers ≤ most_workers }
@@ -81,7 +84,7 @@ fn serve_folder(
     };
     let mut store = open_folder(rt, folder, creates)?.into_store()?;
     let mut output = Heard::new(output);
-    let served = serve_streams(rt, threads, &mut output, &mut store, workers);
+    let served = serve_answers(rt, threads, &mut output, &mut store, workers, is_strict);
     tell_failure(rt, folder, store);
     served
 }
@@ -92,6 +95,7 @@ fn serve_memory(
     threads: &(impl Threads + Sync),
     currency: Currency,
     workers: u32,
+    is_strict: bool,
 ) -> Result<ExitCode, Fault>
     requires some_workers { 1 ≤ workers }
     requires few_workers { workers ≤ most_workers }
@@ -102,11 +106,31 @@ fn serve_memory(
     match Store::create(rt.alloc(), NullVolume::new(), currency) {
         Ok(mut store) => {
             let mut output = Heard::new(output);
-            let served = serve_streams(rt, threads, &mut output, &mut store, workers);
+            let served = serve_answers(rt, threads, &mut output, &mut store, workers, is_strict);
             let_go(store, served)
         }
         Err((_, fault)) => Err(Fault::Store(fault)),
     }
+}
+
+// Serves the script on standard input from a store. Where it is to be strict, its answers are watched.
+fn serve_answers<W: Write, V: Volume>(
+    rt: &HostRuntime,
+    threads: &(impl Threads + Sync),
+    output: &mut Heard<W>,
+    store: &mut Store<V>,
+    workers: u32,
+    is_strict: bool,
+) -> Result<ExitCode, Fault>
+    requires some_workers { 1 ≤ workers }
+    requires few_workers { workers ≤ most_workers }
+{
+    if !is_strict {
+        return serve_streams(rt, threads, output, store, workers);
+    }
+    let mut watched = Heard::new(Watched::new(output));
+    let served = serve_streams(rt, threads, &mut watched, store, workers);
+    strict_status(rt, is_strict, watched.stream.refusals.count(), served)
 }
 
 // Serves the script on standard input from a store.

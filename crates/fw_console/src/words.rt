@@ -15,6 +15,14 @@ pub fn say_fault(rt: &HostRuntime, about: &str, fault: &str) {
     let _ = eprintln!(rt; "What to do: {remedy}");
 }
 
+/// Says what is wrong with something: the fault, which is a code with its name, the reason, and what to do. The answer is false.
+pub fn refuse(rt: &HostRuntime, about: &str, fault: &str, reason: &str) -> bool {
+    let remedy = explain_fault(fault).remedy;
+    let _ = eprintln!(rt; "focusd: {about}: {fault}: {reason}");
+    let _ = eprintln!(rt; "What to do: {remedy}");
+    false
+}
+
 /// The code and the name of why there is no entry, as answers of scripts have them. The error says that memory ran out.
 #[tactic(auto, unfolding(fw_serve::specs::Replies::entry_fault_line))]
 pub fn entry_code(fault: EntryFault) -> Result<&'static str, Fault>

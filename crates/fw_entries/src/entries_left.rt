@@ -92,8 +92,8 @@ impl<'a> EntriesLeft<'a> {
     }
 }
 
-// How many rows there are: none where it is no post.
-fn row_count(content: &Content) -> usize
+/// How many rows an entry brought: none where it is no post.
+pub fn row_count(content: &Content) -> usize
     ensures { result ≡ row_count (content_view content.now) }
 {
     match content {

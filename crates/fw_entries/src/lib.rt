@@ -7,4 +7,4 @@
 mod entries_left;
 mod rows_left;
 
-pub use entries_left::EntriesLeft;
+pub use entries_left::{EntriesLeft, row_count};

@@ -9,7 +9,7 @@ pub(crate) fn export_codes() -> &'static [Explanation] {
     EXPORT_CODES
 }
 
-/// The codes of what is wrong with a commitment, a purchase that is added to one, or a policy.
+/// The codes of what is wrong with a commitment, a purchase that is added to one, a policy, or maps of values.
 pub(crate) fn document_codes() -> &'static [Explanation] {
     DOCUMENT_CODES
 }
@@ -168,6 +168,13 @@ const EXPORT_CODES: &[Explanation] = &[
         meaning: "a record is longer than 4 MiB",
         remedy: "Look for a quote that is not closed, in this record or before it.",
     },
+    Explanation {
+        code: "V17",
+        name: "TagTwice",
+        expected: "tags without the key of a kept column",
+        meaning: "Tags has the tag already that a kept column is to be",
+        remedy: "Name another tag for the column: --keep COLUMN=TAG.",
+    },
 ];
 
 const DOCUMENT_CODES: &[Explanation] = &[
@@ -254,6 +261,20 @@ const DOCUMENT_CODES: &[Explanation] = &[
         expected: "",
         meaning: "the policy that is to be added takes the place of one by another key, and --yes was not given",
         remedy: "Give --yes, where it is meant that costs by the old key are not shared any more.",
+    },
+    Explanation {
+        code: "N1",
+        name: "MapSyntax",
+        expected: "",
+        meaning: "a file of maps is not UTF-8, or no TOML",
+        remedy: "Write [[map]], key = \"environment\" and values = { prod = \"production\" }, each on a line of its own; focusd report --help has an example.",
+    },
+    Explanation {
+        code: "N2",
+        name: "MapField",
+        expected: "",
+        meaning: "a field of a file of maps is missing, unknown or wrong",
+        remedy: "Correct the field that the line names; docs/FORMATS.md has all fields of a map.",
     },
 ];
 
@@ -377,7 +398,7 @@ const FILE_CODES: &[Explanation] = &[
         code: "F3",
         name: "TooLong",
         expected: "",
-        meaning: "the script, or a file that was given to focusd load, has more than 2^30 bytes, or one that was given to focusd add more than 2^26; nothing was run, loaded or added",
+        meaning: "the script, or a file that was given to focusd load, has more than 2^30 bytes, or a file of TOML more than 2^25; nothing was run, loaded or added",
         remedy: "Cut a script into several, and run them one after the other. Give a long CSV to focusd import, which takes files of any length.",
     },
     Explanation {

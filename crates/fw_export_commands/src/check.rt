@@ -100,12 +100,12 @@ impl Taker for Check {
         is_whole: bool,
     ) -> Result<bool, Fault> {
         walk.progress.end(rt);
-        self.finish(rt, walk.name, is_whole)
+        self.finish(rt, walk.name.as_str(), is_whole)
     }
 
     fn take_none(&mut self, rt: &HostRuntime, walk: &mut Walk<'_>) -> Result<bool, Fault> {
         self.start(rt.alloc());
-        self.finish(rt, walk.name, true)
+        self.finish(rt, walk.name.as_str(), true)
     }
 }
 

@@ -2,13 +2,22 @@
 use crate::importing::Import;
 use fw_console::{Fault, House, bytes_of, say_fault};
 use fw_cut::{CutFault, Cutter};
+use fw_export_files::{all_exports, texts_of};
 use fw_import::{fits, surely_fits};
 use std::alloc::{AllocError, Global};
 use std::fs;
 
-/// Whether the rows of files fit into the warehouse of an import; where they don't, that is said. Files that are no plain files, or so short that
-/// their rows fit in any case, aren't read.
-pub(crate) fn do_fit(rt: &HostRuntime, import: &Import<'_>, files: &[&str]) -> Result<bool, Fault> {
+/// Whether the rows of the exports that names stand for fit into the warehouse of an import; where they don't, that is said. Files that are no plain
+/// files, or so short that their rows fit in any case, aren't read.
+pub(crate) fn do_fit(rt: &HostRuntime, import: &Import<'_>, names: &[&str]) -> Result<bool, Fault> {
+    match all_exports(rt, names) {
+        Some(exports) => do_all_fit(rt, import, &texts_of(rt.alloc(), &exports)?),
+        None => Ok(true),
+    }
+}
+
+// Whether the rows of files fit.
+fn do_all_fit(rt: &HostRuntime, import: &Import<'_>, files: &[&str]) -> Result<bool, Fault> {
     let Some(bytes) = plain_bytes(rt, files) else {
         return Ok(true);
     };

@@ -1,16 +1,17 @@
 //! `focusd import`: CSV exports of any length are taken into a warehouse.
 use crate::fitting::do_fit;
 use crate::importing::Import;
+use crate::keeps::{keeper_of, read_keeps};
 use crate::messages::{warn_of_posts_behind, wrong_currency};
 use clap::ArgMatches;
 use clap::parser::ValueSource;
-use fw_command_line::{CREATE, CURRENCY, DIR, FILES, ORIGIN, QUIET};
+use fw_command_line::{CREATE, CURRENCY, DIR, FILES, KEEP, ORIGIN, QUIET};
 use fw_console::{
     Creates, Fault, advised, open_folder, print_answer, read_currency, wrong_origin, wrong_use,
 };
 use fw_entry::is_origin;
 use fw_export_files::{Walk, walk_files};
-use fw_rows::Currency;
+use fw_rows::{Currency, Keep};
 use std::alloc::{AllocError, Global};
 use std::process::ExitCode;
 
@@ -23,8 +24,12 @@ pub fn import_files(rt: &HostRuntime, options: &ArgMatches<'_>) -> Result<ExitCo
     if !is_origin(origin.as_bytes()) {
         return Ok(wrong_origin(rt, origin));
     }
+    let keeps = match read_keeps(rt.alloc(), options.get_strs(KEEP).unwrap_or(&[]))? {
+        Ok(keeps) => keeps,
+        Err(why) => return Ok(wrong_use(rt, why.as_str())),
+    };
     let folder = options.get_str(DIR).unwrap_or("");
-    let done = import_into(rt, folder, currency, origin, options);
+    let done = import_into(rt, folder, currency, origin, keeps, options);
     Ok(advised(rt, folder, done))
 }
 
@@ -34,6 +39,7 @@ fn import_into(
     folder: &str,
     currency: Currency,
     origin: &str,
+    keeps: Vec<Keep>,
     options: &ArgMatches<'_>,
 ) -> Result<ExitCode, Fault> {
     let creates = if options.get_flag(CREATE) {
@@ -42,7 +48,8 @@ fn import_into(
         Creates::Never
     };
     let house = open_folder(rt, folder, creates)?;
-    let mut import = Import::new(rt.alloc(), house, origin);
+    let keeper = keeper_of(rt.alloc(), keeps);
+    let mut import = Import::new(rt.alloc(), house, origin, keeper);
     let done = import_named(rt, &mut import, folder, currency, options);
     import.close(done)
 }

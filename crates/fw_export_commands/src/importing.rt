@@ -1,13 +1,17 @@
 //! The parts of exports as posts of a warehouse.
+use crate::kept_columns::{header_fault, say_header};
 use crate::messages::{explain, warn_of_shared};
 use crate::others::Others;
 use fw_columns::Columns;
 use fw_console::{Fault, House};
 use fw_cut::Part;
 use fw_export_files::{Taker, Walk};
-use fw_import::{ImportFault, Importer, Outcome, Sent, Taken, import_part, posts_of, read_part};
+use fw_import::{
+    ImportFault, Importer, Outcome, Sent, Taken, import_part, import_part_keeping, posts_of,
+    read_part, read_part_keeping,
+};
 use fw_recover::StoreFault;
-use fw_rows::RowFault;
+use fw_rows::{Keeper, RowFault};
 use std::alloc::{AllocError, Global};
 use std::process::ExitCode;
 
@@ -23,13 +27,20 @@ pub(crate) struct Import<'a> {
     pub(crate) same: u64,
     // what is kept of the origin from one part to the next
     importer: Importer<'a>,
+    // the columns that are kept as tags, if any are
+    pub(crate) keeper: Option<Keeper>,
     // the rows of other origins, until rows were found that one of these has too
     others: Option<Others>,
 }
 
 impl<'a> Import<'a> {
     /// Nothing was imported yet.
-    pub(crate) fn new(alloc: Global, house: House, origin: &'a str) -> Import<'a> {
+    pub(crate) fn new(
+        alloc: Global,
+        house: House,
+        origin: &'a str,
+        keeper: Option<Keeper>,
+    ) -> Import<'a> {
         Import {
             house,
             origin,
@@ -37,6 +48,7 @@ impl<'a> Import<'a> {
             added: 0,
             same: 0,
             importer: Importer::new(alloc, origin),
+            keeper,
             others: None,
         }
     }
@@ -50,6 +62,7 @@ impl<'a> Import<'a> {
             added: _added,
             same: _same,
             importer: _importer,
+            keeper: _keeper,
             others: _others,
         } = self;
         house.close(done)
@@ -87,19 +100,35 @@ impl<'a> Import<'a> {
         let Some(store) = self.house.store() else {
             return Err(Fault::Store(StoreFault::NoHouse));
         };
-        Ok(import_part(
-            rt.alloc(),
-            store,
-            &mut self.importer,
-            self.number,
-            &part.text,
-        ))
+        Ok(match &mut self.keeper {
+            Some(keeper) => import_part_keeping(
+                rt.alloc(),
+                store,
+                &mut self.importer,
+                keeper,
+                self.number,
+                &part.text,
+            ),
+            None => import_part(
+                rt.alloc(),
+                store,
+                &mut self.importer,
+                self.number,
+                &part.text,
+            ),
+        })
     }
 
     // Reads a part, as the next post of a warehouse that is to be made.
     fn read(&mut self, alloc: Global, part: &Part) -> Result<(), ImportFault> {
         let currency = self.house.currency();
-        let _ = read_part(alloc, &mut self.importer, currency, self.number, &part.text)?;
+        let (importer, number) = (&mut self.importer, self.number);
+        let _ = match &mut self.keeper {
+            Some(keeper) => {
+                read_part_keeping(alloc, importer, keeper, currency, number, &part.text)?
+            }
+            None => read_part(alloc, importer, currency, number, &part.text)?,
+        };
         Ok(())
     }
 
@@ -152,6 +181,11 @@ impl<'a> Import<'a> {
 
 impl Taker for Import<'_> {
     fn take(&mut self, rt: &HostRuntime, walk: &mut Walk<'_>, part: &Part) -> Result<bool, Fault> {
+        if let Some(keeper) = &self.keeper {
+            if let Some(fault) = header_fault(rt.alloc(), keeper.keeps(), part)? {
+                return Ok(say_header(rt, walk, &fault));
+            }
+        }
         match self.post(rt, part)? {
             Ok(taken) => self.count(rt, walk, part, taken),
             // What follows the last record, as a line feed, is no post, and neither is a header that another one follows.

@@ -7,6 +7,8 @@ mod check;
 mod fitting;
 mod import;
 mod importing;
+mod keeps;
+mod kept_columns;
 mod messages;
 mod others;
 

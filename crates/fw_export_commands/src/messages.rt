@@ -1,6 +1,7 @@
 //! What an import says, and why a part was refused.
 use crate::fitting::say_room;
 use crate::importing::Import;
+use crate::kept_columns::say_kept;
 use crate::others::Shared;
 use fw_calendar::hour_text;
 use fw_check::locate;
@@ -44,7 +45,7 @@ pub(crate) fn explain(
     match fault {
         ImportFault::NoMemory | ImportFault::Store(StoreFault::NoMemory) => Err(Fault::NoMemory),
         ImportFault::Store(fault) => Err(Fault::Store(fault)),
-        ImportFault::Rows(fault) => explain_rows(rt, &import.house, walk, part, fault),
+        ImportFault::Rows(fault) => explain_rows(rt, import, walk, part, fault),
         ImportFault::Conflict(conflict) => {
             explain_conflict(rt, &import.house, walk, part, conflict)
         }
@@ -179,13 +180,16 @@ fn say_own(
 // Says which value of a file is wrong, and how to go on.
 fn explain_rows(
     rt: &HostRuntime,
-    house: &House,
+    import: &Import<'_>,
     walk: &mut Walk<'_>,
     part: &Part,
     fault: RowFault,
 ) -> Result<bool, Fault> {
-    let currency = wanted_currency(rt.alloc(), house)?;
+    let currency = wanted_currency(rt.alloc(), &import.house)?;
     let is_taken = walk.refuse(rt, part, fault, currency.as_str())?;
+    if let Some(keeper) = &import.keeper {
+        say_kept(rt, keeper.keeps(), part, fault)?;
+    }
     if let RowFault::Record { .. } = fault {
         let _ = eprintln!(rt;
             "No row of its post was imported; those before it stay. Correct the file and run the command again: it goes on from there. `focusd check` lists all faults."

@@ -2,6 +2,7 @@
 #![tactic(auto)]
 
 mod faults;
+mod files;
 mod foreign;
 mod opening;
 mod taker;
@@ -9,6 +10,7 @@ mod walk;
 mod walking;
 
 pub use faults::code_of;
+pub use files::{all_exports, texts_of};
 pub use taker::Taker;
 pub use walk::Walk;
 pub use walking::walk_files;

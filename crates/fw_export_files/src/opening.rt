@@ -1,7 +1,7 @@
 //! Files that the command line names.
 use crate::foreign::{TELLING, foreign_of};
 use crate::walk::Walk;
-use fw_console::{Fault, is_folder};
+use fw_console::Fault;
 use std::alloc::{AllocError, Global};
 use std::fs::{self, File};
 use std::io::{self, Read, Stdin};
@@ -58,7 +58,7 @@ fn start_of(alloc: Global, input: &mut Input) -> Result<Vec<u8>, AllocError> {
     Ok(start)
 }
 
-/// Opens the file of a walk, or standard input where its name is `-`; none where it can't be opened, is a folder or no CSV in UTF-8, which was said.
+/// Opens the file of a walk, or standard input where its name is `-`; none where it can't be opened or is no CSV in UTF-8, which was said.
 pub(crate) fn open_export(
     rt: &HostRuntime,
     file: &str,
@@ -77,14 +77,10 @@ pub(crate) fn open_export(
     Ok(Some(Source { input, start }))
 }
 
-// Opens the file of a walk; none where it can't be opened or is a folder, which was said.
+// Opens the file of a walk; none where it can't be opened, which was said.
 fn open_input(rt: &HostRuntime, file: &str, walk: &mut Walk<'_>) -> Result<Option<Input>, Fault> {
     if file == "-" {
         return Ok(Some(Input::Input(rt.stdin())));
-    }
-    if is_folder(rt, file) {
-        walk.not_opened(rt, "it is a folder, and not a file");
-        return Ok(None);
     }
     match fs::open(rt, file) {
         Ok(opened) => Ok(Some(Input::File(opened))),

@@ -5,6 +5,7 @@ ghost use Rattle.fw_check.specs.Counts.{kept};
 ghost use Rattle.fw_check.specs.Lines.{line_ends_in};
 
 use crate::faults::{code_of, column_of};
+use crate::files::{all_exports, texts_of};
 use crate::foreign::{Foreign, what_to_do};
 use fw_check::{Located, line_ends, locate};
 use fw_console::{Fault, Progress};
@@ -12,11 +13,12 @@ use fw_cut::{CutFault, Part};
 use fw_explain::explain_fault;
 use fw_rows::{RecordFault, RowFault};
 use fw_table::shown_text;
+use std::borrow::CowStr;
 
 /// Where a walk over exports stands.
 pub struct Walk<'a> {
-    /// The name of the export.
-    pub name: &'a str,
+    /// The name of the export, with its folder where the command line names that.
+    pub name: CowStr<'a>,
     /// The name as messages have it: as a terminal may show it.
     pub shown: String,
     /// The line in which the next part begins, counted from 1.
@@ -49,22 +51,26 @@ impl<'a> Walk<'a> {
     /// A walk over files that stands before the first one.
     pub fn new(rt: &HostRuntime, is_quiet: bool, files: &[&str]) -> Walk<'a> {
         Walk {
-            name: "",
+            name: CowStr::Borrowed(""),
             shown: String::new(rt.alloc()),
             line: 1,
             record: 1,
             line_end: b'\n',
             repeated: 0,
-            progress: Progress::new(rt, is_quiet, files),
+            progress: progress_of(rt, is_quiet, files),
         }
     }
 
     // It stands at the beginning of a file.
-    pub(crate) fn go_to(&mut self, rt: &HostRuntime, file: &'a str) -> Result<(), Fault>
+    pub(crate) fn go_to(&mut self, rt: &HostRuntime, file: CowStr<'a>) -> Result<(), Fault>
         ensures { OnOk result ((self.new.line ≡ 1) × (self.new.record ≡ 1)) }
     {
-        self.name = if file == "-" { "standard input" } else { file };
-        self.shown = shown_text(rt.alloc(), self.name)?;
+        self.name = if file.as_str() == "-" {
+            CowStr::Borrowed("standard input")
+        } else {
+            file
+        };
+        self.shown = shown_text(rt.alloc(), self.name.as_str())?;
         self.line = 1;
         self.record = 1;
         Ok(())
@@ -206,6 +212,17 @@ impl<'a> Walk<'a> {
                 "focusd: {name}:{line}: record {record}: {value}: {code}: expected {expected}"
             );
         }
+    }
+}
+
+// Progress in reading the exports that names stand for.
+fn progress_of(rt: &HostRuntime, is_quiet: bool, names: &[&str]) -> Progress {
+    let Some(files) = all_exports(rt, names) else {
+        return Progress::new(rt, is_quiet, names);
+    };
+    match texts_of(rt.alloc(), &files) {
+        Ok(texts) => Progress::new(rt, is_quiet, &texts),
+        Err(_) => Progress::new(rt, is_quiet, names),
     }
 }
 

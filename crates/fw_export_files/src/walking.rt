@@ -1,26 +1,72 @@
 //! A walk over exports and their parts.
+use crate::files::exports_of;
 use crate::opening::{Source, open_export};
 use crate::taker::Taker;
 use crate::walk::Walk;
 use fw_console::Fault;
 use fw_cut::{CutFault, Cutter, Part};
+use std::borrow::CowStr;
 
-/// Walks over files in order, and has their parts taken; false where one has a fault, which was said.
+/// What is said of a folder that stands for no export.
+const NO_EXPORT: &str = "it is a folder that has no file whose name ends in .csv";
+
+/// Walks over the exports that names stand for, in order, and has their parts taken; false where one has a fault, which was said. A folder stands for the
+/// files in it whose names end in `.csv`, in the byte order of their names.
 pub fn walk_files<'a, T: Taker>(
     rt: &HostRuntime,
-    files: &[&'a str],
+    names: &[&'a str],
     walk: &mut Walk<'a>,
     taker: &mut T,
 ) -> Result<bool, Fault> {
     let mut are_sound = true;
-    for file in files {
-        walk.go_to(rt, *file)?;
-        are_sound = walk_file(rt, *file, walk, taker)? && are_sound;
+    for name in names {
+        are_sound = walk_name(rt, *name, walk, taker)? && are_sound;
         if !are_sound && !taker.goes_on() {
             break;
         }
     }
     walk.progress.end(rt);
+    Ok(are_sound)
+}
+
+// Walks over the exports that a name stands for.
+fn walk_name<'a, T: Taker>(
+    rt: &HostRuntime,
+    name: &'a str,
+    walk: &mut Walk<'a>,
+    taker: &mut T,
+) -> Result<bool, Fault> {
+    walk.go_to(rt, CowStr::Borrowed(name))?;
+    match exports_of(rt, name) {
+        Ok(files) => walk_exports(rt, files, walk, taker),
+        Err(error) => {
+            let why = format!(in rt.alloc(); "{error}")?;
+            walk.not_opened(rt, why.as_str());
+            Ok(false)
+        }
+    }
+}
+
+// Walks over files in order; where there is none, as in a folder without an export, that is said.
+fn walk_exports<T: Taker>(
+    rt: &HostRuntime,
+    files: Vec<String>,
+    walk: &mut Walk<'_>,
+    taker: &mut T,
+) -> Result<bool, Fault> {
+    if files.is_empty() {
+        walk.not_opened(rt, NO_EXPORT);
+        return Ok(false);
+    }
+    let mut are_sound = true;
+    for file in files {
+        let name = String::from_str(rt.alloc(), file.as_str())?;
+        walk.go_to(rt, CowStr::Owned(name))?;
+        are_sound = walk_file(rt, file.as_str(), walk, taker)? && are_sound;
+        if !are_sound && !taker.goes_on() {
+            break;
+        }
+    }
     Ok(are_sound)
 }
 

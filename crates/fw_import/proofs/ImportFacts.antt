@@ -6,12 +6,20 @@ use Rattle.fw_entry.specs.Entry.{EntryValue}
 use Rattle.fw_entry.specs.Spelling.{IsEntry, IsRowCount, entry}
 use Rattle.fw_entry_bytes.specs.Reading.{entry_at}
 use Rattle.fw_entry_bytes.specs.declared.form.Form.TheVariants as form
+use Rattle.fw_rows.specs.Keeps.{KeepText}
+use Rattle.fw_rows.specs.Kept.{RowsKept}
 use Rattle.fw_rows.specs.Rows.{RowsRead}
 
 -- a text's rows are as many as a post may have
 pub counted : (currency text : List ℕ) (rows : List Charge) → RowsRead currency text (Ok rows) → IsRowCount rows
 unfolding RowsRead
 counted currency text rows read =
+    let same = AllZip-long _ _ rows read.3 in
+    record { some = rw same read.1; few = rw same read.2 }
+
+pub counted_kept : (currency : List ℕ) (keeps : List KeepText) (text : List ℕ) (rows : List Charge) → RowsKept currency keeps text (Ok rows) → IsRowCount rows
+unfolding RowsKept
+counted_kept currency keeps text rows read =
     let same = AllZip-long _ _ rows read.3 in
     record { some = rw same read.1; few = rw same read.2 }
 

@@ -2,3 +2,4 @@ pub mod Importer
 pub mod ImporterView
 pub mod Importing
 pub mod Sending
+pub mod Keeping

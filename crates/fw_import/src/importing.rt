@@ -70,7 +70,7 @@ pub fn import_part<V: Volume>(
 }
 
 // How many rows an entry posts.
-fn row_count(entry: &Entry) -> u64
+pub(crate) fn row_count(entry: &Entry) -> u64
     ensures { result ≡ length (posted entry.now.command) }
 {
     match entry.command() {
@@ -110,7 +110,7 @@ pub fn read_part(
 }
 
 // Adds an entry of the importer's origin, or compares it with the one that was accepted under its number.
-fn submit<V: Volume>(
+pub(crate) fn submit<V: Volume>(
     alloc: Global,
     store: &mut Store<V>,
     importer: &mut Importer<'_>,

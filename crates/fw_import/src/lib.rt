@@ -5,6 +5,8 @@
 //! dropped unseen. An [`Importer`] is kept from one part to the next, so that an import that is run again looks at each entry and each row of
 //! the warehouse once.
 //!
+//! [`import_part_keeping`] does the same with columns that are kept as tags.
+//!
 //! What an import has to know before its first post is here too: which posts an origin has ([`posts_of`]), and whether rows fit ([`fits`],
 //! [`surely_fits`]).
 #![tactic(auto)]
@@ -14,6 +16,7 @@ mod fault;
 mod fitting;
 mod importer;
 mod importing;
+mod keeping;
 mod sent;
 
 pub use comparing::same_entry;
@@ -21,4 +24,5 @@ pub use fault::ImportFault;
 pub use fitting::{FEWEST_ROW_BYTES, fits, surely_fits};
 pub use importer::Importer;
 pub use importing::{Outcome, Taken, import_part, read_part};
+pub use keeping::{import_part_keeping, read_part_keeping};
 pub use sent::{Sent, posts_of};

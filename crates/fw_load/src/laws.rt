@@ -1,6 +1,6 @@
 //! What a crash leaves beside importers, a flusher and analysts: laws, each the contract of a
 //! function that does nothing.
-ghost use Rattle.std.specs.Prelude.{◌≡◌, [], IsTrue, List, Some, slice_get, ℕ};
+ghost use Rattle.std.specs.Prelude.{◌≡◌, [], IsTrue, List, Result, Some, false, slice_get, ℕ};
 ghost use Rattle.fw_disk.specs.Volume.{Image};
 ghost use Rattle.fw_group.specs.Laws.{Begins};
 ghost use Rattle.fw_group.specs.Runs.{HasRun, volume_of};
@@ -11,7 +11,7 @@ ghost use Rattle.fw_group.specs.declared.event.EventAnswer.{EventAnswer};
 ghost use Rattle.fw_recover.specs.Stands.{StandsFor};
 ghost use Rattle.fw_recover.specs.declared.fault.StoreFault.{StoreFault};
 ghost use Rattle.fw_snapshot.specs.History.{History};
-ghost use Rattle.fw_threads.specs.Flushed.{CommitFails, Commits, group_on};
+ghost use Rattle.fw_threads.specs.Flushed.{Checkpoints, CommitFails, Commits, group_on};
 ghost use Rattle.fw_threads.specs.declared.publisher.CommitFault.{CommitFault};
 ghost use Rattle.fw_load.specs.Left.{IsLeftOf};
 
@@ -41,6 +41,25 @@ pub fn a_commit_leaves_none_or_all<J: Naming, V: Volume>(
         → (V.view after.now.store.volume).left_since (V.view before.now.store.volume).moment image
         → IsLeftOf before.now.store.history (group_on before.now.store.history before.now.hand)
         image }
+{}
+
+/// A crash at any moment of a checkpoint of the [`Flusher`] (`moment`), and behind one whatever it
+/// answered (`behind`), leaves the warehouse that the store has. It can be opened, and its reports
+/// add up.
+pub fn a_checkpoint_leaves_the_warehouse<J: Naming, V: Volume>(
+    before: &Flusher<J, V>,
+    after: &Flusher<J, V>,
+)
+    ensures moment { (result : Result (Unit {0}) StoreFault) (image : Image) → IsTrue V.tells
+        → before.now.store.failed ≡ false → before.now.unpublished ≡ false
+        → Checkpoints V.tells V.view false result before.now.store after.now.store
+        → (V.view after.now.store.volume).left_since (V.view before.now.store.volume).moment image
+        → IsLeftOf before.now.store.history [] image }
+    ensures behind { (result : Result (Unit {0}) StoreFault) (image : Image) → IsTrue V.tells
+        → before.now.store.failed ≡ false → before.now.unpublished ≡ false
+        → Checkpoints V.tells V.view false result before.now.store after.now.store
+        → (V.view after.now.store.volume).may_leave image
+        → IsLeftOf before.now.store.history [] image }
 {}
 
 /// What a crash leaves behind a run of events (`fw_group::run_events`) can be opened, whatever was

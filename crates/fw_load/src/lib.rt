@@ -14,6 +14,8 @@ mod progress;
 mod seat;
 
 pub use fault::LoadFault;
-pub use laws::{a_commit_leaves_none_or_all, a_run_leaves_what_was_accepted};
+pub use laws::{
+    a_checkpoint_leaves_the_warehouse, a_commit_leaves_none_or_all, a_run_leaves_what_was_accepted,
+};
 pub use loading::{Job, load};
 pub use progress::Progress;

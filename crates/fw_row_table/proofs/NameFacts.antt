@@ -1,5 +1,5 @@
 -- Facts on names: where a text stands among them, and what a text adds to them.
-use Rattle.std.proofs.Common.{◌≡◌, ℕ, zero, suc, ◌+◌, ◌<◌, Bool, true, false, cond, eqb, List, [], ◌∷◌, ◌++◌, length, map, take, get_or, refl, sym, ap, ◌∙◌, true≢false, arith, append_assoc, length-append, if◌then◌else◌, Some, None, ltb, position}
+use Rattle.std.proofs.Common.{◌≡◌, ℕ, zero, suc, ◌+◌, ◌<◌, ◌≤◌, Bool, true, false, cond, eqb, List, [], ◌∷◌, ◌++◌, length, map, take, drop, get_or, refl, sym, ap, ◌∙◌, true≢false, arith, append_assoc, length-append, if◌then◌else◌, Some, None, ltb, position}
 use Rattle.std.specs.List.{list_any, position_or_len, IsDistinct, AllByRecursion}
 use Rattle.std.specs.Str.{bytes_eq}
 use Rattle.std.specs.Cmp.Lexicographic.{bytes_decides, nat_list_eq_equiv}
@@ -8,7 +8,7 @@ use Rattle.std.proofs.lemmas.Option.{none-some}
 use Rattle.std.proofs.lemmas.List.Sums.{passes_at_first, position_or_len_is}
 use Rattle.std.proofs.lemmas.List.Folds.{position_or_len_push, list_any-append}
 use Rattle.std.proofs.lemmas.List.Quantifiers.{position-Some}
-use Rattle.std.proofs.lemmas.List.{map_push, length-map, get_or-map, get_or_append_left, take_more}
+use Rattle.std.proofs.lemmas.List.{map_push, length-map, length-take-le, get_or-map, get_or_append_left, take-append-drop, take_more}
 use Rattle.std.proofs.lemmas.Map.Keys.{IsDistinct-push}
 use Rattle.fw_row_table.specs.Names.{Text, AreDistinct, place_of, with_text}
 
@@ -109,6 +109,32 @@ place_at (x ∷ xs) (suc i) d h lt = let next : 1 + i ≡ suc i = omega arith in
         by true e = absurd (true≢false (sym ((bytes_decides x y).1 (sym ((bytes_decides y x).0 e))) ∙ all.0))
         by false e = e
     other (y ∷ ys) (suc k) lt all = other ys k (omega arith) all.1
+
+-- each of distinct names is new behind any of those before it
+pub is_new : (names : List Text) (seen place : ℕ) → AreDistinct names → seen ≤ place → place < length names → list_any (bytes_eq (get_or names place [])) (take seen names) ≡ false
+unfolding place_of
+is_new names seen place distinct le lt = by (list_any (bytes_eq (get_or names place [])) (take seen names)) refl
+  where
+    by : (b : Bool) → list_any (bytes_eq (get_or names place [])) (take seen names) ≡ b → b ≡ false
+    by false e = refl
+    by true e =
+        let front = take seen names in
+        let t = get_or names place [] in
+        let size : length front ≡ seen = length-take-le seen names (omega (arith, le, lt)) in
+        let below : position_or_len (bytes_eq t) front < length front = place-there (bytes_eq t) front e in
+        let kept : position_or_len (bytes_eq t) (front ++ drop seen names) ≡ position_or_len (bytes_eq t) front = place-kept (bytes_eq t) front (drop seen names) below in
+        let whole : position_or_len (bytes_eq t) (front ++ drop seen names) ≡ position_or_len (bytes_eq t) names = ap (position_or_len (bytes_eq t)) (take-append-drop seen names) in
+        let here : position_or_len (bytes_eq t) names ≡ place = place_at names place [] distinct lt in
+        absurd (omega (arith, size, below, kept, whole, here, le))
+
+-- so there its place is how many these are
+pub new_place : (names : List Text) (seen place : ℕ) → AreDistinct names → seen ≤ place → place < length names
+    → place_of (with_text (take seen names) (get_or names place [])) (get_or names place []) ≡ seen
+unfolding with_text place_of
+new_place names seen place distinct le lt =
+    let t = get_or names place [] in
+    let new : list_any (bytes_eq t) (take seen names) ≡ false = is_new names seen place distinct le lt in
+    rw new (at_its_end (take seen names) t new ∙ length-take-le seen names (omega (arith, le, lt)))
 
 -- a text whose place is behind the names is new
 pub text_is_new : (names : List Text) (t : Text) (code : ℕ) → code ≡ place_of (with_text names t) t → code ≡ length names → with_text names t ≡ names ++ t ∷ []

@@ -11,6 +11,11 @@ Text = List ℕ
 abbrev pub AreDistinct : List Text → Type 0
 AreDistinct names = IsDistinct bytes_eq names
 
+-- texts can be names: there are at most 2^30 of them, each once
+pub record AreNames (texts : List Text) : Type 0 where
+  pub few : length texts ≤ 2 ^ 30
+  pub distinct : AreDistinct texts
+
 -- the place of a text among the names, or how many names there are where it is none of them
 unfoldable pub place_of : List Text → Text → ℕ
 place_of names text = position_or_len (bytes_eq text) names

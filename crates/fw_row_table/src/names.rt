@@ -1,5 +1,5 @@
 //! Texts that are numbered.
-ghost use Rattle.std.specs.Prelude.{◌≡◌, ◌^◌, ◌<◌, ◌≤◌, ◌+◌, ◌++◌, [], Some, length, map, slice_get, string_bytes, All, IfNone, IfOk, IfSome, IsTrue, IsUtf8, OnOk, OnErr};
+ghost use Rattle.std.specs.Prelude.{◌≡◌, ◌^◌, ◌<◌, ◌≤◌, ◌+◌, ◌++◌, ◌↔◌, [], Some, length, map, slice_get, string_bytes, All, IfNone, IfOk, IfSome, IsSome, IsTrue, IsUtf8, OnOk, OnErr};
 
 use crate::hashed::Hashed;
 use crate::packed::Packed;
@@ -42,7 +42,7 @@ impl Model for Names {
 }
 
 impl Names {
-    ghost use Rattle.fw_row_table.specs.Names.{place_of, with_text, AreDistinct};
+    ghost use Rattle.fw_row_table.specs.Names.{place_of, with_text, AreDistinct, AreNames};
 
     /// No text yet. It takes no memory.
     pub fn new(alloc: Global) -> Names
@@ -131,9 +131,12 @@ impl Names {
         }
     }
 
-    /// Texts as they stand, if each is there once; else `None`.
+    /// Texts as they stand. `None` exactly where a text is there twice, or where there are more than 2^30.
     pub fn of_texts(alloc: Global, texts: &[String]) -> Result<Option<Names>, AllocError>
-        ensures { IfOk result (λ made. IfSome made (λ names. names ≡ map string_bytes texts.now)) }
+        ensures some { IfOk result (λ made.
+            IfSome made (λ names. names ≡ map string_bytes texts.now)) }
+        ensures exactly { IfOk result (λ made.
+            IsSome made ↔ AreNames (map string_bytes texts.now)) }
     {
         let count = texts.len();
         if count > 1 << 30 {
@@ -146,6 +149,7 @@ impl Names {
                 return Ok(None);
             }
         }
+        prove!(names.len() <= 1 << 30);
         Ok(Some(names))
     }
 

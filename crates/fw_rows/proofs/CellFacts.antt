@@ -3,6 +3,7 @@ use Rattle.std.proofs.Common.{◌≡◌, ◌<◌, ◌≤◌, ◌≢◌, ◌+◌,
 use Rattle.std.specs.Prelude.{IsUtf8, slice_index_or, unwrap_or}
 use Rattle.std.specs.Borrow.{Bor}
 use Rattle.std.specs.Str.{IsAscii}
+use Rattle.std.proofs.lemmas.List.{length-map}
 use Rattle.std.proofs.lemmas.Str.{IsUtf8-from_ascii, IsUtf8-nil, IsAscii-take, IsAscii-drop}
 use Rattle.csv.specs.Records.{AllText, cut_from, field_at}
 use Rattle.fw_rows.specs.Columns.{Record, columns, index_of, place_in, text_at, text_in}
@@ -13,7 +14,7 @@ use Rattle.fw_rows.specs.declared.cells.Cells.{Cells}
 use Rattle.fw_rows.specs.declared.column.Column.{Column}
 use Rattle.fw_rows.specs.declared.column.Column.TheVariants as column
 use Rattle.fw_rows.specs.declared.header.Places.{Places}
-use Rattle.fw_rows.proofs.ColumnFacts.{column_at, index_within, index_at}
+use Rattle.fw_rows.proofs.ColumnFacts.{column_at, index_within, index_at, index_other}
 
 -- ---- the places
 
@@ -108,3 +109,20 @@ non_text header fields p k are lt bad =
     let c = get_or columns k column.BilledCost in
     let place : get_or p.places k None ≡ place_in header c = subst (λ i. get_or p.places i None ≡ place_in header c) (index_at k column.BilledCost lt) (are.places c) in
     (k, c, lt, get_or-any columns k c column.BilledCost lt, λ text. bad (subst (λ t. IsUtf8 t) (sym (ap (text_at fields) place)) text))
+
+-- ---- the texts with another one for the tags
+
+now_set : (texts : List (Bor (List ℕ))) (i : ℕ) (t : Bor (List ℕ)) → map (λ b. b.now) (set texts i t) ≡ set (map (λ b. b.now) texts) i t.now
+now_set [] i t = refl
+now_set (b ∷ texts) zero t = refl
+now_set (b ∷ texts) (suc i) t = ap (λ rest. b.now ∷ rest) (now_set texts i t)
+
+pub set_other : (texts : List (Bor (List ℕ))) (i : ℕ) (t : Bor (List ℕ)) (c : Column) → i ≡ 14 → c ≢ column.Tags
+    → slice_index_or (map (λ b. b.now) (set texts i t)) (index_of c) [] ≡ slice_index_or (map (λ b. b.now) texts) (index_of c) []
+set_other texts i t c is other =
+    ap (λ ts. get_or ts (index_of c) []) (now_set texts i t)
+    ∙ get_or-set_other (map (λ b. b.now) texts) i (index_of c) t.now [] (λ e. index_other c other (e ∙ is))
+
+pub set_tags : (texts : List (Bor (List ℕ))) (i : ℕ) (t : Bor (List ℕ)) → i < length texts → slice_index_or (map (λ b. b.now) (set texts i t)) i [] ≡ t.now
+set_tags texts i t lt =
+    ap (λ ts. get_or ts i []) (now_set texts i t) ∙ get_or-set_same (map (λ b. b.now) texts) i t.now [] (omega (arith, length-map texts (λ (b : Bor (List ℕ)). b.now)))

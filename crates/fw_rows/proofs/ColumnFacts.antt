@@ -1,5 +1,5 @@
 -- Where the columns stand among those that are read.
-use Rattle.std.proofs.Common.{◌≡◌, ◌<◌, ℕ, zero, suc, refl, arith}
+use Rattle.std.proofs.Common.{◌≡◌, ◌≢◌, ◌<◌, ℕ, zero, suc, refl, arith}
 use Rattle.std.specs.Prelude.{slice_index_or}
 use Rattle.fw_rows.specs.Columns.{columns, index_of}
 use Rattle.fw_rows.specs.declared.column.Column.{Column}
@@ -59,3 +59,22 @@ index_at (suc (suc (suc (suc (suc (suc (suc (suc (suc (suc (suc (suc zero)))))))
 index_at (suc (suc (suc (suc (suc (suc (suc (suc (suc (suc (suc (suc (suc zero))))))))))))) d lt = refl
 index_at (suc (suc (suc (suc (suc (suc (suc (suc (suc (suc (suc (suc (suc (suc zero)))))))))))))) d lt = refl
 index_at (suc (suc (suc (suc (suc (suc (suc (suc (suc (suc (suc (suc (suc (suc (suc k))))))))))))))) d lt = absurd (omega arith)
+
+-- a column that isn't that of the tags stands elsewhere
+pub index_other : (c : Column) → c ≢ column.Tags → index_of c ≢ 14
+unfolding index_of
+index_other column.BilledCost other e = cc
+index_other column.EffectiveCost other e = cc
+index_other column.BillingCurrency other e = cc
+index_other column.ChargeCategory other e = cc
+index_other column.ChargePeriodStart other e = cc
+index_other column.ChargePeriodEnd other e = cc
+index_other column.ChargeClass other e = cc
+index_other column.CommitmentDiscountId other e = cc
+index_other column.CommitmentDiscountCategory other e = cc
+index_other column.CommitmentDiscountStatus other e = cc
+index_other column.ConsumedQuantity other e = cc
+index_other column.ConsumedUnit other e = cc
+index_other column.SkuId other e = cc
+index_other column.SubAccountId other e = cc
+index_other column.Tags other e = other refl

@@ -12,3 +12,9 @@ pub mod MakingFacts
 mod RowFacts
 mod ShortFacts
 pub mod OneReading
+pub mod KeptFacts
+pub mod ObjectFacts
+pub mod PlaceFacts
+pub mod KeepingFacts
+pub mod KeptLaw
+pub mod KeeperFacts

@@ -10,3 +10,7 @@ pub mod Parts
 pub mod Sinks
 pub mod Short
 pub mod FaultNames
+pub mod Keeps
+pub mod Keepers
+pub mod Kept
+pub mod Keeping

@@ -1,10 +1,12 @@
 //! The texts of a record in the columns that are read.
-ghost use Rattle.std.specs.Prelude.{◌≡◌, IsUtf8, MatchOption};
+ghost use Rattle.std.specs.Prelude.{◌≡◌, ◌≢◌, IsUtf8, MatchOption};
 ghost use Rattle.csv.specs.Records.{AllText, fields_of};
 ghost use Rattle.fw_rows.specs.Columns.{Record, text_at};
 ghost use Rattle.fw_rows.specs.Header.{ArePlaces};
 ghost use Rattle.fw_rows.specs.Parts.{AreCells, texts_of};
 ghost use Rattle.fw_rows.specs.Rules.{HasNonText};
+ghost use Rattle.fw_rows.specs.declared.column.Column.{Column as ColumnValue};
+ghost use Rattle.fw_rows.specs.declared.column.Column.TheVariants as column;
 
 use crate::column::{COUNT, Column};
 use crate::header::Places;
@@ -17,7 +19,7 @@ pub struct Cells<'a> {
 }
 
 /// The field of a record at a place; the empty one where there is no place, or the record has no such field.
-fn field_at<'r>(fields: &'r ByteRecord, place: Option<usize>) -> &'r [u8]
+pub(crate) fn field_at<'r>(fields: &'r ByteRecord, place: Option<usize>) -> &'r [u8]
     ensures { result.now ≡ text_at (fields_of fields.now) place }
 {
     match place {
@@ -27,7 +29,7 @@ fn field_at<'r>(fields: &'r ByteRecord, place: Option<usize>) -> &'r [u8]
 }
 
 /// The field of a record at a place, if it is UTF-8.
-fn text_at<'r>(fields: &'r ByteRecord, place: Option<usize>) -> Option<&'r str>
+pub(crate) fn text_at<'r>(fields: &'r ByteRecord, place: Option<usize>) -> Option<&'r str>
     ensures { let text = text_at (fields_of fields.now) place in MatchOption result (¬ IsUtf8 text) (λ r. (r.now ≡ text) × IsUtf8 text) }
 {
     str::from_utf8(field_at(fields, place)).ok()
@@ -71,5 +73,16 @@ impl<'a> Cells<'a> {
         ensures { result.now ≡ texts_of self.now column }
     {
         self.texts[column.index()]
+    }
+
+    /// The same texts, but for that of the tags.
+    pub(crate) fn with_tags(&self, tags: &'a str) -> Cells<'a>
+        ensures others { (c : ColumnValue) → c ≢ column.Tags
+            → texts_of result c ≡ texts_of self.now c }
+        ensures tags { texts_of result column.Tags ≡ tags.now }
+    {
+        let mut texts = self.texts;
+        texts[Column::Tags.index()] = tags;
+        Cells { texts }
     }
 }

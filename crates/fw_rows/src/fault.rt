@@ -51,6 +51,9 @@ pub enum RecordFault {
     /// or there are more than 256 tags. Tags are counted as the object is read, with each key once.
     #[error("an id, a unit, a SKU, an account or a tag is too long, or there are too many tags")]
     TooLong,
+    /// Tags has the tag already that the text of a kept column is to be. It is looked for before `Category`.
+    #[error("Tags has the tag of a kept column already")]
+    TagTwice,
 }
 
 impl RecordFault {
@@ -75,6 +78,7 @@ impl RecordFault {
             RecordFault::Quantity => "V11 Quantity",
             RecordFault::BadTags => "V12 BadTags",
             RecordFault::TooLong => "V13 TooLong",
+            RecordFault::TagTwice => "V17 TagTwice",
         }
     }
 }

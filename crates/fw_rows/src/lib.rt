@@ -10,6 +10,11 @@ mod column;
 mod details;
 mod fault;
 mod header;
+mod keep;
+mod keeping;
+mod kept_object;
+mod kept_places;
+mod kept_texts;
 mod known;
 mod laws;
 mod reading;
@@ -27,7 +32,10 @@ pub use fault::{RecordFault, Refusal, RowFault};
 pub use fw_charge::{
     Category, Currency, Discount, DiscountKind, DiscountStatus, Row, RowFields, Tag, Tags,
 };
+pub use keep::Keep;
+pub use keeping::read_into_keeping;
+pub use kept_texts::Keeper;
 pub use known::KnownTags;
-pub use laws::rows_read_as_one;
+pub use laws::{kept_columns_add_tags, rows_read_as_one};
 pub use reading::{read_into, read_rows};
 pub use sink::RowSink;

@@ -118,20 +118,21 @@ pub(crate) fn put(page: &mut Vec<u8>, text: &str) -> Result<(), AllocError> {
     page.extend_from_slice(text.as_bytes())
 }
 
-/// Adds the drawing of a series: a stack of the groups' charges for each period, charges below zero under the line.
+/// Adds the drawing of a series, whose cost has this name: a stack of the groups' charges for each period, charges below zero under the line.
 pub(crate) fn push_stacks(
     alloc: Global,
     page: &mut Vec<u8>,
     series: &Series,
     step: Step,
     names: &[String],
+    cost: &str,
 ) -> Result<(), AllocError> {
     let parts = series.parts.as_slice();
     let reach = reach_of(alloc, parts, names)?;
     push_most(alloc, page, reach)?;
     let width = parts.len().saturating_mul(PERIOD_WIDTH);
     let head = format!(in alloc;
-        "<svg viewBox=\"0 0 {width} {HEIGHT}\" preserveAspectRatio=\"none\" role=\"img\" aria-label=\"ChargedCost by period\">"
+        "<svg viewBox=\"0 0 {width} {HEIGHT}\" preserveAspectRatio=\"none\" role=\"img\" aria-label=\"{cost} by period\">"
     )?;
     put(page, head.as_str())?;
     for (place, part) in parts.iter().enumerate() {

@@ -3,7 +3,7 @@
 //!
 //! [`report_text`] answers a query by the text of its report: of the whole range or by period, of all groups or of some, as a table, as CSV, as
 //! JSON or as a page of HTML. [`series_of`] makes the reports, [`most_charged`] chooses groups, [`lines_of`] are what is shown of a report, and
-//! [`written`] writes all of it. Costs are nanos, 10^-9 of the currency unit, and hours are counted from 1970.
+//! [`written`] writes all of it. [`page_without_charges`] is the page of a report to which no policy applies. Costs are nanos, 10^-9 of the currency unit, and hours are counted from 1970.
 #![tactic(auto)]
 
 mod chart;
@@ -23,6 +23,7 @@ mod view;
 
 pub use laws::{escaped_is_no_markup, lines_keep_the_sums, periods_sum_to_the_whole};
 pub use lines::{Line, lines_of};
+pub use page::page_without_charges;
 pub use report::{ReportOptions, report_text};
 pub use series::{Part, Series, series_of};
 pub use sums::{Sums, sums_of};

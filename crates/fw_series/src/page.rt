@@ -67,11 +67,48 @@ const END: &str = "</main>
 </html>
 ";
 
+/// What a page is of.
+#[derive(Clone, Copy, Debug)]
+pub(crate) struct Face<'f> {
+    /// The cost that is drawn.
+    pub(crate) cost: &'static str,
+    /// A line below the title; empty for none.
+    pub(crate) about: &'f str,
+}
+
+impl<'f> Face<'f> {
+    /// The cost of a report.
+    pub(crate) const CHARGED: &'static str = "ChargedCost";
+    /// The cost of a report that has no charges.
+    pub(crate) const EFFECTIVE: &'static str = "EffectiveCost";
+
+    // Whether the groups are charged.
+    fn has_charges(&self) -> bool {
+        self.cost == Face::CHARGED
+    }
+}
+
+/// A series as a page without ChargedCost, which shows EffectiveCost in its place: of a report to which no policy applies. A line below the title
+/// says more of it. The one error is that memory ran out, or that a sum of groups passes 128 bits.
+pub fn page_without_charges(
+    alloc: Global,
+    series: &Series,
+    view: &View<'_>,
+    about: &str,
+) -> Result<Vec<u8>, AllocError> {
+    let face = Face {
+        cost: Face::EFFECTIVE,
+        about,
+    };
+    page_text(alloc, series, view, &face)
+}
+
 /// A series as a page: a chart of what the groups are charged, what each is charged in each period, and a table of all costs of the range.
 pub(crate) fn page_text(
     alloc: Global,
     series: &Series,
     view: &View<'_>,
+    face: &Face<'_>,
 ) -> Result<Vec<u8>, AllocError> {
     let coloured = view.top.unwrap_or(COLOURS).min(COLOURS);
     let colours = most_charged(alloc, &series.whole, coloured)?;
@@ -79,23 +116,36 @@ pub(crate) fn page_text(
     let names = chosen(alloc, series, view)?;
     let names = names.as_ref().map(|names| names.as_slice());
     let mut page = Vec::new(alloc);
-    push_head(alloc, &mut page, view)?;
+    push_head(alloc, &mut page, view, face)?;
     let drawn = lines_of(alloc, &series.whole, Some(colours))?;
     match view.step {
         Some(step) => {
             push_legend(alloc, &mut page, drawn.as_slice(), colours)?;
-            push_stacks(alloc, &mut page, series, step, colours)?;
-            push_periods(alloc, &mut page, series, step, drawn.as_slice(), colours)?;
+            push_stacks(alloc, &mut page, series, step, colours, face.cost)?;
+            push_periods(
+                alloc,
+                &mut page,
+                series,
+                step,
+                drawn.as_slice(),
+                colours,
+                face.cost,
+            )?;
         }
         None => push_bars(alloc, &mut page, drawn.as_slice(), colours)?,
     }
-    push_groups(alloc, &mut page, &series.whole, names)?;
+    push_groups(alloc, &mut page, &series.whole, names, face)?;
     put(&mut page, END)?;
     Ok(page)
 }
 
 // Adds the head of the page, and what it is of.
-fn push_head(alloc: Global, page: &mut Vec<u8>, view: &View<'_>) -> Result<(), AllocError> {
+fn push_head(
+    alloc: Global,
+    page: &mut Vec<u8>,
+    view: &View<'_>,
+    face: &Face<'_>,
+) -> Result<(), AllocError> {
     let from = hour_text(alloc, view.from)?;
     let to = hour_text(alloc, view.to)?;
     put(page, HEAD)?;
@@ -108,7 +158,15 @@ fn push_head(alloc: Global, page: &mut Vec<u8>, view: &View<'_>) -> Result<(), A
     let range = format!(in alloc; "{from} to {to}, in ")?;
     put(page, range.as_str())?;
     push_shown(alloc, page, view.currency)?;
-    put(page, "; the chart shows ChargedCost</p>\n")
+    put(page, "; the chart shows ")?;
+    put(page, face.cost)?;
+    put(page, "</p>\n")?;
+    if !face.about.is_empty() {
+        put(page, "<p class=\"quiet\">")?;
+        push_shown(alloc, page, face.about)?;
+        put(page, "</p>\n")?;
+    }
+    Ok(())
 }
 
 // Adds the names of the colours.
@@ -137,10 +195,13 @@ fn push_periods(
     step: Step,
     drawn: &[Line<'_>],
     colours: &[String],
+    cost: &str,
 ) -> Result<(), AllocError> {
+    put(page, "<h2>")?;
+    put(page, cost)?;
     put(
         page,
-        "<h2>ChargedCost by period</h2>\n<div class=\"wide\"><table>\n<thead><tr><th>Period</th>",
+        " by period</h2>\n<div class=\"wide\"><table>\n<thead><tr><th>Period</th>",
     )?;
     for line in drawn {
         put(page, "<th>")?;
@@ -202,25 +263,27 @@ fn push_groups(
     page: &mut Vec<u8>,
     report: &Report,
     names: Option<&[String]>,
+    face: &Face<'_>,
 ) -> Result<(), AllocError> {
     let sums = sums_in(report)?;
     put(
         page,
         "<h2>Costs of the whole range</h2>\n<div class=\"wide\"><table>\n<thead><tr><th>Group</th><th>BilledCost</th>",
     )?;
-    put(
-        page,
-        "<th>EffectiveCost</th><th>ChargedCost</th><th>Share</th></tr></thead>\n<tbody>\n",
-    )?;
+    put(page, "<th>EffectiveCost</th>")?;
+    if face.has_charges() {
+        put(page, "<th>ChargedCost</th>")?;
+    }
+    put(page, "<th>Share</th></tr></thead>\n<tbody>\n")?;
     let lines = lines_of(alloc, report, names)?;
     for line in &lines {
         put(page, "<tr><td>")?;
         push_shown(alloc, page, name_of(line))?;
         put(page, "</td>")?;
-        push_costs(alloc, page, &line.costs, &sums)?;
+        push_costs(alloc, page, face, &line.costs, &sums)?;
     }
     put(page, "</tbody>\n<tfoot><tr><td>Total</td>")?;
-    push_costs(alloc, page, &sums, &sums)?;
+    push_costs(alloc, page, face, &sums, &sums)?;
     put(page, "</tfoot>\n</table></div>\n")
 }
 
@@ -228,12 +291,15 @@ fn push_groups(
 fn push_costs(
     alloc: Global,
     page: &mut Vec<u8>,
+    face: &Face<'_>,
     costs: &Sums,
     all: &Sums,
 ) -> Result<(), AllocError> {
     push_amount(alloc, page, costs.billed)?;
     push_amount(alloc, page, costs.direct)?;
-    push_amount(alloc, page, costs.charged)?;
+    if face.has_charges() {
+        push_amount(alloc, page, costs.charged)?;
+    }
     let share = share_text(alloc, costs.charged, all.charged)?;
     put(page, "<td>")?;
     put(page, share.as_str())?;

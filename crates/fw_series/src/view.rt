@@ -5,7 +5,7 @@ ghost use Rattle.fw_series.specs.declared.view.Format.TheVariants.{Csv};
 
 use crate::csv_text::csv_text;
 use crate::json::json_text;
-use crate::page::page_text;
+use crate::page::{Face, page_text};
 use crate::series::Series;
 use crate::table::table_of;
 use fw_calendar::Step;
@@ -56,6 +56,12 @@ pub fn written(
         Format::Table => Ok(table_of(alloc, series, view)?.into_bytes()),
         Format::Csv => csv_text(alloc, series, view),
         Format::Json => Ok(json_text(alloc, series, view)?.into_bytes()),
-        Format::Html => page_text(alloc, series, view),
+        Format::Html => {
+            let face = Face {
+                cost: Face::CHARGED,
+                about: "",
+            };
+            page_text(alloc, series, view, &face)
+        }
     }
 }

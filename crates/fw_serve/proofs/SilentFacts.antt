@@ -68,6 +68,7 @@ record_silent number record_fault.PeriodOrder = refl
 record_silent number record_fault.Commitment = refl
 record_silent number record_fault.Status = refl
 record_silent number record_fault.Quantity = refl
+record_silent number record_fault.TagTwice = refl
 record_silent number record_fault.BadTags = refl
 record_silent number record_fault.TooLong = refl
 

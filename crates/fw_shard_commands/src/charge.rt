@@ -1,16 +1,13 @@
 //! `focusd charge`: direct reports are added up, and charged under a policy.
 ghost use Rattle.std.specs.Prelude.{◌≤◌};
 
-use crate::documents::{document_of, other_kind};
 use crate::reports::Reports;
-use crate::words::refuse;
 use clap::ArgMatches;
+use fw_add_commands::{PolicyFile, policy_file};
 use fw_calendar::{Period, read_time};
-use fw_command_line::{FILES, FROM, POLICY, TAG, TO};
-use fw_commands::{read_options, wrong_top};
-use fw_console::{Fault, print_answer, wrong_time};
+use fw_command_line::{FILES, FROM, TAG, TO};
+use fw_console::{Fault, print_answer, read_options, refuse, wrong_time, wrong_top};
 use fw_direct::Sheet;
-use fw_documents::Document;
 use fw_query::MOST_HOURS;
 use fw_series::{ReportOptions, Series, View, written};
 use fw_shards::AddFault;
@@ -73,41 +70,10 @@ fn charge_named(
     shown: &ReportOptions,
     asked: Asked,
 ) -> Result<ExitCode, Fault> {
-    match &policy_named(rt, options)? {
-        Named::Policy(policy) => charge_under(rt, options, shown, asked, Some(policy)),
-        Named::None => charge_under(rt, options, shown, asked, None),
-        Named::Refused => Ok(ExitCode::FAILURE),
-    }
-}
-
-/// What an option names.
-enum Named {
-    Policy(Policy),
-    None,
-    /// Its file has a fault, which was said.
-    Refused,
-}
-
-impl Drop for Named {
-    fn drop(self) {
-        match self {
-            Self::Policy(_) | Self::None | Self::Refused => {}
-        }
-    }
-}
-
-// The policy that the options name.
-fn policy_named(rt: &HostRuntime, options: &ArgMatches<'_>) -> Result<Named, Fault> {
-    let Some(file) = options.get_str(POLICY) else {
-        return Ok(Named::None);
-    };
-    match &document_of(rt, file)? {
-        Some(Document::Policy(policy)) => Ok(Named::Policy(policy.copy(rt.alloc())?)),
-        Some(_) => {
-            other_kind(rt, file, "policy")?;
-            Ok(Named::Refused)
-        }
-        None => Ok(Named::Refused),
+    match &policy_file(rt, options)? {
+        PolicyFile::Policy(policy) => charge_under(rt, options, shown, asked, Some(policy)),
+        PolicyFile::None => charge_under(rt, options, shown, asked, None),
+        PolicyFile::Refused => Ok(ExitCode::FAILURE),
     }
 }
 

@@ -1,19 +1,18 @@
 //! The records of exports, dealt to parts.
+//!
+//! Of a record only the fields are read that it is dealt by. Whether it breaks another rule of rows is found by the import of its part.
+use crate::fields::{Fields, Next, Record};
+use crate::output::Records;
 use crate::outputs::Outputs;
 use crate::piles::Piles;
-use crate::words::refuse;
-use fw_charge::SECONDS_PER_HOUR;
-use fw_column_rows::{KnownTexts, read_columns_after};
-use fw_columns::Columns;
-use fw_console::{Fault, letters};
+use fw_console::{Fault, refuse};
 use fw_cut::{Part, cut_off};
 use fw_export_files::{Taker, Walk};
-use fw_rows::{Currency, RowFault};
+use fw_rows::RowFault;
 use std::alloc::{AllocError, Global};
 
 /// Exports as they are dealt to parts.
 pub(crate) struct Dealing<'o> {
-    currency: Currency,
     piles: Piles,
     pub(crate) outputs: Outputs<'o>,
     /// How many rows were dealt.
@@ -22,105 +21,160 @@ pub(crate) struct Dealing<'o> {
     header: Option<Vec<u8>>,
     // whether the header of the export that is walked is another one
     is_other: bool,
-    known: KnownTexts,
-    // the place of the period of the last row
-    last: usize,
+    fields: Fields,
 }
 
 impl Drop for Dealing<'_> {
     fn drop(self) {
         let Self {
-            currency: _,
             piles: _,
             outputs: _,
             rows: _,
             header: _,
             is_other: _,
-            known: _,
-            last: _,
+            fields: _,
         } = self;
     }
 }
 
+/// Records in a row that go to one part, by where they stand behind the header.
+#[derive(Clone, Copy, Drop)]
+struct Run {
+    /// The place of the part's period.
+    place: usize,
+    pile: usize,
+    start: usize,
+    end: usize,
+    rows: u64,
+}
+
+impl Run {
+    // No records.
+    fn none() -> Run {
+        Run {
+            place: 0,
+            pile: 0,
+            start: 0,
+            end: 0,
+            rows: 0,
+        }
+    }
+
+    // The same with the record that is next.
+    fn with(self, record: &Record) -> Run {
+        Run {
+            place: self.place,
+            pile: self.pile,
+            start: self.start,
+            end: self.end.saturating_add(record.end),
+            rows: self.rows.saturating_add(1),
+        }
+    }
+}
+
+// What became of the records of a part.
+enum Dealt {
+    // So many were dealt.
+    Rows(u32),
+    // One has a fault.
+    Fault(RowFault),
+    // A file is in the way of a part, which was said.
+    Refused,
+}
+
 impl<'o> Dealing<'o> {
     /// Nothing was dealt yet.
-    pub(crate) fn new(
-        alloc: Global,
-        currency: Currency,
-        piles: Piles,
-        outputs: Outputs<'o>,
-    ) -> Dealing<'o> {
+    pub(crate) fn new(alloc: Global, piles: Piles, outputs: Outputs<'o>) -> Dealing<'o> {
         Dealing {
-            currency,
             piles,
             outputs,
             rows: 0,
             header: None,
             is_other: false,
-            known: KnownTexts::new(alloc),
-            last: 0,
+            fields: Fields::new(alloc),
         }
     }
 
-    // Deals the rows of a part; false where one can't be, which was said.
-    fn deal(&mut self, rt: &HostRuntime, part: &Part, columns: &Columns) -> Result<bool, Fault> {
-        let text = part.text.as_slice();
-        let (header, body) = text.split_at(part.header.min(text.len()));
-        let mut rest = body;
-        for (row, start) in columns.starts().iter().enumerate() {
-            let cut = cut_off(rest, 1);
-            let is_ended = cut.records == 1;
-            let end = if is_ended { cut.end } else { rest.len() };
-            let (record, behind) = rest.split_at(end.min(rest.len()));
-            rest = behind;
-            let hour = start.unsigned_abs() / SECONDS_PER_HOUR;
-            let Some(place) = self.place_of(rt, hour)? else {
-                return Ok(false);
+    // Deals the records behind a header. Those that follow each other and go to one part are put there together.
+    fn deal(&mut self, rt: &HostRuntime, header: &[u8], body: &[u8]) -> Result<Dealt, Fault> {
+        let mut rows: u32 = 0;
+        let mut run = Run::none();
+        for _ in 0..body.len() {
+            let (_, rest) = body.split_at(run.end.min(body.len()));
+            rows = rows.saturating_add(1);
+            let record = match self.fields.next(&self.piles, rest)? {
+                Next::None => {
+                    self.put(header, body, &run, &[])?;
+                    return Ok(Dealt::Rows(rows.saturating_sub(1)));
+                }
+                Next::Fault(fault) => {
+                    let number = rows;
+                    return Ok(Dealt::Fault(RowFault::Record { number, fault }));
+                }
+                Next::Record(record) => record,
             };
-            let pile = self.pile_of(place, columns, row);
-            let ending = if is_ended {
-                Vec::new(rt.alloc())
-            } else {
-                ending_of(rt.alloc(), header, record)?
-            };
-            self.outputs
-                .put(place, pile, header, record, ending.as_slice())?;
+            if !self.goes_on(&run, &record) {
+                self.put(header, body, &run, &[])?;
+                match self.begun(rt, &run, &record)? {
+                    Some(begun) => run = begun,
+                    None => return Ok(Dealt::Refused),
+                }
+            }
+            run = run.with(&record);
+            if !record.is_ended {
+                let ending = ending_of(rt.alloc(), header, rest)?;
+                self.put(header, body, &run, ending.as_slice())?;
+                return Ok(Dealt::Rows(rows));
+            }
         }
-        self.outputs.write_much(rt)
+        self.put(header, body, &run, &[])?;
+        Ok(Dealt::Rows(rows))
     }
 
-    // The place of the period in which an hour lies. Most rows lie in the one of the row before them.
-    fn place_of(&mut self, rt: &HostRuntime, hour: u64) -> Result<Option<usize>, Fault> {
-        if self.outputs.has(self.last, hour) {
-            return Ok(Some(self.last));
-        }
-        let place = self.outputs.span(rt, hour)?;
-        if let Some(place) = place {
-            self.last = place;
-        }
-        Ok(place)
+    // Whether a record goes where the records of a run go. Among several piles that depends on what is in them.
+    fn goes_on(&self, run: &Run, record: &Record) -> bool {
+        self.piles.count() <= 1 && run.rows > 0 && self.outputs.has(run.place, record.hour)
     }
 
-    // The pile of a row.
-    fn pile_of(&self, place: usize, columns: &Columns, row: usize) -> usize {
-        if self.piles.count() <= 1 {
-            return 0;
-        }
-        match sku_of(columns, row).and_then(|sku| self.piles.of_sku(sku)) {
+    // The run that begins with a record, behind the last one; none where a file is in the way of its part, which was said.
+    fn begun(
+        &mut self,
+        rt: &HostRuntime,
+        last: &Run,
+        record: &Record,
+    ) -> Result<Option<Run>, Fault> {
+        let Some(place) = self.outputs.span(rt, record.hour)? else {
+            return Ok(None);
+        };
+        let pile = match record.pile {
             Some(pile) => pile,
             None => self.outputs.least(place),
-        }
+        };
+        Ok(Some(Run {
+            place,
+            pile,
+            start: last.end,
+            end: last.end,
+            rows: 0,
+        }))
     }
-}
 
-// The SKU of a row.
-fn sku_of(columns: &Columns, row: usize) -> Option<&str> {
-    let code = columns.sku_codes().get(row)?.checked_sub(1)?;
-    let names = columns.names();
-    if (code as usize) < names.len() {
-        Some(names.text(code))
-    } else {
-        None
+    // Puts the records of a run to their part, with what ends the last one where nothing does.
+    fn put(
+        &mut self,
+        header: &[u8],
+        body: &[u8],
+        run: &Run,
+        ending: &[u8],
+    ) -> Result<(), AllocError> {
+        let (front, _) = body.split_at(run.end.min(body.len()));
+        let (_, bytes) = front.split_at(run.start.min(front.len()));
+        let records = Records {
+            bytes,
+            ending,
+            rows: run.rows,
+        };
+        self.outputs.put(run.place, run.pile, header, &records)
     }
 }
 
@@ -156,18 +210,22 @@ impl Taker for Dealing<'_> {
     }
 
     fn take(&mut self, rt: &HostRuntime, walk: &mut Walk<'_>, part: &Part) -> Result<bool, Fault> {
-        let read = read_columns_after(rt.alloc(), &part.text, self.currency, &mut self.known);
-        match read {
-            Ok(columns) => {
-                let rows = columns.len() as u64;
-                let is_dealt = self.deal(rt, part, &columns)?;
-                walk.took(rt, part, rows);
-                self.rows = self.rows.saturating_add(rows);
-                Ok(is_dealt)
-            }
+        let text = part.text.as_slice();
+        let (header, body) = text.split_at(part.header.min(text.len()));
+        if let Err(fault) = self.fields.begin(rt.alloc(), header) {
+            return walk.refuse(rt, part, fault, "");
+        }
+        match self.deal(rt, header, body)? {
             // What follows the last record, as a line feed, is no row; nor is a header that stands again.
-            Err(RowFault::NoRows) if walk.record > 1 || !part.is_last => Ok(true),
-            Err(fault) => walk.refuse(rt, part, fault, letters(&self.currency)),
+            Dealt::Rows(0) if walk.record > 1 || !part.is_last => Ok(true),
+            Dealt::Rows(0) => walk.refuse(rt, part, RowFault::NoRows, ""),
+            Dealt::Rows(rows) => {
+                walk.took(rt, part, u64::from(rows));
+                self.rows = self.rows.saturating_add(u64::from(rows));
+                self.outputs.write_much(rt)
+            }
+            Dealt::Fault(fault) => walk.refuse(rt, part, fault, ""),
+            Dealt::Refused => Ok(false),
         }
     }
 

@@ -6,7 +6,7 @@
 
 mod charge;
 mod dealing;
-mod documents;
+mod fields;
 mod listing;
 mod output;
 mod outputs;
@@ -14,7 +14,6 @@ mod piles;
 mod reports;
 mod span;
 mod split;
-mod words;
 
 pub use charge::charge_reports;
 pub use split::split_files;

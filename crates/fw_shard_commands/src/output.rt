@@ -4,6 +4,16 @@ use std::alloc::{AllocError, Global};
 use std::fs::{self, OpenOptions};
 use std::io::{self, Write};
 
+/// Records in a row, as they stand in an export.
+#[derive(Clone, Copy, Drop)]
+pub(crate) struct Records<'r> {
+    pub(crate) bytes: &'r [u8],
+    /// What ends the last one, where nothing does.
+    pub(crate) ending: &'r [u8],
+    /// How many they are.
+    pub(crate) rows: u64,
+}
+
 /// A part of an export: its file, and what is to be written behind what the file has.
 pub(crate) struct Output {
     /// The name of its file, in the folder of the parts.
@@ -48,20 +58,22 @@ impl Output {
         }
     }
 
-    /// Puts a record, behind the header where it is the first one. What is returned is how many bytes more there are to be written.
+    /// Puts records, behind the header where they are the first ones. What is returned is how many bytes more there are to be written.
     pub(crate) fn put(
         &mut self,
         header: &[u8],
-        record: &[u8],
-        end: &[u8],
+        records: &Records<'_>,
     ) -> Result<usize, AllocError> {
+        if records.rows == 0 {
+            return Ok(0);
+        }
         let before = self.buffer.len();
         if self.rows == 0 {
             self.buffer.extend_from_slice(header)?;
         }
-        self.buffer.extend_from_slice(record)?;
-        self.buffer.extend_from_slice(end)?;
-        self.rows = self.rows.saturating_add(1);
+        self.buffer.extend_from_slice(records.bytes)?;
+        self.buffer.extend_from_slice(records.ending)?;
+        self.rows = self.rows.saturating_add(records.rows);
         let more = self.buffer.len().saturating_sub(before);
         self.bytes = self.bytes.saturating_add(more as u64);
         Ok(more)

@@ -1,9 +1,8 @@
 //! The parts of exports, by time and pile.
-use crate::output::{Output, path_in};
+use crate::output::{Output, Records, path_in};
 use crate::span::{name_of, span_of};
-use crate::words::refuse;
 use fw_calendar::{Period, Step};
-use fw_console::Fault;
+use fw_console::{Fault, refuse};
 use fw_table::shown_text;
 use std::alloc::{AllocError, Global};
 use std::{fs, io};
@@ -31,6 +30,8 @@ pub(crate) struct Outputs<'o> {
     folder: &'o str,
     step: Step,
     piles: usize,
+    // whether the parts are on the disk before they have their names
+    syncs: bool,
     // in the order of time
     spans: Vec<Span>,
     // how many bytes wait to be written
@@ -43,6 +44,7 @@ impl Drop for Outputs<'_> {
             folder: _,
             step: _,
             piles: _,
+            syncs: _,
             spans: _,
             waiting: _,
         } = self;
@@ -51,11 +53,18 @@ impl Drop for Outputs<'_> {
 
 impl<'o> Outputs<'o> {
     /// No parts yet.
-    pub(crate) fn new(alloc: Global, folder: &'o str, step: Step, piles: usize) -> Outputs<'o> {
+    pub(crate) fn new(
+        alloc: Global,
+        folder: &'o str,
+        step: Step,
+        piles: usize,
+        syncs: bool,
+    ) -> Outputs<'o> {
         Outputs {
             folder,
             step,
             piles,
+            syncs,
             spans: Vec::new(alloc),
             waiting: 0,
         }
@@ -109,19 +118,18 @@ impl<'o> Outputs<'o> {
         least
     }
 
-    /// Puts a record to a pile of the period at a place.
+    /// Puts records to a pile of the period at a place.
     pub(crate) fn put(
         &mut self,
         place: usize,
         pile: usize,
         header: &[u8],
-        record: &[u8],
-        end: &[u8],
+        records: &Records<'_>,
     ) -> Result<(), AllocError> {
         if place < self.spans.len() {
             let span = &mut self.spans[place];
             if pile < span.piles.len() {
-                let more = span.piles[pile].put(header, record, end)?;
+                let more = span.piles[pile].put(header, records)?;
                 self.waiting = self.waiting.saturating_add(more);
             }
         }
@@ -171,8 +179,11 @@ impl<'o> Outputs<'o> {
         self.sync_folder(rt)
     }
 
-    // Has the system write all parts to the disk.
+    // Has the system write all parts to the disk, if it is to.
     fn sync_all(&self, rt: &HostRuntime) -> Result<bool, Fault> {
+        if !self.syncs {
+            return Ok(true);
+        }
         for span in &self.spans {
             for output in &span.piles {
                 if output.rows > 0 {
@@ -185,8 +196,11 @@ impl<'o> Outputs<'o> {
         Ok(true)
     }
 
-    // Has the system write the names of the parts to the disk.
+    // Has the system write the names of the parts to the disk, if it is to.
     fn sync_folder(&self, rt: &HostRuntime) -> Result<bool, Fault> {
+        if !self.syncs {
+            return Ok(true);
+        }
         match fs::open(rt, self.folder).and_then(|folder| folder.sync_all()) {
             Ok(()) => Ok(true),
             Err(error) => not_written(rt, self.folder, ".", error),

@@ -1,8 +1,6 @@
 //! The direct reports of files.
-use crate::words::refuse;
-use fw_add_commands::text_of;
 use fw_calendar::{Period, hour_text};
-use fw_console::{Fault, letters};
+use fw_console::{Fault, letters, refuse, report_of};
 use fw_direct::{DirectDocument, DocumentFault, Sheet, read_document};
 use fw_table::shown_text;
 use std::alloc::Global;
@@ -58,7 +56,7 @@ impl Reports {
         file: &str,
         tag: Option<&str>,
     ) -> Result<bool, Fault> {
-        let Some(text) = text_of(rt, file)? else {
+        let Some(text) = report_of(rt, file)? else {
             return Ok(false);
         };
         let name = if file == "-" { "standard input" } else { file };

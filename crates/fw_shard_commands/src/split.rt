@@ -1,17 +1,15 @@
 //! `focusd split`: CSV exports are cut into parts by time and SKU.
 use crate::dealing::Dealing;
-use crate::documents::{document_of, other_kind};
 use crate::listing::{Dealt, listing_text};
 use crate::outputs::Outputs;
 use crate::piles::Piles;
 use clap::ArgMatches;
+use fw_add_commands::{document_of, other_kind};
 use fw_calendar::Step;
-use fw_command_line::{BY, COMMITMENTS, FILES, FORMAT, INTO, OUT, QUIET};
-use fw_commands::step_of;
-use fw_console::{Fault, WRONG_USE, print_answer, read_currency, wrong_use};
+use fw_command_line::{BY, COMMITMENTS, FILES, FORMAT, INTO, NO_SYNC, OUT, QUIET};
+use fw_console::{Fault, WRONG_USE, print_answer, refuse, step_of};
 use fw_documents::Document;
 use fw_export_files::{Walk, walk_files};
-use fw_rows::Currency;
 use fw_table::shown_text;
 use std::process::ExitCode;
 use std::{fs, io};
@@ -24,7 +22,7 @@ struct Job<'o> {
     folder: &'o str,
     step: Step,
     piles: usize,
-    currency: Currency,
+    syncs: bool,
     is_json: bool,
 }
 
@@ -34,7 +32,7 @@ impl Drop for Job<'_> {
             folder: _,
             step: _,
             piles: _,
-            currency: _,
+            syncs: _,
             is_json: _,
         } = self;
     }
@@ -42,9 +40,6 @@ impl Drop for Job<'_> {
 
 /// Cuts the exports that the options name.
 pub fn split_files(rt: &HostRuntime, options: &ArgMatches<'_>) -> Result<ExitCode, Fault> {
-    let Some(currency) = read_currency(options) else {
-        return Ok(wrong_use(rt, "--currency: it must be three capital letters, e.g. USD"));
-    };
     let piles = match options.get_str(INTO) {
         Some(text) => match read_piles(text) {
             Some(piles) => piles,
@@ -56,7 +51,7 @@ pub fn split_files(rt: &HostRuntime, options: &ArgMatches<'_>) -> Result<ExitCod
         folder: options.get_str(OUT).unwrap_or(""),
         step: step_of(options.get_str(BY)).unwrap_or(Step::Day),
         piles,
-        currency,
+        syncs: !options.get_flag(NO_SYNC),
         is_json: options.get_str(FORMAT) == Some("json"),
     };
     split_named(rt, options, &job)
@@ -95,8 +90,8 @@ fn split_named(
     if !make_folder(rt, job.folder)? {
         return Ok(ExitCode::FAILURE);
     }
-    let outputs = Outputs::new(rt.alloc(), job.folder, job.step, job.piles);
-    let mut dealing = Dealing::new(rt.alloc(), job.currency, piles, outputs);
+    let outputs = Outputs::new(rt.alloc(), job.folder, job.step, job.piles, job.syncs);
+    let mut dealing = Dealing::new(rt.alloc(), piles, outputs);
     let files = options.get_strs(FILES).unwrap_or(&[]);
     let mut walk = Walk::new(rt, options.get_flag(QUIET), files);
     let done = walk_files(rt, files, &mut walk, &mut dealing);
@@ -185,7 +180,7 @@ fn make_folder(rt: &HostRuntime, folder: &str) -> Result<bool, Fault> {
         Err(error) => {
             let name = shown_text(rt.alloc(), folder)?;
             let reason = format!(in rt.alloc(); "{error}")?;
-            Ok(crate::words::refuse(rt, name.as_str(), "W10 NotWritten", reason.as_str()))
+            Ok(refuse(rt, name.as_str(), "W10 NotWritten", reason.as_str()))
         }
     }
 }

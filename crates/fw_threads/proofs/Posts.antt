@@ -1,5 +1,5 @@
 -- Facts on items and their tickets.
-use Rattle.std.proofs.Common.{◌≡◌, ℕ, List, [], ◌∷◌, length, map, take, drop, refl, ap, sym, subst, ◌∙◌, arith}
+use Rattle.std.proofs.Common.{◌≡◌, ◌<◌, ℕ, zero, suc, List, [], ◌∷◌, length, map, take, drop, refl, ap, sym, subst, ◌∙◌, arith}
 use Rattle.std.proofs.lemmas.List.{take-map, drop-map}
 use Rattle.fw_entry.specs.Entry.{EntryValue}
 use Rattle.fw_group.specs.declared.inbox.Item.{Item}
@@ -31,3 +31,8 @@ take_keeps tickets items n same = sym (take-map posted_entry n tickets) ∙ (ap 
 
 pub drop_keeps : (tickets : List Posted) (items : List Item) (n : ℕ) → map posted_entry tickets ≡ entries_of items → map posted_entry (drop n tickets) ≡ entries_of (drop n items)
 drop_keeps tickets items n same = sym (drop-map posted_entry n tickets) ∙ (ap (λ (l : List EntryValue). drop n l) same ∙ drop-map entry_of n items)
+
+-- there is none where there is no number above 0 of them
+pub none_left : (n : ℕ) → (0 < n → ⊥) → n ≡ 0
+none_left zero none = refl
+none_left (suc n) none = absurd (none (omega arith))

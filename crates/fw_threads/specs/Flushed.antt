@@ -1,11 +1,13 @@
 -- What a flusher has, and what its commits do.
-use Rattle.std.specs.Prelude.{◌≡◌, ◌⊎◌, ℕ, ◌≤◌, ◌<◌, Bool, true, false, IsTrue, List, [], length, Option, Some, None}
+use Rattle.std.specs.Prelude.{◌≡◌, ◌⊎◌, ◌↔◌, ◌-◌, ◌^◌, ℕ, ◌≤◌, ◌<◌, Bool, true, false, IsErrOf, IsTrue, List, [], OnErr, OnOk, length, Option, Result, Some, None}
 use Rattle.std.specs.Vec.{vec_capacity}
+use Rattle.fw_disk.specs.declared.volume.Side.{Side}
 use Rattle.fw_disk.specs.Volume.{View, LeavesOnly, Rose}
 use Rattle.fw_entry.specs.Entry.{EntryValue}
 use Rattle.fw_snapshot.specs.History.{History}
 use Rattle.fw_snapshot.specs.Verdicts.{accepted_of, with_more}
-use Rattle.fw_recover.specs.Stands.{StandsForEither}
+use Rattle.fw_recover.specs.Checkpoints.{HasNoRoomFor, IsCheckpointed}
+use Rattle.fw_recover.specs.Stands.{EachStandsFor, StandsFor, StandsForEither}
 use Rattle.fw_recover.specs.Store.{StoreState}
 use Rattle.fw_recover.specs.Committing.{HasNoRoom, Committed, Lost}
 use Rattle.fw_recover.specs.declared.fault.StoreFault.{StoreFault}
@@ -65,7 +67,7 @@ answered_by (commit.Store fault.Failed) = Some fault.Failed
 answered_by (commit.Store why) = Some fault.NoMemory
 answered_by commit.Unpublished = Some fault.Device
 
--- the inbox is closed where a commit failed so
+-- the inbox is closed where a commit, or a checkpoint, failed so
 abbrev pub closes_inbox : CommitFault → Bool
 closes_inbox (commit.Store fault.Device) = true
 closes_inbox (commit.Store why) = false
@@ -125,3 +127,24 @@ module _ {V : Type 0} (tells : Bool) (view : V → View) where
   -- a commit that failed
   abbrev pub CommitFails : Flushed V → CommitFault → Flushed V → Type 0
   CommitFails f why g = (f.hand ≡ [] → ⊥) × Fails (state_of f) f.hand why (state_of g) × StaysInHand why f.hand g.hand
+
+  -- A checkpoint of the store that was answered so, where `unpublished` says that a group was stored and couldn't be published. It keeps the warehouse, at each
+  -- moment. A failed store, or such a group, is looked at first; then whether there is a greater generation, and whether there is room. But for a failed
+  -- device a fault changes nothing.
+  pub record Checkpoints (unpublished : Bool) (result : Result (Unit {0}) StoreFault) (s t : StoreState V) : Type 0 where
+    pub done : OnOk result (IsCheckpointed tells view s t)
+    pub history : t.history ≡ s.history
+    pub unchanged : OnErr result (IsErrOf result fault.Device ⊎ (t ≡ s))
+    pub any_moment : IsTrue tells → s.failed ≡ false → unpublished ≡ false → LeavesOnly (view s.volume) (view t.volume) (StandsFor s.history)
+    pub each : IsTrue tells → s.failed ≡ false → unpublished ≡ false → EachStandsFor s.history (view t.volume)
+    pub failed : IsErrOf result fault.Failed ↔ ((s.failed ≡ true) ⊎ (unpublished ≡ true))
+    pub generations : IsErrOf result fault.Generations ↔ ((unpublished ≡ false) × (s.failed ≡ false) × (s.generation ≡ 2 ^ 64 - 1))
+    pub too_large : IsErrOf result fault.TooLarge → HasNoRoomFor (view s.volume).limit s.history
+    pub not_no_house : IsErrOf result fault.NoHouse → ⊥
+    pub not_corrupt : (side : Side) (at : ℕ) → IsErrOf result (fault.Corrupt side at) → ⊥
+    pub not_exists : IsErrOf result fault.Exists → ⊥
+    pub not_old_side : IsErrOf result fault.OldSide → ⊥
+    pub device : IsErrOf result fault.Device
+        → (t ≡ record s { volume = t.volume; failed = true }) × Rose (view s.volume).failures (view t.volume).failures
+    pub later : (view s.volume).failures ≤ (view t.volume).failures
+    pub limit : (view t.volume).limit ≡ (view s.volume).limit

@@ -1,14 +1,9 @@
 //! The flusher.
-ghost use Rattle.std.specs.Prelude.{◌≡◌, true, ◌⊎◌, ◌↔◌, ◌-◌, ◌^◌, ◌≤◌, ℕ, List, [], false, length, IfOk, IfErr, IfNone, IfSome, OnErr, OnOk, IsErrOf, IsTrue};
-ghost use Rattle.fw_disk.specs.declared.volume.Side.{Side};
-ghost use Rattle.fw_disk.specs.Volume.{LeavesOnly, Rose};
-ghost use Rattle.fw_recover.specs.Checkpoints.{HasNoRoomFor, IsCheckpointed};
-ghost use Rattle.fw_recover.specs.Stands.{EachStandsFor, StandsFor};
-ghost use Rattle.fw_recover.specs.declared.fault.StoreFault.TheVariants.{NoHouse, Corrupt, Device, Failed, Generations, TooLarge, Exists, OldSide};
+ghost use Rattle.std.specs.Prelude.{◌≡◌, List, [], length, IfOk, IfErr, IfNone, IfSome, OnErr};
 ghost use Rattle.fw_group.specs.Answers.{IsGroupFault};
 ghost use Rattle.fw_group.specs.Items.{entries_of};
 ghost use Rattle.fw_group.specs.declared.inbox.Item.{Item};
-ghost use Rattle.fw_threads.specs.Flushed.{IsTaken, Commits, CommitFails, StaysInHand, answered_by, closes_inbox, state_of};
+ghost use Rattle.fw_threads.specs.Flushed.{IsTaken, Checkpoints, Commits, CommitFails, StaysInHand, answered_by, closes_inbox, state_of};
 ghost use Rattle.fw_threads.specs.Told.{AreRight};
 
 use crate::naming::Naming;
@@ -141,41 +136,14 @@ impl<J: Naming, V: Volume> Flusher<J, V> {
     /// `NoMemory`, `Device`. `Device` closes the inbox.
     pub fn checkpoint<R: Wait>(&mut self, rt: &R) -> Result<(), StoreFault>
         ensures same { self.new ≡ record self.old { store = self.new.store } }
-        ensures done { OnOk result (IsCheckpointed V.tells V.view self.old.store self.new.store) }
-        ensures history { self.new.store.history ≡ self.old.store.history }
-        ensures unchanged { OnErr result (IsErrOf result Device ⊎ (self.new ≡ self.old)) }
-        ensures any_moment { IsTrue V.tells → self.old.store.failed ≡ false
-            → self.old.unpublished ≡ false
-            → LeavesOnly (V.view self.old.store.volume) (V.view self.new.store.volume)
-            (StandsFor self.old.store.history) }
-        ensures each { IsTrue V.tells → self.old.store.failed ≡ false
-            → self.old.unpublished ≡ false
-            → EachStandsFor self.old.store.history (V.view self.new.store.volume) }
-        ensures failed { IsErrOf result Failed
-            ↔ ((self.old.store.failed ≡ true) ⊎ (self.old.unpublished ≡ true)) }
-        ensures generations { IsErrOf result Generations
-            ↔ ((self.old.unpublished ≡ false) × (self.old.store.failed ≡ false)
-            × (self.old.store.generation ≡ 2 ^ 64 - 1)) }
-        ensures too_large { IsErrOf result TooLarge
-            → HasNoRoomFor (V.view self.old.store.volume).limit self.old.store.history }
-        ensures not_no_house { IsErrOf result NoHouse → ⊥ }
-        ensures not_corrupt { (side : Side) (at : ℕ) → IsErrOf result (Corrupt side at) → ⊥ }
-        ensures not_exists { IsErrOf result Exists → ⊥ }
-        ensures not_old_side { IsErrOf result OldSide → ⊥ }
-        ensures device { IsErrOf result Device
-            → (self.new.store ≡ record self.old.store {
-              volume = self.new.store.volume;
-              failed = true;
-            })
-            × Rose (V.view self.old.store.volume).failures (V.view self.new.store.volume).failures }
-        ensures later { (V.view self.old.store.volume).failures
-            ≤ (V.view self.new.store.volume).failures }
-        ensures limit { (V.view self.new.store.volume).limit
-            ≡ (V.view self.old.store.volume).limit }
+        ensures checkpoint { Checkpoints V.tells V.view self.old.unpublished result self.old.store
+            self.new.store }
     {
         let done = self.publisher.checkpoint();
-        if let Err(StoreFault::Device) = done {
-            self.shared.close(rt);
+        if let Err(why) = done {
+            if closes_inbox(CommitFault::Store(why)) {
+                self.shared.close(rt);
+            }
         }
         done
     }
@@ -214,7 +182,7 @@ fn answered_by(why: CommitFault) -> Option<StoreFault>
     }
 }
 
-// Whether the inbox is closed where a commit failed so.
+// Whether the inbox is closed where a commit or a checkpoint failed so.
 fn closes_inbox(why: CommitFault) -> bool
     ensures { result ≡ closes_inbox why }
 {

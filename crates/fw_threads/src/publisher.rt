@@ -1,18 +1,15 @@
 //! Storing a group and publishing it.
-ghost use Rattle.std.specs.Prelude.{◌≡◌, true, ◌⊎◌, ◌↔◌, ◌-◌, ◌^◌, ◌≤◌, ℕ, [], drop, false, length, All, IfOk, IfErr, IfSome, OnOk, OnErr, IsErrOf, MatchBool, IsTrue, vec_len, vec_capacity};
-ghost use Rattle.fw_disk.specs.declared.volume.Side.{Side};
-ghost use Rattle.fw_disk.specs.Volume.{LeavesOnly, Rose};
+ghost use Rattle.std.specs.Prelude.{◌≡◌, ◌≤◌, [], drop, false, length, All, IfOk, IfErr, MatchBool, IsTrue, vec_len, vec_capacity};
+ghost use Rattle.fw_disk.specs.Volume.{LeavesOnly};
 ghost use Rattle.fw_snapshot.specs.Verdicts.{accepted_of, with_more};
-ghost use Rattle.fw_recover.specs.Stands.{EachStandsFor, StandsFor, StandsForEither};
+ghost use Rattle.fw_recover.specs.Stands.{StandsForEither};
 ghost use Rattle.fw_recover.specs.Committing.{Committed};
-ghost use Rattle.fw_recover.specs.Checkpoints.{HasNoRoomFor, IsCheckpointed};
-ghost use Rattle.fw_recover.specs.declared.fault.StoreFault.TheVariants.{NoHouse, Corrupt, Device, Failed, Generations, TooLarge, Exists, OldSide};
 ghost use Rattle.fw_group.specs.Answers.{answers_on};
 ghost use Rattle.fw_group.specs.Items.{entries_of};
 ghost use Rattle.fw_group.specs.Laws.{Begins};
 ghost use Rattle.fw_group.specs.Limits.{Fits};
 ghost use Rattle.fw_group.specs.Turns.{IsRefused};
-ghost use Rattle.fw_threads.specs.Flushed.{IsReady, Publishes, Fails, FailsBetween};
+ghost use Rattle.fw_threads.specs.Flushed.{IsReady, Checkpoints, Publishes, Fails, FailsBetween};
 
 use crate::mark::Mark;
 use crate::naming::Naming;
@@ -160,37 +157,8 @@ impl<J: Naming, V: Volume> Publisher<J, V> {
     /// What the store's checkpoint answers; `Failed` where a group was stored and could not be published.
     pub fn checkpoint(&mut self) -> Result<(), StoreFault>
         ensures same { self.new ≡ record self.old { store = self.new.store } }
-        ensures done { OnOk result (IsCheckpointed V.tells V.view self.old.store self.new.store) }
-        ensures history { self.new.store.history ≡ self.old.store.history }
-        ensures unchanged { OnErr result (IsErrOf result Device ⊎ (self.new ≡ self.old)) }
-        ensures any_moment { IsTrue V.tells → self.old.store.failed ≡ false
-            → self.old.unpublished ≡ false
-            → LeavesOnly (V.view self.old.store.volume) (V.view self.new.store.volume)
-            (StandsFor self.old.store.history) }
-        ensures each { IsTrue V.tells → self.old.store.failed ≡ false
-            → self.old.unpublished ≡ false
-            → EachStandsFor self.old.store.history (V.view self.new.store.volume) }
-        ensures failed { IsErrOf result Failed
-            ↔ ((self.old.store.failed ≡ true) ⊎ (self.old.unpublished ≡ true)) }
-        ensures generations { IsErrOf result Generations
-            ↔ ((self.old.unpublished ≡ false) × (self.old.store.failed ≡ false)
-            × (self.old.store.generation ≡ 2 ^ 64 - 1)) }
-        ensures too_large { IsErrOf result TooLarge
-            → HasNoRoomFor (V.view self.old.store.volume).limit self.old.store.history }
-        ensures not_no_house { IsErrOf result NoHouse → ⊥ }
-        ensures not_corrupt { (side : Side) (at : ℕ) → IsErrOf result (Corrupt side at) → ⊥ }
-        ensures not_exists { IsErrOf result Exists → ⊥ }
-        ensures not_old_side { IsErrOf result OldSide → ⊥ }
-        ensures device { IsErrOf result Device
-            → (self.new.store ≡ record self.old.store {
-              volume = self.new.store.volume;
-              failed = true;
-            })
-            × Rose (V.view self.old.store.volume).failures (V.view self.new.store.volume).failures }
-        ensures later { (V.view self.old.store.volume).failures
-            ≤ (V.view self.new.store.volume).failures }
-        ensures limit { (V.view self.new.store.volume).limit
-            ≡ (V.view self.old.store.volume).limit }
+        ensures checkpoint { Checkpoints V.tells V.view self.old.unpublished result self.old.store
+            self.new.store }
     {
         if self.unpublished {
             return Err(StoreFault::Failed);

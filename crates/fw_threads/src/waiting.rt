@@ -1,10 +1,10 @@
 //! What waits and what is in hand, with the ticket of each item.
-ghost use Rattle.std.specs.Prelude.{◌≡◌, ◌↔◌, ◌+◌, ◌<◌, ◌≤◌, ◌++◌, ◌∷◌, [], true, false, length, take, drop, get_or, IfNone, IfOk, IfSome, OnErr, IsOk, IsErrOf, IsTrue, Ok, vec_len, vec_capacity};
+ghost use Rattle.std.specs.Prelude.{◌≡◌, ◌↔◌, ◌+◌, ◌-◌, ◌<◌, ◌≤◌, ◌++◌, ◌∷◌, [], true, false, length, take, drop, get_or, IfNone, IfOk, IfSome, OnErr, IsOk, IsErrOf, IsTrue, Ok, vec_len, vec_capacity};
 ghost use Rattle.std.specs.VecDeque.{deque_len};
 ghost use Rattle.fw_group.specs.declared.inbox.PushFault.TheVariants.{Closed};
 ghost use Rattle.fw_group.specs.Items.{entries_of, importers_of};
 ghost use Rattle.fw_group.specs.Limits.{Fits, IsLongest};
-ghost use Rattle.fw_threads.specs.Posts.{no_entry};
+ghost use Rattle.fw_threads.specs.Posts.{IsIdle, no_entry};
 
 use crate::naming::Naming;
 use crate::ticket::Ticket;
@@ -16,7 +16,7 @@ use std::collections::VecDeque;
 use std::marker::Model;
 
 /// What lies under the lock: the inbox, a ticket for each item that waits, and how many importers have not left. Contracts see the
-/// inbox.
+/// items that wait, whether the inbox is closed, and how many importers have not left.
 pub struct Waiting<J: Naming> {
     inbox: Inbox,
     tickets: VecDeque<Ticket<J>>,
@@ -39,12 +39,12 @@ impl<J: Naming> Drop for Waiting<J> {
 
 impl<J: Naming> Model for Waiting<J> {
     ghost use Rattle.std.specs.Prelude.{◌≡◌, map};
-    ghost use Rattle.fw_group.specs.Items.{InboxState, entries_of};
-    ghost use Rattle.fw_threads.specs.Posts.{posted_entry};
+    ghost use Rattle.fw_group.specs.Items.{entries_of};
+    ghost use Rattle.fw_threads.specs.Posts.{WaitingState, posted_entry};
 
-    ghost Value = { InboxState };
+    ghost Value = { WaitingState };
 
-    ghost view = { λ w. w.inbox };
+    ghost view = { λ w. record { waiting = w.inbox.waiting; closed = w.inbox.closed; importers = w.importers } };
 
     ghost invariant = { λ w. (map posted_entry w.tickets.items ≡ entries_of w.inbox.waiting) × (w.posts.of ≡ J.posts) × (w.growing ≡ J.posts) };
 }
@@ -87,7 +87,7 @@ impl<J: Naming> Waiting<J> {
         importers: usize,
     ) -> Waiting<J>
         requires { (growing ≡ J.posts) × (posts.of ≡ J.posts) }
-        ensures { result ≡ record { waiting = []; closed = false } }
+        ensures { result ≡ record { waiting = []; closed = false; importers = importers } }
     {
         Waiting {
             inbox: Inbox::new(alloc),
@@ -99,7 +99,9 @@ impl<J: Naming> Waiting<J> {
     }
 
     /// Whether nothing waits, and an importer has not left.
-    pub fn is_idle(&self) -> bool {
+    pub fn is_idle(&self) -> bool
+        ensures { IsTrue result ↔ IsIdle self.now }
+    {
         self.tickets.is_empty() && self.importers > 0
     }
 
@@ -153,18 +155,20 @@ impl<J: Naming> Waiting<J> {
         Ok(count)
     }
 
-    /// Moves the items of the next group into an empty hand, as [`Waiting::take`] does. `None` where nothing waits.
+    /// Moves the items of the next group into an empty hand, as [`Waiting::take`] does. `None` where nothing waits and all importers have left.
     ///
     /// # Errors
     /// Where the allocator refused a growth. Nothing changes.
     pub fn next(&mut self, hand: &mut InHand<J>) -> Result<Option<usize>, AllocError>
-        requires { hand.old ≡ [] }
+        requires empty { hand.old ≡ [] }
+        requires goes_on { IsIdle self.old → ⊥ }
         ensures moved { IfOk result (λ found.
             IfSome found (λ n. IsLongest self.old.waiting n
             × (hand.new ≡ take n self.old.waiting)
             × (self.new ≡ record self.old { waiting = drop n self.old.waiting }))) }
         ensures over { IfOk result (λ found. IfNone found
-            ((self.old.waiting ≡ []) × (self.new ≡ self.old) × (hand.new ≡ hand.old))) }
+            ((self.old.waiting ≡ []) × (self.old.importers ≡ 0) × (self.new ≡ self.old)
+            × (hand.new ≡ hand.old))) }
         ensures refused { OnErr result ((hand.new ≡ hand.old) × (self.new ≡ self.old)) }
     {
         if self.tickets.is_empty() {
@@ -182,7 +186,7 @@ impl<J: Naming> Waiting<J> {
 
     /// One importer has left.
     pub fn leave(&mut self)
-        ensures { self.new ≡ self.old }
+        ensures { self.new ≡ record self.old { importers = self.old.importers - 1 } }
     {
         self.importers = self.importers.saturating_sub(1);
     }

@@ -13,13 +13,14 @@ ghost use Rattle.fw_views.specs.declared.covered.CoverageFormat.{CoverageFormat}
 ghost use Rattle.fw_views.specs.declared.questions.Question.TheVariants.{Coverage, Lines, Report};
 
 use crate::covered::{CoverageFormat, coverage_text};
-use crate::status::{sound_text, status_text};
+use crate::status::{contents_text, sound_text, status_text};
 use fw_calendar::Step;
 use fw_direct::direct_text;
 use fw_disk::Volume;
 use fw_query::{Query, QueryFault, lines_csv};
 use fw_recover::Store;
 use fw_series::{ReportOptions, report_text};
+use fw_snapshot::Snapshot;
 use std::alloc::Global;
 
 /// A question to a warehouse.
@@ -81,13 +82,49 @@ pub fn answer<V: Volume>(
         → question.now ≡ Coverage from to format → IfErr result (AreRefused from to) }
 {
     match question {
-        Question::Report { query, options } => report_text(alloc, store.state(), query, options),
-        Question::Direct { query, step } => direct_text(alloc, store.state(), query, *step),
-        Question::Lines { from, to } => lines_csv(alloc, store.state(), *from, *to),
-        Question::Coverage { from, to, format } => {
-            coverage_text(alloc, store.state(), *from, *to, *format)
-        }
         Question::Status => Ok(status_text(alloc, store)?.into_bytes()),
         Question::Verify => Ok(sound_text(alloc, store)?.into_bytes()),
+        _ => answer_of(alloc, store.state(), question),
+    }
+}
+
+/// The answer of a warehouse that has no files, as one that is as it was after its first entries. It is the same as that of [`answer`], but that of
+/// files nothing is said: `Status` and `Verify` are answered by what the warehouse holds.
+///
+/// # Errors
+/// Those of [`answer`].
+pub fn answer_of(
+    alloc: Global,
+    snapshot: &Snapshot,
+    question: &Question<'_>,
+) -> Result<Vec<u8>, QueryFault>
+    ensures report { (query : Query) (options : ReportOptions)
+        → question.now ≡ Report query options
+        → options.step ≡ None → options.top ≡ None → options.format ≡ Csv
+        → IfOk result (λ text. IsReportCsv snapshot.now.entries query.key.now
+        query.from_hour query.to_hour text.items) }
+    ensures report_fault { (query : Query) (options : ReportOptions)
+        → question.now ≡ Report query options
+        → IfErr result (IsSeriesRefused snapshot.now.entries query.key.now
+        query.from_hour query.to_hour options.step) }
+    ensures lines { (from to : ℕ) → question.now ≡ Lines from to
+        → IfOk result (λ text. (lines : List LineValue)
+        × AreLinesOf snapshot.now.entries from to lines
+        × (text.items ≡ lines_text lines)) }
+    ensures lines_fault { (from to : ℕ) → question.now ≡ Lines from to
+        → IfErr result (AreRefused from to) }
+    ensures coverage_fault { (from to : ℕ) (format : CoverageFormat)
+        → question.now ≡ Coverage from to format → IfErr result (AreRefused from to) }
+{
+    match question {
+        Question::Report { query, options } => report_text(alloc, snapshot, query, options),
+        Question::Direct { query, step } => direct_text(alloc, snapshot, query, *step),
+        Question::Lines { from, to } => lines_csv(alloc, snapshot, *from, *to),
+        Question::Coverage { from, to, format } => {
+            coverage_text(alloc, snapshot, *from, *to, *format)
+        }
+        Question::Status | Question::Verify => {
+            Ok(contents_text(alloc, snapshot.state())?.into_bytes())
+        }
     }
 }

@@ -29,6 +29,13 @@ pub(crate) fn status_text<V: Volume>(
     table_text(alloc, &ALIGNS, lines.as_slice())
 }
 
+/// What a warehouse holds, without the lines of its files.
+pub(crate) fn contents_text(alloc: Global, state: &State) -> Result<String, AllocError> {
+    let mut lines = Vec::new(alloc);
+    push_contents(alloc, &mut lines, state)?;
+    table_text(alloc, &ALIGNS, lines.as_slice())
+}
+
 /// The status of a warehouse that was opened, which has read and judged all of it: its files are sound.
 pub(crate) fn sound_text<V: Volume>(alloc: Global, store: &Store<V>) -> Result<String, AllocError> {
     let status = status_text(alloc, store)?;

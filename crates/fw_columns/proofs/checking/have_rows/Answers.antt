@@ -1,8 +1,10 @@
-use Rattle.std.proofs.Common.{◌≡◌, ◌∙◌, length, take, sym, subst, arith}
-use Rattle.std.proofs.lemmas.Bool.{eqb-true}
-use Rattle.std.proofs.lemmas.List.{take_all}
+use Rattle.std.proofs.Common.{◌≡◌, ◌∙◌, ◌<◌, ◌++◌, [], length, take, sym, subst, ap, arith}
+use Rattle.std.proofs.lemmas.Bool.{eqb-true, eq-eqb}
+use Rattle.std.proofs.lemmas.List.{append-nil, length-take-le, take_all}
+use Rattle.std.specs.List.{flat_map, range_with_len}
+use Rattle.fw_row_table.specs.Texts.{with_texts}
 use Rattle.fw_columns.specs.Parts.{HasValues, HaveSeen, HaveRows, texts_there}
-use Rattle.fw_columns.proofs.PartFacts.{seen_none, seen_then, one_more_place, texts_more}
+use Rattle.fw_columns.proofs.PartFacts.{no, one_more_place, out_behind, out_more, refused, seen_none, seen_then, texts_around, texts_more}
 use Rattle.fw_columns.proofs.checking.have_rows.Goals as goal
 
 pub loop-place-init : goal.loop-place-init
@@ -13,16 +15,40 @@ loop-place-preserved c =
     let t = c.args.table.now in
     let n = c.loop-place.place in
     record {
-      values = one_more_place (HasValues t) n c.loop-place.invariant.values (c.has_values.ensures c.if-not-has_values.false);
+      values = one_more_place (HasValues t) n c.loop-place.invariant.values (c.has_values.ensures.0 c.if-not-has_values.false);
       texts =
           subst (HaveSeen t.names 0 c.in-Some.now) (sym (texts_more (texts_there t) n))
-          (seen_then t.names 0 c.loop-place.seen c.in-Some.now _ _ c.loop-place.invariant.texts c.in-Some.ensures);
+          (seen_then t.names 0 c.loop-place.seen c.in-Some.now _ _ c.loop-place.invariant.texts c.in-Some.ensures.some);
     }
 
-pub returns : goal.returns
-returns c = λ h.
+pub returns-then-not-has_values : goal.returns-then-not-has_values
+returns-then-not-has_values c =
+    refused c.has_values.result c.if-not-has_values.true
+    (λ rows. c.has_values.ensures.1 (rows.values c.loop-place.place (omega (arith, c.loop-place-test.true, c.loop-place.auto.place-end, c.len-place-end.ensures))))
+
+pub returns-in-None : goal.returns-in-None
+returns-in-None c = no (λ rows.
     let t = c.args.table.now in
-    let n : c.loop-place.place ≡ length t.billed.items = omega (arith, c.loop-place-test.false, c.loop-place.auto.place-end, c.len-place-end.ensures) in
-    let seen : c.loop-place.seen ≡ length t.names = eqb-true _ _ h ∙ c.len.ensures.count in
-    let all : take c.loop-place.seen t.names ≡ t.names = take_all c.loop-place.seen t.names (omega (arith, seen)) in
-    subst (HaveRows t) n (record { values = c.loop-place.invariant.values; names = sym all ∙ c.loop-place.invariant.texts.seen })
+    let i = c.loop-place.place in
+    let n = length t.billed.items in
+    let lt : i < n = omega (arith, c.loop-place-test.true, c.loop-place.auto.place-end, c.len-place-end.ensures) in
+    let around = texts_around (texts_there t) i n lt in
+    let before = flat_map (texts_there t) (range_with_len 0 i) in
+    let out = out_behind t.names 0 c.loop-place.seen before (texts_there t i ++ around.0) c.loop-place.invariant.texts (out_more t.names c.loop-place.seen (texts_there t i) around.0 c.in-None.ensures.none) in
+    out.others [] (rows.names ∙ ap (with_texts []) (around.1 ∙ sym (append-nil (before ++ (texts_there t i ++ around.0))))))
+
+pub returns : goal.returns
+returns c =
+    let t = c.args.table.now in
+    let names = t.names in
+    let seen = c.loop-place.seen in
+    let n : c.loop-place.place ≡ length t.billed.items = omega (arith, c.loop-place-test.false, c.loop-place.auto.place-end, c.len-place-end.ensures) in (
+      λ h.
+          let all_seen : seen ≡ length names = eqb-true _ _ h ∙ c.len.ensures.count in
+          let all : take seen names ≡ names = take_all seen names (omega (arith, all_seen)) in
+          subst (HaveRows t) n (record { values = c.loop-place.invariant.values; names = sym all ∙ c.loop-place.invariant.texts.seen }),
+      λ rows.
+          let made : names ≡ take seen names = rows.names ∙ (ap (λ k. with_texts [] (flat_map (texts_there t) (range_with_len 0 k))) (sym n) ∙ sym c.loop-place.invariant.texts.seen) in
+          let size : seen ≡ length names = sym (ap length made ∙ length-take-le seen names c.loop-place.invariant.texts.few) in
+          eq-eqb _ _ (size ∙ sym c.len.ensures.count),
+    )

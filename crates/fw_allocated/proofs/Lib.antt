@@ -1,0 +1,3 @@
+pub mod SumFacts
+mod TextFacts
+mod MemberFacts

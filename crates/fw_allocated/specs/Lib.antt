@@ -1,0 +1,12 @@
+pub mod Exported
+pub mod LineRows
+pub mod Instants
+pub mod Cells
+pub mod Objects
+pub mod Texts
+pub mod Sums
+pub mod RowView
+pub mod SourceView
+pub mod OwnTexts
+pub mod Writing
+pub mod Members

@@ -1,0 +1,26 @@
+//! What holds of exported rows: laws, each the contract of a function that does nothing.
+ghost use Rattle.std.specs.Prelude.{◌≡◌, All, List, map, ℕ};
+ghost use Rattle.fw_allocate.specs.Costs.{total};
+ghost use Rattle.fw_charge.specs.Charge.{Charge};
+ghost use Rattle.fw_entry.specs.Entry as entry;
+ghost use Rattle.fw_query.specs.OfHistory.{IsReportOn};
+ghost use Rattle.fw_query.specs.Reports.{EntryValue};
+ghost use Rattle.fw_allocated.specs.Sums.{AreExportsOf, billed_under, effective_under};
+
+/// What the exported rows of a range come to is what its report says, under any tag: the rows that have a group's text under the tag were billed, and
+/// cost, what the report says of the group. And all rows together cost what all groups do: no line is left out, and none is exported twice.
+pub fn exports_sum_to_the_report()
+    ensures groups { (history : List entry.EntryValue) (key : List ℕ) (from to : ℕ)
+        (exports : List Charge) (report : List EntryValue)
+        → AreExportsOf history from to exports → IsReportOn history key from to report
+        → All (λ e. (e.billed ≡ billed_under key exports e.group)
+        × (e.direct ≡ effective_under key exports e.group)) report }
+    ensures billed { (history : List entry.EntryValue) (key : List ℕ) (from to : ℕ)
+        (exports : List Charge) (report : List EntryValue)
+        → AreExportsOf history from to exports → IsReportOn history key from to report
+        → total (map (λ e. e.billed) report) ≡ total (map (λ r. r.billed) exports) }
+    ensures effective { (history : List entry.EntryValue) (key : List ℕ) (from to : ℕ)
+        (exports : List Charge) (report : List EntryValue)
+        → AreExportsOf history from to exports → IsReportOn history key from to report
+        → total (map (λ e. e.direct) report) ≡ total (map (λ r. r.effective) exports) }
+{}

@@ -1,0 +1,74 @@
+//! `focusd commitments`: what commitments cost, covered and saved in a range of time.
+use crate::options::{by_option, command_with, folder_option, format_option};
+use crate::past::as_of_option;
+use crate::ranges::{from_option, last_option, month_option, to_option};
+use crate::selection::{column_option, tags_option};
+use clap::{Arg, Command};
+use std::alloc::{AllocError, Global};
+
+/// The formats of the figures.
+const FORMATS: [&str; 3] = ["table", "csv", "json"];
+
+const EXAMPLE: &str =
+    "T is a month (2024-01), a date (2024-01-31) or a time on a whole hour (2024-01-31T14:00Z), in UTC, and
+stands for the hour at which it begins. The range has the hours from --from up to, not including, --to, at
+most 26,304 of them: --month 2024-01 is --from 2024-01 --to 2024-02. Without these options it has all hours from
+the first row to the last one, and --last 3 months is the last three months of these; no clock is read. Rows of
+posts that were withdrawn don't count. Where the range comes from the rows, it is said on standard error.
+
+Each line is a commitment; with --tag and --column, four at most, it is a value of each. Keeper says whose the
+commitments are: own ones were added to the warehouse, which spreads their purchases; those of a provider are named
+by rows, which have their amortized cost in EffectiveCost already.
+
+AmortizedCost is the EffectiveCost of what was used and of what was left unused; UnusedCost is the second part.
+Utilization is what was used in percent of AmortizedCost. CoveredCost is what was used at the rows' own prices: the
+part of the EffectiveCost of each row that the commitment took. EligibleCost is what could have been covered: the
+EffectiveCost of the rows to which a commitment applies. Coverage is CoveredCost in percent of EligibleCost,
+Savings is CoveredCost less AmortizedCost, and SavingsRate is Savings in percent of EligibleCost. A row to which two
+commitments apply is eligible for both, and counts once in the total. Prices of a provider's rows aren't known, so
+these stay empty.
+
+A table shows cents, and percent with one digit after the point, rounded from the exact sums; csv and json are exact,
+to the nano, and have both parts of each rate. With --by the range is cut where a new hour, day or month begins.
+
+With --as-of N the answer is as of the first N entries of the warehouse: how it was when focusd status said that it had N entries.
+
+Examples:
+  what commitments saved in January 2024, each and all together
+    focusd commitments --dir costs --month 2024-01
+  which teams used them, month by month
+    focusd commitments --dir costs --tag team --last 6 months --by month
+  the unused cost of all own commitments, for a program
+    focusd commitments --dir costs --month 2024-01 --format json | jq -r '.records[] | select(.kind == \"total\") | .unusedCost'";
+
+// The options, in the order in which the help has them.
+fn options<'a>(alloc: Global) -> Result<Vec<Arg<'a>>, AllocError> {
+    Ok(vec![in alloc;
+        folder_option(alloc),
+        tags_option(alloc),
+        column_option(alloc),
+        from_option(alloc),
+        to_option(alloc),
+        month_option(alloc)?,
+        last_option(alloc)?,
+        by_option(alloc),
+        as_of_option(alloc),
+        format_option(
+            alloc,
+            FORMATS.as_slice(),
+            "table",
+            "How the figures are written",
+        ),
+    ]?)
+}
+
+/// The command's part of the command line.
+pub(crate) fn command<'a>(alloc: Global) -> Result<Command<'a>, AllocError> {
+    command_with(
+        alloc,
+        "commitments",
+        "Shows what commitments cost, covered and saved in a range of time",
+        EXAMPLE,
+        options(alloc)?,
+    )
+}

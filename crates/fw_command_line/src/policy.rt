@@ -1,0 +1,36 @@
+//! `focusd policy`: which policies a warehouse accepted.
+use crate::ids::LISTED;
+use crate::options::{command_with, folder_option};
+use clap::{Arg, Command};
+use std::alloc::{AllocError, Global};
+
+const EXAMPLE: &str =
+    "Prints a line for each policy that the warehouse accepted, in order: the number of its entry among all entries, who sent it
+with which number, the tag that it shares costs by, and how many rules it has. The last one applies to all reports, also of
+earlier hours; `focusd report --as-of N` asks how it was when the warehouse had N entries.
+
+Example:
+  focusd policy list --dir costs";
+
+/// What can be listed.
+const LISTS: [&str; 1] = ["list"];
+
+// The argument that says what to do.
+fn list_argument<'a>(alloc: Global) -> Arg<'a> {
+    Arg::new(alloc, LISTED)
+        .value_name("WHAT")
+        .required(true)
+        .value_parser(LISTS.as_slice())
+        .help("What to do: list the policies")
+}
+
+/// The command's part of the command line.
+pub(crate) fn command<'a>(alloc: Global) -> Result<Command<'a>, AllocError> {
+    command_with(
+        alloc,
+        "policy",
+        "Lists the policies that a warehouse accepted",
+        EXAMPLE,
+        vec![in alloc; list_argument(alloc), folder_option(alloc)]?,
+    )
+}

@@ -1,0 +1,4 @@
+pub mod SumFacts
+pub mod ChangeFacts
+pub mod CompareFacts
+pub mod ShownFacts

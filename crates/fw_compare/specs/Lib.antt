@@ -1,0 +1,5 @@
+pub mod Comparison
+pub mod Costs
+pub mod Groups
+pub mod Shares
+pub mod Shown

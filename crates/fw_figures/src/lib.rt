@@ -1,0 +1,21 @@
+//! Figures of commitments: how well they were used, what they covered, and what that saved.
+//!
+//! [`commitments_of`] finds the figures of a range of hours, by commitment or by the values of keys, of the warehouse's own commitments and of
+//! those that providers' rows name; [`written`] writes them as a [`Sheet`] says. What was covered and what could have been is summed by
+//! [`priced`], at the rows' own prices.
+#![tactic(auto)]
+
+mod book;
+mod csv_text;
+mod figures;
+mod json;
+mod parts;
+mod prices;
+mod record;
+mod sheet;
+mod table;
+
+pub use figures::{Amount, Figures};
+pub use parts::{Commitments, Part, commitments_of};
+pub use prices::priced;
+pub use sheet::{Sheet, SheetFormat, written};

@@ -1,0 +1,135 @@
+//! What is shown of a name: its figures, and what comes of them.
+use crate::book::{Book, Keeper};
+use crate::figures::Figures;
+use crate::parts::Part;
+use fw_coverage::Coverage;
+use fw_terms::Terms;
+use std::alloc::{AllocError, Global};
+
+/// What is shown of a name, or of all.
+#[derive(Clone, Copy)]
+pub(crate) struct Record<'b> {
+    pub(crate) keeper: Keeper,
+    /// The texts of the name; none where the record is of all.
+    pub(crate) texts: Option<&'b [String]>,
+    pub(crate) figures: Figures,
+    pub(crate) units: Option<Units<'b>>,
+}
+
+impl<'b> Record<'b> {
+    /// Whether the record is of a commitment, of a group or of all, for programs.
+    pub(crate) fn kind(&self, keys: usize) -> &'static str {
+        if self.texts.is_none() {
+            "total"
+        } else if keys == 0 {
+            "commitment"
+        } else {
+            "group"
+        }
+    }
+
+    /// The text of the name at a place, for programs.
+    pub(crate) fn text_at(&self, place: usize) -> &'b str {
+        match self.texts {
+            Some(texts) => match texts.get(place) {
+                Some(text) => text.as_str(),
+                None => "",
+            },
+            None => "",
+        }
+    }
+}
+
+/// How much of its capacity rows used of a commitment, in nanos of its unit.
+#[derive(Clone, Copy, Drop)]
+pub(crate) struct Units<'b> {
+    pub(crate) unit: &'b str,
+    pub(crate) capacity: u128,
+    pub(crate) used: u128,
+}
+
+// The figures in its units of the commitment with an id, where they are there.
+fn units_of<'b>(units: &'b [Coverage<'b>], texts: &[String]) -> Option<Units<'b>> {
+    let id = texts.first()?;
+    let found = units
+        .iter()
+        .find(|one| one.commitment().id() == id.as_str())?;
+    Some(Units {
+        unit: match found.commitment().terms() {
+            Terms::Usage { unit, .. } => unit.as_str(),
+            Terms::Spend { .. } => "",
+        },
+        capacity: found.capacity(),
+        used: found.used(),
+    })
+}
+
+/// The records of some hours: of each name of the warehouse's own commitments, of each of those that providers keep, and of all of both.
+pub(crate) fn records_of<'b>(
+    alloc: Global,
+    part: &'b Part<'b>,
+) -> Result<Vec<Record<'b>>, AllocError> {
+    let mut records = Vec::new(alloc);
+    for keeper in [Keeper::Own, Keeper::Provider] {
+        push_named(&mut records, part, keeper)?;
+    }
+    for keeper in [Keeper::Own, Keeper::Provider] {
+        push_total(&mut records, &part.book, keeper)?;
+    }
+    Ok(records)
+}
+
+// Adds the records of the names.
+fn push_named<'b>(
+    records: &mut Vec<Record<'b>>,
+    part: &'b Part<'b>,
+    keeper: Keeper,
+) -> Result<(), AllocError> {
+    for (texts, figures) in part.book.figures(keeper).iter() {
+        records.push(Record {
+            keeper,
+            texts: Some(texts.as_slice()),
+            figures: *figures,
+            units: units_of(part.units.as_slice(), texts.as_slice()),
+        })?;
+    }
+    Ok(())
+}
+
+// Adds the record of all, where there is some name.
+fn push_total<'b>(
+    records: &mut Vec<Record<'b>>,
+    book: &'b Book,
+    keeper: Keeper,
+) -> Result<(), AllocError> {
+    if !book.figures(keeper).is_empty() {
+        records.push(Record {
+            keeper,
+            texts: None,
+            figures: book.total(keeper),
+            units: None,
+        })?;
+    }
+    Ok(())
+}
+
+/// The amounts of a record in nanos, in the order of their columns. What needs the rows' own prices isn't known of a provider's commitments.
+pub(crate) fn amounts_of(record: &Record<'_>) -> Result<[Option<i128>; 8], AllocError> {
+    let figures = record.figures;
+    let is_priced = record.keeper == Keeper::Own;
+    Ok([
+        Some(figures.used),
+        Some(figures.unused),
+        Some(figures.amortised()?),
+        Some(figures.paid),
+        where_priced(is_priced, figures.covered),
+        where_priced(is_priced, figures.uncovered()?),
+        where_priced(is_priced, figures.eligible),
+        where_priced(is_priced, figures.savings()?),
+    ])
+}
+
+// An amount that is known where prices are.
+fn where_priced(is_priced: bool, nanos: i128) -> Option<i128> {
+    if is_priced { Some(nanos) } else { None }
+}

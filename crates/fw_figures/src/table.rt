@@ -1,0 +1,178 @@
+//! The figures of commitments as tables.
+use crate::parts::{Commitments, Part};
+use crate::record::{Record, amounts_of, records_of};
+use crate::sheet::Sheet;
+use fw_table::{Align, Line, cents_text, share_text, table_text};
+use std::alloc::{AllocError, Global};
+
+/// The names of the columns behind the texts.
+const NAMES: [&str; 8] = [
+    "Utilization",
+    "UnusedCost",
+    "AmortizedCost",
+    "CoveredCost",
+    "EligibleCost",
+    "Coverage",
+    "Savings",
+    "SavingsRate",
+];
+
+/// The figures as a table: a line for each commitment or group, of each period where there are periods, and lines with the figures of all.
+pub(crate) fn table_of(
+    alloc: Global,
+    commitments: &Commitments<'_>,
+    sheet: &Sheet<'_, '_, '_>,
+) -> Result<String, AllocError> {
+    let mut table = Vec::new(alloc);
+    table.push(head_line(alloc, sheet)?)?;
+    table.push(Line::Rule)?;
+    if sheet.step.is_none() {
+        push_lines(alloc, &mut table, sheet, &commitments.whole, false)?;
+    }
+    for part in &commitments.parts {
+        push_lines(alloc, &mut table, sheet, part, false)?;
+    }
+    table.push(Line::Rule)?;
+    push_lines(alloc, &mut table, sheet, &commitments.whole, true)?;
+    table_text(alloc, aligns_of(alloc, sheet)?.as_slice(), table.as_slice())
+}
+
+// How many columns have texts: the period, the name, and who keeps the commitments.
+fn text_columns(sheet: &Sheet<'_, '_, '_>) -> usize {
+    let periods = if sheet.step.is_some() {
+        1_usize
+    } else {
+        0_usize
+    };
+    periods
+        .saturating_add(name_columns(sheet))
+        .saturating_add(1)
+}
+
+// How many columns a name has.
+fn name_columns(sheet: &Sheet<'_, '_, '_>) -> usize {
+    sheet.keys.len().max(1)
+}
+
+// How the columns line up.
+fn aligns_of(alloc: Global, sheet: &Sheet<'_, '_, '_>) -> Result<Vec<Align>, AllocError> {
+    let mut aligns = vec![in alloc; Align::Left; text_columns(sheet)]?;
+    for _name in 0..NAMES.len() {
+        aligns.push(Align::Right)?;
+    }
+    Ok(aligns)
+}
+
+// The line of the names of the columns.
+fn head_line(alloc: Global, sheet: &Sheet<'_, '_, '_>) -> Result<Line, AllocError> {
+    let mut cells = Vec::new(alloc);
+    if sheet.step.is_some() {
+        cells.push(String::from_str(alloc, "Period")?)?;
+    }
+    if sheet.keys.is_empty() {
+        cells.push(String::from_str(alloc, "Commitment")?)?;
+    }
+    for key in sheet.keys {
+        cells.push(String::from_str(alloc, *key)?)?;
+    }
+    cells.push(String::from_str(alloc, "Keeper")?)?;
+    for name in NAMES {
+        cells.push(String::from_str(alloc, name)?)?;
+    }
+    Ok(Line::Cells(cells))
+}
+
+// Adds the lines of the names of some hours, or those of all.
+fn push_lines(
+    alloc: Global,
+    table: &mut Vec<Line>,
+    sheet: &Sheet<'_, '_, '_>,
+    part: &Part<'_>,
+    of_all: bool,
+) -> Result<(), AllocError> {
+    let records = records_of(alloc, part)?;
+    for record in &records {
+        if record.texts.is_none() == of_all {
+            table.push(record_line(alloc, sheet, part, record)?)?;
+        }
+    }
+    Ok(())
+}
+
+// The line of a record.
+fn record_line(
+    alloc: Global,
+    sheet: &Sheet<'_, '_, '_>,
+    part: &Part<'_>,
+    record: &Record<'_>,
+) -> Result<Line, AllocError> {
+    let mut cells = Vec::new(alloc);
+    if let Some(step) = sheet.step {
+        cells.push(match record.texts {
+            Some(_) => step.text(alloc, part.period.from)?,
+            None => String::new(alloc),
+        })?;
+    }
+    for place in 0..name_columns(sheet) {
+        cells.push(String::from_str(alloc, shown_at(sheet, record, place))?)?;
+    }
+    cells.push(String::from_str(alloc, record.keeper.word())?)?;
+    push_amounts(alloc, &mut cells, record)?;
+    Ok(Line::Cells(cells))
+}
+
+// What people see of a name at a place.
+fn shown_at<'b>(sheet: &Sheet<'_, '_, '_>, record: &Record<'b>, place: usize) -> &'b str {
+    if record.texts.is_none() {
+        return if place == 0 { "Total" } else { "" };
+    }
+    let text = record.text_at(place);
+    if text.is_empty() && !sheet.keys.is_empty() {
+        return "(none)";
+    }
+    text
+}
+
+// Adds the cells of amounts and rates. Rates are in percent with one digit after the point, the nearest such, a tie away from 0.
+fn push_amounts(
+    alloc: Global,
+    cells: &mut Vec<String>,
+    record: &Record<'_>,
+) -> Result<(), AllocError> {
+    let [used, unused, amortized, _, covered, _, eligible, savings] = amounts_of(record)?;
+    cells.push(rate_text(alloc, used, amortized)?)?;
+    cells.push(cost_text(alloc, unused)?)?;
+    cells.push(cost_text(alloc, amortized)?)?;
+    cells.push(cost_text(alloc, covered)?)?;
+    cells.push(cost_text(alloc, eligible)?)?;
+    cells.push(rate_text(alloc, covered, eligible)?)?;
+    cells.push(cost_text(alloc, savings)?)?;
+    cells.push(rate_text(alloc, savings, eligible)?)?;
+    Ok(())
+}
+
+// A cost in cents; empty where it isn't known.
+fn cost_text(alloc: Global, cost: Option<i128>) -> Result<String, AllocError> {
+    match cost {
+        Some(nanos) => cents_text(alloc, nanos),
+        None => Ok(String::new(alloc)),
+    }
+}
+
+// A rate; empty where it isn't known, or the whole isn't above 0.
+fn rate_text(alloc: Global, part: Option<i128>, whole: Option<i128>) -> Result<String, AllocError> {
+    let (Some(part), Some(whole)) = (part, whole) else {
+        return Ok(String::new(alloc));
+    };
+    if part >= 0 {
+        return share_text(alloc, part, whole);
+    }
+    let Some(loss) = part.checked_neg() else {
+        return Ok(String::new(alloc));
+    };
+    let share = share_text(alloc, loss, whole)?;
+    if share.is_empty() {
+        return Ok(share);
+    }
+    format!(in alloc; "-{share}")
+}

@@ -1,0 +1,5 @@
+pub mod CoveredFacts
+pub mod CostFacts
+pub mod LawFacts
+pub mod ListedFacts
+pub mod OpenFacts

@@ -1,0 +1,3 @@
+pub mod Prices
+pub mod Lines
+pub mod Costs

@@ -1,0 +1,3 @@
+pub mod PastFacts
+pub mod ReplayFacts
+pub mod FrontFacts

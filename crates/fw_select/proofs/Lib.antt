@@ -1,0 +1,10 @@
+mod GroupFacts
+mod TableFacts
+mod CountFacts
+mod LawFacts
+mod FilterFacts
+mod OneTagFacts
+mod RowFacts
+mod MovedFacts
+mod PlainFacts
+mod KnownFacts

@@ -1,0 +1,10 @@
+pub mod Groups
+pub mod Table
+pub mod Keys
+pub mod Selectors
+pub mod Names
+pub mod Apart
+pub mod Rows
+pub mod Selections
+pub mod Counting
+pub mod Laws

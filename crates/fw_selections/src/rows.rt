@@ -1,0 +1,138 @@
+//! What is shown of a selection: a row for each group, or for the largest and one for all others.
+use fw_select::{Group, Selection};
+use std::alloc::{AllocError, Global};
+use std::cmp::Reverse;
+
+/// A row: of a group, or of all groups that have no row of their own.
+#[derive(Clone, Copy, Debug)]
+pub(crate) struct Row<'g> {
+    /// The texts of the group; none where the row is of others.
+    pub(crate) texts: Option<&'g [String]>,
+    pub(crate) costs: Costs,
+}
+
+/// Costs in nanos.
+#[derive(Clone, Copy, Debug, Drop)]
+pub(crate) struct Costs {
+    pub(crate) billed: i128,
+    pub(crate) effective: i128,
+}
+
+impl Costs {
+    /// No costs.
+    pub(crate) const NONE: Costs = Costs {
+        billed: 0,
+        effective: 0,
+    };
+
+    /// The costs of a group.
+    pub(crate) fn of(group: &Group) -> Costs {
+        Costs {
+            billed: group.billed(),
+            effective: group.effective(),
+        }
+    }
+
+    // These costs and those of a group. The one error is that a sum passes 128 bits.
+    fn with(self, group: &Group) -> Result<Costs, AllocError> {
+        let billed = self.billed.checked_add(group.billed());
+        let effective = self.effective.checked_add(group.effective());
+        match (billed, effective) {
+            (Some(billed), Some(effective)) => Ok(Costs { billed, effective }),
+            _ => Err(AllocError),
+        }
+    }
+}
+
+/// The costs of all groups of a selection.
+pub(crate) fn all_costs(selection: &Selection) -> Result<Costs, AllocError> {
+    let mut costs = Costs::NONE;
+    for group in selection.groups() {
+        costs = costs.with(group)?;
+    }
+    Ok(costs)
+}
+
+/// The groups of a selection whose EffectiveCost is the largest, at most so many; those of one cost in the order of their names.
+pub(crate) fn largest<'g>(
+    alloc: Global,
+    selection: &'g Selection,
+    count: usize,
+) -> Result<Vec<&'g Group>, AllocError> {
+    let mut ranked = lent(alloc, selection.groups())?;
+    ranked.sort_by_key(|group| Reverse(group.effective()))?;
+    ranked.truncate(count);
+    Ok(ranked)
+}
+
+// The groups, in their order.
+fn lent<'g>(alloc: Global, groups: &'g [Group]) -> Result<Vec<&'g Group>, AllocError> {
+    let mut lent = Vec::new(alloc);
+    for group in groups {
+        lent.push(group)?;
+    }
+    Ok(lent)
+}
+
+/// Which groups have a row of their own.
+#[derive(Clone, Copy, Debug)]
+pub(crate) struct Shown<'c> {
+    are_all: bool,
+    groups: &'c [&'c Group],
+}
+
+impl<'c> Shown<'c> {
+    /// All of them.
+    pub(crate) fn all() -> Shown<'c> {
+        Shown {
+            are_all: true,
+            groups: &[],
+        }
+    }
+
+    /// Those with the texts of these.
+    pub(crate) fn of(groups: &'c [&'c Group]) -> Shown<'c> {
+        Shown {
+            are_all: false,
+            groups,
+        }
+    }
+
+    // Whether a group is one of them.
+    fn has(self, group: &Group) -> bool {
+        self.are_all
+            || self
+                .groups
+                .iter()
+                .any(|other| other.texts() == group.texts())
+    }
+}
+
+/// The rows of a selection, in the order of the groups, and behind them one with the sums of those that aren't chosen, where there are some.
+pub(crate) fn rows_of<'g>(
+    alloc: Global,
+    selection: &'g Selection,
+    chosen: Shown<'_>,
+) -> Result<Vec<Row<'g>>, AllocError> {
+    let mut rows = Vec::new(alloc);
+    let mut others = Costs::NONE;
+    let mut has_others = false;
+    for group in selection.groups() {
+        if chosen.has(group) {
+            rows.push(Row {
+                texts: Some(group.texts()),
+                costs: Costs::of(group),
+            })?;
+        } else {
+            others = others.with(group)?;
+            has_others = true;
+        }
+    }
+    if has_others {
+        rows.push(Row {
+            texts: None,
+            costs: others,
+        })?;
+    }
+    Ok(rows)
+}

@@ -1,0 +1,3 @@
+pub mod AskedHours
+pub mod RowSpan
+pub mod Policies

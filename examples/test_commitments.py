@@ -1,0 +1,317 @@
+#!/usr/bin/env python3
+"""Runs `focusd commitments` of a built program, and compares each figure with the plain Python of expected_commitments.py, to the nano.
+
+    examples/test_commitments.py out/focusd
+    examples/test_commitments.py out/focusd --runs 2000     more random warehouses
+    examples/test_commitments.py out/focusd --seed 7        others
+
+Each warehouse is made by chance: rows of a few SKUs and teams, some that providers' commitments cover or left unused, own commitments to
+quantities and to costs that overlap, and purchases that come later. It is asked by commitment, by tag and by column, of the whole range and by
+period, as CSV and JSON; and the laws of the figures are looked at.
+"""
+import argparse
+import csv
+import io
+import json
+import pathlib
+import random
+import subprocess
+import sys
+import tempfile
+import unittest
+
+HERE = pathlib.Path(__file__).resolve().parent
+sys.path.insert(0, str(HERE))
+import expected  # noqa: E402
+import expected_commitments as oracle  # noqa: E402
+
+PROGRAM = ""
+RUNS, SEED = 200, 1
+HEADER = "BilledCost,EffectiveCost,BillingCurrency,ChargeCategory,ChargePeriodStart,ChargePeriodEnd,CommitmentDiscountId,CommitmentDiscountCategory,CommitmentDiscountStatus,ConsumedQuantity,ConsumedUnit,SkuId,SubAccountId,Tags\n"  # fmt: skip
+LOW, HIGH = "2024-01-31T00:00Z", "2024-02-02T00:00Z"
+HOURS = 48
+SKUS, TEAMS, ACCOUNTS = ("a", "b", "c"), ("web", "shop", ""), ("one", "two")
+NAMES = ("a", "b", "c", "d")
+
+
+def focusd(*words, given=b""):
+    """The status, standard output and standard error of a run."""
+    ran = subprocess.run([PROGRAM, *words], input=given, capture_output=True)
+    return ran.returncode, ran.stdout, ran.stderr.decode()
+
+
+def time(hour):
+    """The instant at which an hour of the range begins."""
+    return f"2024-01-31T{hour:02}:00Z" if hour < 24 else f"2024-02-{1 + (hour - 24) // 24:02}T{hour % 24:02}:00Z"
+
+
+def command(words, text):
+    lines = text.splitlines(keepends=True)
+    return f"{words} {len(lines)}\n{text}"
+
+
+class Chance:
+    """A script that makes a warehouse by chance."""
+
+    def __init__(self, seed):
+        self.dice = random.Random(seed)
+
+    def amount(self, most):
+        """An amount with up to nine digits after the point."""
+        digits = self.dice.choice([0, 1, 2, 9])
+        return f"{self.dice.randrange(most)}" + (f".{self.dice.randrange(10**digits):0{digits}}" if digits else "")
+
+    def row(self):
+        dice, hour = self.dice, self.dice.randrange(HOURS)
+        team = dice.choice(TEAMS)
+        tags = json.dumps({"team": team}) if team else ""
+        billed, effective = self.amount(20), self.amount(20)
+        category, discount, quantity = "Usage", ",,", f"{dice.randrange(1, 9)}" + dice.choice(["", ".5", ".333333333"])
+        chosen = dice.random()
+        if chosen < 0.15:
+            discount = f"provider-{dice.randrange(3)},{dice.choice(['Usage', 'Spend'])},{dice.choice(['Used', 'Used', 'Unused'])}"
+        elif chosen < 0.2:
+            category = dice.choice(["Purchase", "Credit", "Tax"])
+            discount = f"provider-{dice.randrange(3)},Usage," + dice.choice(["", "Used"])
+        elif chosen < 0.25:
+            category, effective = dice.choice(["Purchase", "Tax", "Credit"]), "-" + effective
+        elif chosen < 0.3:
+            billed = "0"
+        elif chosen < 0.35:
+            quantity = ""
+        unit = "Hours" if quantity and dice.random() < 0.9 else ("Other" if quantity else "")
+        end = time(hour + 1)
+        cells = [billed, effective, "USD", category, time(hour), end, discount, quantity, unit, dice.choice(SKUS), dice.choice(ACCOUNTS)]
+        return ",".join(cells) + ',"' + tags.replace('"', '""') + '"\n'
+
+    def commitment(self, number):
+        dice = self.dice
+        start, hours = dice.randrange(-20, HOURS), dice.randrange(1, 60)
+        begins = f"2024-01-30T{start % 24:02}:00Z" if start < 0 else time(start)
+        text = f'id = "own-{number}"\nstart = "{begins}"\nhours = {hours}\ncapacity = "{self.amount(20)}1"\n'
+        if dice.random() < 0.3:
+            text += f'sub_account = "{dice.choice(ACCOUNTS)}"\n'
+        skus = sorted(dice.sample(SKUS, dice.randrange(1, 4)))
+        if dice.random() < 0.5:
+            text += 'category = "Usage"\nunit = "Hours"\nskus = [' + ", ".join(f'"{sku}"' for sku in skus) + "]\n"
+        else:
+            text += 'category = "Spend"\nrates = { ' + ", ".join(f"{sku} = {dice.choice([1, 250_000, 600_000, 1_000_000])}" for sku in skus) + " }\n"
+        if dice.random() < 0.6:
+            text += f'tags = {{ team = "{dice.choice(["web", "platform"])}" }}\n'
+        for _ in range(dice.randrange(1, 3)):
+            text += f'[[purchase]]\nat = "{begins}"\nbilled = "{self.amount(900)}"\n'
+        return text
+
+    def script(self):
+        dice = self.dice
+        number, parts = 0, []
+        for _ in range(dice.randrange(1, 4)):
+            number += 1
+            rows = "".join(self.row() for _ in range(dice.randrange(1, 120)))
+            parts.append(command(f"post rows {number}", HEADER + rows))
+            if dice.random() < 0.2:
+                number += 1
+                parts.append(f"withdraw rows {number} {number - 1}\n")
+        for at in range(dice.randrange(5)):
+            parts.insert(dice.randrange(len(parts) + 1), None)
+        at = 0
+        for place, part in enumerate(parts):
+            if part is None:
+                at += 1
+                parts[place] = command(f"commit own {at}", self.commitment(at))
+        return "".join(parts).encode()
+
+
+class House:
+    """A warehouse in a folder, and the same one in expected.py."""
+
+    def __init__(self, folder, script):
+        self.folder, self.kept = str(folder), expected.Warehouse()
+        folder.mkdir()
+        answers = self.well("run", "--dir", self.folder, "--create", given=script).decode()
+        right = "".join(expected.answers(iter(io.BytesIO(script).readline, b""), self.kept))
+        if answers != right or "refused" in answers:
+            raise AssertionError((answers, right))
+
+    def well(self, *words, given=b""):
+        status, output, error = focusd(*words, given=given)
+        if status:
+            raise AssertionError(f"{words}: {error}")
+        return output
+
+    def asked(self, *words):
+        return self.well("commitments", "--dir", self.folder, *words)
+
+
+def amount_of(text):
+    return expected.nanos(text) if text else None
+
+
+def read_csv(text, keys, by_period):
+    """The records of a CSV: each its hours, kind, keeper, name, units and amounts."""
+    header, *rows = csv.reader(io.StringIO(text.decode()))
+    hours = ["From", "To"] if by_period else []
+    names = [key.name for key in keys] or ["CommitmentDiscountId", "Unit", "Capacity", "UsedCapacity"]
+    if header != [*hours, "Kind", "Keeper", *names, *oracle.AMOUNTS]:
+        raise AssertionError(header)
+    for row in rows:
+        cells = iter(row)
+        period = tuple(next(cells) for _ in hours)
+        kind, keeper = next(cells), next(cells)
+        name = tuple(next(cells) for _ in (keys or [0]))
+        units = None if keys else (next(cells), amount_of(next(cells)), amount_of(next(cells)))
+        yield period, (kind, keeper, None if kind == "total" else name, tuple(map(amount_of, cells))), units
+
+
+def periods(step):
+    """The days or months of the range."""
+    if step == "day":
+        return [("2024-01-31T00:00Z", "2024-02-01T00:00Z"), ("2024-02-01T00:00Z", "2024-02-02T00:00Z")]
+    return [("2024-01-31T00:00Z", "2024-02-01T00:00Z"), ("2024-02-01T00:00Z", "2024-02-02T00:00Z")]
+
+
+class Figures(unittest.TestCase):
+    def setUp(self):
+        self.made = tempfile.TemporaryDirectory()
+        self.addCleanup(self.made.cleanup)
+
+    def house(self, seed):
+        return House(pathlib.Path(self.made.name) / f"w{seed}", Chance(seed).script())
+
+    def test_random_warehouses(self):
+        for seed in range(SEED, SEED + RUNS):
+            house = self.house(seed)
+            dice = random.Random(-seed)
+            keys = dice.choice([[], [], [expected.Key("team")], [expected.Key("SkuId", True)], [expected.Key("team"), expected.Key("SubAccountId", True)]])
+            with self.subTest(seed=seed, keys=keys):
+                self.check(house, keys)
+                self.check_periods(house, keys, dice.choice(["day", "month"]))
+                self.check_laws(house)
+
+    def words(self, keys):
+        return [word for key in keys for word in ("--column" if key.is_column else "--tag", key.name)]
+
+    def check(self, house, keys):
+        words = ["--from", LOW, "--to", HIGH, *self.words(keys)]
+        right = oracle.records(house.kept, LOW, HIGH, keys)
+        found = list(read_csv(house.asked(*words, "--format", "csv"), keys, False))
+        self.assertEqual([record for _, record, _ in found], right)
+        if not keys:
+            kept = oracle.units(house.kept, LOW, HIGH)
+            for _, (kind, keeper, name, _), units in found:
+                own = kind == "commitment" and keeper == "own"
+                self.assertEqual(units, kept.get(name[0], ("", 0, 0)) if own else ("", None, None), name)
+        self.check_json(json.loads(house.asked(*words, "--format", "json")), right, keys)
+
+    def check_json(self, found, right, keys):
+        self.assertEqual((found["keys"], found["currency"], found["from"], found["to"]), ([key.name for key in keys], "USD", LOW, HIGH))
+        self.assertEqual(len(found["records"]), len(right))
+        for one, (kind, keeper, name, amounts) in zip(found["records"], right):
+            self.assertEqual((one["kind"], one["keeper"]), (kind, keeper))
+            if kind == "group":
+                self.assertEqual(one["keys"], {key.name: text for key, text in zip(keys, name)})
+            elif kind == "commitment":
+                self.assertEqual(one["id"], name[0])
+            members = [column[0].lower() + column[1:] for column in oracle.AMOUNTS]
+            self.assertEqual([amount_of(one.get(member, "")) for member in members], list(amounts))
+            used, _, amortized, _, covered, _, eligible, savings = amounts
+            for rate, part, whole in (("utilization", used, amortized), ("coverage", covered, eligible), ("effectiveSavingsRate", savings, eligible)):
+                spelled = {"part": expected.spelled(part), "whole": expected.spelled(whole)} if part is not None else None
+                self.assertEqual(one.get(rate), spelled)
+
+    def check_periods(self, house, keys, step):
+        words = ["--from", LOW, "--to", HIGH, *self.words(keys), "--by", step]
+        right = [(period, record) for period in periods(step) for record in oracle.records(house.kept, *period, keys)]
+        found = list(read_csv(house.asked(*words, "--format", "csv"), keys, True))
+        self.assertEqual([(period, record) for period, record, _ in found], right)
+        told = json.loads(house.asked(*words, "--format", "json"))
+        self.assertEqual((told["by"], [(one["from"], one["to"]) for one in told["periods"]]), (step, periods(step)))
+        self.assertEqual(sum(len(one["records"]) for one in told["periods"]), len(right))
+
+    def check_laws(self, house):
+        """Per commitment and per group the parts sum to the totals, and savings are what reports without and with the commitments differ by."""
+        by_id = oracle.figures(house.kept, LOW, HIGH)
+        by_team = oracle.figures(house.kept, LOW, HIGH, [expected.Key("team")])
+        for keeper in ("own", "provider"):
+            for what in ("used", "unused", "paid", "covered"):
+                total = getattr(by_id[keeper][None], what)
+                for kept in (by_id, by_team):
+                    self.assertEqual(sum(getattr(one, what) for name, one in kept[keeper].items() if name), total)
+        total = by_team["own"][None]
+        self.assertEqual(sum(one.eligible for name, one in by_team["own"].items() if name), total.eligible)
+        lines = list(house.kept.lines_between(LOW, HIGH))
+        rows = [row for hour in range(house.kept.times.hour(LOW), house.kept.times.hour(HIGH)) for row in house.kept.rows.get(hour, ())]
+        without, with_them = sum(row.effective for row in rows), sum(line.effective for line in lines)
+        self.assertEqual(total.covered - total.used - total.unused, without - with_them)
+
+    def test_table(self):
+        """What people see: cents, and percent with one digit after the point."""
+        row = "{0},{0},USD,Usage,2024-01-31T00:00Z,2024-01-31T01:00Z,,,,{1},Hours,a,one,\"{{\"\"team\"\":\"\"{2}\"\"}}\"\n"
+        provider = '0,3,USD,Usage,2024-01-31T00:00Z,2024-01-31T01:00Z,plan,Spend,Used,1,Hours,b,one,\n1,1,USD,Usage,2024-01-31T00:00Z,2024-01-31T01:00Z,plan,Spend,Unused,1,Hours,b,one,\n'
+        commitment = 'id = "own"\ncategory = "Usage"\nunit = "Hours"\nskus = ["a"]\nstart = "2024-01-31T00:00Z"\nhours = 2\ncapacity = "3"\n[[purchase]]\nat = "2024-01-31T00:00Z"\nbilled = "4"\n'
+        script = command("post rows 1", HEADER + row.format("3", "2", "web") + row.format("8", "4", "shop") + provider) + command("commit own 1", commitment)
+        house = House(pathlib.Path(self.made.name) / "table", script.encode())
+        self.assertEqual(
+            [line.rstrip() for line in house.asked("--from", LOW, "--to", HIGH).decode().splitlines()],
+            [
+                "Commitment  Keeper    Utilization  UnusedCost  AmortizedCost  CoveredCost  EligibleCost  Coverage  Savings  SavingsRate",
+                "----------  --------  -----------  ----------  -------------  -----------  ------------  --------  -------  -----------",
+                "own         own             50.0%        2.00           4.00         5.00         11.00     45.5%     1.00         9.1%",
+                "plan        provider        75.0%        1.00           4.00",
+                "----------  --------  -----------  ----------  -------------  -----------  ------------  --------  -------  -----------",
+                "Total       own             50.0%        2.00           4.00         5.00         11.00     45.5%     1.00         9.1%",
+                "Total       provider        75.0%        1.00           4.00",
+            ],
+        )
+
+    def provided(self, name, commitment=None):
+        """A warehouse of the export of a provider, perhaps with a commitment of its own, and what is known of its commitments by id."""
+        folder = pathlib.Path(self.made.name) / name
+        status, _, error = focusd("import", "--quiet", "--create", "--dir", str(folder), "--origin", name, str(HERE / "providers" / f"{name}.csv"))
+        self.assertEqual(status, 0, error)
+        if commitment:
+            file = pathlib.Path(self.made.name) / f"{name}.toml"
+            file.write_text(commitment)
+            status, _, error = focusd("add", "--yes", "--dir", str(folder), "--origin", "own", str(file))
+            self.assertEqual(status, 0, error)
+        status, text, error = focusd("commitments", "--dir", str(folder), "--month", "2024-09", "--format", "csv")
+        self.assertEqual(status, 0, error)
+        return {record[2]: record[3] for _, record, _ in read_csv(text, [], False) if record[0] == "commitment"}
+
+    def test_four_exports_by_hand(self):
+        """The sums that docs/FINOPS.md works out."""
+        own = 'id = "own"\nstart = "2024-09-01T00:00Z"\nhours = 2\n{}[[purchase]]\nat = "2024-09-01T00:00Z"\nbilled = "{}"\n'
+        hours = 'category = "Usage"\nunit = "Hours"\nskus = ["B88317"]\ncapacity = "4.5"\n'
+        spend = 'category = "Spend"\ncapacity = "1"\nrates = { "2DA5-55D3-E679" = 1000000 }\n'
+        for name, commitment, end, amounts in (
+            ("amazon", None, "0b3c6a52", (2692288294, 0, 2692288294, 0, None, None, None, None)),
+            ("microsoft", None, "8e2a", (0, 0, 0, 2429201562, None, None, None, None)),
+            ("google", own.format(spend, 2), "own", (0, 2 * 10**9, 2 * 10**9, 2 * 10**9, 0, 0, 0, -2 * 10**9)),
+            ("oracle", own.format(hours, 3), "own", (3 * 10**9, 0, 3 * 10**9, 3 * 10**9, 4843171415, 1607153785, 6450325200, 1843171415)),
+        ):
+            with self.subTest(name):
+                found = {id[0]: kept for id, kept in self.provided(name, commitment).items() if id[0].endswith(end)}
+                self.assertEqual(list(found.values()), [amounts])
+
+    def test_wrong_use(self):
+        folder = str(pathlib.Path(self.made.name) / "wrong")
+        House(pathlib.Path(folder), b"state\n")
+        for words in (["--by", "week"], ["--format", "html"], ["--column", "Nothing"], ["--tag", "a", "--tag", "a"], ["--month", "2024"], ["--from", HIGH, "--to", LOW]):
+            self.assertEqual(focusd("commitments", "--dir", folder, *words)[0], 2, words)
+        for words in (["--as-of", "7", "--from", LOW, "--to", HIGH], []):
+            self.assertEqual(focusd("commitments", "--dir", folder, *words)[0], 1, words)
+
+
+def main():
+    global PROGRAM, RUNS, SEED
+    parser = argparse.ArgumentParser(description=__doc__, formatter_class=argparse.RawDescriptionHelpFormatter)
+    parser.add_argument("program")
+    parser.add_argument("--runs", type=int, default=RUNS)
+    parser.add_argument("--seed", type=int, default=SEED)
+    given, rest = parser.parse_known_args()
+    PROGRAM, RUNS, SEED = str(pathlib.Path(given.program).resolve()), given.runs, given.seed
+    unittest.main(argv=[sys.argv[0], *rest])
+
+
+if __name__ == "__main__":
+    main()

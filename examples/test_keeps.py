@@ -1,0 +1,255 @@
+#!/usr/bin/env python3
+"""Runs `focusd import --keep` of a built program, and compares the rows with those that another program computed.
+
+    examples/test_keeps.py out/focusd
+    examples/test_keeps.py out/focusd Keeps.test_rows_by_chance --runs 200
+
+The rows with columns kept as tags come from expected.py. They are compared three times: as `focusd export` writes them, as sums of a report
+by a kept tag, and by the digest of a warehouse into which the export was imported that has the tags in its Tags already.
+"""
+import argparse
+import collections
+import csv
+import decimal
+import io
+import json
+import pathlib
+import random
+import subprocess
+import sys
+import tempfile
+import unittest
+
+import expected
+
+PROGRAM = ""
+RUNS = 40
+READ = expected.REQUIRED + expected.OPTIONAL
+OTHERS = ["ServiceName", "RegionId", "x_Cost Centre", "größe"]
+VALUES = ["", "", "web", 'the "data", all of it', "größer", "two\nlines", "a\\b", "{}", "null", "東京"]
+MONTH = ("--from", "2024-09", "--to", "2024-10")
+
+
+def export_of_chance(rng, count, header):
+    """An export of some records under a header."""
+    records = []
+    for _ in range(count):
+        hour = rng.randrange(48)
+        start, end = (f"2024-09-{it // 24 + 1:02}T{it % 24:02}:00Z" for it in (hour, hour + 1))
+        row = dict.fromkeys(header, "")
+        row |= {"BillingCurrency": "USD", "ChargeCategory": rng.choice(["Usage", "Tax", "Credit"]), "ChargePeriodStart": start, "ChargePeriodEnd": end}
+        row |= {"BilledCost": expected.spelled(rng.randrange(10**11)), "EffectiveCost": expected.spelled(rng.randrange(10**11))}
+        tags = {"team": rng.choice(["web", 'the "data"\nteam', "", "größer"]), "env": rng.choice(["prod", True, False, None]), "zone": "z"}
+        tags = dict(rng.sample(sorted(tags.items()), rng.randrange(4)))
+        row |= {"Tags": rng.choice(["", "{}"]) if not tags else json.dumps(tags, ensure_ascii=rng.random() < 0.5, indent=rng.choice([None, 1]))}
+        row |= {"SkuId": rng.choice(["vm", "db", "x,y", ""]), "SubAccountId": rng.choice(["a1", "a2", ""])}
+        row |= {column: rng.choice(VALUES) for column in OTHERS if column in header}
+        records.append([row[column] for column in header])
+    return expected.csv_of(header, records)
+
+
+def keeps_of_chance(rng, header):
+    """Some columns of a header, each kept as itself or as another tag."""
+    columns = rng.sample([it for it in header if it != "Tags"], rng.randrange(1, 4))
+    return [it if rng.randrange(2) else f"{it}={rng.choice(['service', 'a', 'zz', 'größe 2'])}{place}" for place, it in enumerate(columns)]
+
+
+class Case(unittest.TestCase):
+    """A folder for exports and warehouses."""
+
+    def setUp(self):
+        room = tempfile.TemporaryDirectory()
+        self.addCleanup(room.cleanup)
+        self.top = pathlib.Path(room.name)
+
+    def focusd(self, *words, given=b""):
+        """The status, standard output and standard error of a run."""
+        ran = subprocess.run([PROGRAM, *words], input=given, capture_output=True, cwd=self.top)
+        return ran.returncode, ran.stdout.decode(), ran.stderr.decode()
+
+    def file(self, name, content):
+        (self.top / name).write_bytes(content if isinstance(content, bytes) else content.encode())
+        return name
+
+    def house(self, name, *words, keeps=()):
+        """What an import into a warehouse, which is made, printed."""
+        (self.top / name).mkdir(exist_ok=True)
+        kept = [word for keep in keeps for word in ("--keep", keep)]
+        return self.focusd("import", "--dir", name, "--create", "--origin", "aws", "--quiet", *kept, *words)
+
+    def digest(self, name):
+        status, printed, said = self.focusd("verify", "--dir", name, "--digest")
+        self.assertEqual((status, said), (0, ""))
+        return printed
+
+    def exported(self, name):
+        """How often each row of a warehouse stands there: its costs, its hour and its tags."""
+        status, printed, said = self.focusd("export", "--dir", name, *MONTH)
+        self.assertEqual(status, 0, said)
+        rows = csv.DictReader(io.StringIO(printed, newline=""))
+        return collections.Counter(row_of(row["BilledCost"], row["EffectiveCost"], row["ChargePeriodStart"], row["Tags"]) for row in rows)
+
+    def report(self, name, key):
+        """The billed cost of each group of a report by a tag."""
+        status, printed, said = self.focusd("report", "--dir", name, "--tag", key, "--format", "csv", *MONTH)
+        self.assertEqual(status, 0, said)
+        rows = list(csv.reader(io.StringIO(printed, newline="")))
+        at = rows[0].index("BilledCost")
+        return {row[0]: decimal.Decimal(row[at]) for row in rows[1:] if row[0] != "TOTAL"}
+
+
+def row_of(billed, effective, start, tags):
+    """A row, as rows are compared: amounts as numbers, the hour without its seconds, tags in order."""
+    return decimal.Decimal(billed), decimal.Decimal(effective), start[:13], tuple(sorted(expected.tags_of(tags).items()))
+
+
+def rows_of(text):
+    """How often each row stands in an export."""
+    header, records = expected.records_of(text)
+    rows = (dict(zip(header, fields)) for fields in records)
+    return collections.Counter(row_of(row["BilledCost"], row["EffectiveCost"], row["ChargePeriodStart"], row["Tags"]) for row in rows)
+
+
+def sums_of(text, key):
+    """The billed cost of each group of an export by a tag."""
+    sums = collections.defaultdict(decimal.Decimal)
+    for (billed, _effective, _hour, tags), times in rows_of(text).items():
+        sums[dict(tags).get(key, "")] += billed * times
+    return dict(sums)
+
+
+class Keeps(Case):
+    """Columns that are kept as tags."""
+
+    def test_rows_by_chance(self):
+        for seed in range(RUNS):
+            with self.subTest(seed=seed):
+                self.check_run(seed)
+
+    def check_run(self, seed):
+        rng = random.Random(seed)
+        header = [*READ, *OTHERS[: rng.randrange(1, 5)]]
+        if rng.randrange(4) == 0:
+            header.remove("Tags")
+        rng.shuffle(header)
+        count = rng.choice([1, 3, 40, 400, 9_000 if seed % 8 == 0 else 40])
+        text = export_of_chance(rng, count, header)
+        keeps = keeps_of_chance(rng, header)
+        with_tags = expected.with_columns_as_tags(text, keeps)
+        file, other = self.file(f"{seed}.csv", text), self.file(f"{seed}-tags.csv", with_tags)
+        posts = -(-count // expected.MOST_ROWS)
+        word = ("row" if count == 1 else "rows", "was" if count == 1 else "were", "post" if posts == 1 else "posts")
+        status, printed, said = self.house(f"kept{seed}", file, keeps=keeps)
+        self.assertEqual((status, said), (0, ""), (keeps, said))
+        self.assertTrue(printed.startswith(f"imported {count} {word[0]}, 0 were there already; "), printed)
+        self.house(f"tags{seed}", other)
+        # 2 MiB of a file end a post too, so the posts of the two differ where the files are long.
+        if len(with_tags) < 2**20:
+            self.assertEqual(self.digest(f"kept{seed}"), self.digest(f"tags{seed}"))
+        self.assertEqual(self.exported(f"kept{seed}"), rows_of(with_tags))
+        for keep in keeps:
+            key = keep.partition("=")[2] or keep
+            self.assertEqual(self.report(f"kept{seed}", key), sums_of(with_tags, key), (keep, keeps))
+        # The same file with the same columns is there already; with others it differs, unless no row has a text there.
+        again = self.house(f"kept{seed}", file, keeps=keeps)
+        self.assertEqual((again[0], again[2]), (0, ""))
+        self.assertTrue(again[1].startswith("imported 0 rows, "), again)
+        if with_tags != expected.with_columns_as_tags(text, keeps[1:]):
+            status, printed, said = self.house(f"kept{seed}", file, keeps=keeps[1:])
+            differs = rows_of(with_tags) != rows_of(expected.with_columns_as_tags(text, keeps[1:]))
+            self.assertEqual((status, "R1 Differs" in said), (1, True) if differs else (0, False), said)
+
+    def test_an_import_that_goes_on(self):
+        """An import of a part of the files, and then of all of them."""
+        rng = random.Random(51)
+        header = [*READ, *OTHERS]
+        texts = [export_of_chance(rng, count, header) for count in (5_000, 300, 4_200)]
+        names = [self.file(f"{place}.csv", text) for place, text in enumerate(texts)]
+        keeps = ["ServiceName=service", "RegionId"]
+        self.assertEqual(self.house("parts", names[0], keeps=keeps), (0, "imported 5000 rows, 0 were there already; 2 posts\n", ""))
+        self.assertEqual(self.house("parts", *names, keeps=keeps), (0, "imported 4500 rows, 5000 were there already; 5 posts\n", ""))
+        self.assertEqual(self.house("whole", *names, keeps=keeps), (0, "imported 9500 rows, 0 were there already; 5 posts\n", ""))
+        self.assertEqual(self.digest("parts"), self.digest("whole"))
+        rows = sum((rows_of(expected.with_columns_as_tags(text, keeps)) for text in texts), collections.Counter())
+        self.assertEqual(self.exported("parts"), rows)
+
+    def test_two_headers(self):
+        """Files of an import have the kept column at other places."""
+        rng = random.Random(52)
+        texts = [export_of_chance(rng, 50, header) for header in ([*READ, "ServiceName"], ["ServiceName", *READ], ["RegionId", *READ, "ServiceName"])]
+        names = [self.file(f"{place}.csv", text) for place, text in enumerate(texts)]
+        self.assertEqual(self.house("all", *names, keeps=["ServiceName"])[0], 0)
+        rows = sum((rows_of(expected.with_columns_as_tags(text, ["ServiceName"])) for text in texts), collections.Counter())
+        self.assertEqual(self.exported("all"), rows)
+
+
+class Faults(Case):
+    """What is refused."""
+
+    HEADER = "BilledCost,EffectiveCost,BillingCurrency,ChargeCategory,ChargePeriodStart,ChargePeriodEnd,Tags,ServiceName"
+    ROW = "1,1,USD,Usage,2024-09-01T00:00Z,2024-09-01T01:00Z"
+
+    def refused(self, text, *keeps):
+        """What an import that is refused says; nothing is made."""
+        name = self.file("bad.csv", text)
+        status, printed, said = self.house("bad", name, keeps=keeps)
+        self.assertEqual((status, printed), (1, ""), said)
+        self.assertEqual(list((self.top / "bad").iterdir()), [])
+        return said
+
+    def test_a_tag_that_is_there(self):
+        tags = '"{""team"":""web""}"'
+        said = self.refused(f'{self.HEADER}\n{self.ROW},{tags},\n{self.ROW},{tags},db\n{self.ROW},"{{""service"":""x""}}",db\n', "ServiceName=service", "BilledCost=cost")
+        first, second, *_rest = said.splitlines()
+        self.assertTrue(first.startswith('focusd: bad.csv:4: record 3, Tags: "{\\"service\\":\\"x\\"}": V17 TagTwice: expected '), said)
+        self.assertEqual(second, "The record has the tag service, as which the column ServiceName is to be kept. --keep ServiceName=TAG names another tag.")
+        # A record whose column is empty doesn't have it twice.
+        self.assertEqual(self.house("good", self.file("good.csv", f"{self.HEADER}\n{self.ROW},{tags},\n"), keeps=["ServiceName=team"])[0], 0)
+
+    def test_texts_that_are_too_long(self):
+        for text, fault in (("x" * 1_024, None), ("x" * 1_025, "V13 TooLong"), ("é" * 512, None), ("é" * 513, "V13 TooLong")):
+            name = self.file("long.csv", f"{self.HEADER}\n{self.ROW},,{text}\n")
+            status, _printed, said = self.house(f"house{len(text)}", name, keeps=["ServiceName"])
+            self.assertEqual((status, "V13 TooLong" in said), (1, True) if fault else (0, False), said)
+        tags = json.dumps({f"k{it}": "v" for it in range(256)}).replace('"', '""')
+        self.assertIn("V13 TooLong", self.refused(f'{self.HEADER}\n{self.ROW},"{tags}",db\n', "ServiceName"))
+
+    def test_bytes_that_are_no_text(self):
+        self.assertIn("V2 NotUtf8", self.refused(f"{self.HEADER}\n{self.ROW},,".encode() + b"\xff\n", "ServiceName"))
+        # They are no fault of a column that isn't read.
+        self.assertEqual(self.house("good", self.file("good.csv", f"{self.HEADER}\n{self.ROW},,".encode() + b"\xff\n"))[0], 0)
+
+    def test_faults_of_other_columns(self):
+        """A record with a fault has that fault, whatever is kept."""
+        self.assertIn("V3 Category", self.refused(f"{self.HEADER}\n{self.ROW.replace('Usage', 'Use')},,db\n", "ServiceName"))
+        self.assertIn("V12 BadTags", self.refused(f"{self.HEADER}\n{self.ROW},[],db\n", "ServiceName"))
+        self.assertIn("V1 Fields", self.refused(f"{self.HEADER}\n{self.ROW},\n", "ServiceName"))
+
+    def test_headers(self):
+        said = self.refused(f"{self.HEADER}\n{self.ROW},,db\n", "ServiceName", "Region")
+        self.assertTrue(said.startswith("focusd: bad.csv:1: the header, Region: H1 MissingColumn: expected a column of this name"), said)
+        said = self.refused(f"{self.HEADER},ServiceName\n{self.ROW},,db,db\n", "ServiceName")
+        self.assertTrue(said.startswith("focusd: bad.csv:1: the header, ServiceName: H2 DoubleColumn: expected one column of this name"), said)
+
+    def test_command_lines(self):
+        name = self.file("good.csv", f"{self.HEADER}\n{self.ROW},,db\n")
+        for keeps in (["=service"], ["ServiceName="], ["Tags"], ["Tags=tags"], ["A=b", "C=b"], ["A", "A"], [""], ["A=" + "x" * 1_025]):
+            status, printed, said = self.house("bad", name, keeps=keeps)
+            self.assertEqual((status, printed), (2, ""), (keeps, said))
+            self.assertTrue(said.startswith("focusd: --keep "), said)
+            self.assertEqual(list((self.top / "bad").iterdir()), [])
+
+
+def main():
+    global PROGRAM, RUNS
+    parser = argparse.ArgumentParser(description=__doc__, formatter_class=argparse.RawDescriptionHelpFormatter)
+    parser.add_argument("program", metavar="PROGRAM", help="the built program")
+    parser.add_argument("tests", metavar="TEST", nargs="*", help="a class, or a test of one")
+    parser.add_argument("--runs", type=int, default=RUNS, help="how many exports by chance")
+    options = parser.parse_args()
+    PROGRAM, RUNS = str(pathlib.Path(options.program).resolve()), options.runs
+    unittest.main(argv=[sys.argv[0], *options.tests])
+
+
+if __name__ == "__main__":
+    main()
