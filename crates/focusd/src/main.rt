@@ -103,22 +103,30 @@ fn run_command<R: Threads + Wait + Sync>(
         Some(("add", options)) => add_files(rt, options),
         Some(("replace", options)) => replace_rows(rt, options),
         Some(("withdraw", options)) => withdraw_posts(rt, options),
-        Some(("check", options)) => check_files(rt, options),
-        Some(("report", options)) => report(rt, options),
-        Some(("compare", options)) => print_comparison(rt, options),
-        Some(("lines", options)) => print_lines(rt, options),
-        Some(("export", options)) => print_export(rt, options),
-        Some(("coverage", options)) => print_coverage(rt, options),
-        Some(("commitments", options)) => print_commitments(rt, options),
-        Some(("policy", options)) => Ok(list_policies(rt, options)),
-        Some(("status", options)) => Ok(print_status(rt, options)),
-        Some(("verify", options)) => Ok(verify_folder(rt, options)),
         Some(("checkpoint", options)) => Ok(make_checkpoint(rt, options)),
         Some(("compact", options)) => Ok(compact_folder(rt, options)),
-        Some(("dump", options)) => Ok(print_dump(rt, options)),
         Some(("split", options)) => split_files(rt, options),
-        Some(("charge", options)) => charge_reports(rt, options),
-        Some(("explain", options)) => print_explanation(rt, options),
+        Some((question, options)) => ask(rt, question, options),
+        None => Ok(wrong_use(rt, "no command")),
+    }
+}
+
+// Runs a command that changes no warehouse.
+fn ask(rt: &HostRuntime, question: &str, options: &ArgMatches<'_>) -> Result<ExitCode, Fault> {
+    match question {
+        "check" => check_files(rt, options),
+        "report" => report(rt, options),
+        "compare" => print_comparison(rt, options),
+        "lines" => print_lines(rt, options),
+        "export" => print_export(rt, options),
+        "coverage" => print_coverage(rt, options),
+        "commitments" => print_commitments(rt, options),
+        "policy" => Ok(list_policies(rt, options)),
+        "status" => Ok(print_status(rt, options)),
+        "verify" => Ok(verify_folder(rt, options)),
+        "dump" => Ok(print_dump(rt, options)),
+        "charge" => charge_reports(rt, options),
+        "explain" => print_explanation(rt, options),
         _ => Ok(wrong_use(rt, "no command")),
     }
 }
