@@ -369,7 +369,7 @@ class Bash(AtThePrompt, unittest.TestCase):
 
     def test_what_is_offered(self):
         commands = "add charge check checkpoint commitments compact compare coverage dump explain export help import lines load policy replace report run split status verify withdraw".split()
-        options = ["--create", "--currency", "--dir", "--help", "--keep", "--origin", "--quiet"]
+        options = ["--create", "--currency", "--dir", "--help", "--keep", "--origin", "--quiet", "--summary"]
         folder = self.room.folder_with(["-x.csv", "a b.csv", "a$(touch PWNED).csv"], ["costs now"])
         for words, offered in (
             ([""], sorted(commands)),
@@ -386,7 +386,7 @@ class Bash(AtThePrompt, unittest.TestCase):
             (["import", "--currency", ""], []),
             (["report", "--format", ""], ["csv", "html", "json", "table"]),
             (["report", "--by", "m"], ["month"]),
-            (["add", "-"], ["--dir", "--dry-run", "--help", "--origin", "--yes"]),
+            (["add", "-"], ["--dir", "--dry-run", "--help", "--origin", "--summary", "--yes"]),
             (["status", ""], ["--dir", "--help"]),
             (["status", "a"], []),
             (["run", "<", "a"], ["a b.csv", "a$(touch PWNED).csv"]),

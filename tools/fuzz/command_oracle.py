@@ -39,14 +39,15 @@ ORIGIN = re.compile(r"[A-Za-z0-9._-]{1,64}")
 # The options of each command, and the least and the most of the words that it takes beside.
 MANY = 10**9
 COLUMNS = ("SkuId", "SubAccountId", "ChargeCategory", "CommitmentDiscountId", "CommitmentDiscountStatus")
+SUMMARY = {"summary": Option(rule=one_of("text", "json"))}
 COMMANDS = {
     "run": ({"currency": Option(), "dir": Option(), "create": FLAG, "workers": Option(rule=number_from(1, 64)), "strict": FLAG}, 0, 0),
-    "import": ({"dir": DIR, "create": FLAG, "currency": Option(), "origin": DIR, "keep": Option(repeats=True), "quiet": FLAG}, 1, MANY),
+    "import": ({"dir": DIR, "create": FLAG, "currency": Option(), "origin": DIR, "keep": Option(repeats=True), **SUMMARY, "quiet": FLAG}, 1, MANY),
     "load": (
         {"currency": Option(), "dir": Option(), "create": FLAG, "analysts": Option(rule=number_from(1, 16)), "origin": Option(), "strict": FLAG}, 1, MANY,
     ),
-    "add": ({"dir": DIR, "origin": DIR, "dry-run": FLAG, "yes": FLAG}, 1, MANY),
-    "check": ({"format": Option(rule=one_of("text", "json")), "currency": Option(), "quiet": FLAG}, 1, MANY),
+    "add": ({"dir": DIR, "origin": DIR, "dry-run": FLAG, "yes": FLAG, **SUMMARY}, 1, MANY),
+    "check": ({"format": Option(rule=one_of("text", "json")), "currency": Option(), **SUMMARY, "quiet": FLAG}, 1, MANY),
     "report": (
         {"dir": DIR, "tag": Option(repeats=True), "column": Option(rule=one_of(*COLUMNS), repeats=True), "where": Option(repeats=True),
          "where-not": Option(repeats=True), "map": Option(), "total-only": FLAG, **HOURS, "by": Option(rule=one_of("hour", "day", "month")),
@@ -74,10 +75,10 @@ COMMANDS = {
     ),
     "policy": ({"dir": DIR}, 1, 1),
     "status": ({"dir": DIR}, 0, 0),
-    "verify": ({"dir": DIR, "digest": FLAG, "expect": Option()}, 0, 0),
+    "verify": ({"dir": DIR, "digest": FLAG, "expect": Option(), **SUMMARY}, 0, 0),
     "checkpoint": ({"dir": DIR}, 0, 0),
     "compact": ({"dir": DIR, "into": DIR, "quiet": FLAG}, 0, 0),
-    "replace": ({"dir": DIR, "origin": DIR, **PERHAPS, "dry-run": FLAG, "quiet": FLAG}, 1, MANY),
+    "replace": ({"dir": DIR, "origin": DIR, **PERHAPS, "dry-run": FLAG, **SUMMARY, "quiet": FLAG}, 1, MANY),
     "withdraw": ({"dir": DIR, "origin": DIR, "seq": Option(), **PERHAPS, "all": FLAG, "dry-run": FLAG, "yes": FLAG}, 0, 0),
     "dump": ({"dir": DIR}, 0, 0),
     "explain": ({}, 0, 1),

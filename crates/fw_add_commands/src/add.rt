@@ -1,5 +1,5 @@
 //! The command: all files are checked, and then each is added.
-use crate::check::{Job, Trial, check_all, print_same};
+use crate::check::{Job, Tally, Trial, check_all, print_same};
 use crate::faults::say_refusal;
 use crate::matched::warn_unmatched;
 use crate::printing::print_line;
@@ -7,7 +7,9 @@ use crate::texts::{Given, name_text, replaced_text};
 use clap::ArgMatches;
 use fw_adding::{Outcome, add_document};
 use fw_command_line::{DIR, DRY_RUN, FILES, ORIGIN, YES};
-use fw_console::{Fault, advised, closed, open_to_ask, open_warehouse, wrong_origin};
+use fw_console::{
+    Fault, advised, closed, open_to_ask, open_warehouse, tell, tells_json, wrong_origin,
+};
 use fw_disk::Volume;
 use fw_documents::Document;
 use fw_entry::is_origin;
@@ -26,10 +28,17 @@ pub fn add_files(rt: &HostRuntime, options: &ArgMatches<'_>) -> Result<ExitCode,
         origin,
         is_dry: options.get_flag(DRY_RUN),
         says_yes: options.get_flag(YES),
+        is_silent: tells_json(options),
     };
     let folder = options.get_str(DIR).unwrap_or("");
-    let done = add_into(rt, folder, &job, options.get_strs(FILES).unwrap_or(&[]));
-    Ok(advised(rt, folder, done))
+    let mut tally = Tally::default();
+    let files = options.get_strs(FILES).unwrap_or(&[]);
+    let done = add_into(rt, folder, &job, &mut tally, files);
+    let status = advised(rt, folder, done);
+    if job.is_silent {
+        return tell(rt, "add", &tally.members(), status);
+    }
+    Ok(status)
 }
 
 // Adds files to the warehouse of a folder.
@@ -37,6 +46,7 @@ fn add_into(
     rt: &HostRuntime,
     folder: &str,
     job: &Job<'_>,
+    tally: &mut Tally,
     files: &[&str],
 ) -> Result<ExitCode, Fault> {
     let mut store = if job.is_dry {
@@ -44,7 +54,7 @@ fn add_into(
     } else {
         open_warehouse(rt, folder)?
     };
-    let done = add_to(rt, &mut store, job, files);
+    let done = add_to(rt, &mut store, job, tally, files);
     closed(store, done)
 }
 
@@ -53,6 +63,7 @@ fn add_to<V: Volume>(
     rt: &HostRuntime,
     store: &mut Store<V>,
     job: &Job<'_>,
+    tally: &mut Tally,
     files: &[&str],
 ) -> Result<ExitCode, Fault> {
     let mut trial = Trial::new(rt.alloc(), store.state().state(), store.form())?;
@@ -60,9 +71,10 @@ fn add_to<V: Volume>(
         return Ok(nothing_added(rt));
     }
     if job.is_dry {
+        *tally = trial.tally;
         return Ok(ExitCode::SUCCESS);
     }
-    add_all(rt, store, job, files, trial.documents())
+    add_all(rt, store, job, tally, files, trial.documents())
 }
 
 // Says that a fault kept all files out.
@@ -76,12 +88,13 @@ fn add_all<V: Volume>(
     rt: &HostRuntime,
     store: &mut Store<V>,
     job: &Job<'_>,
+    tally: &mut Tally,
     files: &[&str],
     documents: &[Document],
 ) -> Result<ExitCode, Fault> {
     for (file, document) in files.iter().zip(documents) {
         let name = shown_text(rt.alloc(), file)?;
-        if !add_one(rt, store, job, name.as_str(), document)? {
+        if !add_one(rt, store, job, tally, name.as_str(), document)? {
             return Ok(ExitCode::FAILURE);
         }
     }
@@ -93,6 +106,7 @@ fn add_one<V: Volume>(
     rt: &HostRuntime,
     store: &mut Store<V>,
     job: &Job<'_>,
+    tally: &mut Tally,
     file: &str,
     document: &Document,
 ) -> Result<bool, Fault> {
@@ -101,8 +115,9 @@ fn add_one<V: Volume>(
         file,
         document,
         name: name.as_str(),
+        is_silent: job.is_silent,
     };
-    add_given(rt, store, job, &given)
+    add_given(rt, store, job, tally, &given)
 }
 
 // Adds a document, and says what became of it.
@@ -110,11 +125,13 @@ fn add_given<V: Volume>(
     rt: &HostRuntime,
     store: &mut Store<V>,
     job: &Job<'_>,
+    tally: &mut Tally,
     given: &Given<'_>,
 ) -> Result<bool, Fault> {
     let replaced = replaced_text(rt.alloc(), store.state().state(), given.document)?;
     match add_document(rt.alloc(), store, job.origin, given.document, job.says_yes) {
         Ok(outcome) => {
+            tally.count(outcome);
             let state = store.state().state();
             print_outcome(rt, state, job, given, outcome, replaced.as_str())
         }
@@ -154,7 +171,7 @@ fn print_added(
     let origin = job.origin;
     let number = last_number(state);
     let line = format!(in rt.alloc(); "{name}{replaced}: entry {entry} ({origin} {number})")?;
-    print_line(rt, given.file, line.as_str())
+    print_line(rt, given, line.as_str())
 }
 
 // The number of the last entry among those of its origin.

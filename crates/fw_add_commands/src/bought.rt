@@ -24,7 +24,7 @@ pub(crate) fn print_bought(
     match registered(after.commitment_list(), added.id()) {
         Some(commitment) => {
             let line = bought_text(rt.alloc(), after.currency(), commitment, tried.outcome)?;
-            print_line(rt, given.file, line.as_str())
+            print_line(rt, given, line.as_str())
         }
         None => Ok(()),
     }

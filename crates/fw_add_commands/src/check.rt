@@ -5,7 +5,7 @@ use crate::matched::print_matches;
 use crate::printing::print_line;
 use crate::texts::{Given, document_text, name_text, replaced_text};
 use fw_adding::{AddFault, Outcome, Tried, try_document};
-use fw_console::{Fault, toml_of};
+use fw_console::{Fault, Member, toml_of};
 use fw_documents::{Document, read_document};
 use fw_entry::CommandKind;
 use fw_entry_bytes::Form;
@@ -23,6 +23,35 @@ pub(crate) struct Job<'a> {
     pub(crate) is_dry: bool,
     /// Whether a policy may take the place of one by another key, and a purchase of which an equal one is there is added again.
     pub(crate) says_yes: bool,
+    /// Whether what becomes of the files isn't said in words.
+    pub(crate) is_silent: bool,
+}
+
+/// What became of documents, or would where nothing is to be written.
+#[derive(Clone, Copy, Default, Drop)]
+pub(crate) struct Tally {
+    /// Documents that were added.
+    pub(crate) added: u64,
+    /// Documents that were there already.
+    pub(crate) same: u64,
+}
+
+impl Tally {
+    /// One more document is counted.
+    pub(crate) fn count(&mut self, outcome: Outcome) {
+        match outcome {
+            Outcome::Added => self.added = self.added.saturating_add(1),
+            Outcome::Same => self.same = self.same.saturating_add(1),
+        }
+    }
+
+    /// What programs are told of it.
+    pub(crate) fn members(self) -> [Member<'static>; 2] {
+        [
+            Member::count("added", self.added),
+            Member::count("same", self.same),
+        ]
+    }
 }
 
 /// What a warehouse would become by the files that were checked.
@@ -34,6 +63,8 @@ pub(crate) struct Trial {
     form: Form,
     /// What the files hold, in order.
     documents: Vec<Document>,
+    /// What would become of them.
+    pub(crate) tally: Tally,
 }
 
 impl Trial {
@@ -43,6 +74,7 @@ impl Trial {
             state: state.copy()?,
             form,
             documents: Vec::new(alloc),
+            tally: Tally::default(),
         })
     }
 
@@ -52,9 +84,10 @@ impl Trial {
     }
 
     // One more file is checked, after which the warehouse would be this. The answer is true.
-    fn add(&mut self, document: Document, after: State) -> Result<bool, Fault> {
+    fn add(&mut self, document: Document, tried: Tried) -> Result<bool, Fault> {
         self.documents.push(document)?;
-        self.state = after;
+        self.tally.count(tried.outcome);
+        self.state = tried.after;
         Ok(true)
     }
 }
@@ -111,7 +144,7 @@ fn check_document(
     document: Document,
 ) -> Result<bool, Fault> {
     match tried(rt, job, trial, file, &document) {
-        Ok(Some(after)) => trial.add(document, after),
+        Ok(Some(tried)) => trial.add(document, tried),
         Ok(None) => Ok(false),
         Err(fault) => Err(fault),
     }
@@ -124,12 +157,13 @@ fn tried(
     trial: &Trial,
     file: &str,
     document: &Document,
-) -> Result<Option<State>, Fault> {
+) -> Result<Option<Tried>, Fault> {
     let name = name_text(rt.alloc(), document)?;
     let given = Given {
         file,
         document,
         name: name.as_str(),
+        is_silent: job.is_silent,
     };
     try_given(rt, job, trial, &given)
 }
@@ -140,7 +174,7 @@ fn try_given(
     job: &Job<'_>,
     trial: &Trial,
     given: &Given<'_>,
-) -> Result<Option<State>, Fault> {
+) -> Result<Option<Tried>, Fault> {
     if !goes_in(rt, job, &trial.state, given)? {
         return Ok(None);
     }
@@ -173,9 +207,9 @@ fn goes_in(
 }
 
 // What a warehouse would become, where that is taken.
-fn kept(is_taken: Result<bool, Fault>, tried: Tried) -> Result<Option<State>, Fault> {
+fn kept(is_taken: Result<bool, Fault>, tried: Tried) -> Result<Option<Tried>, Fault> {
     match is_taken {
-        Ok(true) => Ok(Some(tried.after)),
+        Ok(true) => Ok(Some(tried)),
         Ok(false) => Ok(None),
         Err(fault) => Err(fault),
     }
@@ -231,7 +265,7 @@ fn say_other_key(rt: &HostRuntime, state: &State, given: &Given<'_>) -> Result<b
 // Says what a file is.
 fn print_document(rt: &HostRuntime, state: &State, given: &Given<'_>) -> Result<(), Fault> {
     let text = document_text(rt.alloc(), state.currency(), given)?;
-    print_line(rt, given.file, text.as_str())
+    print_line(rt, given, text.as_str())
 }
 
 /// Says that a document is there already.
@@ -242,7 +276,7 @@ pub(crate) fn print_same(rt: &HostRuntime, given: &Given<'_>) -> Result<(), Faul
         Document::Commitment(_) | Document::Policy(_) => "",
     };
     let line = format!(in rt.alloc(); "{name} is there already, the same{more}")?;
-    print_line(rt, given.file, line.as_str())
+    print_line(rt, given, line.as_str())
 }
 
 // Says what would become of a file.
@@ -275,5 +309,5 @@ fn print_next(
     let line = format!(in rt.alloc();
         "{name}{replaced}: it would be entry {entry} ({origin} {number})"
     )?;
-    print_line(rt, given.file, line.as_str())
+    print_line(rt, given, line.as_str())
 }

@@ -17,7 +17,7 @@ pub(crate) fn print_matches(
     given: &Given<'_>,
 ) -> Result<(), Fault> {
     match given.document {
-        Document::Commitment(commitment) => print_matched(rt, state, given.file, commitment),
+        Document::Commitment(commitment) => print_matched(rt, state, given, commitment),
         Document::Policy(_) | Document::Purchase(_) => Ok(()),
     }
 }
@@ -26,17 +26,17 @@ pub(crate) fn print_matches(
 fn print_matched(
     rt: &HostRuntime,
     state: &State,
-    file: &str,
+    given: &Given<'_>,
     commitment: &Commitment,
 ) -> Result<(), Fault> {
     let lines = lines_on(rt.alloc(), state, commitment)?;
-    print_lines(rt, file, &lines)
+    print_lines(rt, given, &lines)
 }
 
 // Prints lines about a file.
-fn print_lines(rt: &HostRuntime, file: &str, lines: &[String]) -> Result<(), Fault> {
+fn print_lines(rt: &HostRuntime, given: &Given<'_>, lines: &[String]) -> Result<(), Fault> {
     for line in lines {
-        print_line(rt, file, line.as_str())?;
+        print_line(rt, given, line.as_str())?;
     }
     Ok(())
 }

@@ -17,6 +17,8 @@ pub(crate) struct Given<'a> {
     pub(crate) document: &'a Document,
     /// The name of the document.
     pub(crate) name: &'a str,
+    /// Whether what becomes of it isn't said in words.
+    pub(crate) is_silent: bool,
 }
 
 /// The name of a document: what it is, and the id of a commitment, the key of a policy or the id of the commitment that a

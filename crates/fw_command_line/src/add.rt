@@ -1,6 +1,8 @@
 //! `focusd add`: commitments, policies and purchases are taken from TOML files into a warehouse.
 use crate::ids::ORIGIN;
-use crate::options::{command_with, dry_run_option, files_argument, folder_option, yes_option};
+use crate::options::{
+    command_with, dry_run_option, files_argument, folder_option, summary_option, yes_option,
+};
 use clap::{Arg, Command};
 use std::alloc::{AllocError, Global};
 
@@ -30,6 +32,8 @@ Example: a commitment of two hours of use each hour, bought for September
   prints
     cd-1.toml: commitment cd-1: entry 5 (billing 3)
 
+For programs, --summary json prints one line in place of the words: {\"command\":\"add\",\"ok\":true,\"added\":1,\"same\":0}.
+
 Exit status: 0 where each file was added or was there already, 1 where a file or the warehouse was refused or failed, 2 where the
 command line is wrong.";
 
@@ -55,6 +59,7 @@ fn options<'a>(alloc: Global) -> Result<Vec<Arg<'a>>, AllocError> {
             alloc,
             "Lets a policy take the place of another key's, and adds an equal purchase again",
         ),
+        summary_option(alloc),
         files_argument(
             alloc,
             "A TOML with a commitment, a policy or a purchase, or `-` for standard input",

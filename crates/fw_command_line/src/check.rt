@@ -1,7 +1,7 @@
 //! `focusd check`: all faults of CSV exports, and what is in them.
 use crate::exports::exports_argument;
 use crate::ids::CURRENCY;
-use crate::options::{command_with, format_option, quiet_option};
+use crate::options::{command_with, format_option, quiet_option, summary_option};
 use clap::{Arg, Command};
 use std::alloc::{AllocError, Global};
 
@@ -18,6 +18,9 @@ passed over.
 
 No warehouse is read. So it doesn't say what `focusd import` warns of or refuses: rows of hours and sub-accounts that another
 origin has too, posts behind those of the files, rows that won't fit, and ids of commitments of the warehouse.
+
+`--format json` prints all of that, one line for each file. `--summary json` prints one line for all files in its place, with counts
+alone: {\"command\":\"check\",\"ok\":false,\"files\":2,\"records\":5,\"badRecords\":1,\"faults\":1}.
 
 Example:
   focusd check january.csv
@@ -43,6 +46,7 @@ fn options<'a>(alloc: Global) -> Result<Vec<Arg<'a>>, AllocError> {
             "How the answer is written",
         ),
         cost_currency(alloc),
+        summary_option(alloc),
         quiet_option(alloc),
         exports_argument(alloc),
     ]?)

@@ -2,7 +2,9 @@
 use crate::exports::exports_argument;
 use crate::ids::ORIGIN;
 use crate::keeps::keep_option;
-use crate::options::{command_with, create_option, currency_option, folder_option, quiet_option};
+use crate::options::{
+    command_with, create_option, currency_option, folder_option, quiet_option, summary_option,
+};
 use clap::{Arg, Command};
 use std::alloc::{AllocError, Global};
 
@@ -25,6 +27,9 @@ run an import again with the same `--keep` options, else it says that the rows d
 Where the rows won't fit into the warehouse, that is said, and nothing is imported. Two warnings change no status. One names an
 hour and a sub-account of the new rows of which another origin has rows too: the same export may have been imported before. One
 says how many posts that count the origin has behind those of the files: an export may have shrunk, or a file is missing.
+
+For programs, `--summary json` prints one line in place of the words: {\"command\":\"import\",\"ok\":true,\"rowsAdded\":3,\"rowsThere\":0,
+\"posts\":1,\"repeatedHeaders\":0}. It is printed also where the import stopped: what is counted then is in the warehouse.
 
 Progress is printed to standard error where that is a terminal: the rows, the megabytes, and of files also the share that was
 read and the time that is left.
@@ -59,6 +64,7 @@ fn options<'a>(alloc: Global) -> Result<Vec<Arg<'a>>, AllocError> {
         currency_option(alloc),
         origin_option(alloc),
         keep_option(alloc),
+        summary_option(alloc),
         quiet_option(alloc),
         exports_argument(alloc),
     ]?)

@@ -3,8 +3,8 @@ ghost use Rattle.std.specs.Prelude.{◌≡◌, Some, false, true, option_map, co
 ghost use Rattle.clap.specs.declared.builder.action.ArgAction.TheVariants.{SetTrue};
 
 use crate::ids::{
-    BY, CREATE, CURRENCY, DIR, DRY_RUN, FILES, FORMAT, FROM, ORIGIN, QUIET, STRICT, TAG, TO, TOP,
-    YES,
+    BY, CREATE, CURRENCY, DIR, DRY_RUN, FILES, FORMAT, FROM, ORIGIN, QUIET, STRICT, SUMMARY, TAG,
+    TO, TOP, YES,
 };
 use clap::{Arg, ArgAction, Command};
 use std::alloc::{AllocError, Global};
@@ -120,6 +120,21 @@ pub(crate) fn quiet_option<'a>(alloc: Global) -> Arg<'a>
         .long("quiet")
         .action(ArgAction::SetTrue)
         .help("Prints no progress")
+}
+
+/// How a command says what it did.
+const SUMMARIES: [&str; 2] = ["text", "json"];
+
+/// The option that has a command say what it did for programs.
+pub(crate) fn summary_option<'a>(alloc: Global) -> Arg<'a>
+    ensures name { option_map (λ name. name.now) result.long ≡ Some (codes "summary") }
+{
+    Arg::new(alloc, SUMMARY)
+        .long("summary")
+        .value_name("HOW")
+        .default_value("text")
+        .value_parser(SUMMARIES.as_slice())
+        .help("How it says what it did: in words, or as one line of JSON for programs")
 }
 
 /// The option that has a refused entry end the program with a status of its own.

@@ -2,7 +2,7 @@
 use crate::exports::exports_argument;
 use crate::options::{
     command_with, dry_run_option, folder_option, perhaps_from_option, perhaps_to_option,
-    poster_option, quiet_option,
+    poster_option, quiet_option, summary_option,
 };
 use clap::{Arg, Command};
 use std::alloc::{AllocError, Global};
@@ -28,6 +28,9 @@ Example: an origin for each month, and one for all of them
   prints
     10,803 rows replaced by 10,803; billed -73.80; effective -1.12
 
+For programs, --summary json prints one line in place of the words: {\"command\":\"replace\",\"ok\":true,\"rowsBefore\":10803,
+\"rowsAfter\":10803}.
+
 Exit status: 0 where the rows of the files are what counts, 1 where a file or the warehouse was refused or failed, 2 where the
 command line is wrong.";
 
@@ -39,6 +42,7 @@ fn options<'a>(alloc: Global) -> Result<Vec<Arg<'a>>, AllocError> {
         perhaps_from_option(alloc),
         perhaps_to_option(alloc),
         dry_run_option(alloc, "Writes nothing: says what would change"),
+        summary_option(alloc),
         quiet_option(alloc),
         exports_argument(alloc),
     ]?)

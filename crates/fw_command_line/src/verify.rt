@@ -3,7 +3,7 @@ ghost use Rattle.std.specs.Prelude.{◌≡◌, Some};
 ghost use Rattle.clap.specs.declared.builder.action.ArgAction.TheVariants.{SetTrue};
 
 use crate::ids::{DIGEST, EXPECT};
-use crate::options::{command_with, folder_option};
+use crate::options::{command_with, folder_option, summary_option};
 use clap::{Arg, ArgAction, Command};
 use std::alloc::{AllocError, Global};
 
@@ -16,6 +16,9 @@ A sound file isn't always the one that was written: where a byte of an amount wa
 and keeps all rules. --digest finds that. It prints the SHA-256 of the currency and of all entries in order, as
 64 hex digits: the same before and after a checkpoint, in a copy of the folder, and in the warehouse that a dump makes.
 Each entry that is added changes it. --expect compares: where the digest is another one, both are named, with status 1.
+
+For programs, --summary json prints one line in place of that: {\"command\":\"verify\",\"ok\":true,\"entries\":12}, with
+\"digest\" where one is printed or compared.
 
 Examples:
   focusd verify --dir costs
@@ -52,6 +55,7 @@ pub(crate) fn command<'a>(alloc: Global) -> Result<Command<'a>, AllocError> {
             folder_option(alloc),
             digest_option(alloc),
             expect_option(alloc),
+            summary_option(alloc),
         ]?,
     )
 }

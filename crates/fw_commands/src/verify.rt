@@ -4,10 +4,12 @@ ghost use Rattle.std.specs.Process.{exit_status};
 ghost use Rattle.fw_console.specs.Statuses.{wrong_use_status};
 ghost use Rattle.fw_digest.specs.Digests.{digest_of};
 
-use crate::ask::ask;
 use clap::ArgMatches;
 use fw_command_line::{DIGEST, DIR, EXPECT};
-use fw_console::{Fault, WRONG_USE, advised, let_go, open_to_ask, print_answer, warn_unfinished};
+use fw_console::{
+    Fault, Member, WRONG_USE, advised, let_go, open_to_ask, print_answer, stopped, tell,
+    tells_json, warn_unfinished,
+};
 use fw_digest::{digest, digest_text, read_digest};
 use fw_disk::FileVolume;
 use fw_recover::Store;
@@ -15,65 +17,121 @@ use fw_table::shown_text;
 use fw_views::{Question, answer};
 use std::process::ExitCode;
 
+/// What is asked of a warehouse.
+#[derive(Clone, Copy, Drop)]
+struct Job<'a> {
+    folder: &'a str,
+    /// The digest that it should have, where one is named.
+    expected: Option<[u8; 32]>,
+    /// Whether the digest is printed.
+    is_digest: bool,
+    /// Whether what is found is told as one line of JSON.
+    is_json: bool,
+}
+
 /// Reads the warehouse, and prints what was found, or its digest. Where a digest is expected and it has another one, that is
-/// said, with status 1.
+/// said, with status 1. What was found may be told as one line of JSON, too.
 pub fn verify_folder(rt: &HostRuntime, options: &ArgMatches<'_>) -> ExitCode {
-    let is_digest = options.get_flag(DIGEST);
-    let folder = options.get_str(DIR).unwrap_or("");
-    match options.get_str(EXPECT) {
+    let expected = match options.get_str(EXPECT) {
         Some(text) => match read_digest(text) {
-            Some(expected) => {
-                advised(
-                    rt,
-                    folder,
-                    verify_digest(rt, folder, Some(expected), is_digest),
-                )
-            }
-            None => wrong_digest(rt, text),
+            Some(digest) => Some(digest),
+            None => return wrong_digest(rt, text),
         },
-        None if is_digest => advised(rt, folder, verify_digest(rt, folder, None, is_digest)),
-        None => ask(rt, options, &Question::Verify),
+        None => None,
+    };
+    let job = Job {
+        folder: options.get_str(DIR).unwrap_or(""),
+        expected,
+        is_digest: options.get_flag(DIGEST),
+        is_json: tells_json(options),
+    };
+    verify(rt, &job)
+}
+
+// Verifies the warehouse of a folder. Where it can't be opened, JSON says that no more is known.
+fn verify(rt: &HostRuntime, job: &Job<'_>) -> ExitCode {
+    let done = verify_in(rt, job);
+    let status = advised(rt, job.folder, done);
+    match done {
+        Err(_) if job.is_json => match tell(rt, "verify", &[], status) {
+            Ok(status) => status,
+            Err(fault) => stopped(rt, &fault),
+        },
+        _ => status,
     }
 }
 
-// Reads the warehouse of a folder, and compares its digest with the one that is expected.
-fn verify_digest(
-    rt: &HostRuntime,
-    folder: &str,
-    expected: Option<[u8; 32]>,
-    is_digest: bool,
-) -> Result<ExitCode, Fault> {
-    let store = open_to_ask(rt, folder)?;
-    let done = verify_store(rt, folder, &store, expected, is_digest);
+// Opens the warehouse of a folder, and says what was found.
+fn verify_in(rt: &HostRuntime, job: &Job<'_>) -> Result<ExitCode, Fault> {
+    let store = open_to_ask(rt, job.folder)?;
+    let done = verify_store(rt, &store, job);
     let_go(store, done)
 }
 
-// Compares the digest of a warehouse with the one that is expected. Prints what was found, or the digest, or that it is another one.
+// Says what was found of a warehouse: compares its digest with the one that is expected, and says where it is another one.
 fn verify_store(
     rt: &HostRuntime,
-    folder: &str,
     store: &Store<FileVolume>,
-    expected: Option<[u8; 32]>,
-    is_digest: bool,
+    job: &Job<'_>,
 ) -> Result<ExitCode, Fault>
-    ensures same { IfSome expected (λ it. it ≡ digest_of store.now.history
+    ensures same { IfSome job.now.expected (λ it. it ≡ digest_of store.now.history
         → IfOk result (λ status. exit_status status ≡ 0)) }
-    ensures other { IfSome expected (λ it. it ≢ digest_of store.now.history
+    ensures other { IfSome job.now.expected (λ it. it ≢ digest_of store.now.history
         → IfOk result (λ status. exit_status status ≡ 1)) }
-    ensures any { expected ≡ None → IfOk result (λ status. exit_status status ≡ 0) }
+    ensures any { job.now.expected ≡ None → IfOk result (λ status. exit_status status ≡ 0) }
 {
-    warn_unfinished(rt, folder)?;
+    warn_unfinished(rt, job.folder)?;
+    if job.expected.is_none() && !job.is_digest {
+        return print_sound(rt, store, job);
+    }
     let found = digest(rt.alloc(), store.state().state())?;
-    if let Some(expected) = expected {
+    if let Some(expected) = job.expected {
         if found.as_slice() != expected.as_slice() {
-            return differs(rt, folder, &found, &expected);
+            return differs(rt, store, job, &found, &expected);
         }
     }
-    if is_digest {
+    if job.is_json {
+        return tell_digest(rt, store, &found, ExitCode::SUCCESS);
+    }
+    if job.is_digest {
         return print_digest(rt, &found);
+    }
+    print_sound(rt, store, job)
+}
+
+// Says that the files are sound, and what the warehouse holds.
+fn print_sound(
+    rt: &HostRuntime,
+    store: &Store<FileVolume>,
+    job: &Job<'_>,
+) -> Result<ExitCode, Fault>
+    ensures { IfOk result (λ status. exit_status status ≡ 0) }
+{
+    if job.is_json {
+        let entries = entries_of(store);
+        return tell(rt, "verify", &[entries], ExitCode::SUCCESS);
     }
     let text = answer(rt.alloc(), store, &Question::Verify)?;
     print_answer(rt, text.as_slice())
+}
+
+// How many entries a warehouse has, as programs are told it.
+fn entries_of(store: &Store<FileVolume>) -> Member<'static> {
+    Member::count("entries", store.state().state().entries() as u64)
+}
+
+// Tells how many entries a warehouse has, and its digest.
+fn tell_digest(
+    rt: &HostRuntime,
+    store: &Store<FileVolume>,
+    found: &[u8; 32],
+    status: ExitCode,
+) -> Result<ExitCode, Fault>
+    ensures { IfOk result (λ told. told ≡ status) }
+{
+    let text = digest_text(rt.alloc(), found)?;
+    let members = [entries_of(store), Member::word("digest", text.as_str())];
+    tell(rt, "verify", &members, status)
 }
 
 // Prints a digest.
@@ -88,19 +146,23 @@ fn print_digest(rt: &HostRuntime, found: &[u8; 32]) -> Result<ExitCode, Fault>
 // Says that a warehouse has another digest than was expected.
 fn differs(
     rt: &HostRuntime,
-    folder: &str,
+    store: &Store<FileVolume>,
+    job: &Job<'_>,
     found: &[u8; 32],
     expected: &[u8; 32],
 ) -> Result<ExitCode, Fault>
     ensures { IfOk result (λ status. exit_status status ≡ 1) }
 {
-    let folder = shown_text(rt.alloc(), folder)?;
-    let found = digest_text(rt.alloc(), found)?;
+    let folder = shown_text(rt.alloc(), job.folder)?;
+    let text = digest_text(rt.alloc(), found)?;
     let expected = digest_text(rt.alloc(), expected)?;
-    let _ = eprintln!(rt; "focusd: {folder}: the digest is {found}, and {expected} was expected");
+    let _ = eprintln!(rt; "focusd: {folder}: the digest is {text}, and {expected} was expected");
     let _ = eprintln!(rt;
         "What to do: if no entry was added since that digest was printed, a file was changed: restore the folder from a backup"
     );
+    if job.is_json {
+        return tell_digest(rt, store, found, ExitCode::FAILURE);
+    }
     Ok(ExitCode::FAILURE)
 }
 

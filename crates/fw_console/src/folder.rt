@@ -8,7 +8,6 @@ use fw_recover::{Store, StoreFault};
 use fw_rows::Currency;
 use fw_serve::reopen;
 use std::alloc::Global;
-use std::process::ExitCode;
 use std::{fs, io};
 
 /// When a folder's warehouse is made.
@@ -111,7 +110,7 @@ pub(crate) fn created(
 }
 
 /// What was done with a warehouse, which is closed. Where a write or a sync of a file failed, that is the fault.
-pub fn closed(store: Store<FileVolume>, done: Result<ExitCode, Fault>) -> Result<ExitCode, Fault> {
+pub fn closed<T>(store: Store<FileVolume>, done: Result<T, Fault>) -> Result<T, Fault> {
     match done {
         Err(Fault::Store(fault)) => Err(store_fault(&store.close(), fault)),
         done => done,

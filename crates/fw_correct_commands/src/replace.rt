@@ -11,8 +11,8 @@ use fw_charge::hour_of;
 use fw_columns::Columns;
 use fw_command_line::{DIR, DRY_RUN, FILES, ORIGIN, QUIET};
 use fw_console::{
-    Fault, advised, begin_replacement, closed, end_replacement, open_to_ask, open_warehouse,
-    say_fault, unfinished_origin, wrong_origin,
+    Fault, Member, advised, begin_replacement, closed, end_replacement, open_to_ask,
+    open_warehouse, say_fault, tell, tells_json, unfinished_origin, wrong_origin,
 };
 use fw_disk::Volume;
 use fw_entry::{Entry, is_origin};
@@ -31,6 +31,25 @@ struct Job<'a> {
     range: Option<Hours>,
     is_dry: bool,
     is_quiet: bool,
+    /// Whether what was done isn't said in words.
+    is_silent: bool,
+}
+
+/// What a replacement did, or would do where nothing is to be written.
+#[derive(Clone, Copy, Drop)]
+struct Replaced {
+    rows_before: u64,
+    rows_after: u64,
+}
+
+impl Replaced {
+    // What programs are told of it.
+    fn members(self) -> [Member<'static>; 2] {
+        [
+            Member::count("rowsBefore", self.rows_before),
+            Member::count("rowsAfter", self.rows_after),
+        ]
+    }
 }
 
 /// What a replacement does.
@@ -62,13 +81,36 @@ pub fn replace_rows(rt: &HostRuntime, options: &ArgMatches<'_>) -> Result<ExitCo
         range,
         is_dry: options.get_flag(DRY_RUN),
         is_quiet: options.get_flag(QUIET),
+        is_silent: tells_json(options),
     };
     let done = replace_in(rt, &job, options.get_strs(FILES).unwrap_or(&[]));
-    Ok(advised(rt, folder, done))
+    end(rt, &job, done)
 }
 
-// Replaces rows of the warehouse of a folder.
-fn replace_in(rt: &HostRuntime, job: &Job<'_>, files: &[&str]) -> Result<ExitCode, Fault> {
+// The status of what was done, which programs are told where that is asked for.
+fn end(
+    rt: &HostRuntime,
+    job: &Job<'_>,
+    done: Result<Option<Replaced>, Fault>,
+) -> Result<ExitCode, Fault> {
+    let status = advised(rt, job.folder, done.map(status_of));
+    match done {
+        _ if !job.is_silent => Ok(status),
+        Ok(Some(replaced)) => tell(rt, "replace", &replaced.members(), status),
+        Ok(None) | Err(_) => tell(rt, "replace", &[], status),
+    }
+}
+
+// The status of what was done; nothing was, where something was refused.
+fn status_of(done: Option<Replaced>) -> ExitCode {
+    match done {
+        Some(_) => ExitCode::SUCCESS,
+        None => ExitCode::FAILURE,
+    }
+}
+
+// Replaces rows of the warehouse of a folder; `None` where something is refused, which is said.
+fn replace_in(rt: &HostRuntime, job: &Job<'_>, files: &[&str]) -> Result<Option<Replaced>, Fault> {
     let mut store = if job.is_dry {
         open_to_ask(rt, job.folder)?
     } else {
@@ -84,9 +126,9 @@ fn replace_by<V: Volume>(
     store: &mut Store<V>,
     job: &Job<'_>,
     files: &[&str],
-) -> Result<ExitCode, Fault> {
+) -> Result<Option<Replaced>, Fault> {
     if is_another_unfinished(rt, job)? {
-        return Ok(ExitCode::FAILURE);
+        return Ok(None);
     }
     let currency = store.state().state().currency();
     match read_files(rt, currency, job.is_quiet, files)? {
@@ -108,9 +150,9 @@ fn is_another_unfinished(rt: &HostRuntime, job: &Job<'_>) -> Result<bool, Fault>
 }
 
 // Says that a fault kept everything as it was.
-fn nothing_done(rt: &HostRuntime) -> ExitCode {
+fn nothing_done(rt: &HostRuntime) -> Option<Replaced> {
     let _ = eprintln!(rt; "focusd: nothing was replaced");
-    ExitCode::FAILURE
+    None
 }
 
 // Replaces rows of a warehouse by those of posts.
@@ -119,7 +161,7 @@ fn replace<V: Volume>(
     store: &mut Store<V>,
     job: &Job<'_>,
     parts: Vec<Columns>,
-) -> Result<ExitCode, Fault> {
+) -> Result<Option<Replaced>, Fault> {
     match planned(rt, store.state().state(), job, parts)? {
         Some(plan) => replace_as(rt, store, job, &plan),
         None => Ok(nothing_done(rt)),
@@ -132,26 +174,31 @@ fn replace_as<V: Volume>(
     store: &mut Store<V>,
     job: &Job<'_>,
     plan: &Plan,
-) -> Result<ExitCode, Fault> {
+) -> Result<Option<Replaced>, Fault> {
     match change_of(rt, store.state(), plan)? {
         Some(change) => carry_through(rt, store, job, plan, change.as_str()),
         None => Ok(nothing_done(rt)),
     }
 }
 
-// Carries out a plan, unless nothing is to be written, and prints what it changes.
+// Carries out a plan, unless nothing is to be written, and says what it changes.
 fn carry_through<V: Volume>(
     rt: &HostRuntime,
     store: &mut Store<V>,
     job: &Job<'_>,
     plan: &Plan,
     change: &str,
-) -> Result<ExitCode, Fault> {
+) -> Result<Option<Replaced>, Fault> {
     if !job.is_dry && !carry_out(rt, store, job, plan)? {
-        return Ok(ExitCode::FAILURE);
+        return Ok(None);
     }
-    print_line(rt, change)?;
-    Ok(ExitCode::SUCCESS)
+    if !job.is_silent {
+        print_line(rt, change)?;
+    }
+    Ok(Some(Replaced {
+        rows_before: plan.rows_before,
+        rows_after: plan.rows_after,
+    }))
 }
 
 // What a replacement changes, in words; `None` where an entry of it isn't accepted, which was said.

@@ -4,7 +4,9 @@ ghost use Rattle.std.specs.Prelude.{◌≡◌, ◌≤◌, IfOk, IsTrue};
 use clap::ArgMatches;
 use fw_check::{Checker, as_json, as_text};
 use fw_command_line::{FILES, FORMAT, QUIET};
-use fw_console::{Fault, print_answer, read_currency, say_fault, wrong_use};
+use fw_console::{
+    Fault, Member, print_answer, read_currency, say_fault, tell, tells_json, wrong_use,
+};
 use fw_cut::Part;
 use fw_export_files::{Taker, Walk, code_of, walk_files};
 use fw_rows::{Currency, RowFault};
@@ -16,8 +18,43 @@ use std::process::ExitCode;
 struct Check {
     currency: Currency,
     is_json: bool,
+    /// Whether nothing is printed of each export.
+    is_silent: bool,
+    found: Found,
     /// What was found in the export that is walked.
     checker: Checker,
+}
+
+/// What was found in the exports that were checked so far.
+#[derive(Clone, Copy, Default, Drop)]
+struct Found {
+    files: u64,
+    records: u64,
+    /// Of these, the ones with a fault.
+    bad_records: u64,
+    faults: u64,
+}
+
+impl Found {
+    // What was found in these exports and in one more.
+    fn and(self, checker: &Checker) -> Found {
+        Found {
+            files: self.files.saturating_add(1),
+            records: self.records.saturating_add(checker.records),
+            bad_records: self.bad_records.saturating_add(checker.bad_records),
+            faults: self.faults.saturating_add(checker.faults),
+        }
+    }
+
+    // What programs are told of it.
+    fn members(self) -> [Member<'static>; 4] {
+        [
+            Member::count("files", self.files),
+            Member::count("records", self.records),
+            Member::count("badRecords", self.bad_records),
+            Member::count("faults", self.faults),
+        ]
+    }
 }
 
 /// Checks the files that the options name.
@@ -30,14 +67,20 @@ pub fn check_files(rt: &HostRuntime, options: &ArgMatches<'_>) -> Result<ExitCod
     let mut check = Check {
         currency,
         is_json: options.get_str(FORMAT) == Some("json"),
+        is_silent: tells_json(options),
+        found: Found::default(),
         checker: Checker::new(rt.alloc(), currency),
     };
     let is_clean = walk_files(rt, files, &mut walk, &mut check)?;
-    Ok(if is_clean {
+    let status = if is_clean {
         ExitCode::SUCCESS
     } else {
         ExitCode::FAILURE
-    })
+    };
+    if check.is_silent {
+        return tell(rt, "check", &check.found.members(), status);
+    }
+    Ok(status)
 }
 
 impl Check {
@@ -55,7 +98,10 @@ impl Check {
         if is_whole {
             checker.end(rt.alloc())?;
         }
-        print_found(rt, name, checker, self.is_json)?;
+        self.found = self.found.and(checker);
+        if !self.is_silent {
+            print_found(rt, name, checker, self.is_json)?;
+        }
         Ok(is_whole && checker.faults == 0 && checker.records > 0)
     }
 }

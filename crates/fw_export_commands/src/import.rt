@@ -1,13 +1,14 @@
 //! `focusd import`: CSV exports of any length are taken into a warehouse.
 use crate::fitting::do_fit;
-use crate::importing::Import;
+use crate::importing::{Import, Imported};
 use crate::keeps::{keeper_of, read_keeps};
 use crate::messages::{warn_of_posts_behind, wrong_currency};
 use clap::ArgMatches;
 use clap::parser::ValueSource;
 use fw_command_line::{CREATE, CURRENCY, DIR, FILES, KEEP, ORIGIN, QUIET};
 use fw_console::{
-    Creates, Fault, advised, open_folder, print_answer, read_currency, wrong_origin, wrong_use,
+    Creates, Fault, advised, open_folder, print_answer, read_currency, tell, tells_json,
+    wrong_origin, wrong_use,
 };
 use fw_entry::is_origin;
 use fw_export_files::{Walk, walk_files};
@@ -29,11 +30,15 @@ pub fn import_files(rt: &HostRuntime, options: &ArgMatches<'_>) -> Result<ExitCo
         Err(why) => return Ok(wrong_use(rt, why.as_str())),
     };
     let folder = options.get_str(DIR).unwrap_or("");
-    let done = import_into(rt, folder, currency, origin, keeps, options);
-    Ok(advised(rt, folder, done))
+    let (imported, done) = import_into(rt, folder, currency, origin, keeps, options);
+    let status = advised(rt, folder, done);
+    if tells_json(options) {
+        return tell(rt, "import", &imported.members(), status);
+    }
+    Ok(status)
 }
 
-// Imports the files into the warehouse of a folder.
+// Imports the files into the warehouse of a folder. Also where that fails, what was imported before is counted.
 fn import_into(
     rt: &HostRuntime,
     folder: &str,
@@ -41,17 +46,21 @@ fn import_into(
     origin: &str,
     keeps: Vec<Keep>,
     options: &ArgMatches<'_>,
-) -> Result<ExitCode, Fault> {
+) -> (Imported, Result<ExitCode, Fault>) {
     let creates = if options.get_flag(CREATE) {
         Creates::IfMissing(currency)
     } else {
         Creates::Never
     };
-    let house = open_folder(rt, folder, creates)?;
-    let keeper = keeper_of(rt.alloc(), keeps);
-    let mut import = Import::new(rt.alloc(), house, origin, keeper);
-    let done = import_named(rt, &mut import, folder, currency, options);
-    import.close(done)
+    match open_folder(rt, folder, creates) {
+        Ok(house) => {
+            let keeper = keeper_of(rt.alloc(), keeps);
+            let mut import = Import::new(rt.alloc(), house, origin, keeper);
+            let done = import_named(rt, &mut import, folder, currency, options);
+            (import.imported(), import.close(done))
+        }
+        Err(fault) => (Imported::default(), Err(fault)),
+    }
 }
 
 // Imports the files, if the warehouse has the currency that was named.
@@ -66,8 +75,7 @@ fn import_named(
     if is_named(options) && own != currency {
         return wrong_currency(rt, folder, currency, own);
     }
-    let files = options.get_strs(FILES).unwrap_or(&[]);
-    import_all(rt, import, files, options.get_flag(QUIET))
+    import_all(rt, import, options)
 }
 
 // Whether the command line names a currency.
@@ -82,25 +90,24 @@ fn is_named(options: &ArgMatches<'_>) -> bool {
 fn import_all(
     rt: &HostRuntime,
     import: &mut Import<'_>,
-    files: &[&str],
-    is_quiet: bool,
+    options: &ArgMatches<'_>,
 ) -> Result<ExitCode, Fault> {
+    let files = options.get_strs(FILES).unwrap_or(&[]);
     if !do_fit(rt, import, files)? {
         return Ok(ExitCode::FAILURE);
     }
     import.watch_others(rt.alloc())?;
-    let mut walk = Walk::new(rt, is_quiet, files);
-    if walk_files(rt, files, &mut walk, import)? {
-        print_imported(rt, import, walk.repeated)
-    } else {
-        Ok(ExitCode::FAILURE)
+    let mut walk = Walk::new(rt, options.get_flag(QUIET), files);
+    let is_whole = walk_files(rt, files, &mut walk, import);
+    import.repeated = walk.repeated;
+    if !is_whole? {
+        return Ok(ExitCode::FAILURE);
     }
-}
-
-// Says what was imported, and warns where the origin has posts that count behind those of the files.
-fn print_imported(rt: &HostRuntime, import: &Import<'_>, repeated: u64) -> Result<ExitCode, Fault> {
     look_behind(rt, import)?;
-    let answer = imported_text(rt.alloc(), import, repeated)?;
+    if tells_json(options) {
+        return Ok(ExitCode::SUCCESS);
+    }
+    let answer = imported_text(rt.alloc(), import.imported())?;
     print_answer(rt, answer.as_bytes())
 }
 
@@ -123,10 +130,13 @@ fn look_behind(rt: &HostRuntime, import: &Import<'_>) -> Result<(), AllocError> 
 }
 
 // What was imported, and how many repeated headers were skipped, where there are any.
-fn imported_text(alloc: Global, import: &Import<'_>, repeated: u64) -> Result<String, AllocError> {
-    let added = import.added;
-    let same = import.same;
-    let posts = import.number.saturating_sub(1);
+fn imported_text(alloc: Global, imported: Imported) -> Result<String, AllocError> {
+    let Imported {
+        added,
+        same,
+        posts,
+        repeated,
+    } = imported;
     let rows = if added == 1 { "row" } else { "rows" };
     let were = if same == 1 { "was" } else { "were" };
     let entries = if posts == 1 { "post" } else { "posts" };

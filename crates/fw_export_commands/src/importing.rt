@@ -3,7 +3,7 @@ use crate::kept_columns::{header_fault, say_header};
 use crate::messages::{explain, warn_of_shared};
 use crate::others::Others;
 use fw_columns::Columns;
-use fw_console::{Fault, House};
+use fw_console::{Fault, House, Member};
 use fw_cut::Part;
 use fw_export_files::{Taker, Walk};
 use fw_import::{
@@ -15,6 +15,31 @@ use fw_rows::{Keeper, RowFault};
 use std::alloc::{AllocError, Global};
 use std::process::ExitCode;
 
+/// What an import did so far.
+#[derive(Clone, Copy, Default, Drop)]
+pub(crate) struct Imported {
+    /// Rows that were added.
+    pub(crate) added: u64,
+    /// Rows that were there already.
+    pub(crate) same: u64,
+    /// The posts that these rows are in.
+    pub(crate) posts: u64,
+    /// How many times a header stood again, which was skipped.
+    pub(crate) repeated: u64,
+}
+
+impl Imported {
+    /// What programs are told of it.
+    pub(crate) fn members(self) -> [Member<'static>; 4] {
+        [
+            Member::count("rowsAdded", self.added),
+            Member::count("rowsThere", self.same),
+            Member::count("posts", self.posts),
+            Member::count("repeatedHeaders", self.repeated),
+        ]
+    }
+}
+
 /// An import into a warehouse, and where it stands.
 pub(crate) struct Import<'a> {
     pub(crate) house: House,
@@ -25,6 +50,8 @@ pub(crate) struct Import<'a> {
     pub(crate) added: u64,
     /// Rows that were there already.
     pub(crate) same: u64,
+    /// How many times a header stood again in the files, once they were walked.
+    pub(crate) repeated: u64,
     // what is kept of the origin from one part to the next
     importer: Importer<'a>,
     // the columns that are kept as tags, if any are
@@ -47,9 +74,20 @@ impl<'a> Import<'a> {
             number: 1,
             added: 0,
             same: 0,
+            repeated: 0,
             importer: Importer::new(alloc, origin),
             keeper,
             others: None,
+        }
+    }
+
+    /// What was done so far.
+    pub(crate) fn imported(&self) -> Imported {
+        Imported {
+            added: self.added,
+            same: self.same,
+            posts: self.number.saturating_sub(1),
+            repeated: self.repeated,
         }
     }
 
@@ -61,6 +99,7 @@ impl<'a> Import<'a> {
             number: _number,
             added: _added,
             same: _same,
+            repeated: _repeated,
             importer: _importer,
             keeper: _keeper,
             others: _others,
