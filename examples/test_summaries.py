@@ -116,8 +116,9 @@ class Summaries(unittest.TestCase):
         told, said = self.told(1, *words, "--expect", "0" * 64)
         self.assertEqual(told, {"entries": 2, "digest": digest})
         self.assertIn(f"the digest is {digest}", said)
-        left = self.top / "house" / "left"
-        left.write_bytes(left.read_bytes()[:-1] + b"\xff\xff")
+        for side in ("left", "right"):
+            file = self.top / "house" / side
+            file.write_bytes(file.read_bytes()[:1] + b"X" + file.read_bytes()[2:])
         told, said = self.told(1, *words)
         self.assertEqual(told, {})
         self.assertIn("S2 Corrupt", said)

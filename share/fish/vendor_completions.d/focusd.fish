@@ -43,6 +43,7 @@ complete -c focusd -n '__focusd_runs import' -l create -d 'Creates a warehouse w
 complete -c focusd -n '__focusd_runs import' -l currency -x -d 'The currency of all costs, where a warehouse is created: three capital letters'
 complete -c focusd -n '__focusd_runs import' -l origin -x -d 'Who sends the rows'
 complete -c focusd -n '__focusd_runs import' -l keep -x -d 'Keeps the texts of a column as a tag of the rows, which has the name of the column or is TAG'
+complete -c focusd -n '__focusd_runs import' -l summary -x -a 'text json' -d 'How it says what it did: in words, or as one line of JSON for programs'
 complete -c focusd -n '__focusd_runs import' -l quiet -d 'Prints no progress'
 complete -c focusd -n '__focusd_runs import' -l help -d 'Print help'
 complete -c focusd -n '__focusd_runs import' -F
@@ -58,6 +59,7 @@ complete -c focusd -n '__focusd_runs add' -l dir -x -a '(__fish_complete_directo
 complete -c focusd -n '__focusd_runs add' -l origin -x -d 'Who sends the files'
 complete -c focusd -n '__focusd_runs add' -l dry-run -d 'Writes nothing: says what each file is, and which rows it would apply to'
 complete -c focusd -n '__focusd_runs add' -l yes -d 'Lets a policy take the place of another key\'s, and adds an equal purchase again'
+complete -c focusd -n '__focusd_runs add' -l summary -x -a 'text json' -d 'How it says what it did: in words, or as one line of JSON for programs'
 complete -c focusd -n '__focusd_runs add' -l help -d 'Print help'
 complete -c focusd -n '__focusd_runs add' -F
 complete -c focusd -n '__focusd_runs replace' -l dir -x -a '(__fish_complete_directories)' -d 'The folder of the warehouse'
@@ -65,6 +67,7 @@ complete -c focusd -n '__focusd_runs replace' -l origin -x -d 'Who sent the post
 complete -c focusd -n '__focusd_runs replace' -l from -x -d 'When the range begins'
 complete -c focusd -n '__focusd_runs replace' -l to -x -d 'When the range ends; the hour that begins then is not in it'
 complete -c focusd -n '__focusd_runs replace' -l dry-run -d 'Writes nothing: says what would change'
+complete -c focusd -n '__focusd_runs replace' -l summary -x -a 'text json' -d 'How it says what it did: in words, or as one line of JSON for programs'
 complete -c focusd -n '__focusd_runs replace' -l quiet -d 'Prints no progress'
 complete -c focusd -n '__focusd_runs replace' -l help -d 'Print help'
 complete -c focusd -n '__focusd_runs replace' -F
@@ -79,6 +82,7 @@ complete -c focusd -n '__focusd_runs withdraw' -l yes -d 'Withdraws without aski
 complete -c focusd -n '__focusd_runs withdraw' -l help -d 'Print help'
 complete -c focusd -n '__focusd_runs check' -l format -x -a 'text json' -d 'How the answer is written'
 complete -c focusd -n '__focusd_runs check' -l currency -x -d 'The currency that all costs must have: three capital letters'
+complete -c focusd -n '__focusd_runs check' -l summary -x -a 'text json' -d 'How it says what it did: in words, or as one line of JSON for programs'
 complete -c focusd -n '__focusd_runs check' -l quiet -d 'Prints no progress'
 complete -c focusd -n '__focusd_runs check' -l help -d 'Print help'
 complete -c focusd -n '__focusd_runs check' -F
@@ -158,6 +162,7 @@ complete -c focusd -n '__focusd_runs status' -l help -d 'Print help'
 complete -c focusd -n '__focusd_runs verify' -l dir -x -a '(__fish_complete_directories)' -d 'The folder of the warehouse'
 complete -c focusd -n '__focusd_runs verify' -l digest -d 'Prints the digest of all entries, and nothing else'
 complete -c focusd -n '__focusd_runs verify' -l expect -x -d 'Compares the digest with this one, of 64 hex digits'
+complete -c focusd -n '__focusd_runs verify' -l summary -x -a 'text json' -d 'How it says what it did: in words, or as one line of JSON for programs'
 complete -c focusd -n '__focusd_runs verify' -l help -d 'Print help'
 complete -c focusd -n '__focusd_runs checkpoint' -l dir -x -a '(__fish_complete_directories)' -d 'The folder of the warehouse'
 complete -c focusd -n '__focusd_runs checkpoint' -l help -d 'Print help'
