@@ -1,5 +1,5 @@
 -- The value of a key on a line.
-use Rattle.std.specs.Prelude.{◌==◌, ℕ, Bool, List, length, map, Option, Some, None, String, string_bytes, if◌then◌else◌}
+use Rattle.std.specs.Prelude.{◌==◌, ℕ, Bool, List, codes, length, map, Option, Some, None, String, string_bytes, if◌then◌else◌}
 use Rattle.std.specs.Borrow.{Bor}
 use Rattle.std.specs.BTreeMap.{BTreeMap, get_by_text}
 use Rattle.std.specs.Char.{to_ascii_lowercase}
@@ -15,6 +15,14 @@ use Rattle.fw_select.specs.declared.key.Key.{Key}
 use Rattle.fw_select.specs.declared.key.Source.{Source}
 use Rattle.fw_select.specs.declared.key.Source.TheVariants as source
 use Rattle.fw_select.specs.declared.key.ValueMap.{ValueMap}
+
+-- the name of a column
+abbrev pub column_name : Column → List ℕ
+column_name column.SkuId = codes "SkuId"
+column_name column.SubAccountId = codes "SubAccountId"
+column_name column.ChargeCategory = codes "ChargeCategory"
+column_name column.CommitmentDiscountId = codes "CommitmentDiscountId"
+column_name column.CommitmentDiscountStatus = codes "CommitmentDiscountStatus"
 
 -- the text of a column on a line: empty where it is null
 abbrev pub column_text : Column → LineValue → List ℕ

@@ -1,7 +1,8 @@
 //! What a line is grouped or filtered by.
-ghost use Rattle.std.specs.Prelude.{◌≡◌, OnOk, option_copied, string_bytes};
+ghost use Rattle.std.specs.Prelude.{◌≡◌, IfSome, None, OnOk, option_copied, string_bytes};
 ghost use Rattle.fw_query.specs.Texts.{or_empty};
-ghost use Rattle.fw_select.specs.Keys.{column_text, folded, mapped_text, renamed, source_text, value};
+ghost use Rattle.fw_select.specs.Keys.{column_name, column_text, folded, mapped_text, renamed, source_text, value};
+ghost use Rattle.fw_select.specs.declared.key.Column.{Column};
 
 use fw_amortise::Line;
 use fw_query::{id_of, status_of};
@@ -25,7 +26,10 @@ pub enum Column {
 
 impl Column {
     /// The column with a name, where it is one that lines keep.
-    pub fn named(name: &str) -> Option<Column> {
+    pub fn named(name: &str) -> Option<Column>
+        ensures there { IfSome result (λ column. column_name column ≡ name.now) }
+        ensures none { result ≡ None → (column : Column) → ¬ (column_name column ≡ name.now) }
+    {
         match name {
             "SkuId" => Some(Column::SkuId),
             "SubAccountId" => Some(Column::SubAccountId),
@@ -37,7 +41,9 @@ impl Column {
     }
 
     /// The name of the column.
-    pub fn name(self) -> &'static str {
+    pub fn name(self) -> &'static str
+        ensures { result.now ≡ column_name self }
+    {
         match self {
             Column::SkuId => "SkuId",
             Column::SubAccountId => "SubAccountId",

@@ -1,4 +1,8 @@
 //! Maps as a person keeps them in a TOML file.
+ghost use Rattle.std.specs.Prelude.{◌≡◌, ◌↔◌, ℕ, IfSome, IsTrue, None, Some, slice_get};
+ghost use Rattle.fw_selections.specs.Sources.{AreOne, IsMapOf, IsNamed, IsOfAnother};
+ghost use Rattle.fw_selections.specs.declared.map_file.NamedMap.{NamedMap};
+
 use fw_select::{Column, Source, ValueMap};
 use fw_toml::{Table, TableFault, has_only, member, named_texts, table_of, tables};
 use std::alloc::{AllocError, Global};
@@ -72,7 +76,9 @@ impl From<AllocError> for MapFault {
 }
 
 /// The source that a name stands for: a column where it is the name of one, else a tag. `tag:NAME` is always the tag NAME.
-pub fn source_named(name: &str) -> Source<'_> {
+pub fn source_named(name: &str) -> Source<'_>
+    ensures { IsNamed name.now result }
+{
     match name.strip_prefix("tag:") {
         Some(tag) => Source::Tag(tag),
         None => match Column::named(name) {
@@ -83,7 +89,9 @@ pub fn source_named(name: &str) -> Source<'_> {
 }
 
 /// Whether two sources are one.
-pub fn is_same_source(one: Source<'_>, other: Source<'_>) -> bool {
+pub fn is_same_source(one: Source<'_>, other: Source<'_>) -> bool
+    ensures { IsTrue result ↔ AreOne one.entry other.entry }
+{
     match (one, other) {
         (Source::Tag(one), Source::Tag(other)) => one == other,
         (Source::Column(one), Source::Column(other)) => one == other,
@@ -92,7 +100,11 @@ pub fn is_same_source(one: Source<'_>, other: Source<'_>) -> bool {
 }
 
 /// The map of a source among some, where it has one.
-pub fn map_of<'m>(maps: &'m [NamedMap], source: Source<'_>) -> Option<&'m ValueMap> {
+pub fn map_of<'m>(maps: &'m [NamedMap], source: Source<'_>) -> Option<&'m ValueMap>
+    ensures there { IfSome result (λ map. IsMapOf maps.now source.entry map.now) }
+    ensures none { result ≡ None → (place : ℕ) (named : NamedMap)
+        → slice_get maps.now place ≡ Some named → IsOfAnother named source.entry }
+{
     for named in maps {
         if is_same_source(source_named(named.key.as_str()), source) {
             return Some(&named.map);

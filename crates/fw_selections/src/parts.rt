@@ -1,6 +1,7 @@
 //! The selections of the periods of a range.
 ghost use Rattle.std.specs.Prelude.{◌<◌, IfOk};
 ghost use Rattle.fw_select.specs.Selections.{IsSelection};
+ghost use Rattle.fw_selections.specs.Parts.{AreParts, ArePartsBy};
 
 use fw_calendar::{Period, Step, periods};
 use fw_query::QueryFault;
@@ -55,6 +56,8 @@ pub fn selections_of(
 ) -> Result<Selections, QueryFault>
     ensures whole { IfOk result (λ selections.
         IsSelection snapshot.now.entries selector.now hours.from hours.to selections.whole) }
+    ensures parts { IfOk result (λ selections. ArePartsBy snapshot.now.entries selector.now
+        hours.from hours.to step selections.parts.items) }
 {
     let whole = selected(alloc, snapshot, selector, hours.from, hours.to)?;
     let parts = match step {
@@ -73,6 +76,8 @@ fn parts_of(
     step: Step,
 ) -> Result<Vec<SelectedPart>, QueryFault>
     requires { hours.from < hours.to }
+    ensures { IfOk result (λ parts.
+        AreParts snapshot.now.entries selector.now hours.from hours.to step parts.items) }
 {
     let periods = periods(alloc, step, hours.from, hours.to)?;
     let mut parts = Vec::new(alloc);

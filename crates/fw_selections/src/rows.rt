@@ -1,4 +1,7 @@
 //! What is shown of a selection: a row for each group, or for the largest and one for all others.
+ghost use Rattle.std.specs.Prelude.{◌≡◌, IfOk, false, map, true};
+ghost use Rattle.fw_selections.specs.Shown.{AreLargest, AreRows, IsRanking, cost_of, costs_of, is_chosen, with};
+
 use fw_select::{Group, Selection};
 use std::alloc::{AllocError, Global};
 use std::cmp::Reverse;
@@ -26,7 +29,9 @@ impl Costs {
     };
 
     /// The costs of a group.
-    pub(crate) fn of(group: &Group) -> Costs {
+    pub(crate) fn of(group: &Group) -> Costs
+        ensures { result ≡ cost_of group.now }
+    {
         Costs {
             billed: group.billed(),
             effective: group.effective(),
@@ -34,7 +39,9 @@ impl Costs {
     }
 
     // These costs and those of a group. The one error is that a sum passes 128 bits.
-    fn with(self, group: &Group) -> Result<Costs, AllocError> {
+    fn with(self, group: &Group) -> Result<Costs, AllocError>
+        ensures { IfOk result (λ sum. sum ≡ with self (cost_of group.now)) }
+    {
         let billed = self.billed.checked_add(group.billed());
         let effective = self.effective.checked_add(group.effective());
         match (billed, effective) {
@@ -45,7 +52,9 @@ impl Costs {
 }
 
 /// The costs of all groups of a selection.
-pub(crate) fn all_costs(selection: &Selection) -> Result<Costs, AllocError> {
+pub(crate) fn all_costs(selection: &Selection) -> Result<Costs, AllocError>
+    ensures { IfOk result (λ costs. costs ≡ costs_of selection.now) }
+{
     let mut costs = Costs::NONE;
     for group in selection.groups() {
         costs = costs.with(group)?;
@@ -58,15 +67,27 @@ pub(crate) fn largest<'g>(
     alloc: Global,
     selection: &'g Selection,
     count: usize,
-) -> Result<Vec<&'g Group>, AllocError> {
-    let mut ranked = lent(alloc, selection.groups())?;
-    ranked.sort_by_key(|group| Reverse(group.effective()))?;
+) -> Result<Vec<&'g Group>, AllocError>
+    ensures { IfOk result (λ largest. AreLargest count selection.now largest.items) }
+{
+    let mut ranked = ranked(alloc, selection.groups())?;
     ranked.truncate(count);
     Ok(ranked)
 }
 
+// The groups, the largest first.
+fn ranked<'g>(alloc: Global, groups: &'g [Group]) -> Result<Vec<&'g Group>, AllocError>
+    ensures { IfOk result (λ ranked. IsRanking groups.now ranked.items) }
+{
+    let mut ranked = lent(alloc, groups)?;
+    ranked.sort_by_key(|group| Reverse(group.effective()))?;
+    Ok(ranked)
+}
+
 // The groups, in their order.
-fn lent<'g>(alloc: Global, groups: &'g [Group]) -> Result<Vec<&'g Group>, AllocError> {
+fn lent<'g>(alloc: Global, groups: &'g [Group]) -> Result<Vec<&'g Group>, AllocError>
+    ensures { IfOk result (λ lent. map (λ g. g.now) lent.items ≡ groups.now) }
+{
     let mut lent = Vec::new(alloc);
     for group in groups {
         lent.push(group)?;
@@ -83,7 +104,9 @@ pub(crate) struct Shown<'c> {
 
 impl<'c> Shown<'c> {
     /// All of them.
-    pub(crate) fn all() -> Shown<'c> {
+    pub(crate) fn all() -> Shown<'c>
+        ensures { result.are_all ≡ true }
+    {
         Shown {
             are_all: true,
             groups: &[],
@@ -91,7 +114,10 @@ impl<'c> Shown<'c> {
     }
 
     /// Those with the texts of these.
-    pub(crate) fn of(groups: &'c [&'c Group]) -> Shown<'c> {
+    pub(crate) fn of(groups: &'c [&'c Group]) -> Shown<'c>
+        ensures all { result.are_all ≡ false }
+        ensures groups { result.groups.now ≡ groups.now }
+    {
         Shown {
             are_all: false,
             groups,
@@ -99,12 +125,18 @@ impl<'c> Shown<'c> {
     }
 
     // Whether a group is one of them.
-    fn has(self, group: &Group) -> bool {
-        self.are_all
-            || self
-                .groups
-                .iter()
-                .any(|other| other.texts() == group.texts())
+    fn has(self, group: &Group) -> bool
+        ensures { result ≡ is_chosen self.entry group.now }
+    {
+        if self.are_all {
+            return true;
+        }
+        for other in self.groups {
+            if other.texts() == group.texts() {
+                return true;
+            }
+        }
+        false
     }
 }
 
@@ -113,7 +145,10 @@ pub(crate) fn rows_of<'g>(
     alloc: Global,
     selection: &'g Selection,
     chosen: Shown<'_>,
-) -> Result<Vec<Row<'g>>, AllocError> {
+) -> Result<Vec<Row<'g>>, AllocError>
+    ensures { IfOk result (λ rows.
+        AreRows (is_chosen chosen.entry) selection.now rows.items) }
+{
     let mut rows = Vec::new(alloc);
     let mut others = Costs::NONE;
     let mut has_others = false;
