@@ -1,7 +1,8 @@
 #!/usr/bin/env python3
-"""Writes four made-up exports, each in the manner of another provider, into a folder.
+"""Writes four made-up exports, each in the manner of another provider, into a folder; or those that have a form of their own.
 
     python3 examples/make_providers.py examples/providers
+    python3 examples/make_providers.py --dialects examples/dialects
 
 | file | what it shows |
 |---|---|
@@ -9,6 +10,7 @@
 | microsoft.csv | a byte order mark, CRLF, no ChargeClass column, days in place of hours, tags in several scripts, columns of its own |
 | google.csv | no commitment columns, times with a fraction that is zero, labels that are true, false and null |
 | oracle.csv | each field in quotes, empty ones too, tag keys with a namespace, a key that stands twice |
+| gcp.csv, a dialect | the rows of google.csv as BigQuery exports them: times such as `2024-09-01 00:00:00 UTC`, tags as a list of pairs |
 
 The same bytes each time. The amounts are invented.
 """
@@ -132,6 +134,18 @@ class Google(Provider):
         return row
 
 
+class Gcp(Google):
+    seconds = "%Y-%m-%d %H:%M:%S UTC"
+
+    def __init__(self):
+        self.random = random.Random(Google.__name__)
+
+    def cells(self, number):
+        row = super().cells(number)
+        pairs = json.loads(row["Tags"]).items()
+        return row | {"Tags": json.dumps([{"key": key, "value": value} for key, value in pairs], separators=(",", ":"))}
+
+
 class Oracle(Provider):
     end = "\r\n"
     columns = sorted(Amazon.columns) + ["oci_CompartmentName"]
@@ -151,9 +165,11 @@ class Oracle(Provider):
 def main():
     parser = argparse.ArgumentParser(description=__doc__, formatter_class=argparse.RawDescriptionHelpFormatter)
     parser.add_argument("folder", metavar="FOLDER", help="where the exports are written; it is made where it isn't there")
-    folder = parser.parse_args().folder
+    parser.add_argument("--dialects", action="store_true", help="writes the exports that have a form of their own")
+    options = parser.parse_args()
+    folder = options.folder
     os.makedirs(folder, exist_ok=True)
-    for provider in (Amazon, Microsoft, Google, Oracle):
+    for provider in (Gcp,) if options.dialects else (Amazon, Microsoft, Google, Oracle):
         provider().write(os.path.join(folder, provider.__name__.lower() + ".csv"))
     return 0
 

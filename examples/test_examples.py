@@ -22,6 +22,7 @@ from command_line import run_tests  # noqa: E402
 FILES = [
     "focus-export.csv",
     *(f"{name}.{kind}" for name in ("first-report", "providers", "commitments") for kind in ("script", "expected")),
+    "dialects/gcp.csv",
     *(f"providers/{name}.csv" for name in ("amazon", "microsoft", "google", "oracle")),
 ]
 

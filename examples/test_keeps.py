@@ -1,5 +1,5 @@
 #!/usr/bin/env python3
-"""Runs `focusd import --keep` of a built program, and compares the rows with those that another program computed.
+"""Runs `focusd import --keep` and `replace --keep` of a built program, and compares the rows with those that another program computed.
 
     examples/test_keeps.py out/focusd
     examples/test_keeps.py out/focusd Keeps.test_rows_by_chance --runs 200
@@ -181,6 +181,76 @@ class Keeps(Case):
         self.assertEqual(self.house("all", *names, keeps=["ServiceName"])[0], 0)
         rows = sum((rows_of(expected.with_columns_as_tags(text, ["ServiceName"])) for text in texts), collections.Counter())
         self.assertEqual(self.exported("all"), rows)
+
+
+class Replacements(Case):
+    """Columns that are kept as tags where rows are replaced."""
+
+    def replace(self, house, file, *words, keeps=()):
+        kept = [word for keep in keeps for word in ("--keep", keep)]
+        return self.focusd("replace", "--dir", house, "--origin", "aws", "--quiet", *kept, *words, file)
+
+    def test_rows_by_chance(self):
+        for seed in range(RUNS):
+            with self.subTest(seed=seed):
+                self.check_run(seed)
+
+    def check_run(self, seed):
+        rng = random.Random(1_000 + seed)
+        header = [*READ, *OTHERS[: rng.randrange(1, 5)]]
+        rng.shuffle(header)
+        keeps = keeps_of_chance(rng, header)
+        house, counts = f"replaced{seed}", [rng.choice([1, 40, 5_000 if seed % 8 == 0 else 40]) for _ in range(2)]
+        old, new = (export_of_chance(rng, count, header) for count in counts)
+        # The old rows may be kept otherwise.
+        self.assertEqual(self.house(house, self.file("old.csv", old), keeps=rng.choice([keeps, keeps[1:]]))[0], 0)
+        status, printed, said = self.replace(house, self.file("new.csv", new), keeps=keeps)
+        self.assertEqual((status, said), (0, ""), (keeps, said))
+        self.assertIn(f"replaced by {counts[1]:,}", printed)
+        wanted = rows_of(expected.with_columns_as_tags(new, keeps))
+        self.assertEqual(self.exported(house), wanted)
+        # Again nothing changes, and an import of the same file finds no more than the posts that count.
+        status, printed, said = self.replace(house, "new.csv", keeps=keeps)
+        self.assertEqual((status, said), (0, ""))
+        self.assertIn("billed 0.00", printed)
+        self.assertEqual(self.exported(house), wanted)
+
+    def test_posts_that_are_the_same(self):
+        """A file that grew adds what came to it, under the same columns; under others all posts are new."""
+        rng = random.Random(53)
+        header = [*READ, "ServiceName"]
+        first, more = (export_of_chance(rng, count, header) for count in (4_096, 10))
+        grown = first + more.partition(b"\n")[2]
+        self.assertEqual(self.house("house", self.file("first.csv", first), keeps=["ServiceName"])[0], 0)
+        self.assertEqual(self.replace("house", self.file("grown.csv", grown), keeps=["ServiceName"])[0], 0)
+        posts = self.focusd("dump", "--dir", "house")[1]
+        self.assertEqual([line.split()[:1] for line in posts.splitlines() if line.startswith(("post ", "withdraw "))], [["post"], ["post"]])
+        self.assertEqual(self.replace("house", "grown.csv", keeps=["ServiceName=service"])[0], 0)
+        posts = self.focusd("dump", "--dir", "house")[1]
+        self.assertEqual(len([line for line in posts.splitlines() if line.startswith("withdraw ")]), 2)
+        self.assertEqual(self.exported("house"), rows_of(expected.with_columns_as_tags(grown, ["ServiceName=service"])))
+
+    def test_faults(self):
+        text = f"{Faults.HEADER}\n{Faults.ROW},,db\n"
+        file, digest = self.file("good.csv", text), None
+        self.assertEqual(self.house("house", file, keeps=["ServiceName"])[0], 0)
+        digest = self.digest("house")
+        bad = f'{Faults.HEADER}\n{Faults.ROW},"{{""service"":""x""}}",db\n'
+        for content, keeps, fault in (
+            (bad, ["ServiceName=service"], "V17 TagTwice"), (text, ["Region"], "H1 MissingColumn"), (f"{Faults.HEADER},ServiceName\n{Faults.ROW},,db,db\n", ["ServiceName"], "H2 DoubleColumn"),
+            (f"{Faults.HEADER}\n{Faults.ROW},,{'x' * 1_025}\n", ["ServiceName"], "V13 TooLong"),
+        ):  # fmt: skip
+            status, printed, said = self.replace("house", self.file("bad.csv", content), keeps=keeps)
+            self.assertEqual((status, printed), (1, ""), said)
+            self.assertIn(fault, said)
+            self.assertTrue(said.endswith("focusd: nothing was replaced\n"), said)
+            self.assertEqual(self.digest("house"), digest)
+        said = self.replace("house", self.file("bad.csv", bad), keeps=["ServiceName=service"])[2]
+        self.assertIn("The record has the tag service, as which the column ServiceName is to be kept.", said)
+        for keeps in (["=service"], ["ServiceName="], ["Tags"], ["A", "A"], [""]):
+            status, printed, said = self.replace("house", file, keeps=keeps)
+            self.assertEqual((status, printed), (2, ""), (keeps, said))
+            self.assertTrue(said.startswith("focusd: --keep "), said)
 
 
 class Faults(Case):

@@ -369,7 +369,7 @@ class Bash(AtThePrompt, unittest.TestCase):
 
     def test_what_is_offered(self):
         commands = "add charge check checkpoint commitments compact compare coverage dump explain export help import lines load policy replace report run split status verify withdraw".split()
-        options = ["--create", "--currency", "--dir", "--help", "--keep", "--origin", "--quiet", "--summary"]
+        options = ["--create", "--currency", "--dialect", "--dir", "--help", "--keep", "--origin", "--quiet", "--summary"]
         folder = self.room.folder_with(["-x.csv", "a b.csv", "a$(touch PWNED).csv"], ["costs now"])
         for words, offered in (
             ([""], sorted(commands)),

@@ -30,6 +30,8 @@ def number_from(least, most):
 
 
 DIR, FLAG = Option(required=True), Option(takes=0)
+# The form that exports have.
+DIALECT = Option(rule=one_of("gcp"))
 PERHAPS = {"from": Option(), "to": Option()}
 # What says which hours a question covers; what it leaves open comes from the rows.
 HOURS = {**PERHAPS, "month": Option(), "last": Option(takes=2)}
@@ -42,12 +44,12 @@ COLUMNS = ("SkuId", "SubAccountId", "ChargeCategory", "CommitmentDiscountId", "C
 SUMMARY = {"summary": Option(rule=one_of("text", "json"))}
 COMMANDS = {
     "run": ({"currency": Option(), "dir": Option(), "create": FLAG, "workers": Option(rule=number_from(1, 64)), "strict": FLAG}, 0, 0),
-    "import": ({"dir": DIR, "create": FLAG, "currency": Option(), "origin": DIR, "keep": Option(repeats=True), **SUMMARY, "quiet": FLAG}, 1, MANY),
+    "import": ({"dir": DIR, "create": FLAG, "currency": Option(), "origin": DIR, "keep": Option(repeats=True), "dialect": DIALECT, **SUMMARY, "quiet": FLAG}, 1, MANY),
     "load": (
         {"currency": Option(), "dir": Option(), "create": FLAG, "analysts": Option(rule=number_from(1, 16)), "origin": Option(), "strict": FLAG}, 1, MANY,
     ),
     "add": ({"dir": DIR, "origin": DIR, "dry-run": FLAG, "yes": FLAG, **SUMMARY}, 1, MANY),
-    "check": ({"format": Option(rule=one_of("text", "json")), "currency": Option(), **SUMMARY, "quiet": FLAG}, 1, MANY),
+    "check": ({"format": Option(rule=one_of("text", "json")), "currency": Option(), "dialect": DIALECT, **SUMMARY, "quiet": FLAG}, 1, MANY),
     "report": (
         {"dir": DIR, "tag": Option(repeats=True), "column": Option(rule=one_of(*COLUMNS), repeats=True), "where": Option(repeats=True),
          "where-not": Option(repeats=True), "map": Option(), "total-only": FLAG, **HOURS, "by": Option(rule=one_of("hour", "day", "month")),
@@ -78,7 +80,7 @@ COMMANDS = {
     "verify": ({"dir": DIR, "digest": FLAG, "expect": Option(), **SUMMARY}, 0, 0),
     "checkpoint": ({"dir": DIR}, 0, 0),
     "compact": ({"dir": DIR, "into": DIR, "quiet": FLAG}, 0, 0),
-    "replace": ({"dir": DIR, "origin": DIR, **PERHAPS, "dry-run": FLAG, **SUMMARY, "quiet": FLAG}, 1, MANY),
+    "replace": ({"dir": DIR, "origin": DIR, **PERHAPS, "keep": Option(repeats=True), "dialect": DIALECT, "dry-run": FLAG, **SUMMARY, "quiet": FLAG}, 1, MANY),
     "withdraw": ({"dir": DIR, "origin": DIR, "seq": Option(), **PERHAPS, "all": FLAG, "dry-run": FLAG, "yes": FLAG}, 0, 0),
     "dump": ({"dir": DIR}, 0, 0),
     "explain": ({}, 0, 1),
@@ -177,7 +179,7 @@ def rules_hold(command, given, others):
         return all(time_of(given[name]) is not None for name in ("from", "to") if name in given)
     if command != "load" and not ORIGIN.fullmatch(given.get("origin", "a")):
         return False
-    if command == "import" and not keeps_hold(given.get("keep", [])):
+    if command in ("import", "replace") and not keeps_hold(given.get("keep", [])):
         return False
     if command == "withdraw" and ("seq" in given) + ("all" in given) + ("from" in given or "to" in given) != 1:
         return False

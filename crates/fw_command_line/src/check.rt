@@ -1,4 +1,5 @@
 //! `focusd check`: all faults of CSV exports, and what is in them.
+use crate::dialects::dialect_option;
 use crate::exports::exports_argument;
 use crate::ids::CURRENCY;
 use crate::options::{command_with, format_option, quiet_option, summary_option};
@@ -22,8 +23,12 @@ origin has too, posts behind those of the files, rows that won't fit, and ids of
 `--format json` prints all of that, one line for each file. `--summary json` prints one line for all files in its place, with counts
 alone: {\"command\":\"check\",\"ok\":false,\"files\":2,\"records\":5,\"badRecords\":1,\"faults\":1}.
 
+`--dialect gcp` reads files as BigQuery exports Google's costs: times such as `2024-09-01 00:00:00 UTC`, and Tags that are a list,
+`[{\"key\":\"team\",\"value\":\"web\"}]`. Where a file looks so and the option is missing, that is said behind the faults.
+
 Example:
   focusd check january.csv
+  focusd check --dialect gcp focus-000000000000.csv
 
 Exit status: 0 where no file has a fault, 1 where one has or can't be read, 2 where the command line is wrong.";
 
@@ -46,6 +51,7 @@ fn options<'a>(alloc: Global) -> Result<Vec<Arg<'a>>, AllocError> {
             "How the answer is written",
         ),
         cost_currency(alloc),
+        dialect_option(alloc),
         summary_option(alloc),
         quiet_option(alloc),
         exports_argument(alloc),

@@ -33,6 +33,9 @@ pub const CREATE: &str = "create";
 /// The id of the option that names the currency.
 pub const CURRENCY: &str = "currency";
 
+/// The id of the option that names the form that exports have.
+pub const DIALECT: &str = "dialect";
+
 /// The id of the option that prints the digest of a warehouse.
 pub const DIGEST: &str = "digest";
 

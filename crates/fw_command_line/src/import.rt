@@ -1,4 +1,5 @@
 //! `focusd import`: CSV exports of any length are taken into a warehouse.
+use crate::dialects::dialect_option;
 use crate::exports::exports_argument;
 use crate::ids::ORIGIN;
 use crate::keeps::keep_option;
@@ -24,6 +25,10 @@ or not at all, and it is on the disk, by the word of the system, before the next
 tag already is a fault, and so is a header that doesn't have the column once. The tags are part of the rows that are compared: so
 run an import again with the same `--keep` options, else it says that the rows differ.
 
+`--dialect gcp` reads files as BigQuery exports Google's costs: times such as `2024-09-01 00:00:00 UTC`, and Tags that are a list,
+`[{\"key\":\"team\",\"value\":\"web\"}]`. Fields in the form of FOCUS may stand beside these. Those of neither form are faults, and
+so is a list in which a key stands twice.
+
 Where the rows won't fit into the warehouse, that is said, and nothing is imported. Two warnings change no status. One names an
 hour and a sub-account of the new rows of which another origin has rows too: the same export may have been imported before. One
 says how many posts that count the origin has behind those of the files: an export may have shrunk, or a file is missing.
@@ -40,6 +45,9 @@ Example: an export into a new warehouse, and one that is compressed
 
 Example: the name of the service as the tag `service`, and the region as the tag `RegionId`
   focusd import --dir costs --origin aws-2024-03 --keep ServiceName=service --keep RegionId march.csv
+
+Example: Google's costs, as BigQuery exports them
+  focusd import --dir costs --origin gcp-2024-03 --dialect gcp focus-000000000000.csv
 
 Exit status: 0 where all rows are in the warehouse, 1 where a file or the warehouse was refused or failed, 2 where the command
 line is wrong.";
@@ -64,6 +72,7 @@ fn options<'a>(alloc: Global) -> Result<Vec<Arg<'a>>, AllocError> {
         currency_option(alloc),
         origin_option(alloc),
         keep_option(alloc),
+        dialect_option(alloc),
         summary_option(alloc),
         quiet_option(alloc),
         exports_argument(alloc),

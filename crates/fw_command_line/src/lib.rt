@@ -11,6 +11,7 @@ mod commitments;
 mod compact;
 mod compare;
 mod coverage;
+mod dialects;
 mod dump;
 mod explain;
 mod export;
@@ -37,8 +38,8 @@ mod withdraw;
 
 pub use ids::{
     ALL, ANALYSTS, AS_OF, BEFORE, BEFORE_TO, BY, CODE, COLUMN, COMMITMENTS, CREATE, CURRENCY,
-    DIGEST, DIR, DIRECT, DRY_RUN, EXPECT, FILES, FORMAT, FROM, INTO, KEEP, LAST, LISTED, MAP,
-    MONTH, NO_SYNC, ORIGIN, OUT, POLICY, QUIET, SEQ, STRICT, SUMMARY, TAG, TO, TOP, TOTAL_ONLY,
-    WHERE, WHERE_NOT, WORKERS, YES,
+    DIALECT, DIGEST, DIR, DIRECT, DRY_RUN, EXPECT, FILES, FORMAT, FROM, INTO, KEEP, LAST, LISTED,
+    MAP, MONTH, NO_SYNC, ORIGIN, OUT, POLICY, QUIET, SEQ, STRICT, SUMMARY, TAG, TO, TOP,
+    TOTAL_ONLY, WHERE, WHERE_NOT, WORKERS, YES,
 };
 pub use line::command_line;

@@ -1,5 +1,7 @@
 //! `focusd replace`: what an origin sent is replaced by an export that was sent again.
+use crate::dialects::dialect_option;
 use crate::exports::exports_argument;
+use crate::keeps::keep_option;
 use crate::options::{
     command_with, dry_run_option, folder_option, perhaps_from_option, perhaps_to_option,
     poster_option, quiet_option, summary_option,
@@ -17,6 +19,11 @@ of the origin that has the same rows stays; the others are withdrawn; and what t
 file grows each day costs what it grew by. Where a post has rows both in the range and outside of it, or a file has rows outside
 of it, they are named, and nothing is done.
 
+`--keep` adds a tag to each row: the text that the record has in the column, as `focusd import` adds it. Rows are compared with their
+tags: so say the same `--keep` as the import did, else all of its posts are replaced.
+
+`--dialect gcp` reads files as BigQuery exports Google's costs, as `focusd import` does.
+
 A replacement of up to 64 posts, and 8 MiB of them, is one step: a report shows the rows before it or those after. A larger one
 takes several. Where it is stopped between them, `focusd status` and `focusd report` say so; run the same command again, and it
 ends as if it had not been stopped.
@@ -24,6 +31,7 @@ ends as if it had not been stopped.
 Example: an origin for each month, and one for all of them
   focusd replace --dir costs --origin aws-2024-09 september.csv
   focusd replace --dir costs --origin aws --from 2024-09 --to 2024-10 september.csv
+  focusd replace --dir costs --origin aws-2024-09 --keep ServiceName=service september.csv
 
   prints
     10,803 rows replaced by 10,803; billed -73.80; effective -1.12
@@ -41,6 +49,8 @@ fn options<'a>(alloc: Global) -> Result<Vec<Arg<'a>>, AllocError> {
         poster_option(alloc),
         perhaps_from_option(alloc),
         perhaps_to_option(alloc),
+        keep_option(alloc),
+        dialect_option(alloc),
         dry_run_option(alloc, "Writes nothing: says what would change"),
         summary_option(alloc),
         quiet_option(alloc),

@@ -3,19 +3,21 @@ use crate::choice::{Hours, read_hours, wrong_choice};
 use crate::costs::change_between;
 use crate::entries::{Missing, add_posts, withdrawals_of};
 use crate::groups::{add_entries, group_len, state_with};
-use crate::reading::read_files;
+use crate::reading::{Form, read_files};
 use crate::texts::{hours_text, print_line, rows_text};
 use crate::withdraw::say_across;
 use clap::ArgMatches;
 use fw_charge::hour_of;
 use fw_columns::Columns;
-use fw_command_line::{DIR, DRY_RUN, FILES, ORIGIN, QUIET};
+use fw_command_line::{DIALECT, DIR, DRY_RUN, FILES, KEEP, ORIGIN, QUIET};
 use fw_console::{
     Fault, Member, advised, begin_replacement, closed, end_replacement, open_to_ask,
-    open_warehouse, say_fault, tell, tells_json, unfinished_origin, wrong_origin,
+    open_warehouse, say_fault, tell, tells_json, unfinished_origin, wrong_origin, wrong_use,
 };
+use fw_dialect::Dialect;
 use fw_disk::Volume;
 use fw_entry::{Entry, is_origin};
+use fw_export_files::{keeper_of, read_keeps};
 use fw_recover::Store;
 use fw_replace::{Matching, Post, Reach, StoredRows, matched, posts_of, reach_of, summary_of};
 use fw_snapshot::{Snapshot, State};
@@ -74,6 +76,10 @@ pub fn replace_rows(rt: &HostRuntime, options: &ArgMatches<'_>) -> Result<ExitCo
         Ok(range) => range,
         Err(wrong) => return Ok(wrong_choice(rt, options, wrong)),
     };
+    let keeps = match read_keeps(rt.alloc(), options.get_strs(KEEP).unwrap_or(&[]))? {
+        Ok(keeps) => keeps,
+        Err(why) => return Ok(wrong_use(rt, why.as_str())),
+    };
     let folder = options.get_str(DIR).unwrap_or("");
     let job = Job {
         folder,
@@ -83,7 +89,11 @@ pub fn replace_rows(rt: &HostRuntime, options: &ArgMatches<'_>) -> Result<ExitCo
         is_quiet: options.get_flag(QUIET),
         is_silent: tells_json(options),
     };
-    let done = replace_in(rt, &job, options.get_strs(FILES).unwrap_or(&[]));
+    let form = Form {
+        dialect: options.get_str(DIALECT).and_then(Dialect::of_name),
+        keeper: keeper_of(rt.alloc(), keeps),
+    };
+    let done = replace_in(rt, &job, form, options.get_strs(FILES).unwrap_or(&[]));
     end(rt, &job, done)
 }
 
@@ -110,13 +120,18 @@ fn status_of(done: Option<Replaced>) -> ExitCode {
 }
 
 // Replaces rows of the warehouse of a folder; `None` where something is refused, which is said.
-fn replace_in(rt: &HostRuntime, job: &Job<'_>, files: &[&str]) -> Result<Option<Replaced>, Fault> {
+fn replace_in(
+    rt: &HostRuntime,
+    job: &Job<'_>,
+    form: Form,
+    files: &[&str],
+) -> Result<Option<Replaced>, Fault> {
     let mut store = if job.is_dry {
         open_to_ask(rt, job.folder)?
     } else {
         open_warehouse(rt, job.folder)?
     };
-    let done = replace_by(rt, &mut store, job, files);
+    let done = replace_by(rt, &mut store, job, form, files);
     closed(store, done)
 }
 
@@ -125,13 +140,14 @@ fn replace_by<V: Volume>(
     rt: &HostRuntime,
     store: &mut Store<V>,
     job: &Job<'_>,
+    form: Form,
     files: &[&str],
 ) -> Result<Option<Replaced>, Fault> {
     if is_another_unfinished(rt, job)? {
         return Ok(None);
     }
     let currency = store.state().state().currency();
-    match read_files(rt, currency, job.is_quiet, files)? {
+    match read_files(rt, currency, job.is_quiet, form, files)? {
         Some(parts) => replace(rt, store, job, parts),
         None => Ok(nothing_done(rt)),
     }

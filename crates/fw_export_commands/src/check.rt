@@ -3,11 +3,12 @@ ghost use Rattle.std.specs.Prelude.{◌≡◌, ◌≤◌, IfOk, IsTrue};
 
 use clap::ArgMatches;
 use fw_check::{Checker, as_json, as_text};
-use fw_command_line::{FILES, FORMAT, QUIET};
+use fw_command_line::{DIALECT, FILES, FORMAT, QUIET};
 use fw_console::{
     Fault, Member, print_answer, read_currency, say_fault, tell, tells_json, wrong_use,
 };
 use fw_cut::Part;
+use fw_dialect::Dialect;
 use fw_export_files::{Taker, Walk, code_of, walk_files};
 use fw_rows::{Currency, RowFault};
 use std::alloc::Global;
@@ -63,7 +64,8 @@ pub fn check_files(rt: &HostRuntime, options: &ArgMatches<'_>) -> Result<ExitCod
         return Ok(wrong_use(rt, "--currency: it must be three capital letters, e.g. USD"));
     };
     let files = options.get_strs(FILES).unwrap_or(&[]);
-    let mut walk = Walk::new(rt, options.get_flag(QUIET), files);
+    let dialect = options.get_str(DIALECT).and_then(Dialect::of_name);
+    let mut walk = Walk::new(rt, options.get_flag(QUIET), dialect, files);
     let mut check = Check {
         currency,
         is_json: options.get_str(FORMAT) == Some("json"),
@@ -104,6 +106,17 @@ impl Check {
         }
         Ok(is_whole && checker.faults == 0 && checker.records > 0)
     }
+
+    // Says which dialect reads a value that is a fault, where one does.
+    fn propose(&self, rt: &HostRuntime, walk: &Walk<'_>) {
+        for finding in self.checker.findings.iter() {
+            for place in finding.places.iter() {
+                if walk.propose(rt, finding.column, place.value.as_str()) {
+                    return;
+                }
+            }
+        }
+    }
 }
 
 impl Taker for Check {
@@ -125,7 +138,11 @@ impl Taker for Check {
     fn take(&mut self, rt: &HostRuntime, walk: &mut Walk<'_>, part: &Part) -> Result<bool, Fault> {
         let before = self.checker.records;
         self.checker.pass_repeated(part);
-        match self.checker.check(rt.alloc(), part) {
+        let meant = walk.meant(rt.alloc(), part)?;
+        match self
+            .checker
+            .check(rt.alloc(), meant.as_ref().unwrap_or(part))
+        {
             Ok(()) => {
                 walk.took(rt, part, self.checker.records.saturating_sub(before));
                 Ok(true)
@@ -146,7 +163,9 @@ impl Taker for Check {
         is_whole: bool,
     ) -> Result<bool, Fault> {
         walk.progress.end(rt);
-        self.finish(rt, walk.name.as_str(), is_whole)
+        let is_clean = self.finish(rt, walk.name.as_str(), is_whole)?;
+        self.propose(rt, walk);
+        Ok(is_clean)
     }
 
     fn take_none(&mut self, rt: &HostRuntime, walk: &mut Walk<'_>) -> Result<bool, Fault> {

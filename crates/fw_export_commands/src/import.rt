@@ -1,17 +1,17 @@
 //! `focusd import`: CSV exports of any length are taken into a warehouse.
 use crate::fitting::do_fit;
 use crate::importing::{Import, Imported};
-use crate::keeps::{keeper_of, read_keeps};
 use crate::messages::{warn_of_posts_behind, wrong_currency};
 use clap::ArgMatches;
 use clap::parser::ValueSource;
-use fw_command_line::{CREATE, CURRENCY, DIR, FILES, KEEP, ORIGIN, QUIET};
+use fw_command_line::{CREATE, CURRENCY, DIALECT, DIR, FILES, KEEP, ORIGIN, QUIET};
 use fw_console::{
     Creates, Fault, advised, open_folder, print_answer, read_currency, tell, tells_json,
     wrong_origin, wrong_use,
 };
+use fw_dialect::Dialect;
 use fw_entry::is_origin;
-use fw_export_files::{Walk, walk_files};
+use fw_export_files::{Walk, keeper_of, read_keeps, walk_files};
 use fw_rows::{Currency, Keep};
 use std::alloc::{AllocError, Global};
 use std::process::ExitCode;
@@ -75,7 +75,10 @@ fn import_named(
     if is_named(options) && own != currency {
         return wrong_currency(rt, folder, currency, own);
     }
-    import_all(rt, import, options)
+    let files = options.get_strs(FILES).unwrap_or(&[]);
+    let dialect = options.get_str(DIALECT).and_then(Dialect::of_name);
+    let walk = Walk::new(rt, options.get_flag(QUIET), dialect, files);
+    import_all(rt, import, files, walk, tells_json(options))
 }
 
 // Whether the command line names a currency.
@@ -87,24 +90,25 @@ fn is_named(options: &ArgMatches<'_>) -> bool {
 }
 
 // Imports files, if their rows fit.
-fn import_all(
+fn import_all<'a>(
     rt: &HostRuntime,
     import: &mut Import<'_>,
-    options: &ArgMatches<'_>,
+    files: &[&'a str],
+    walk: Walk<'a>,
+    is_silent: bool,
 ) -> Result<ExitCode, Fault> {
-    let files = options.get_strs(FILES).unwrap_or(&[]);
     if !do_fit(rt, import, files)? {
         return Ok(ExitCode::FAILURE);
     }
     import.watch_others(rt.alloc())?;
-    let mut walk = Walk::new(rt, options.get_flag(QUIET), files);
+    let mut walk = walk;
     let is_whole = walk_files(rt, files, &mut walk, import);
     import.repeated = walk.repeated;
     if !is_whole? {
         return Ok(ExitCode::FAILURE);
     }
     look_behind(rt, import)?;
-    if tells_json(options) {
+    if is_silent {
         return Ok(ExitCode::SUCCESS);
     }
     let answer = imported_text(rt.alloc(), import.imported())?;

@@ -1,11 +1,10 @@
 //! The parts of exports as posts of a warehouse.
-use crate::kept_columns::{header_fault, say_header};
-use crate::messages::{explain, warn_of_shared};
+use crate::messages::{Seen, explain, warn_of_shared};
 use crate::others::Others;
 use fw_columns::Columns;
 use fw_console::{Fault, House, Member};
 use fw_cut::Part;
-use fw_export_files::{Taker, Walk};
+use fw_export_files::{Taker, Walk, header_fault, say_header};
 use fw_import::{
     ImportFault, Importer, Outcome, Sent, Taken, import_part, import_part_keeping, posts_of,
     read_part, read_part_keeping,
@@ -225,7 +224,9 @@ impl Taker for Import<'_> {
                 return Ok(say_header(rt, walk, &fault));
             }
         }
-        match self.post(rt, part)? {
+        let meant = walk.meant(rt.alloc(), part)?;
+        let read = meant.as_ref().unwrap_or(part);
+        match self.post(rt, read)? {
             Ok(taken) => self.count(rt, walk, part, taken),
             // What follows the last record, as a line feed, is no post, and neither is a header that another one follows.
             Err(ImportFault::Rows(RowFault::NoRows)) if walk.record > 1 || !part.is_last => {
@@ -233,7 +234,7 @@ impl Taker for Import<'_> {
             }
             Err(fault) => {
                 walk.progress.end(rt);
-                explain(rt, self, walk, part, fault)
+                explain(rt, self, walk, &Seen { part, read }, fault)
             }
         }
     }

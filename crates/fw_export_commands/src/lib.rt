@@ -7,8 +7,6 @@ mod check;
 mod fitting;
 mod import;
 mod importing;
-mod keeps;
-mod kept_columns;
 mod messages;
 mod others;
 

@@ -1,14 +1,13 @@
 //! What an import says, and why a part was refused.
 use crate::fitting::say_room;
 use crate::importing::Import;
-use crate::kept_columns::say_kept;
 use crate::others::Shared;
 use fw_calendar::hour_text;
 use fw_check::locate;
 use fw_console::{Fault, House, WRONG_USE, conflict_code, entry_code, letters, say_fault};
 use fw_cut::Part;
 use fw_explain::explain_fault;
-use fw_export_files::Walk;
+use fw_export_files::{Walk, say_kept};
 use fw_import::ImportFault;
 use fw_recover::StoreFault;
 use fw_rows::{Currency, RecordFault, Row, RowFault, read_rows};
@@ -34,20 +33,27 @@ pub(crate) fn wrong_currency(
     Ok(ExitCode::from(WRONG_USE))
 }
 
+/// A part as its file has it, and as it was read.
+#[derive(Clone, Copy, Drop)]
+pub(crate) struct Seen<'p> {
+    pub(crate) part: &'p Part,
+    pub(crate) read: &'p Part,
+}
+
 /// Says why a part was not imported, and how to go on. The answer is false.
 pub(crate) fn explain(
     rt: &HostRuntime,
     import: &Import<'_>,
     walk: &mut Walk<'_>,
-    part: &Part,
+    seen: &Seen<'_>,
     fault: ImportFault,
 ) -> Result<bool, Fault> {
     match fault {
         ImportFault::NoMemory | ImportFault::Store(StoreFault::NoMemory) => Err(Fault::NoMemory),
         ImportFault::Store(fault) => Err(Fault::Store(fault)),
-        ImportFault::Rows(fault) => explain_rows(rt, import, walk, part, fault),
+        ImportFault::Rows(fault) => explain_rows(rt, import, walk, seen, fault),
         ImportFault::Conflict(conflict) => {
-            explain_conflict(rt, &import.house, walk, part, conflict)
+            explain_conflict(rt, &import.house, walk, seen.read, conflict)
         }
         ImportFault::Entry(fault) => say_post(rt, walk, entry_code(fault)?),
         ImportFault::Differs => say_entry(rt, walk, import.origin, import.number, "R1 Differs"),
@@ -182,13 +188,13 @@ fn explain_rows(
     rt: &HostRuntime,
     import: &Import<'_>,
     walk: &mut Walk<'_>,
-    part: &Part,
+    seen: &Seen<'_>,
     fault: RowFault,
 ) -> Result<bool, Fault> {
     let currency = wanted_currency(rt.alloc(), &import.house)?;
-    let is_taken = walk.refuse(rt, part, fault, currency.as_str())?;
+    let is_taken = walk.refuse(rt, seen.part, fault, currency.as_str())?;
     if let Some(keeper) = &import.keeper {
-        say_kept(rt, keeper.keeps(), part, fault)?;
+        say_kept(rt, keeper.keeps(), seen.read, fault)?;
     }
     if let RowFault::Record { .. } = fault {
         let _ = eprintln!(rt;

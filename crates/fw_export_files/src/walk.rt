@@ -10,6 +10,7 @@ use crate::foreign::{Foreign, what_to_do};
 use fw_check::{Located, line_ends, locate};
 use fw_console::{Fault, Progress};
 use fw_cut::{CutFault, Part};
+use fw_dialect::Dialect;
 use fw_explain::explain_fault;
 use fw_rows::{RecordFault, RowFault};
 use fw_table::shown_text;
@@ -31,6 +32,8 @@ pub struct Walk<'a> {
     pub repeated: u64,
     /// How far all exports are read.
     pub progress: Progress,
+    /// The form that the exports have, where that isn't the one of FOCUS.
+    pub dialect: Option<Dialect>,
 }
 
 impl Drop for Walk<'_> {
@@ -43,13 +46,19 @@ impl Drop for Walk<'_> {
             line_end: _,
             repeated: _,
             progress: _,
+            dialect: _,
         } = self;
     }
 }
 
 impl<'a> Walk<'a> {
     /// A walk over files that stands before the first one.
-    pub fn new(rt: &HostRuntime, is_quiet: bool, files: &[&str]) -> Walk<'a> {
+    pub fn new(
+        rt: &HostRuntime,
+        is_quiet: bool,
+        dialect: Option<Dialect>,
+        files: &[&str],
+    ) -> Walk<'a> {
         Walk {
             name: CowStr::Borrowed(""),
             shown: String::new(rt.alloc()),
@@ -58,6 +67,7 @@ impl<'a> Walk<'a> {
             line_end: b'\n',
             repeated: 0,
             progress: progress_of(rt, is_quiet, files),
+            dialect,
         }
     }
 
@@ -182,6 +192,7 @@ impl<'a> Walk<'a> {
             RowFault::Record { number, fault } => {
                 let at = locate(rt.alloc(), part, self.line_end, number, fault)?;
                 self.say_record(rt, number, &at, expected_of(fault, &at, currency));
+                self.propose(rt, at.column, at.value.as_str());
                 Ok(false)
             }
             RowFault::NoMemory => Err(Fault::NoMemory),

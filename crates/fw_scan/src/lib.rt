@@ -6,4 +6,5 @@
 mod place;
 mod scan;
 
+pub use place::{Action, Place};
 pub use scan::{Scan, scan_record};

@@ -7,7 +7,7 @@ ghost use Rattle.fw_scan.specs.declared.place.Place.TheVariants as place;
 
 /// Where a reader stands in a record.
 #[derive(Clone, Copy, Drop)]
-pub(crate) enum Place {
+pub enum Place {
     /// Before a record.
     StartRecord,
     /// Before a field that isn't the first.
@@ -24,7 +24,7 @@ pub(crate) enum Place {
 
 /// What a byte does.
 #[derive(Clone, Copy, Drop)]
-pub(crate) enum Action {
+pub enum Action {
     /// It is in no field.
     Skip,
     /// It is the field's next byte.
@@ -69,7 +69,7 @@ fn start_record(byte: u8) -> (Place, Action)
 
 impl Place {
     /// What a byte does here.
-    pub(crate) fn step(self, byte: u8) -> (Place, Action)
+    pub fn step(self, byte: u8) -> (Place, Action)
         ensures { stepped result ≡ step default_config (state_of self) byte }
     {
         match self {
@@ -88,14 +88,14 @@ impl Place {
     }
 
     /// Whether a text that ends here ends within a record.
-    pub(crate) fn is_within(self) -> bool
+    pub fn is_within(self) -> bool
         ensures { result ≡ ends_at_end (state_of self) }
     {
         !matches!(self, Place::StartRecord | Place::AfterReturn)
     }
 
     /// How many of the next bytes surely end no field and leave the reader where it stands.
-    pub(crate) fn run(self, text: &[u8]) -> usize
+    pub fn run(self, text: &[u8]) -> usize
         ensures within { result ≤ length text.now }
         ensures joins { Joins self (take result text.now) }
     {

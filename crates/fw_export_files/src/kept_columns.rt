@@ -1,9 +1,9 @@
 //! What is said of columns that are kept as tags.
+use crate::walk::Walk;
 use csv::{ByteRecord, Reader, ReaderBuilder};
 use fw_console::Fault;
 use fw_cut::Part;
 use fw_explain::explain_fault;
-use fw_export_files::Walk;
 use fw_rows::{Column, Keep, RecordFault, RowFault};
 use fw_table::shown_text;
 use fw_tags::{TagFault, read_tags};
@@ -11,14 +11,14 @@ use std::alloc::{AllocError, Global};
 
 /// A fault of a header: a kept column that it doesn't have, or has more than once.
 #[derive(Drop)]
-pub(crate) struct HeaderFault {
+pub struct HeaderFault {
     // the name of the column, as a terminal may show it
     column: String,
     code: &'static str,
 }
 
 /// The first kept column that the header of a part doesn't have once.
-pub(crate) fn header_fault(
+pub fn header_fault(
     alloc: Global,
     keeps: &[Keep],
     part: &Part,
@@ -39,7 +39,7 @@ pub(crate) fn header_fault(
 }
 
 /// Says which kept column a header doesn't have once. The answer is false.
-pub(crate) fn say_header(rt: &HostRuntime, walk: &mut Walk<'_>, fault: &HeaderFault) -> bool {
+pub fn say_header(rt: &HostRuntime, walk: &mut Walk<'_>, fault: &HeaderFault) -> bool {
     walk.progress.end(rt);
     let (name, column, code) = (walk.shown.as_str(), fault.column.as_str(), fault.code);
     let expected = explain_fault(code).expected;
@@ -50,7 +50,7 @@ pub(crate) fn say_header(rt: &HostRuntime, walk: &mut Walk<'_>, fault: &HeaderFa
 }
 
 /// Says which tag a record of a part has already, where that is its fault.
-pub(crate) fn say_kept(
+pub fn say_kept(
     rt: &HostRuntime,
     keeps: &[Keep],
     part: &Part,

@@ -5,10 +5,7 @@ use fw_table::shown_text;
 use std::alloc::{AllocError, Global};
 
 /// The columns that options keep as tags, or why one of them is none: the words behind the name of the program.
-pub(crate) fn read_keeps(
-    alloc: Global,
-    texts: &[&str],
-) -> Result<Result<Vec<Keep>, String>, AllocError> {
+pub fn read_keeps(alloc: Global, texts: &[&str]) -> Result<Result<Vec<Keep>, String>, AllocError> {
     let mut keeps: Vec<Keep> = Vec::with_capacity(alloc, texts.len())?;
     for text in texts {
         let (column, key) = text.split_once('=').unwrap_or((*text, *text));
@@ -46,7 +43,7 @@ fn what_is_wrong(column: &str, key: &str, is_double: bool) -> Option<&'static st
 }
 
 /// What keeps columns as tags, if any are kept.
-pub(crate) fn keeper_of(alloc: Global, keeps: Vec<Keep>) -> Option<Keeper> {
+pub fn keeper_of(alloc: Global, keeps: Vec<Keep>) -> Option<Keeper> {
     if keeps.is_empty() {
         return None;
     }

@@ -1,0 +1,4 @@
+pub mod ListFacts
+pub mod Names
+pub mod ReadFacts
+pub mod Steps
