@@ -36,7 +36,8 @@ pub(crate) fn read_files(
     files: &[&str],
 ) -> Result<Option<Vec<Columns>>, Fault> {
     let Form { dialect, keeper } = form;
-    let mut walk = Walk::new(rt, is_quiet, dialect, files);
+    let mut walk = Walk::new(rt, is_quiet, files);
+    walk.dialect = dialect;
     let mut reading = Reading {
         currency,
         keeper,

@@ -64,8 +64,8 @@ pub fn check_files(rt: &HostRuntime, options: &ArgMatches<'_>) -> Result<ExitCod
         return Ok(wrong_use(rt, "--currency: it must be three capital letters, e.g. USD"));
     };
     let files = options.get_strs(FILES).unwrap_or(&[]);
-    let dialect = options.get_str(DIALECT).and_then(Dialect::of_name);
-    let mut walk = Walk::new(rt, options.get_flag(QUIET), dialect, files);
+    let mut walk = Walk::new(rt, options.get_flag(QUIET), files);
+    walk.dialect = options.get_str(DIALECT).and_then(Dialect::of_name);
     let mut check = Check {
         currency,
         is_json: options.get_str(FORMAT) == Some("json"),

@@ -76,8 +76,8 @@ fn import_named(
         return wrong_currency(rt, folder, currency, own);
     }
     let files = options.get_strs(FILES).unwrap_or(&[]);
-    let dialect = options.get_str(DIALECT).and_then(Dialect::of_name);
-    let walk = Walk::new(rt, options.get_flag(QUIET), dialect, files);
+    let mut walk = Walk::new(rt, options.get_flag(QUIET), files);
+    walk.dialect = options.get_str(DIALECT).and_then(Dialect::of_name);
     import_all(rt, import, files, walk, tells_json(options))
 }
 

@@ -53,12 +53,7 @@ impl Drop for Walk<'_> {
 
 impl<'a> Walk<'a> {
     /// A walk over files that stands before the first one.
-    pub fn new(
-        rt: &HostRuntime,
-        is_quiet: bool,
-        dialect: Option<Dialect>,
-        files: &[&str],
-    ) -> Walk<'a> {
+    pub fn new(rt: &HostRuntime, is_quiet: bool, files: &[&str]) -> Walk<'a> {
         Walk {
             name: CowStr::Borrowed(""),
             shown: String::new(rt.alloc()),
@@ -67,7 +62,7 @@ impl<'a> Walk<'a> {
             line_end: b'\n',
             repeated: 0,
             progress: progress_of(rt, is_quiet, files),
-            dialect,
+            dialect: None,
         }
     }
 
