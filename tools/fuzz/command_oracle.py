@@ -53,7 +53,8 @@ COMMANDS = {
     "report": (
         {"dir": DIR, "tag": Option(repeats=True), "column": Option(rule=one_of(*COLUMNS), repeats=True), "where": Option(repeats=True),
          "where-not": Option(repeats=True), "map": Option(), "total-only": FLAG, **HOURS, "by": Option(rule=one_of("hour", "day", "month")),
-         "top": Option(), "as-of": Option(), "policy": Option(), "format": Option(rule=one_of("table", "csv", "json", "html")), "direct": FLAG}, 0, 0,
+         "top": Option(), "only": Option(), "as-of": Option(), "policy": Option(), "format": Option(rule=one_of("table", "csv", "json", "html")),
+         "direct": FLAG}, 0, 0,
     ),
     "compare": (
         {"dir": DIR, "tag": Option(repeats=True), "column": Option(rule=one_of(*COLUMNS), repeats=True), "by": Option(),
@@ -204,6 +205,8 @@ def keys_hold(given):
     """Whether the options of a report name its groups, and filters by a key and a value."""
     tags, columns = given.get("tag", []), given.get("column", [])
     if "policy" in given and (len(tags) != 1 or {"direct", "column", "where", "where-not", "map", "total-only"} & set(given)):
+        return False
+    if "only" in given and (len(tags) != 1 or {"top", "direct", "column", "where", "where-not", "map", "total-only"} & set(given)):
         return False
     if "direct" in given:
         return len(tags) == 1 and not {"top", "format", "column", "where", "where-not", "map", "total-only"} & set(given)

@@ -81,6 +81,9 @@ pub const LISTED: &str = "listed";
 /// The id of the option that leaves it to the system when the parts of an export are on the disk.
 pub const NO_SYNC: &str = "no-sync";
 
+/// The id of the option that shows one group alone.
+pub const ONLY: &str = "only";
+
 /// The id of the option that names who sends the entries, or the first part of such names.
 pub const ORIGIN: &str = "origin";
 

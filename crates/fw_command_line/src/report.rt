@@ -1,5 +1,7 @@
 //! `focusd report`: what each group of a tag cost in a range of time.
-use crate::ids::{COLUMN, DIRECT, FORMAT, MAP, TOP, TOTAL_ONLY, WHERE, WHERE_NOT};
+ghost use Rattle.std.specs.Prelude.{◌≡◌, ◌∷◌, [], Some, false, IfOk, option_map, map, codes};
+
+use crate::ids::{COLUMN, DIRECT, FORMAT, MAP, ONLY, TOP, TOTAL_ONLY, WHERE, WHERE_NOT};
 use crate::options::{by_option, command_with, folder_option, report_format_option, top_option};
 use crate::past::as_of_option;
 use crate::ranges::{from_option, last_option, month_option, to_option};
@@ -43,6 +45,11 @@ Such a report has no ChargedCost: a policy shares the costs of a whole range by 
 With --top N only the N groups that are charged most over the whole range have lines of their own; one line,
 (others), has the sums of all others.
 
+With --only GROUP the report is of one value of the tag, for its owner, and has nothing of the other groups: no name, and no
+sum in which their costs are. \"\" is the costs without the tag. Beside what the group cost stands what it was charged in the
+hours before: as many months where the range or period has whole months, else as many hours. The difference and its part
+of that follow, in percent with one digit. A group that the range hasn't costs nothing there, which is said.
+
 With --as-of N the answer is as of the first N entries of the warehouse: how it was when focusd status said that it had N
 entries. Posts that were withdrawn later count in it; purchases, rows and policies that were added later don't. Whatever is
 accepted later, that answer stays the same. So write the number down when a month is closed. focusd compact makes
@@ -64,12 +71,42 @@ Examples:
     focusd report --dir costs --tag team --last 6 months --by month --format html > costs.html
   what teams spend on production, by account
     focusd report --dir costs --tag team --column SubAccountId --where environment=production
+  a page for the owner of one team, with nothing of the others
+    focusd report --dir costs --tag team --only search --month 2024-01 --format html > search.html
   January as it was when the warehouse had 1,204 entries
     focusd report --dir costs --tag team --month 2024-01 --as-of 1204
   January under a policy that isn't accepted yet
     focusd report --dir costs --tag team --month 2024-01 --policy new-policy.toml
   the sums by team, for a program
     focusd report --dir costs --tag team --from 2024-01 --to 2024-02 --format json | jq '.total'";
+
+// The option that names the one group that is shown.
+fn group_option<'a>(alloc: Global) -> Arg<'a>
+    ensures id { result.id.now ≡ codes "only" }
+    ensures name { option_map (λ name. name.now) result.long ≡ Some (codes "only") }
+    ensures given { result.required ≡ false }
+    ensures free { result.conflicts.items ≡ [] }
+{
+    Arg::new(alloc, ONLY).long("only").value_name("GROUP").help(
+        "Shows this value of the tag alone, beside the hours before, and nothing of others",
+    )
+}
+
+// The option that shows one group alone. What shows others, or has no group of one tag, goes with none.
+fn only_option<'a>(alloc: Global) -> Result<Arg<'a>, AllocError>
+    ensures { IfOk result (λ option.
+        map (λ id. id.now) option.conflicts.items
+        ≡ (codes "top" ∷ codes "direct" ∷ codes "column" ∷ codes "where" ∷ codes "where-not"
+        ∷ codes "map" ∷ [])) }
+{
+    group_option(alloc)
+        .conflicts_with(TOP)?
+        .conflicts_with(DIRECT)?
+        .conflicts_with(COLUMN)?
+        .conflicts_with(WHERE)?
+        .conflicts_with(WHERE_NOT)?
+        .conflicts_with(MAP)
+}
 
 // The option that leaves the policy out.
 fn direct_option<'a>(alloc: Global) -> Result<Arg<'a>, AllocError> {
@@ -88,8 +125,8 @@ fn direct_option<'a>(alloc: Global) -> Result<Arg<'a>, AllocError> {
         .conflicts_with(TOTAL_ONLY)
 }
 
-// The options, in the order in which the help has them.
-fn options<'a>(alloc: Global) -> Result<Vec<Arg<'a>>, AllocError> {
+// The options that say what is summed, and over which hours, in the order in which the help has them.
+fn summed_options<'a>(alloc: Global) -> Result<Vec<Arg<'a>>, AllocError> {
     Ok(vec![in alloc;
         folder_option(alloc),
         tags_option(alloc),
@@ -102,8 +139,15 @@ fn options<'a>(alloc: Global) -> Result<Vec<Arg<'a>>, AllocError> {
         to_option(alloc),
         month_option(alloc)?,
         last_option(alloc)?,
+    ]?)
+}
+
+// The options that say what is shown of the sums, behind these.
+fn shown_options<'a>(alloc: Global) -> Result<Vec<Arg<'a>>, AllocError> {
+    Ok(vec![in alloc;
         by_option(alloc),
         top_option(alloc),
+        only_option(alloc)?,
         as_of_option(alloc),
         other_policy_option(alloc)?,
         report_format_option(alloc),
@@ -118,6 +162,7 @@ pub(crate) fn command<'a>(alloc: Global) -> Result<Command<'a>, AllocError> {
         "report",
         "Sums the costs of a range of time by the values of a tag",
         EXAMPLE,
-        options(alloc)?,
-    )
+        summed_options(alloc)?,
+    )?
+    .args(shown_options(alloc)?)
 }

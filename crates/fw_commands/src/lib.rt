@@ -15,6 +15,7 @@ mod explain;
 mod export;
 mod hours_question;
 mod lines;
+mod own;
 mod past;
 mod policy;
 mod range;

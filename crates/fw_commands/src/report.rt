@@ -1,10 +1,11 @@
 //! `focusd report`: what each group of a tag cost in a range of time.
 use crate::ask::{Asked, ask_hours};
+use crate::own::Owning;
 use crate::policy::GivenPolicy;
 use crate::range::{read_hours, wrong_hours};
 use crate::wanted::{is_selection, read_wanted};
 use clap::ArgMatches;
-use fw_command_line::{BY, DIRECT, POLICY, TAG};
+use fw_command_line::{BY, DIRECT, ONLY, POLICY, TAG};
 use fw_console::{Fault, read_options, step_of, wrong_top, wrong_use};
 use fw_series::ReportOptions;
 use fw_terms::Policy;
@@ -55,7 +56,7 @@ fn print_groups(
     Ok(ask_report(rt, options, hours, key, shown, Some(given)))
 }
 
-// Asks for the report by a tag.
+// Asks for the report by a tag, of all groups or of one alone.
 fn ask_report(
     rt: &HostRuntime,
     options: &ArgMatches<'_>,
@@ -64,6 +65,16 @@ fn ask_report(
     shown: ReportOptions,
     policy: Option<GivenPolicy<'_>>,
 ) -> ExitCode {
+    if let Some(group) = options.get_str(ONLY) {
+        let owning = Owning {
+            key,
+            group,
+            step: shown.step,
+            format: shown.format,
+            policy,
+        };
+        return ask_hours(rt, options, hours, &owning);
+    }
     let asked = Asked::Report {
         key,
         options: shown,
@@ -80,6 +91,9 @@ fn print_selection(
 ) -> Result<ExitCode, Fault> {
     if options.get_flag(DIRECT) {
         return Ok(wrong_use(rt, "--direct: a direct report is by one --tag"));
+    }
+    if options.contains_id(ONLY) {
+        return Ok(wrong_use(rt, "--only: one group is shown of one --tag"));
     }
     if options.contains_id(POLICY) {
         return Ok(wrong_use(

@@ -1,5 +1,6 @@
 //! Charts of a page: a stack for each period, or a bar for each group.
 use crate::escapes::push_shown;
+use crate::frame::push_markup;
 use crate::lines::{Line, lines_of};
 use crate::names::name_of;
 use crate::series::{Part, Series};
@@ -113,13 +114,8 @@ fn place_of(line: &Line<'_>, names: &[String]) -> Option<usize> {
     names.iter().position(|name| name.as_str() == line.group)
 }
 
-/// Adds a text to a page as it is.
-pub(crate) fn put(page: &mut Vec<u8>, text: &str) -> Result<(), AllocError> {
-    page.extend_from_slice(text.as_bytes())
-}
-
 /// Adds the drawing of a series, whose cost has this name: a stack of the groups' charges for each period, charges below zero under the line.
-pub(crate) fn push_stacks(
+pub fn push_stacks(
     alloc: Global,
     page: &mut Vec<u8>,
     series: &Series,
@@ -134,7 +130,7 @@ pub(crate) fn push_stacks(
     let head = format!(in alloc;
         "<svg viewBox=\"0 0 {width} {HEIGHT}\" preserveAspectRatio=\"none\" role=\"img\" aria-label=\"{cost} by period\">"
     )?;
-    put(page, head.as_str())?;
+    push_markup(page, head.as_str())?;
     for (place, part) in parts.iter().enumerate() {
         let left = place
             .saturating_mul(PERIOD_WIDTH)
@@ -144,7 +140,7 @@ pub(crate) fn push_stacks(
     }
     let zero = reach.height_below(0);
     let line = format!(in alloc; "<path class=\"zero\" d=\"M0 {zero}H{width}\"/></svg>")?;
-    put(page, line.as_str())?;
+    push_markup(page, line.as_str())?;
     push_ends(alloc, page, parts, step)
 }
 
@@ -166,9 +162,9 @@ fn reach_of(alloc: Global, parts: &[Part], names: &[String]) -> Result<Reach, Al
 fn push_most(alloc: Global, page: &mut Vec<u8>, reach: Reach) -> Result<(), AllocError> {
     let most = i128::try_from(reach.above).unwrap_or(i128::MAX);
     let text = cents_text(alloc, most)?;
-    put(page, "<p class=\"axis\">")?;
-    put(page, text.as_str())?;
-    put(page, "</p>")
+    push_markup(page, "<p class=\"axis\">")?;
+    push_markup(page, text.as_str())?;
+    push_markup(page, "</p>")
 }
 
 // Adds the stack of a period.
@@ -201,12 +197,12 @@ fn push_stack(
         let shape = format!(in alloc;
             "<rect class=\"{class}\" x=\"{left}\" y=\"{top}\" width=\"{STACK_WIDTH}\" height=\"{height}\"><title>{period}, "
         )?;
-        put(page, shape.as_str())?;
+        push_markup(page, shape.as_str())?;
         push_shown(alloc, page, name_of(line))?;
         let cost = cents_text(alloc, line.costs.charged)?;
-        put(page, ": ")?;
-        put(page, cost.as_str())?;
-        put(page, "</title></rect>")?;
+        push_markup(page, ": ")?;
+        push_markup(page, cost.as_str())?;
+        push_markup(page, "</title></rect>")?;
         own = next;
     }
     Ok(())
@@ -219,17 +215,17 @@ fn push_ends(
     parts: &[Part],
     step: Step,
 ) -> Result<(), AllocError> {
-    put(page, "<p class=\"ends\"><span>")?;
+    push_markup(page, "<p class=\"ends\"><span>")?;
     if let Some(first) = parts.first() {
         let text = step.text(alloc, first.period.from)?;
-        put(page, text.as_str())?;
+        push_markup(page, text.as_str())?;
     }
-    put(page, "</span><span>")?;
+    push_markup(page, "</span><span>")?;
     if let Some(last) = parts.last() {
         let text = step.text(alloc, last.period.from)?;
-        put(page, text.as_str())?;
+        push_markup(page, text.as_str())?;
     }
-    put(page, "</span></p>")
+    push_markup(page, "</span></p>")
 }
 
 /// Adds a bar for each line, as long as its part of all that the bars reach over: to the right of zero, or to the left where the charge is below
@@ -244,11 +240,11 @@ pub(crate) fn push_bars(
     for line in lines {
         reach = reach.max(Reach::NONE.with(line.costs.charged));
     }
-    put(page, "<div class=\"bars\">")?;
+    push_markup(page, "<div class=\"bars\">")?;
     for line in lines {
         push_bar(alloc, page, line, reach, names)?;
     }
-    put(page, "</div>")
+    push_markup(page, "</div>")
 }
 
 // Adds the bar of a line.
@@ -264,12 +260,12 @@ fn push_bar(
     let length = percent_text(alloc, bar.length)?;
     let class = class_of(alloc, line, names)?;
     let cost = cents_text(alloc, line.costs.charged)?;
-    put(page, "<span>")?;
+    push_markup(page, "<span>")?;
     push_shown(alloc, page, name_of(line))?;
     let bar = format!(in alloc;
         "</span><span class=\"bar\"><i class=\"{class}\" style=\"margin-left:{start};width:{length}\"></i></span><span class=\"number\">{cost}</span>"
     )?;
-    put(page, bar.as_str())
+    push_markup(page, bar.as_str())
 }
 
 // A length in thousandths of the drawing, as percent.

@@ -10,7 +10,7 @@ use std::alloc::{AllocError, Global};
 
 /// Adds what is shown of a text ([`shown_text`]) to a page so that none of it is markup: `&`, `<`, `>`, `"` and `'` become references,
 /// as `&lt;`.
-pub(crate) fn push_shown(alloc: Global, page: &mut Vec<u8>, text: &str) -> Result<(), AllocError>
+pub fn push_shown(alloc: Global, page: &mut Vec<u8>, text: &str) -> Result<(), AllocError>
     ensures { OnOk result (page.new.items ≡ page.old.items ++ on_page text.now) }
 {
     let shown = shown_text(alloc, text)?;

@@ -99,6 +99,7 @@ complete -c focusd -n '__focusd_runs report' -l month -x -d 'The range is this m
 complete -c focusd -n '__focusd_runs report' -l last -x -d 'The range is the last N hours, days or months that have rows, as 3 months'
 complete -c focusd -n '__focusd_runs report' -l by -x -a 'hour day month' -d 'Cuts the range into hours, days or months, each with a report of its own'
 complete -c focusd -n '__focusd_runs report' -l top -x -d 'Shows the N groups that are charged most, and the sums of all others: 1 to 1,000'
+complete -c focusd -n '__focusd_runs report' -l only -x -d 'Shows this value of the tag alone, beside the hours before, and nothing of others'
 complete -c focusd -n '__focusd_runs report' -l as-of -x -d 'Asks as of the first N entries: how it was when focusd status said N entries'
 complete -c focusd -n '__focusd_runs report' -l policy -x -d 'Shares costs by the policy of a TOML file, - for standard input, and not by the warehouse\'s'
 complete -c focusd -n '__focusd_runs report' -l format -x -a 'table csv json html' -d 'How the report is written'
