@@ -7,10 +7,12 @@
 
 Each warehouse is made by chance: rows of a few SKUs and teams, some that providers' commitments cover or left unused, own commitments to
 quantities and to costs that overlap, and purchases that come later. It is asked by commitment, by tag and by column, of the whole range and by
-period, as CSV and JSON; and the laws of the figures are looked at.
+period, as CSV, as JSON and as a page; and the laws of the figures are looked at.
 """
 import argparse
 import csv
+import fractions
+import html.parser
 import io
 import json
 import pathlib
@@ -163,6 +165,65 @@ def read_csv(text, keys, by_period):
         yield period, (kind, keeper, None if kind == "total" else name, tuple(map(amount_of, cells))), units
 
 
+# The figures of a page: a cost by its place among the amounts, or a rate by those of its part and its whole.
+SHOWN = {"UsedCost": 0, "UnusedCost": 1, "AmortizedCost": 2, "Utilization": (0, 2), "PurchaseCost": 3, "CoveredCost": 4, "UncoveredCost": 5,
+         "EligibleCost": 6, "Coverage": (4, 6), "Savings": 7, "SavingsRate": (7, 6)}  # fmt: skip
+
+
+def cents(nanos):
+    """An amount as people see it: in cents, a tie to the even one."""
+    size, rest = divmod(abs(nanos), 10**7)
+    size += rest > 5 * 10**6 or rest == 5 * 10**6 and size % 2
+    return f"{'-' if nanos < 0 and size else ''}{size // 100:,}.{size % 100:02}"
+
+
+def percent(part, whole):
+    """A rate as people see it: with one digit, the nearest, a tie away from 0; none where the whole isn't above 0."""
+    if part is None or whole <= 0:
+        return ""
+    tenths = int(abs(fractions.Fraction(part, whole)) * 1000 + fractions.Fraction(1, 2))
+    return f"{'-' if part < 0 else ''}{tenths // 10}.{tenths % 10}%"
+
+
+def shown(amounts):
+    """The figures of a record as a page shows them."""
+    for at in SHOWN.values():
+        if isinstance(at, tuple):
+            yield percent(amounts[at[0]], amounts[at[1]])
+        else:
+            yield "" if amounts[at] is None else cents(amounts[at])
+
+
+class Tables(html.parser.HTMLParser):
+    """The tables of a page: of each its label and its rows, of each row the texts of its cells, and which of these are its headings."""
+
+    def __init__(self, text):
+        super().__init__()
+        self.tables, self.tags, self.cell = [], [], None
+        self.feed(text)
+
+    def handle_starttag(self, tag, attrs):
+        self.tags.append((tag, dict(attrs)))
+        if tag == "table":
+            self.tables.append((dict(attrs)["aria-label"], [], []))
+        elif tag == "tr":
+            self.tables[-1][1].append([])
+            self.tables[-1][2].append([])
+        elif tag in ("td", "th"):
+            self.cell = ""
+            if tag == "th":
+                self.tables[-1][2][-1].append((len(self.tables[-1][1][-1]), dict(attrs)["scope"]))
+
+    def handle_endtag(self, tag):
+        if tag in ("td", "th"):
+            self.tables[-1][1][-1].append(self.cell)
+            self.cell = None
+
+    def handle_data(self, text):
+        if self.cell is not None:
+            self.cell += text
+
+
 def periods(step):
     """The days or months of the range."""
     if step == "day":
@@ -186,6 +247,7 @@ class Figures(unittest.TestCase):
             with self.subTest(seed=seed, keys=keys):
                 self.check(house, keys)
                 self.check_periods(house, keys, dice.choice(["day", "month"]))
+                self.check_page(house, keys, dice.choice([None, "day", "month"]))
                 self.check_laws(house)
 
     def words(self, keys):
@@ -228,6 +290,31 @@ class Figures(unittest.TestCase):
         self.assertEqual((told["by"], [(one["from"], one["to"]) for one in told["periods"]]), (step, periods(step)))
         self.assertEqual(sum(len(one["records"]) for one in told["periods"]), len(right))
 
+    def check_page(self, house, keys, step):
+        """The tables that a reader of a page gets, cell by cell, and the chart."""
+        words = ["--from", LOW, "--to", HIGH, *self.words(keys), *(["--by", step] if step else [])]
+        text = house.asked(*words, "--format", "html").decode()
+        page = Tables(text)
+        names = [*([key.name for key in keys] or ["Commitment"]), "Keeper", *SHOWN]
+
+        def rows(low, high, period):
+            for kind, keeper, name, amounts in oracle.records(house.kept, low, high, keys):
+                texts = ["Total", *[""] * (len(keys) - 1)] if kind == "total" else [text or "(none)" for text in name]
+                yield [*period, *texts, keeper, *shown(amounts)]
+
+        wanted = []
+        if step:
+            found = [row for low, high in periods(step) for row in rows(low, high, [low[: 7 if step == "month" else 10]])]
+            wanted.append(("Figures by period", [["Period", *names], *found]))
+        wanted.append(("Figures of the whole range", [names, *rows(LOW, HIGH, [])]))
+        self.assertEqual([(label, cells) for label, cells, _ in page.tables], wanted)
+        for _, cells, headings in page.tables:
+            self.assertEqual(headings, [[(at, "col") for at in range(len(cells[0]))], *[[(0, "row")]] * (len(cells) - 1)])
+        drawn = [attrs["class"] for tag, attrs in page.tags if tag == "rect"]
+        self.assertEqual(sorted(drawn), sorted(["c0", "c1"] * len(periods(step))) if step else [])
+        for word in ("<script", "http:", "https:", "src=", "href="):
+            self.assertNotIn(word, text)
+
     def check_laws(self, house):
         """Per commitment and per group the parts sum to the totals, and savings are what reports without and with the commitments differ by."""
         by_id = oracle.figures(house.kept, LOW, HIGH)
@@ -264,6 +351,21 @@ class Figures(unittest.TestCase):
             ],
         )
 
+    def test_a_page_shows_texts_of_others_as_texts(self):
+        """An id and a tag with markup, and what is drawn of a period: 3 used and 1 unused of 4 that are as high as the chart."""
+        sign = "<b>&'"
+        row = f'{{}},USD,Usage,2024-01-31T00:00Z,2024-01-31T01:00Z,{sign},Spend,{{}},1,Hours,a,one,"{{{{""{sign}"":""x""}}}}"\n'
+        script = command("post rows 1", HEADER + row.format("0,3", "Used") + row.format("1,1", "Unused"))
+        house = House(pathlib.Path(self.made.name) / "markup", script.encode())
+        text = house.asked("--from", LOW, "--to", HIGH, "--by", "month", "--format", "html").decode()
+        self.assertIn("<td class=\"text\">&lt;b&gt;&amp;&#39;</td>", text)
+        self.assertIn("<title>Commitments</title>", text)
+        self.assertIn('<rect class="c1" x="10" y="750" width="80" height="250"><title>2024-01, UnusedCost: 1.00</title></rect>', text)
+        self.assertIn('<rect class="c0" x="10" y="0" width="80" height="750"><title>2024-01, UsedCost: 3.00</title></rect>', text)
+        by_tag = house.asked("--from", LOW, "--to", HIGH, "--tag", sign, "--format", "html").decode()
+        self.assertIn('<th scope="col" class="text">&lt;b&gt;&amp;&#39;</th>', by_tag)
+        self.assertNotIn("<b>", text + by_tag)
+
     def provided(self, name, commitment=None):
         """A warehouse of the export of a provider, perhaps with a commitment of its own, and what is known of its commitments by id."""
         folder = pathlib.Path(self.made.name) / name
@@ -296,7 +398,7 @@ class Figures(unittest.TestCase):
     def test_wrong_use(self):
         folder = str(pathlib.Path(self.made.name) / "wrong")
         House(pathlib.Path(folder), b"state\n")
-        for words in (["--by", "week"], ["--format", "html"], ["--column", "Nothing"], ["--tag", "a", "--tag", "a"], ["--month", "2024"], ["--from", HIGH, "--to", LOW]):
+        for words in (["--by", "week"], ["--format", "xml"], ["--column", "Nothing"], ["--tag", "a", "--tag", "a"], ["--month", "2024"], ["--from", HIGH, "--to", LOW]):
             self.assertEqual(focusd("commitments", "--dir", folder, *words)[0], 2, words)
         for words in (["--as-of", "7", "--from", LOW, "--to", HIGH], []):
             self.assertEqual(focusd("commitments", "--dir", folder, *words)[0], 1, words)

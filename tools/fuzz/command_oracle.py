@@ -74,7 +74,7 @@ COMMANDS = {
     "coverage": ({"dir": DIR, **HOURS, "as-of": Option(), "format": Option(rule=one_of("table", "csv"))}, 0, 0),
     "commitments": (
         {"dir": DIR, "tag": Option(repeats=True), "column": Option(rule=one_of(*COLUMNS), repeats=True), **HOURS,
-         "by": Option(rule=one_of("hour", "day", "month")), "as-of": Option(), "format": Option(rule=one_of("table", "csv", "json"))}, 0, 0,
+         "by": Option(rule=one_of("hour", "day", "month")), "as-of": Option(), "format": Option(rule=one_of("table", "csv", "json", "html"))}, 0, 0,
     ),
     "policy": ({"dir": DIR}, 1, 1),
     "status": ({"dir": DIR}, 0, 0),

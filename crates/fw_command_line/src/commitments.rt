@@ -7,7 +7,7 @@ use clap::{Arg, Command};
 use std::alloc::{AllocError, Global};
 
 /// The formats of the figures.
-const FORMATS: [&str; 3] = ["table", "csv", "json"];
+const FORMATS: [&str; 4] = ["table", "csv", "json", "html"];
 
 const EXAMPLE: &str =
     "T is a month (2024-01), a date (2024-01-31) or a time on a whole hour (2024-01-31T14:00Z), in UTC, and
@@ -28,8 +28,9 @@ Savings is CoveredCost less AmortizedCost, and SavingsRate is Savings in percent
 commitments apply is eligible for both, and counts once in the total. Prices of a provider's rows aren't known, so
 these stay empty.
 
-A table shows cents, and percent with one digit after the point, rounded from the exact sums; csv and json are exact,
-to the nano, and have both parts of each rate. With --by the range is cut where a new hour, day or month begins.
+A table and a page (html) show cents, and percent with one digit after the point, rounded from the exact sums; csv and json
+are exact, to the nano, and have both parts of each rate. With --by the range is cut where a new hour, day or month begins.
+A page has all figures, and with --by a chart too.
 
 With --as-of N the answer is as of the first N entries of the warehouse: how it was when focusd status said that it had N entries.
 
@@ -38,6 +39,8 @@ Examples:
     focusd commitments --dir costs --month 2024-01
   which teams used them, month by month
     focusd commitments --dir costs --tag team --last 6 months --by month
+  a page of half a year with a chart, to open in a browser
+    focusd commitments --dir costs --last 6 months --by month --format html > commitments.html
   the unused cost of all own commitments, for a program
     focusd commitments --dir costs --month 2024-01 --format json | jq -r '.records[] | select(.kind == \"total\") | .unusedCost'";
 

@@ -54,6 +54,7 @@ fn format_of(word: Option<&str>) -> SheetFormat {
     match word {
         Some("csv") => SheetFormat::Csv,
         Some("json") => SheetFormat::Json,
+        Some("html") => SheetFormat::Html,
         _ => SheetFormat::Table,
     }
 }

@@ -9,6 +9,7 @@ mod book;
 mod csv_text;
 mod figures;
 mod json;
+mod page;
 mod parts;
 mod prices;
 mod record;

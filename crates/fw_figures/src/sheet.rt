@@ -1,6 +1,7 @@
 //! How the figures of commitments are written.
 use crate::csv_text::csv_text;
 use crate::json::json_text;
+use crate::page::page_text;
 use crate::parts::Commitments;
 use crate::table::table_of;
 use fw_calendar::{Period, Step};
@@ -15,6 +16,8 @@ pub enum SheetFormat {
     Csv,
     /// One object, exact to the nano.
     Json,
+    /// A page with a chart, in cents and percent.
+    Html,
 }
 
 /// What was asked, as it is written beside the answer.
@@ -41,5 +44,6 @@ pub fn written(
         SheetFormat::Table => Ok(table_of(alloc, commitments, sheet)?.into_bytes()),
         SheetFormat::Csv => csv_text(alloc, commitments, sheet),
         SheetFormat::Json => Ok(json_text(alloc, commitments, sheet)?.into_bytes()),
+        SheetFormat::Html => page_text(alloc, commitments, sheet),
     }
 }

@@ -49,8 +49,8 @@ fn text_columns(sheet: &Sheet<'_, '_, '_>) -> usize {
         .saturating_add(1)
 }
 
-// How many columns a name has.
-fn name_columns(sheet: &Sheet<'_, '_, '_>) -> usize {
+/// How many columns a name has.
+pub(crate) fn name_columns(sheet: &Sheet<'_, '_, '_>) -> usize {
     sheet.keys.len().max(1)
 }
 
@@ -121,8 +121,12 @@ fn record_line(
     Ok(Line::Cells(cells))
 }
 
-// What people see of a name at a place.
-fn shown_at<'b>(sheet: &Sheet<'_, '_, '_>, record: &Record<'b>, place: usize) -> &'b str {
+/// What people see of a name at a place.
+pub(crate) fn shown_at<'b>(
+    sheet: &Sheet<'_, '_, '_>,
+    record: &Record<'b>,
+    place: usize,
+) -> &'b str {
     if record.texts.is_none() {
         return if place == 0 { "Total" } else { "" };
     }
@@ -151,16 +155,20 @@ fn push_amounts(
     Ok(())
 }
 
-// A cost in cents; empty where it isn't known.
-fn cost_text(alloc: Global, cost: Option<i128>) -> Result<String, AllocError> {
+/// A cost in cents; empty where it isn't known.
+pub(crate) fn cost_text(alloc: Global, cost: Option<i128>) -> Result<String, AllocError> {
     match cost {
         Some(nanos) => cents_text(alloc, nanos),
         None => Ok(String::new(alloc)),
     }
 }
 
-// A rate; empty where it isn't known, or the whole isn't above 0.
-fn rate_text(alloc: Global, part: Option<i128>, whole: Option<i128>) -> Result<String, AllocError> {
+/// A rate; empty where it isn't known, or the whole isn't above 0.
+pub(crate) fn rate_text(
+    alloc: Global,
+    part: Option<i128>,
+    whole: Option<i128>,
+) -> Result<String, AllocError> {
     let (Some(part), Some(whole)) = (part, whole) else {
         return Ok(String::new(alloc));
     };

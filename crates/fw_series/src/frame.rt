@@ -39,6 +39,7 @@ th,td{padding:.3rem .6rem;border-bottom:1px solid #e3e8ee;text-align:right;white
 th{font-weight:600}
 tbody th{font-weight:400}
 th:first-child,td:first-child{padding-left:0;text-align:left}
+.text{text-align:left}
 tfoot th,tfoot td{border-top:2px solid #8592a3;border-bottom:0;font-weight:600}
 .c0{fill:#4e79a7;background:#4e79a7}
 .c1{fill:#f28e2b;background:#f28e2b}
