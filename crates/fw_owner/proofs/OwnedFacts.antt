@@ -1,11 +1,14 @@
 -- What an owner sees, and the reports of all groups.
-use Rattle.std.proofs.Common.{◌≡◌, ℕ, ◌<◌, ◌≤◌, inl, inr, List, Option, length, get_or, subst, arith}
+use Rattle.std.proofs.Common.{◌≡◌, ◌∙◌, ℕ, ◌+◌, ◌<◌, inl, inr, All, List, [], ◌∷◌, ◌++◌, Option, length, get_or, map, take, sym, ap, subst, arith}
+use Rattle.std.proofs.lemmas.List.{map-append, take_more}
+use Rattle.std.proofs.lemmas.List.Elements.{All-append, All-cons, All-nil}
 use Rattle.fw_calendar.specs.Periods.{ArePeriods}
 use Rattle.fw_calendar.specs.declared.steps.Step.{Step}
 use Rattle.fw_calendar.specs.declared.steps.Period.{Period}
 use Rattle.fw_entry.specs.Entry as entry
 use Rattle.fw_owner.specs.Owned.{IsOwned, IsOwnedRefused, IsRefusedUpTo}
 use Rattle.fw_owner.specs.declared.owned.Owned.{Owned}
+use Rattle.fw_owner.specs.declared.owned.Stretch.{Stretch}
 use Rattle.fw_query.specs.OfHistory.{IsReportOn}
 use Rattle.fw_query.specs.Reports.{EntryValue}
 use Rattle.fw_query.specs.declared.fault.QueryFault.{QueryFault}
@@ -32,3 +35,11 @@ up_to history key from to step periods k d fault are within (inr up) =
     let has = period_within step from to periods k d are within in
     let ends = up.ends in
     record { low = up.low; high = up.high; some = up.some; ends = omega (arith, has.2); refused = up.refused }
+
+-- one period more, with what the group cost there
+pub part_more : (P : Stretch → Type 0) (periods : List Period) (i : ℕ) (d : Period) (parts : List Stretch) (part : Stretch) (pushed : List Stretch) → i < length periods → pushed ≡ parts ++ part ∷ []
+    → map (λ (s : Stretch). s.hours) parts ≡ take i periods → part.hours ≡ get_or periods i d → All P parts → P part → (map (λ (s : Stretch). s.hours) pushed ≡ take (i + 1) periods) × All P pushed
+part_more P periods i d parts part pushed within is so here each one =
+    let one_more : All P (part ∷ []) = All-cons P part [] one (All-nil P) in
+    let every : All P (parts ++ part ∷ []) = All-append P parts (part ∷ []) each one_more in
+    (ap (map (λ (s : Stretch). s.hours)) is ∙ map-append (λ (s : Stretch). s.hours) parts (part ∷ []) ∙ (λ j. so j ++ here j ∷ []) ∙ sym (take_more periods i d within), subst (All P) (sym is) every)

@@ -4,7 +4,6 @@ use Rattle.std.specs.List.{find}
 use Rattle.std.specs.Str.{bytes_eq}
 use Rattle.fw_calendar.specs.Periods.{ArePeriods}
 use Rattle.fw_calendar.specs.declared.steps.Step.{Step}
-use Rattle.fw_calendar.specs.declared.steps.Period.{Period}
 use Rattle.fw_compare.specs.Costs.{less, none}
 use Rattle.fw_compare.specs.declared.costs.Costs.{Costs}
 use Rattle.fw_entry.specs.Entry as entry

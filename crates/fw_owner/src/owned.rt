@@ -90,8 +90,8 @@ fn parts_of(
     requires { query.now.from_hour < query.now.to_hour }
     ensures parts { IfOk result (λ parts. AreStretches snapshot.now.entries query.now.key.now
         group.now query.now.from_hour query.now.to_hour step parts.items) }
-    ensures fault { IfErr result (IsRefusedUpTo snapshot.now.entries query.now.key.now
-        query.now.to_hour) }
+    ensures fault { IfErr result (IsOwnedRefused snapshot.now.entries query.now.key.now
+        query.now.from_hour query.now.to_hour) }
 {
     let periods = periods(alloc, step, query.from_hour, query.to_hour)?;
     let mut parts = Vec::new(alloc);
