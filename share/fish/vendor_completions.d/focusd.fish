@@ -158,7 +158,7 @@ complete -c focusd -n '__focusd_runs commitments' -l month -x -d 'The range is t
 complete -c focusd -n '__focusd_runs commitments' -l last -x -d 'The range is the last N hours, days or months that have rows, as 3 months'
 complete -c focusd -n '__focusd_runs commitments' -l by -x -a 'hour day month' -d 'Cuts the range into hours, days or months, each with a report of its own'
 complete -c focusd -n '__focusd_runs commitments' -l as-of -x -d 'Asks as of the first N entries: how it was when focusd status said N entries'
-complete -c focusd -n '__focusd_runs commitments' -l format -x -a 'table csv json' -d 'How the figures are written'
+complete -c focusd -n '__focusd_runs commitments' -l format -x -a 'table csv json html' -d 'How the figures are written'
 complete -c focusd -n '__focusd_runs commitments' -l help -d 'Print help'
 complete -c focusd -n '__focusd_runs policy' -l dir -x -a '(__fish_complete_directories)' -d 'The folder of the warehouse'
 complete -c focusd -n '__focusd_runs policy' -l help -d 'Print help'
