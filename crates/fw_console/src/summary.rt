@@ -1,7 +1,7 @@
 //! What a command did, as one line of JSON for programs.
 ghost use Rattle.std.specs.Prelude.{◌≡◌, ◌++◌, string_bytes, IfOk};
-ghost use Rattle.fw_console.specs.Summaries.{member_text, members_text, summary_text};
-ghost use Rattle.fw_console.specs.declared.summary.Told.TheVariants.{Count, Word};
+ghost use Rattle.fw_console.specs.Summaries.{member_text, members_text, quoted, summary_text, told_text};
+ghost use Rattle.fw_console.specs.declared.summary.Told.TheVariants.{Count};
 
 use crate::fault::Fault;
 use crate::output::print_answer;
@@ -40,9 +40,10 @@ impl<'a> Member<'a> {
     }
 
     /// A word of ASCII letters and digits alone, under a name.
+    #[tactic(auto, unfolding(crate::specs::Summaries::told_text))]
     pub fn word(name: &'static str, word: &'a str) -> Member<'a>
         ensures name { result.name.now ≡ name.now }
-        ensures told { result.told ≡ Word word }
+        ensures told { told_text result.told ≡ quoted word.now }
     {
         Member {
             name,

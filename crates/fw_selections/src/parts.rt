@@ -1,7 +1,7 @@
 //! The selections of the periods of a range.
-ghost use Rattle.std.specs.Prelude.{◌<◌, IfOk};
+ghost use Rattle.std.specs.Prelude.{◌≡◌, ◌<◌, IfOk};
 ghost use Rattle.fw_select.specs.Selections.{IsSelection};
-ghost use Rattle.fw_selections.specs.Parts.{AreParts, ArePartsBy};
+ghost use Rattle.fw_selections.specs.Parts.{AreParts, ArePartsBy, IsPartSelection};
 
 use fw_calendar::{Period, Step, periods};
 use fw_query::QueryFault;
@@ -82,11 +82,24 @@ fn parts_of(
     let periods = periods(alloc, step, hours.from, hours.to)?;
     let mut parts = Vec::new(alloc);
     for period in &periods {
-        let selection = selected(alloc, snapshot, selector, period.from, period.to)?;
-        parts.push(SelectedPart {
-            period: *period,
-            selection,
-        })?;
+        match part_of(alloc, snapshot, selector, *period) {
+            Ok(part) => parts.push(part)?,
+            Err(fault) => return Err(fault),
+        }
     }
     Ok(parts)
+}
+
+// A period and its selection.
+fn part_of(
+    alloc: Global,
+    snapshot: &Snapshot,
+    selector: &Selector<'_, '_, '_>,
+    period: Period,
+) -> Result<SelectedPart, QueryFault>
+    ensures period { IfOk result (λ part. part.period ≡ period) }
+    ensures selection { IfOk result (IsPartSelection snapshot.now.entries selector.now) }
+{
+    let selection = selected(alloc, snapshot, selector, period.from, period.to)?;
+    Ok(SelectedPart { period, selection })
 }
