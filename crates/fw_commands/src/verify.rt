@@ -108,16 +108,11 @@ fn print_sound(
     ensures { IfOk result (λ status. exit_status status ≡ 0) }
 {
     if job.is_json {
-        let entries = entries_of(store);
+        let entries = Member::count("entries", store.state().state().entries() as u64);
         return tell(rt, "verify", &[entries], ExitCode::SUCCESS);
     }
     let text = answer(rt.alloc(), store, &Question::Verify)?;
     print_answer(rt, text.as_slice())
-}
-
-// How many entries a warehouse has, as programs are told it.
-fn entries_of(store: &Store<FileVolume>) -> Member<'static> {
-    Member::count("entries", store.state().state().entries() as u64)
 }
 
 // Tells how many entries a warehouse has, and its digest.
@@ -129,9 +124,14 @@ fn tell_digest(
 ) -> Result<ExitCode, Fault>
     ensures { IfOk result (λ told. told ≡ status) }
 {
-    let text = digest_text(rt.alloc(), found)?;
-    let members = [entries_of(store), Member::word("digest", text.as_str())];
-    tell(rt, "verify", &members, status)
+    let is_well = status == ExitCode::SUCCESS;
+    let entries = store.state().state().entries();
+    let digest = digest_text(rt.alloc(), found)?;
+    let line = format!(in rt.alloc();
+        "{{\"command\":\"verify\",\"ok\":{is_well},\"entries\":{entries},\"digest\":\"{digest}\"}}\n"
+    )?;
+    print_answer(rt, line.as_bytes())?;
+    Ok(status)
 }
 
 // Prints a digest.
