@@ -2,7 +2,7 @@
 use crate::ended::check_all;
 use crate::stores::{Faulty, NEVER, ROOM, created};
 use fw_disk::Mode;
-use fw_import::{ImportFault, Importer, Outcome, Taken, import_part};
+use fw_import::{ImportFault, Importer, Outcome, import_part};
 use fw_recover::{Store, StoreFault};
 use fw_rows::RowFault;
 use fw_serve::serve;
@@ -55,12 +55,7 @@ fn letter(
     text: &str,
     number: u64,
 ) -> Result<char, StoreFault> {
-    letter_of(import_part(alloc, store, importer, number, text.as_bytes()))
-}
-
-/// What became of a text.
-pub(crate) fn letter_of(taken: Result<Taken, ImportFault>) -> Result<char, StoreFault> {
-    match taken {
+    match import_part(alloc, store, importer, number, text.as_bytes()) {
         Ok(taken) => match taken.outcome {
             Outcome::Added => Ok('A'),
             Outcome::Same => Ok('S'),
