@@ -45,7 +45,7 @@ impl Tally {
         }
     }
 
-    /// What programs are told of it.
+    /// Its members in JSON.
     pub(crate) fn members(self) -> [Member<'static>; 2] {
         [
             Member::count("added", self.added),

@@ -25,12 +25,12 @@ struct Job<'a> {
     expected: Option<[u8; 32]>,
     /// Whether the digest is printed.
     is_digest: bool,
-    /// Whether what is found is told as one line of JSON.
+    /// Whether what is found is printed as one line of JSON.
     is_json: bool,
 }
 
 /// Reads the warehouse, and prints what was found, or its digest. Where a digest is expected and it has another one, that is
-/// said, with status 1. What was found may be told as one line of JSON, too.
+/// said, with status 1. What was found may be printed as one line of JSON, too.
 pub fn verify_folder(rt: &HostRuntime, options: &ArgMatches<'_>) -> ExitCode {
     let expected = match options.get_str(EXPECT) {
         Some(text) => match read_digest(text) {

@@ -10,7 +10,7 @@ use fw_command_line::SUMMARY;
 use std::alloc::{AllocError, Global};
 use std::process::ExitCode;
 
-/// What is told under a name.
+/// What stands under a name.
 #[derive(Clone, Copy, Debug, Drop)]
 pub enum Told<'a> {
     /// How many there are.
@@ -19,7 +19,7 @@ pub enum Told<'a> {
     Word(&'a str),
 }
 
-/// A name, and what is told under it.
+/// A name, and what stands under it.
 #[derive(Clone, Copy, Debug, Drop)]
 pub struct Member<'a> {
     /// A word of ASCII letters alone.

@@ -45,7 +45,7 @@ struct Replaced {
 }
 
 impl Replaced {
-    // What programs are told of it.
+    // Its members in JSON.
     fn members(self) -> [Member<'static>; 2] {
         [
             Member::count("rowsBefore", self.rows_before),
@@ -97,7 +97,7 @@ pub fn replace_rows(rt: &HostRuntime, options: &ArgMatches<'_>) -> Result<ExitCo
     end(rt, &job, done)
 }
 
-// The status of what was done, which programs are told where that is asked for.
+// The status of what was done, which is also printed as JSON where that is asked for.
 fn end(
     rt: &HostRuntime,
     job: &Job<'_>,

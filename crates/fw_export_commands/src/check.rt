@@ -47,7 +47,7 @@ impl Found {
         }
     }
 
-    // What programs are told of it.
+    // Its members in JSON.
     fn members(self) -> [Member<'static>; 4] {
         [
             Member::count("files", self.files),

@@ -28,7 +28,7 @@ pub(crate) struct Imported {
 }
 
 impl Imported {
-    /// What programs are told of it.
+    /// Its members in JSON.
     pub(crate) fn members(self) -> [Member<'static>; 4] {
         [
             Member::count("rowsAdded", self.added),
