@@ -46,10 +46,10 @@ impl Tally {
     }
 
     /// Its members in JSON.
-    pub(crate) fn members(self) -> [Member<'static>; 2] {
+    pub(crate) fn members(self) -> [Member; 2] {
         [
-            Member::count("added", self.added),
-            Member::count("same", self.same),
+            Member::new("added", self.added),
+            Member::new("same", self.same),
         ]
     }
 }

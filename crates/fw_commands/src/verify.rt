@@ -108,7 +108,7 @@ fn print_sound(
     ensures { IfOk result (λ status. exit_status status ≡ 0) }
 {
     if job.is_json {
-        let entries = Member::count("entries", store.state().state().entries() as u64);
+        let entries = Member::new("entries", store.state().state().entries() as u64);
         return tell(rt, "verify", &[entries], ExitCode::SUCCESS);
     }
     let text = answer(rt.alloc(), store, &Question::Verify)?;

@@ -3,21 +3,14 @@ use Rattle.std.specs.Prelude.{ℕ, List, [], ◌∷◌, ◌++◌, codes, Bool, i
 use Rattle.std.specs.Fmt.{decimal}
 use Rattle.std.specs.List.{flat_map}
 use Rattle.fw_console.specs.declared.summary.Member.{Member}
-use Rattle.fw_console.specs.declared.summary.Told.{Told}
-use Rattle.fw_console.specs.declared.summary.Told.TheVariants.{Count, Word}
 
 -- a text in quotes
 abbrev pub quoted : List ℕ → List ℕ
 quoted text = 34 ∷ (text ++ (34 ∷ []))
 
--- a number as it is, a word in quotes
-unfoldable pub told_text : Told → List ℕ
-told_text (Count count) = decimal count
-told_text (Word word) = quoted word.now
-
 -- a further member of an object
 unfoldable pub member_text : Member → List ℕ
-member_text member = 44 ∷ (quoted member.name.now ++ (58 ∷ told_text member.told))
+member_text member = 44 ∷ (quoted member.name.now ++ (58 ∷ decimal member.count))
 
 -- further members, in order
 abbrev pub members_text : List Member → List ℕ

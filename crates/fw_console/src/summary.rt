@@ -1,7 +1,6 @@
 //! What a command did, as one line of JSON for programs.
 ghost use Rattle.std.specs.Prelude.{◌≡◌, ◌++◌, string_bytes, IfOk};
-ghost use Rattle.fw_console.specs.Summaries.{member_text, members_text, quoted, summary_text, told_text};
-ghost use Rattle.fw_console.specs.declared.summary.Told.TheVariants.{Count};
+ghost use Rattle.fw_console.specs.Summaries.{member_text, members_text, summary_text};
 
 use crate::fault::Fault;
 use crate::output::print_answer;
@@ -10,45 +9,21 @@ use fw_command_line::SUMMARY;
 use std::alloc::{AllocError, Global};
 use std::process::ExitCode;
 
-/// What stands under a name.
+/// How many there are of what a command tells of.
 #[derive(Clone, Copy, Debug, Drop)]
-pub enum Told<'a> {
-    /// How many there are.
-    Count(u64),
-    /// A word of ASCII letters and digits alone, which JSON needs no escape for.
-    Word(&'a str),
-}
-
-/// A name, and what stands under it.
-#[derive(Clone, Copy, Debug, Drop)]
-pub struct Member<'a> {
-    /// A word of ASCII letters alone.
+pub struct Member {
+    /// Its name, of ASCII letters alone, which JSON needs no escape for.
     pub name: &'static str,
-    pub told: Told<'a>,
+    pub count: u64,
 }
 
-impl<'a> Member<'a> {
-    /// How many there are, under a name.
-    pub fn count(name: &'static str, count: u64) -> Member<'a>
+impl Member {
+    /// So many, under a name.
+    pub fn new(name: &'static str, count: u64) -> Member
         ensures name { result.name.now ≡ name.now }
-        ensures told { result.told ≡ Count count }
+        ensures count { result.count ≡ count }
     {
-        Member {
-            name,
-            told: Told::Count(count),
-        }
-    }
-
-    /// A word of ASCII letters and digits alone, under a name.
-    #[tactic(auto, unfolding(crate::specs::Summaries::told_text))]
-    pub fn word(name: &'static str, word: &'a str) -> Member<'a>
-        ensures name { result.name.now ≡ name.now }
-        ensures told { told_text result.told ≡ quoted word.now }
-    {
-        Member {
-            name,
-            told: Told::Word(word),
-        }
+        Member { name, count }
     }
 }
 
@@ -64,7 +39,7 @@ pub fn tells_json(options: &ArgMatches<'_>) -> bool {
 pub fn tell(
     rt: &HostRuntime,
     command: &str,
-    members: &[Member<'_>],
+    members: &[Member],
     status: ExitCode,
 ) -> Result<ExitCode, Fault>
     ensures { IfOk result (λ told. told ≡ status) }
@@ -81,7 +56,7 @@ fn summary_line(
     alloc: Global,
     command: &str,
     is_well: bool,
-    members: &[Member<'_>],
+    members: &[Member],
 ) -> Result<String, AllocError>
     ensures { IfOk result (λ line. string_bytes line
         ≡ summary_text command.now is_well members.now) }
@@ -93,7 +68,7 @@ fn summary_line(
 }
 
 // Adds members to an object.
-fn push_members(line: &mut String, members: &[Member<'_>]) -> Result<(), AllocError>
+fn push_members(line: &mut String, members: &[Member]) -> Result<(), AllocError>
     ensures { IfOk result (λ done. string_bytes line.new
         ≡ string_bytes line.old ++ members_text members.now) }
 {
@@ -104,14 +79,11 @@ fn push_members(line: &mut String, members: &[Member<'_>]) -> Result<(), AllocEr
 }
 
 // Adds a member to an object.
-#[tactic(auto, unfolding(crate::specs::Summaries::member_text, crate::specs::Summaries::told_text))]
-fn push_member(line: &mut String, member: &Member<'_>) -> Result<(), AllocError>
+#[tactic(auto, unfolding(crate::specs::Summaries::member_text))]
+fn push_member(line: &mut String, member: &Member) -> Result<(), AllocError>
     ensures { IfOk result (λ done. string_bytes line.new
         ≡ string_bytes line.old ++ member_text member.now) }
 {
     let name = member.name;
-    match member.told {
-        Told::Count(count) => write!(line, ",\"{name}\":{count}"),
-        Told::Word(word) => write!(line, ",\"{name}\":\"{word}\""),
-    }
+    write!(line, ",\"{name}\":{}", member.count)
 }

@@ -46,10 +46,10 @@ struct Replaced {
 
 impl Replaced {
     // Its members in JSON.
-    fn members(self) -> [Member<'static>; 2] {
+    fn members(self) -> [Member; 2] {
         [
-            Member::count("rowsBefore", self.rows_before),
-            Member::count("rowsAfter", self.rows_after),
+            Member::new("rowsBefore", self.rows_before),
+            Member::new("rowsAfter", self.rows_after),
         ]
     }
 }

@@ -48,12 +48,12 @@ impl Found {
     }
 
     // Its members in JSON.
-    fn members(self) -> [Member<'static>; 4] {
+    fn members(self) -> [Member; 4] {
         [
-            Member::count("files", self.files),
-            Member::count("records", self.records),
-            Member::count("badRecords", self.bad_records),
-            Member::count("faults", self.faults),
+            Member::new("files", self.files),
+            Member::new("records", self.records),
+            Member::new("badRecords", self.bad_records),
+            Member::new("faults", self.faults),
         ]
     }
 }

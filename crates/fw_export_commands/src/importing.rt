@@ -29,12 +29,12 @@ pub(crate) struct Imported {
 
 impl Imported {
     /// Its members in JSON.
-    pub(crate) fn members(self) -> [Member<'static>; 4] {
+    pub(crate) fn members(self) -> [Member; 4] {
         [
-            Member::count("rowsAdded", self.added),
-            Member::count("rowsThere", self.same),
-            Member::count("posts", self.posts),
-            Member::count("repeatedHeaders", self.repeated),
+            Member::new("rowsAdded", self.added),
+            Member::new("rowsThere", self.same),
+            Member::new("posts", self.posts),
+            Member::new("repeatedHeaders", self.repeated),
         ]
     }
 }
