@@ -5,6 +5,8 @@ ghost use Rattle.csv.specs.Reading.{default_config};
 ghost use Rattle.fw_cut.specs.Places.{state_of, place_behind, Does, GoesOn, IsPlain};
 ghost use Rattle.fw_cut.specs.declared.place.Place.TheVariants.{Quoted};
 
+use memchr::memchr3;
+
 /// The bytes that separate fields and records.
 const COMMA: u8 = b',';
 
@@ -165,12 +167,10 @@ fn plain_len(text: &[u8]) -> usize
     ensures within { result ≤ length text.now }
     ensures plain { All IsPlain (take result text.now) }
 {
-    for (at, byte) in text.iter().enumerate() {
-        if *byte == QUOTE || *byte == CARRIAGE_RETURN || *byte == LINE_FEED {
-            return at;
-        }
+    match memchr3(QUOTE, CARRIAGE_RETURN, LINE_FEED, text) {
+        Some(at) => at,
+        None => text.len(),
     }
-    text.len()
 }
 
 // How many bytes stand before the quote that closes a field, two quotes in a row being none; where the text ends behind a quote, those before it.

@@ -4,8 +4,13 @@ use fw_console::{Fault, House, bytes_of, say_fault};
 use fw_cut::{CutFault, Cutter};
 use fw_export_files::{all_exports, texts_of};
 use fw_import::{fits, surely_fits};
+use memchr::memchr2_iter;
 use std::alloc::{AllocError, Global};
 use std::fs;
+use std::io::Read;
+
+/// How many bytes of a file are looked at together.
+const PIECE: usize = 64 * 1024;
 
 /// Whether the rows of the exports that names stand for fit into the warehouse of an import; where they don't, that is said. Files that are no plain
 /// files, or so short that their rows fit in any case, aren't read.
@@ -25,10 +30,16 @@ fn do_all_fit(rt: &HostRuntime, import: &Import<'_>, files: &[&str]) -> Result<b
     if surely_fits(posted, bytes) {
         return Ok(true);
     }
+    let sent = rows_sent(rt.alloc(), import)?;
+    let Some(most) = most_rows(rt, files)? else {
+        return Ok(true);
+    };
+    if fits(posted, sent, most) {
+        return Ok(true);
+    }
     let Some(rows) = count_rows(rt, files)? else {
         return Ok(true);
     };
-    let sent = rows_sent(rt.alloc(), import)?;
     if fits(posted, sent, rows) {
         return Ok(true);
     }
@@ -44,6 +55,39 @@ fn plain_bytes(rt: &HostRuntime, files: &[&str]) -> Option<u64> {
         }
     }
     bytes_of(rt, files)
+}
+
+// How many records files have at most: one for each line end, and one that the end of a file ends. None where one can't be read: its import says why.
+fn most_rows(rt: &HostRuntime, files: &[&str]) -> Result<Option<u64>, Fault> {
+    let mut rows: u64 = 0;
+    for file in files {
+        match line_ends(rt, file)? {
+            Some(more) => rows = rows.saturating_add(more).saturating_add(1),
+            None => return Ok(None),
+        }
+    }
+    Ok(Some(rows))
+}
+
+// How many line feeds and carriage returns a file has.
+fn line_ends(rt: &HostRuntime, file: &str) -> Result<Option<u64>, Fault> {
+    let Ok(mut opened) = fs::open(rt, file) else {
+        return Ok(None);
+    };
+    let mut piece = vec![in rt.alloc(); 0; PIECE]?;
+    let mut ends: u64 = 0;
+    for _ in 0..u64::MAX {
+        match opened.read(&mut piece) {
+            Ok(0) => return Ok(Some(ends)),
+            Ok(len) => {
+                let read = &piece[..len.min(PIECE)];
+                let more = memchr2_iter(b'\n', b'\r', read).count();
+                ends = ends.saturating_add(more as u64);
+            }
+            Err(_) => return Ok(None),
+        }
+    }
+    Ok(None)
 }
 
 // How many records files have behind their headers. None where one can't be read or cut: its import says why.
