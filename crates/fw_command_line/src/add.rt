@@ -1,9 +1,12 @@
 //! `focusd add`: commitments, policies and purchases are taken from TOML files into a warehouse.
+ghost use Rattle.std.specs.Prelude.{◌≡◌, true};
+
 use crate::ids::ORIGIN;
 use crate::options::{
     command_with, dry_run_option, files_argument, folder_option, summary_option, yes_option,
 };
-use clap::{Arg, Command};
+use crate::parameter::Parameter;
+use clap::Command;
 use std::alloc::{AllocError, Global};
 
 const HELP: &str =
@@ -38,42 +41,32 @@ Exit status: 0 where each file was added or was there already, 1 where a file or
 command line is wrong.";
 
 // The option that names who sends the files.
-fn origin_option<'a>(alloc: Global) -> Arg<'a> {
-    Arg::new(alloc, ORIGIN)
-        .long("origin")
-        .value_name("NAME")
-        .required(true)
-        .help("Who sends the files")
-}
-
-// The options, in the order in which the help has them.
-fn options<'a>(alloc: Global) -> Result<Vec<Arg<'a>>, AllocError> {
-    Ok(vec![in alloc;
-        folder_option(alloc),
-        origin_option(alloc),
-        dry_run_option(
-            alloc,
-            "Writes nothing: says what each file is, and which rows it would apply to",
-        ),
-        yes_option(
-            alloc,
-            "Lets a policy take the place of another key's, and adds an equal purchase again",
-        ),
-        summary_option(alloc),
-        files_argument(
-            alloc,
-            "A TOML with a commitment, a policy or a purchase, or `-` for standard input",
-        ),
-    ]?)
+fn origin_option() -> Parameter
+    ensures { result.is_needed ≡ true }
+{
+    Parameter::option(ORIGIN, "NAME", "Who sends the files").needed()
 }
 
 /// The command's part of the command line.
 pub(crate) fn command<'a>(alloc: Global) -> Result<Command<'a>, AllocError> {
+    let parameters = [
+        folder_option(),
+        origin_option(),
+        dry_run_option("Writes nothing: says what each file is, and which rows it would apply to"),
+        yes_option(
+            "Lets a policy take the place of another key's, and adds an equal purchase again",
+        ),
+        summary_option(),
+        files_argument(
+            "FILE",
+            "A TOML with a commitment, a policy or a purchase, or `-` for standard input",
+        ),
+    ];
     command_with(
         alloc,
         "add",
         "Takes commitments, policies and purchases from TOML files into a warehouse",
         HELP,
-        options(alloc)?,
+        &parameters,
     )
 }

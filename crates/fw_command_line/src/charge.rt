@@ -1,10 +1,13 @@
 //! `focusd charge`: direct reports of several warehouses are added up, and charged under a policy.
-use crate::ids::{FILES, POLICY};
+ghost use Rattle.std.specs.Prelude.{◌≡◌, false};
+
+use crate::ids::POLICY;
 use crate::options::{
-    by_option, command_with, perhaps_from_option, perhaps_to_option, report_format_option,
-    tag_option, top_option,
+    by_option, command_with, files_argument, perhaps_from_option, perhaps_to_option,
+    report_format_option, tag_option, top_option,
 };
-use clap::{Arg, ArgAction, Command};
+use crate::parameter::Parameter;
+use clap::Command;
 use std::alloc::{AllocError, Global};
 
 const HELP: &str =
@@ -26,44 +29,36 @@ Exit status: 0 where the report was printed, 1 where a file can't be read, is no
 the command line is wrong.";
 
 // The option that names the policy.
-fn policy_option<'a>(alloc: Global) -> Arg<'a> {
-    Arg::new(alloc, POLICY)
-        .long("policy")
-        .value_name("FILE")
-        .help("The TOML of the policy; without one each group is charged what it cost")
-}
-
-// The argument that names the reports.
-fn reports_argument<'a>(alloc: Global) -> Arg<'a> {
-    Arg::new(alloc, FILES)
-        .value_name("REPORT")
-        .required(true)
-        .num_args(1..)
-        .action(ArgAction::Append)
-        .help("What focusd report --direct printed, or `-` for standard input")
-}
-
-// The options, in the order in which the help has them.
-fn options<'a>(alloc: Global) -> Result<Vec<Arg<'a>>, AllocError> {
-    Ok(vec![in alloc;
-        tag_option(alloc).help("The tag that the reports must have"),
-        policy_option(alloc),
-        perhaps_from_option(alloc),
-        perhaps_to_option(alloc),
-        by_option(alloc),
-        top_option(alloc),
-        report_format_option(alloc),
-        reports_argument(alloc),
-    ]?)
+fn policy_option() -> Parameter
+    ensures { result.is_needed ≡ false }
+{
+    Parameter::option(
+        POLICY,
+        "FILE",
+        "The TOML of the policy; without one each group is charged what it cost",
+    )
 }
 
 /// The command's part of the command line.
 pub(crate) fn command<'a>(alloc: Global) -> Result<Command<'a>, AllocError> {
+    let parameters = [
+        tag_option().saying("The tag that the reports must have"),
+        policy_option(),
+        perhaps_from_option(),
+        perhaps_to_option(),
+        by_option(),
+        top_option(),
+        report_format_option(),
+        files_argument(
+            "REPORT",
+            "What focusd report --direct printed, or `-` for standard input",
+        ),
+    ];
     command_with(
         alloc,
         "charge",
         "Adds direct reports of several warehouses, and charges them under a policy",
         HELP,
-        options(alloc)?,
+        &parameters,
     )
 }

@@ -1,13 +1,13 @@
 //! `focusd check`: all faults of CSV exports, and what is in them.
+ghost use Rattle.std.specs.Prelude.{◌≡◌, false};
+
 use crate::dialects::dialect_option;
 use crate::exports::exports_argument;
 use crate::ids::CURRENCY;
 use crate::options::{command_with, format_option, quiet_option, summary_option};
-use clap::{Arg, Command};
+use crate::parameter::Parameter;
+use clap::Command;
 use std::alloc::{AllocError, Global};
-
-/// The formats of the answer.
-const FORMATS: [&str; 2] = ["text", "json"];
 
 const HELP: &str =
     "Each record is checked as a post's record is. Of a record with several faults each one is found: a field at fault is taken
@@ -32,39 +32,36 @@ Example:
 
 Exit status: 0 where no file has a fault, 1 where one has or can't be read, 2 where the command line is wrong.";
 
-// The option that names the currency of all costs.
-fn cost_currency<'a>(alloc: Global) -> Arg<'a> {
-    Arg::new(alloc, CURRENCY)
-        .long("currency")
-        .value_name("CUR")
-        .default_value("USD")
-        .help("The currency that all costs must have: three capital letters")
-}
+/// The formats of the answer.
+const FORMATS: [&str; 2] = ["text", "json"];
 
-// The options, in the order in which the help has them.
-fn options<'a>(alloc: Global) -> Result<Vec<Arg<'a>>, AllocError> {
-    Ok(vec![in alloc;
-        format_option(
-            alloc,
-            FORMATS.as_slice(),
-            "text",
-            "How the answer is written",
-        ),
-        cost_currency(alloc),
-        dialect_option(alloc),
-        summary_option(alloc),
-        quiet_option(alloc),
-        exports_argument(alloc),
-    ]?)
+// The option that names the currency of all costs.
+fn cost_currency() -> Parameter
+    ensures { result.is_needed ≡ false }
+{
+    Parameter::option(
+        CURRENCY,
+        "CUR",
+        "The currency that all costs must have: three capital letters",
+    )
+    .or("USD")
 }
 
 /// The command's part of the command line.
 pub(crate) fn command<'a>(alloc: Global) -> Result<Command<'a>, AllocError> {
+    let parameters = [
+        format_option(FORMATS.as_slice(), "text", "How the answer is written"),
+        cost_currency(),
+        dialect_option(),
+        summary_option(),
+        quiet_option(),
+        exports_argument(),
+    ];
     command_with(
         alloc,
         "check",
         "Lists all faults of CSV exports, and what is in them",
         HELP,
-        options(alloc)?,
+        &parameters,
     )
 }

@@ -3,11 +3,8 @@ use crate::options::{by_option, command_with, folder_option, format_option};
 use crate::past::as_of_option;
 use crate::ranges::{from_option, last_option, month_option, to_option};
 use crate::selection::{column_option, tags_option};
-use clap::{Arg, Command};
+use clap::Command;
 use std::alloc::{AllocError, Global};
-
-/// The formats of the figures.
-const FORMATS: [&str; 4] = ["table", "csv", "json", "html"];
 
 const EXAMPLE: &str =
     "T is a month (2024-01), a date (2024-01-31) or a time on a whole hour (2024-01-31T14:00Z), in UTC, and
@@ -44,34 +41,28 @@ Examples:
   the unused cost of all own commitments, for a program
     focusd commitments --dir costs --month 2024-01 --format json | jq -r '.records[] | select(.kind == \"total\") | .unusedCost'";
 
-// The options, in the order in which the help has them.
-fn options<'a>(alloc: Global) -> Result<Vec<Arg<'a>>, AllocError> {
-    Ok(vec![in alloc;
-        folder_option(alloc),
-        tags_option(alloc),
-        column_option(alloc),
-        from_option(alloc),
-        to_option(alloc),
-        month_option(alloc)?,
-        last_option(alloc)?,
-        by_option(alloc),
-        as_of_option(alloc),
-        format_option(
-            alloc,
-            FORMATS.as_slice(),
-            "table",
-            "How the figures are written",
-        ),
-    ]?)
-}
+/// The formats of the figures.
+const FORMATS: [&str; 4] = ["table", "csv", "json", "html"];
 
 /// The command's part of the command line.
 pub(crate) fn command<'a>(alloc: Global) -> Result<Command<'a>, AllocError> {
+    let parameters = [
+        folder_option(),
+        tags_option(),
+        column_option(),
+        from_option(),
+        to_option(),
+        month_option(),
+        last_option(),
+        by_option(),
+        as_of_option(),
+        format_option(FORMATS.as_slice(), "table", "How the figures are written"),
+    ];
     command_with(
         alloc,
         "commitments",
         "Shows what commitments cost, covered and saved in a range of time",
         EXAMPLE,
-        options(alloc)?,
+        &parameters,
     )
 }

@@ -1,7 +1,10 @@
 //! `focusd compact`: a warehouse of the entries that count.
+ghost use Rattle.std.specs.Prelude.{◌≡◌, true};
+
 use crate::ids::INTO;
 use crate::options::{command_with, folder_option, quiet_option};
-use clap::{Arg, Command};
+use crate::parameter::Parameter;
+use clap::Command;
 use std::alloc::{AllocError, Global};
 
 const HELP: &str =
@@ -18,30 +21,20 @@ Example:
 Exit status: 0 where the new warehouse is there, 1 where one of the two was refused or failed, 2 where the command line is wrong.";
 
 // The option that names the folder of the new warehouse.
-fn into_option<'a>(alloc: Global) -> Arg<'a> {
-    Arg::new(alloc, INTO)
-        .long("into")
-        .value_name("NEW")
-        .required(true)
-        .help("The folder of the new warehouse")
-}
-
-// The options, in the order in which the help has them.
-fn options<'a>(alloc: Global) -> Result<Vec<Arg<'a>>, AllocError> {
-    Ok(vec![in alloc;
-        folder_option(alloc),
-        into_option(alloc),
-        quiet_option(alloc),
-    ]?)
+fn into_option() -> Parameter
+    ensures { result.is_needed ≡ true }
+{
+    Parameter::option(INTO, "NEW", "The folder of the new warehouse").needed()
 }
 
 /// The command's part of the command line.
 pub(crate) fn command<'a>(alloc: Global) -> Result<Command<'a>, AllocError> {
+    let parameters = [folder_option(), into_option(), quiet_option()];
     command_with(
         alloc,
         "compact",
         "Makes a warehouse of the entries that count",
         HELP,
-        options(alloc)?,
+        &parameters,
     )
 }

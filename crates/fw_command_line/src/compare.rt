@@ -1,13 +1,14 @@
 //! `focusd compare`: what each group cost in a range of time and in the one before, and the differences.
-ghost use Rattle.std.specs.Prelude.{◌≡◌, Some, false, option_map, codes};
+ghost use Rattle.std.specs.Prelude.{◌≡◌, Some, false, codes, option_map};
 
 use crate::ids::{BEFORE, BEFORE_TO, BY};
 use crate::options::{command_with, folder_option, format_option, time_option, top_option};
+use crate::parameter::Parameter;
 use crate::past::as_of_option;
 use crate::ranges::{from_option, last_option, month_option, to_option};
 use crate::selection::{column_option, map_option, tags_option, where_not_option, where_option};
 use crate::what_if::compared_policy_option;
-use clap::{Arg, Command};
+use clap::Command;
 use std::alloc::{AllocError, Global};
 
 const EXAMPLE: &str =
@@ -41,70 +42,63 @@ Examples:
 const FORMATS: [&str; 3] = ["table", "csv", "json"];
 
 // The option that names one more key.
-fn key_option<'a>(alloc: Global) -> Arg<'a>
-    ensures { result.required ≡ false }
+fn key_option() -> Parameter
+    ensures { result.is_needed ≡ false }
 {
-    Arg::new(alloc, BY).long("by").value_name("KEY").help(
+    Parameter::option(
+        BY,
+        "KEY",
         "One more key of the groups, a column or a tag: what makes the differences, as SkuId",
     )
 }
 
-// The options, in the order in which the help has them.
-fn options<'a>(alloc: Global) -> Result<Vec<Arg<'a>>, AllocError> {
-    Ok(vec![in alloc;
-        folder_option(alloc),
-        tags_option(alloc),
-        column_option(alloc),
-        key_option(alloc),
-        where_option(alloc),
-        where_not_option(alloc),
-        map_option(alloc),
-        from_option(alloc),
-        to_option(alloc),
-        month_option(alloc)?,
-        last_option(alloc)?,
-        before_option(alloc),
-        before_to_option(alloc)?,
-        top_option(alloc).help("Shows the first N lines, and the sums of all others: 1 to 1,000"),
-        as_of_option(alloc),
-        compared_policy_option(alloc)?,
-        format_option(
-            alloc,
-            FORMATS.as_slice(),
-            "table",
-            "How the comparison is written",
-        ),
-    ]?)
-}
-
 // The option that says when the hours before begin.
-fn before_option<'a>(alloc: Global) -> Arg<'a>
-    ensures { result.required ≡ false }
+fn before_option() -> Parameter
+    ensures { result.is_needed ≡ false }
 {
     time_option(
-        alloc,
         BEFORE,
         "When the hours begin that the range is compared with; without it, they end where it begins",
     )
 }
 
 // The option that says when the hours before end.
-fn before_to_option<'a>(alloc: Global) -> Result<Arg<'a>, AllocError> {
+fn before_to_option() -> Parameter
+    ensures { option_map (λ id. id.now) result.beside ≡ Some (codes "before") }
+{
     time_option(
-        alloc,
         BEFORE_TO,
         "When these hours end; without it, they are as long as the range",
     )
-    .requires_arg(BEFORE)
+    .beside(BEFORE)
 }
 
 /// The command's part of the command line.
 pub(crate) fn command<'a>(alloc: Global) -> Result<Command<'a>, AllocError> {
+    let parameters = [
+        folder_option(),
+        tags_option(),
+        column_option(),
+        key_option(),
+        where_option(),
+        where_not_option(),
+        map_option(),
+        from_option(),
+        to_option(),
+        month_option(),
+        last_option(),
+        before_option(),
+        before_to_option(),
+        top_option().saying("Shows the first N lines, and the sums of all others: 1 to 1,000"),
+        as_of_option(),
+        compared_policy_option(),
+        format_option(FORMATS.as_slice(), "table", "How the comparison is written"),
+    ];
     command_with(
         alloc,
         "compare",
         "Compares the costs of a range of time with those of the range before",
         EXAMPLE,
-        options(alloc)?,
+        &parameters,
     )
 }

@@ -2,11 +2,8 @@
 use crate::options::{command_with, folder_option, format_option};
 use crate::past::as_of_option;
 use crate::ranges::{from_option, last_option, month_option, to_option};
-use clap::{Arg, Command};
+use clap::Command;
 use std::alloc::{AllocError, Global};
-
-/// The formats of a coverage.
-const FORMATS: [&str; 2] = ["table", "csv"];
 
 const EXAMPLE: &str =
     "T is a month (2024-01), a date (2024-01-31) or a time on a whole hour (2024-01-31T14:00Z), in UTC, and
@@ -26,31 +23,25 @@ With --as-of N the answer is as of the first N entries of the warehouse: how it 
 Example: which commitments were paid for and not used in January 2024
   focusd coverage --dir costs --month 2024-01";
 
-// The options, in the order in which the help has them.
-fn options<'a>(alloc: Global) -> Result<Vec<Arg<'a>>, AllocError> {
-    Ok(vec![in alloc;
-        folder_option(alloc),
-        from_option(alloc),
-        to_option(alloc),
-        month_option(alloc)?,
-        last_option(alloc)?,
-        as_of_option(alloc),
-        format_option(
-            alloc,
-            FORMATS.as_slice(),
-            "table",
-            "How the coverage is written",
-        ),
-    ]?)
-}
+/// The formats of a coverage.
+const FORMATS: [&str; 2] = ["table", "csv"];
 
 /// The command's part of the command line.
 pub(crate) fn command<'a>(alloc: Global) -> Result<Command<'a>, AllocError> {
+    let parameters = [
+        folder_option(),
+        from_option(),
+        to_option(),
+        month_option(),
+        last_option(),
+        as_of_option(),
+        format_option(FORMATS.as_slice(), "table", "How the coverage is written"),
+    ];
     command_with(
         alloc,
         "coverage",
         "Shows how well commitments were used in a range of time",
         EXAMPLE,
-        options(alloc)?,
+        &parameters,
     )
 }

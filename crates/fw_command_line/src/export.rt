@@ -1,11 +1,8 @@
 //! `focusd export`: the lines behind the costs of a range of time, as rows for other tools.
 use crate::options::{command_with, folder_option, format_option};
 use crate::ranges::{from_option, last_option, month_option, to_option};
-use clap::{Arg, Command};
+use clap::Command;
 use std::alloc::{AllocError, Global};
-
-/// The formats of an export.
-const FORMATS: [&str; 2] = ["csv", "jsonl"];
 
 const EXAMPLE: &str =
     "T is a month (2024-01), a date (2024-01-31) or a time on a whole hour (2024-01-31T14:00Z), in UTC, and
@@ -29,30 +26,24 @@ Examples:
   what each team cost, by jq
     focusd export --dir costs --month 2024-01 --format jsonl | jq -r '[.Tags.team, .EffectiveCost] | @tsv'";
 
-// The options, in the order in which the help has them.
-fn options<'a>(alloc: Global) -> Result<Vec<Arg<'a>>, AllocError> {
-    Ok(vec![in alloc;
-        folder_option(alloc),
-        from_option(alloc),
-        to_option(alloc),
-        month_option(alloc)?,
-        last_option(alloc)?,
-        format_option(
-            alloc,
-            FORMATS.as_slice(),
-            "csv",
-            "How the rows are written",
-        ),
-    ]?)
-}
+/// The formats of an export.
+const FORMATS: [&str; 2] = ["csv", "jsonl"];
 
 /// The command's part of the command line.
 pub(crate) fn command<'a>(alloc: Global) -> Result<Command<'a>, AllocError> {
+    let parameters = [
+        folder_option(),
+        from_option(),
+        to_option(),
+        month_option(),
+        last_option(),
+        format_option(FORMATS.as_slice(), "csv", "How the rows are written"),
+    ];
     command_with(
         alloc,
         "export",
         "Writes what a range of time cost as rows of FOCUS 1.0, for other tools",
         EXAMPLE,
-        options(alloc)?,
+        &parameters,
     )
 }

@@ -1,4 +1,6 @@
 //! `focusd import`: CSV exports of any length are taken into a warehouse.
+ghost use Rattle.std.specs.Prelude.{◌≡◌, true};
+
 use crate::dialects::dialect_option;
 use crate::exports::exports_argument;
 use crate::ids::ORIGIN;
@@ -6,7 +8,8 @@ use crate::keeps::keep_option;
 use crate::options::{
     command_with, create_option, currency_option, folder_option, quiet_option, summary_option,
 };
-use clap::{Arg, Command};
+use crate::parameter::Parameter;
+use clap::Command;
 use std::alloc::{AllocError, Global};
 
 const HELP: &str =
@@ -53,39 +56,30 @@ Exit status: 0 where all rows are in the warehouse, 1 where a file or the wareho
 line is wrong.";
 
 // The option that names who sends the rows.
-fn origin_option<'a>(alloc: Global) -> Arg<'a> {
-    Arg::new(alloc, ORIGIN)
-        .long("origin")
-        .value_name("NAME")
-        .required(true)
-        .help("Who sends the rows")
-}
-
-// The options, in the order in which the help has them.
-fn options<'a>(alloc: Global) -> Result<Vec<Arg<'a>>, AllocError> {
-    Ok(vec![in alloc;
-        folder_option(alloc),
-        create_option(
-            alloc,
-            "Creates a warehouse where the folder, which has to be there, holds none",
-        ),
-        currency_option(alloc),
-        origin_option(alloc),
-        keep_option(alloc),
-        dialect_option(alloc),
-        summary_option(alloc),
-        quiet_option(alloc),
-        exports_argument(alloc),
-    ]?)
+fn origin_option() -> Parameter
+    ensures { result.is_needed ≡ true }
+{
+    Parameter::option(ORIGIN, "NAME", "Who sends the rows").needed()
 }
 
 /// The command's part of the command line.
 pub(crate) fn command<'a>(alloc: Global) -> Result<Command<'a>, AllocError> {
+    let parameters = [
+        folder_option(),
+        create_option("Creates a warehouse where the folder, which has to be there, holds none"),
+        currency_option(),
+        origin_option(),
+        keep_option(),
+        dialect_option(),
+        summary_option(),
+        quiet_option(),
+        exports_argument(),
+    ];
     command_with(
         alloc,
         "import",
         "Takes CSV exports of any length into a warehouse",
         HELP,
-        options(alloc)?,
+        &parameters,
     )
 }

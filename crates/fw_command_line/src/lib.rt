@@ -23,6 +23,7 @@ mod line;
 mod lines;
 mod load;
 mod options;
+mod parameter;
 mod past;
 mod policy;
 mod ranges;

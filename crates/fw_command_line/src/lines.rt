@@ -2,7 +2,7 @@
 use crate::options::{command_with, folder_option};
 use crate::past::as_of_option;
 use crate::ranges::{from_option, last_option, month_option, to_option};
-use clap::{Arg, Command};
+use clap::Command;
 use std::alloc::{AllocError, Global};
 
 const EXAMPLE: &str =
@@ -21,25 +21,21 @@ With --as-of N the answer is as of the first N entries of the warehouse: how it 
 Example: what one day cost, line by line
   focusd lines --dir costs --from 2024-01-31 --to 2024-02-01 > lines.csv";
 
-// The options, in the order in which the help has them.
-fn options<'a>(alloc: Global) -> Result<Vec<Arg<'a>>, AllocError> {
-    Ok(vec![in alloc;
-        folder_option(alloc),
-        from_option(alloc),
-        to_option(alloc),
-        month_option(alloc)?,
-        last_option(alloc)?,
-        as_of_option(alloc),
-    ]?)
-}
-
 /// The command's part of the command line.
 pub(crate) fn command<'a>(alloc: Global) -> Result<Command<'a>, AllocError> {
+    let parameters = [
+        folder_option(),
+        from_option(),
+        to_option(),
+        month_option(),
+        last_option(),
+        as_of_option(),
+    ];
     command_with(
         alloc,
         "lines",
         "Lists what a range of time cost, line by line, as CSV",
         EXAMPLE,
-        options(alloc)?,
+        &parameters,
     )
 }

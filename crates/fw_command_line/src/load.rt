@@ -1,9 +1,13 @@
 //! `focusd load`: files are loaded side by side.
+ghost use Rattle.std.specs.Prelude.{◌≡◌, false};
+ghost use Rattle.fw_command_line.specs.declared.parameter.Value.TheVariants.{Number};
+
 use crate::ids::{ANALYSTS, ORIGIN};
 use crate::options::{
     command_with, create_option, currency_option, dir_option, files_argument, strict_option,
 };
-use clap::{Arg, Command, value_parser};
+use crate::parameter::Parameter;
+use clap::Command;
 use std::alloc::{AllocError, Global};
 
 const HELP: &str =
@@ -26,49 +30,43 @@ Exit status: 0 where each file was answered, also by `refused`; 1 where the disk
 3 with --strict where a file was answered neither `accepted` nor `already`.";
 
 // The option that says how many analysts there are.
-fn analysts_option<'a>(alloc: Global) -> Arg<'a> {
-    Arg::new(alloc, ANALYSTS)
-        .long("analysts")
-        .value_name("N")
-        .default_value("1")
-        .value_parser(value_parser!(u8).range(1..=16))
-        .help("How many analysts view the warehouse meanwhile: 1 to 16")
+fn analysts_option() -> Parameter
+    ensures { result.value ≡ Number 16 }
+{
+    Parameter::option(
+        ANALYSTS,
+        "N",
+        "How many analysts view the warehouse meanwhile: 1 to 16",
+    )
+    .or("1")
+    .up_to(16)
 }
 
 // The option that names the origins.
-fn origin_option<'a>(alloc: Global) -> Arg<'a> {
-    Arg::new(alloc, ORIGIN)
-        .long("origin")
-        .value_name("NAME")
-        .default_value("f")
-        .help("The first part of the names of the origins")
-}
-
-// The options, in the order in which the help has them.
-fn options<'a>(alloc: Global) -> Result<Vec<Arg<'a>>, AllocError> {
-    Ok(vec![in alloc;
-        currency_option(alloc),
-        dir_option(alloc).help(
-            "Keeps the warehouse in this folder, which has to be there; without it the warehouse is in memory",
-        ),
-        create_option(
-            alloc,
-            "Creates the warehouse in the folder; without --dir it changes nothing",
-        ),
-        analysts_option(alloc),
-        origin_option(alloc),
-        strict_option(alloc),
-        files_argument(alloc, "A CSV with the columns of FOCUS 1.0"),
-    ]?)
+fn origin_option() -> Parameter
+    ensures { result.is_needed ≡ false }
+{
+    Parameter::option(ORIGIN, "NAME", "The first part of the names of the origins").or("f")
 }
 
 /// The command's part of the command line.
 pub(crate) fn command<'a>(alloc: Global) -> Result<Command<'a>, AllocError> {
+    let parameters = [
+        currency_option(),
+        dir_option().saying(
+            "Keeps the warehouse in this folder, which has to be there; without it the warehouse is in memory",
+        ),
+        create_option("Creates the warehouse in the folder; without --dir it changes nothing"),
+        analysts_option(),
+        origin_option(),
+        strict_option(),
+        files_argument("FILE", "A CSV with the columns of FOCUS 1.0"),
+    ];
     command_with(
         alloc,
         "load",
         "Takes up to 64 CSV files into a warehouse side by side",
         HELP,
-        options(alloc)?,
+        &parameters,
     )
 }

@@ -1,7 +1,10 @@
 //! `focusd policy`: which policies a warehouse accepted.
+ghost use Rattle.std.specs.Prelude.{◌≡◌, true};
+
 use crate::ids::LISTED;
 use crate::options::{command_with, folder_option};
-use clap::{Arg, Command};
+use crate::parameter::{Parameter, Takes};
+use clap::Command;
 use std::alloc::{AllocError, Global};
 
 const EXAMPLE: &str =
@@ -16,21 +19,22 @@ Example:
 const LISTS: [&str; 1] = ["list"];
 
 // The argument that says what to do.
-fn list_argument<'a>(alloc: Global) -> Arg<'a> {
-    Arg::new(alloc, LISTED)
-        .value_name("WHAT")
-        .required(true)
-        .value_parser(LISTS.as_slice())
-        .help("What to do: list the policies")
+fn list_argument() -> Parameter
+    ensures { result.is_needed ≡ true }
+{
+    Parameter::argument(LISTED, Takes::One("WHAT"), "What to do: list the policies")
+        .needed()
+        .one_of(LISTS.as_slice())
 }
 
 /// The command's part of the command line.
 pub(crate) fn command<'a>(alloc: Global) -> Result<Command<'a>, AllocError> {
+    let parameters = [list_argument(), folder_option()];
     command_with(
         alloc,
         "policy",
         "Lists the policies that a warehouse accepted",
         EXAMPLE,
-        vec![in alloc; list_argument(alloc), folder_option(alloc)]?,
+        &parameters,
     )
 }

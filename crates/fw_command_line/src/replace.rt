@@ -6,7 +6,7 @@ use crate::options::{
     command_with, dry_run_option, folder_option, perhaps_from_option, perhaps_to_option,
     poster_option, quiet_option, summary_option,
 };
-use clap::{Arg, Command};
+use clap::Command;
 use std::alloc::{AllocError, Global};
 
 const HELP: &str =
@@ -42,29 +42,25 @@ For programs, --summary json prints one line in place of the words: {\"command\"
 Exit status: 0 where the rows of the files are what counts, 1 where a file or the warehouse was refused or failed, 2 where the
 command line is wrong.";
 
-// The options, in the order in which the help has them.
-fn options<'a>(alloc: Global) -> Result<Vec<Arg<'a>>, AllocError> {
-    Ok(vec![in alloc;
-        folder_option(alloc),
-        poster_option(alloc),
-        perhaps_from_option(alloc),
-        perhaps_to_option(alloc),
-        keep_option(alloc),
-        dialect_option(alloc),
-        dry_run_option(alloc, "Writes nothing: says what would change"),
-        summary_option(alloc),
-        quiet_option(alloc),
-        exports_argument(alloc),
-    ]?)
-}
-
 /// The command's part of the command line.
 pub(crate) fn command<'a>(alloc: Global) -> Result<Command<'a>, AllocError> {
+    let parameters = [
+        folder_option(),
+        poster_option(),
+        perhaps_from_option(),
+        perhaps_to_option(),
+        keep_option(),
+        dialect_option(),
+        dry_run_option("Writes nothing: says what would change"),
+        summary_option(),
+        quiet_option(),
+        exports_argument(),
+    ];
     command_with(
         alloc,
         "replace",
         "Replaces what an origin sent by an export that was sent again",
         HELP,
-        options(alloc)?,
+        &parameters,
     )
 }

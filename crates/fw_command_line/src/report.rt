@@ -1,15 +1,17 @@
 //! `focusd report`: what each group of a tag cost in a range of time.
-ghost use Rattle.std.specs.Prelude.{◌≡◌, ◌∷◌, [], Some, false, IfOk, option_map, map, codes};
+ghost use Rattle.std.specs.Prelude.{◌≡◌, ◌∷◌, [], false, map, codes};
+ghost use Rattle.clap.specs.declared.builder.action.ArgAction.TheVariants.{SetTrue};
 
 use crate::ids::{COLUMN, DIRECT, FORMAT, MAP, ONLY, TOP, TOTAL_ONLY, WHERE, WHERE_NOT};
 use crate::options::{by_option, command_with, folder_option, report_format_option, top_option};
+use crate::parameter::Parameter;
 use crate::past::as_of_option;
 use crate::ranges::{from_option, last_option, month_option, to_option};
 use crate::selection::{
     column_option, map_option, tags_option, total_only_option, where_not_option, where_option,
 };
 use crate::what_if::other_policy_option;
-use clap::{Arg, ArgAction, Command};
+use clap::Command;
 use std::alloc::{AllocError, Global};
 
 const EXAMPLE: &str =
@@ -80,89 +82,69 @@ Examples:
   the sums by team, for a program
     focusd report --dir costs --tag team --from 2024-01 --to 2024-02 --format json | jq '.total'";
 
-// The option that names the one group that is shown.
-fn group_option<'a>(alloc: Global) -> Arg<'a>
+// What shows other groups, or has no group of one tag.
+const APART_FROM_ONLY: [&str; 6] = [TOP, DIRECT, COLUMN, WHERE, WHERE_NOT, MAP];
+
+// The option that shows one group alone.
+fn only_option() -> Parameter
     ensures id { result.id.now ≡ codes "only" }
-    ensures name { option_map (λ name. name.now) result.long ≡ Some (codes "only") }
-    ensures given { result.required ≡ false }
-    ensures free { result.conflicts.items ≡ [] }
+    ensures needed { result.is_needed ≡ false }
+    ensures apart { map (λ id. id.now) result.apart.now
+        ≡ (codes "top" ∷ codes "direct" ∷ codes "column" ∷ codes "where" ∷ codes "where-not"
+        ∷ codes "map" ∷ []) }
 {
-    Arg::new(alloc, ONLY).long("only").value_name("GROUP").help(
+    Parameter::option(
+        ONLY,
+        "GROUP",
         "Shows this value of the tag alone, beside the hours before, and nothing of others",
     )
+    .apart_from(APART_FROM_ONLY.as_slice())
 }
 
-// The option that shows one group alone. What shows others, or has no group of one tag, goes with none.
-fn only_option<'a>(alloc: Global) -> Result<Arg<'a>, AllocError>
-    ensures { IfOk result (λ option.
-        map (λ id. id.now) option.conflicts.items
-        ≡ (codes "top" ∷ codes "direct" ∷ codes "column" ∷ codes "where" ∷ codes "where-not"
-        ∷ codes "map" ∷ [])) }
-{
-    group_option(alloc)
-        .conflicts_with(TOP)?
-        .conflicts_with(DIRECT)?
-        .conflicts_with(COLUMN)?
-        .conflicts_with(WHERE)?
-        .conflicts_with(WHERE_NOT)?
-        .conflicts_with(MAP)
-}
+// What is written otherwise, or has no sums by one tag.
+const APART_FROM_DIRECT: [&str; 7] = [TOP, FORMAT, COLUMN, WHERE, WHERE_NOT, MAP, TOTAL_ONLY];
 
 // The option that leaves the policy out.
-fn direct_option<'a>(alloc: Global) -> Result<Arg<'a>, AllocError> {
-    Arg::new(alloc, DIRECT)
-        .long("direct")
-        .action(ArgAction::SetTrue)
-        .help(
-            "Prints the costs before the policy as a document, which focusd charge adds to others",
-        )
-        .conflicts_with(TOP)?
-        .conflicts_with(FORMAT)?
-        .conflicts_with(COLUMN)?
-        .conflicts_with(WHERE)?
-        .conflicts_with(WHERE_NOT)?
-        .conflicts_with(MAP)?
-        .conflicts_with(TOTAL_ONLY)
-}
-
-// The options that say what is summed, and over which hours, in the order in which the help has them.
-fn summed_options<'a>(alloc: Global) -> Result<Vec<Arg<'a>>, AllocError> {
-    Ok(vec![in alloc;
-        folder_option(alloc),
-        tags_option(alloc),
-        column_option(alloc),
-        where_option(alloc),
-        where_not_option(alloc),
-        map_option(alloc),
-        total_only_option(alloc)?,
-        from_option(alloc),
-        to_option(alloc),
-        month_option(alloc)?,
-        last_option(alloc)?,
-    ]?)
-}
-
-// The options that say what is shown of the sums, behind these.
-fn shown_options<'a>(alloc: Global) -> Result<Vec<Arg<'a>>, AllocError> {
-    Ok(vec![in alloc;
-        by_option(alloc),
-        top_option(alloc),
-        only_option(alloc)?,
-        as_of_option(alloc),
-        other_policy_option(alloc)?,
-        report_format_option(alloc),
-        direct_option(alloc)?,
-    ]?)
+fn direct_option() -> Parameter
+    ensures action { result.action ≡ SetTrue }
+    ensures apart { map (λ id. id.now) result.apart.now
+        ≡ (codes "top" ∷ codes "format" ∷ codes "column" ∷ codes "where" ∷ codes "where-not"
+        ∷ codes "map" ∷ codes "total-only" ∷ []) }
+{
+    Parameter::flag(
+        DIRECT,
+        "Prints the costs before the policy as a document, which focusd charge adds to others",
+    )
+    .apart_from(APART_FROM_DIRECT.as_slice())
 }
 
 /// The command's part of the command line.
 pub(crate) fn command<'a>(alloc: Global) -> Result<Command<'a>, AllocError> {
+    let parameters = [
+        folder_option(),
+        tags_option(),
+        column_option(),
+        where_option(),
+        where_not_option(),
+        map_option(),
+        total_only_option(),
+        from_option(),
+        to_option(),
+        month_option(),
+        last_option(),
+        by_option(),
+        top_option(),
+        only_option(),
+        as_of_option(),
+        other_policy_option(),
+        report_format_option(),
+        direct_option(),
+    ];
     command_with(
         alloc,
         "report",
         "Sums the costs of a range of time by the values of a tag",
         EXAMPLE,
-        summed_options(alloc)?,
-    )?
-    .args(shown_options(alloc)?)
+        &parameters,
+    )
 }

@@ -1,7 +1,11 @@
 //! `focusd run`: a script is read from standard input and answered.
+ghost use Rattle.std.specs.Prelude.{◌≡◌};
+ghost use Rattle.fw_command_line.specs.declared.parameter.Value.TheVariants.{Number};
+
 use crate::ids::WORKERS;
 use crate::options::{command_with, create_option, currency_option, dir_option, strict_option};
-use clap::{Arg, Command, value_parser};
+use crate::parameter::Parameter;
+use clap::Command;
 use std::alloc::{AllocError, Global};
 
 const SCRIPT: &str = "Commands of a script, one a line, which a line feed alone ends:
@@ -45,40 +49,34 @@ Example: what a script has is kept in a folder, and the answers in a file
   focusd run --dir costs --create < october.script > october.answers";
 
 // The option that says how many workers there are.
-fn workers_option<'a>(alloc: Global) -> Arg<'a> {
-    Arg::new(alloc, WORKERS)
-        .long("workers")
-        .value_name("N")
-        .default_value("1")
-        .value_parser(value_parser!(u8).range(1..=64))
-        .help(
-            "How many workers read posts ahead and share the rows of a report: 1 to 64; each answer stays the same",
-        )
-}
-
-// The options, in the order in which the help has them.
-fn options<'a>(alloc: Global) -> Result<Vec<Arg<'a>>, AllocError> {
-    Ok(vec![in alloc;
-        currency_option(alloc),
-        dir_option(alloc).help(
-            "The folder of the warehouse, which has to be there; without it the warehouse is in memory",
-        ),
-        create_option(
-            alloc,
-            "Creates the warehouse in the folder; without --dir it changes nothing",
-        ),
-        workers_option(alloc),
-        strict_option(alloc),
-    ]?)
+fn workers_option() -> Parameter
+    ensures { result.value ≡ Number 64 }
+{
+    Parameter::option(
+        WORKERS,
+        "N",
+        "How many workers read posts ahead and share the rows of a report: 1 to 64; each answer stays the same",
+    )
+    .or("1")
+    .up_to(64)
 }
 
 /// The command's part of the command line.
 pub(crate) fn command<'a>(alloc: Global) -> Result<Command<'a>, AllocError> {
+    let parameters = [
+        currency_option(),
+        dir_option().saying(
+            "The folder of the warehouse, which has to be there; without it the warehouse is in memory",
+        ),
+        create_option("Creates the warehouse in the folder; without --dir it changes nothing"),
+        workers_option(),
+        strict_option(),
+    ];
     command_with(
         alloc,
         "run",
         "Reads a script from standard input and prints the answers",
         SCRIPT,
-        options(alloc)?,
+        &parameters,
     )
 }

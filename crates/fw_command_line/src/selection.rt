@@ -1,19 +1,18 @@
 //! The options of a report by several keys, under filters and maps.
-ghost use Rattle.std.specs.Prelude.{◌≡◌, ◌∷◌, [], Some, IfOk, map, codes};
+ghost use Rattle.std.specs.Prelude.{◌≡◌, ◌∷◌, [], false, map, codes};
 ghost use Rattle.clap.specs.declared.builder.action.ArgAction.TheVariants.{Append, SetTrue};
 
 use crate::ids::{COLUMN, MAP, TAG, TOP, TOTAL_ONLY, WHERE, WHERE_NOT};
 use crate::options::tag_option;
-use clap::{Arg, ArgAction};
-use std::alloc::{AllocError, Global};
+use crate::parameter::Parameter;
 
 /// The option that names a tag, which may be given several times.
-pub(crate) fn tags_option<'a>(alloc: Global) -> Arg<'a>
-    ensures { result.action ≡ Some Append }
+pub(crate) fn tags_option() -> Parameter
+    ensures { result.action ≡ Append }
 {
-    tag_option(alloc).action(ArgAction::Append).help(
-        "The tag whose values are the groups; several times, for groups of several values",
-    )
+    tag_option()
+        .saying("The tag whose values are the groups; several times, for groups of several values")
+        .again()
 }
 
 /// The columns that lines keep.
@@ -26,59 +25,65 @@ const COLUMNS: [&str; 5] = [
 ];
 
 /// The option that names a column whose texts are groups, which may be given several times.
-pub(crate) fn column_option<'a>(alloc: Global) -> Arg<'a>
-    ensures { result.action ≡ Some Append }
+pub(crate) fn column_option() -> Parameter
+    ensures { result.action ≡ Append }
 {
-    Arg::new(alloc, COLUMN)
-        .long("column")
-        .value_name("COLUMN")
-        .value_parser(COLUMNS.as_slice())
-        .action(ArgAction::Append)
-        .help("A column whose texts are groups, beside the tags or in their place")
+    Parameter::option(
+        COLUMN,
+        "COLUMN",
+        "A column whose texts are groups, beside the tags or in their place",
+    )
+    .one_of(COLUMNS.as_slice())
+    .again()
 }
 
 /// The option that takes the lines on which a key has a value.
-pub(crate) fn where_option<'a>(alloc: Global) -> Arg<'a>
-    ensures { result.action ≡ Some Append }
+pub(crate) fn where_option() -> Parameter
+    ensures { result.action ≡ Append }
 {
-    Arg::new(alloc, WHERE)
-        .long("where")
-        .value_name("KEY=VALUE")
-        .action(ArgAction::Append)
-        .help(
-            "Counts the lines alone on which the tag or column KEY is VALUE, or one of several VALUEs",
-        )
+    Parameter::option(
+        WHERE,
+        "KEY=VALUE",
+        "Counts the lines alone on which the tag or column KEY is VALUE, or one of several VALUEs",
+    )
+    .again()
 }
 
 /// The option that leaves out the lines on which a key has a value.
-pub(crate) fn where_not_option<'a>(alloc: Global) -> Arg<'a>
-    ensures { result.action ≡ Some Append }
+pub(crate) fn where_not_option() -> Parameter
+    ensures { result.action ≡ Append }
 {
-    Arg::new(alloc, WHERE_NOT)
-        .long("where-not")
-        .value_name("KEY=VALUE")
-        .action(ArgAction::Append)
-        .help("Leaves out the lines on which the tag or column KEY is VALUE")
+    Parameter::option(
+        WHERE_NOT,
+        "KEY=VALUE",
+        "Leaves out the lines on which the tag or column KEY is VALUE",
+    )
+    .again()
 }
 
 /// The option that names the file of maps.
-pub(crate) fn map_option<'a>(alloc: Global) -> Arg<'a> {
-    Arg::new(alloc, MAP).long("map").value_name("FILE").help(
+pub(crate) fn map_option() -> Parameter
+    ensures { result.is_needed ≡ false }
+{
+    Parameter::option(
+        MAP,
+        "FILE",
         "Renames and joins values by the maps of a TOML file, - for standard input",
     )
 }
 
+// What makes groups.
+const APART_FROM_TOTAL_ONLY: [&str; 3] = [TAG, COLUMN, TOP];
+
 /// The option that sums all groups.
-pub(crate) fn total_only_option<'a>(alloc: Global) -> Result<Arg<'a>, AllocError>
-    ensures { IfOk result (λ option.
-        map (λ id. id.now) option.conflicts.items
-        ≡ (codes "tag" ∷ codes "column" ∷ codes "top" ∷ [])) }
+pub(crate) fn total_only_option() -> Parameter
+    ensures action { result.action ≡ SetTrue }
+    ensures apart { map (λ id. id.now) result.apart.now
+        ≡ (codes "tag" ∷ codes "column" ∷ codes "top" ∷ []) }
 {
-    Arg::new(alloc, TOTAL_ONLY)
-        .long("total-only")
-        .action(ArgAction::SetTrue)
-        .help("Prints the sums of all lines that count, without groups")
-        .conflicts_with(TAG)?
-        .conflicts_with(COLUMN)?
-        .conflicts_with(TOP)
+    Parameter::flag(
+        TOTAL_ONLY,
+        "Prints the sums of all lines that count, without groups",
+    )
+    .apart_from(APART_FROM_TOTAL_ONLY.as_slice())
 }

@@ -1,15 +1,13 @@
 //! `focusd split`: CSV exports are cut into parts by time and SKU.
-ghost use Rattle.std.specs.Prelude.{◌≡◌, Some};
-ghost use Rattle.clap.specs.declared.builder.action.ArgAction.TheVariants.{SetTrue};
+ghost use Rattle.std.specs.Prelude.{◌≡◌, true, false};
+ghost use Rattle.clap.specs.declared.builder.action.ArgAction.TheVariants.{Append, SetTrue};
 
 use crate::exports::exports_argument;
 use crate::ids::{BY, COMMITMENTS, INTO, NO_SYNC, OUT};
 use crate::options::{STEPS, command_with, format_option, quiet_option};
-use clap::{Arg, ArgAction, Command};
+use crate::parameter::Parameter;
+use clap::Command;
 use std::alloc::{AllocError, Global};
-
-/// The formats of the answer.
-const FORMATS: [&str; 2] = ["text", "json"];
 
 const HELP: &str =
     "The rows of the FILEs are dealt to parts by the hour, day or month in which ChargePeriodStart lies, in UTC. A part is an export
@@ -30,77 +28,75 @@ Example: a year of exports by day, for warehouses of a day each
 
 Exit status: 0 where all parts are there, 1 where a file has a fault or can't be read or written, 2 where the command line is wrong.";
 
+/// The formats of the answer.
+const FORMATS: [&str; 2] = ["text", "json"];
+
 // The option that says by what rows are dealt.
-fn period_option<'a>(alloc: Global) -> Arg<'a> {
-    Arg::new(alloc, BY)
-        .long("by")
-        .value_name("PERIOD")
-        .default_value("day")
-        .value_parser(STEPS.as_slice())
-        .help("A part for each hour, day or month")
+fn period_option() -> Parameter
+    ensures { result.is_needed ≡ false }
+{
+    Parameter::option(BY, "PERIOD", "A part for each hour, day or month")
+        .or("day")
+        .one_of(STEPS.as_slice())
 }
 
 // The option that says how many piles there are.
-fn into_option<'a>(alloc: Global) -> Arg<'a> {
-    Arg::new(alloc, INTO).long("into").value_name("N").help(
+fn into_option() -> Parameter
+    ensures { result.is_needed ≡ false }
+{
+    Parameter::option(
+        INTO,
+        "N",
         "How many piles the rows of a period are dealt to: 1 to 1,000, where it isn't given 1",
     )
 }
 
 // The option that names commitments.
-fn commitments_option<'a>(alloc: Global) -> Arg<'a> {
-    Arg::new(alloc, COMMITMENTS)
-        .long("commitments")
-        .value_name("FILE")
-        .action(ArgAction::Append)
-        .help("The TOML of a commitment, whose SKUs stay together; can be given again")
+fn commitments_option() -> Parameter
+    ensures { result.action ≡ Append }
+{
+    Parameter::option(
+        COMMITMENTS,
+        "FILE",
+        "The TOML of a commitment, whose SKUs stay together; can be given again",
+    )
+    .again()
 }
 
 // The option that names the folder of the parts.
-fn out_option<'a>(alloc: Global) -> Arg<'a> {
-    Arg::new(alloc, OUT)
-        .long("out")
-        .value_name("DIR")
-        .required(true)
-        .help("The folder of the parts")
+fn out_option() -> Parameter
+    ensures { result.is_needed ≡ true }
+{
+    Parameter::option(OUT, "DIR", "The folder of the parts").needed()
 }
 
 // The option that leaves it to the system when the parts are on the disk.
-fn no_sync_option<'a>(alloc: Global) -> Arg<'a>
-    ensures { result.action ≡ Some SetTrue }
+fn no_sync_option() -> Parameter
+    ensures { result.action ≡ SetTrue }
 {
-    Arg::new(alloc, NO_SYNC)
-        .long("no-sync")
-        .action(ArgAction::SetTrue)
-        .help("Doesn't wait until the parts are on the disk: where the machine stops, cut again")
-}
-
-// The options, in the order in which the help has them.
-fn options<'a>(alloc: Global) -> Result<Vec<Arg<'a>>, AllocError> {
-    Ok(vec![in alloc;
-        period_option(alloc),
-        into_option(alloc),
-        commitments_option(alloc),
-        out_option(alloc),
-        no_sync_option(alloc),
-        format_option(
-            alloc,
-            FORMATS.as_slice(),
-            "text",
-            "How the answer is written",
-        ),
-        quiet_option(alloc),
-        exports_argument(alloc),
-    ]?)
+    Parameter::flag(
+        NO_SYNC,
+        "Doesn't wait until the parts are on the disk: where the machine stops, cut again",
+    )
 }
 
 /// The command's part of the command line.
 pub(crate) fn command<'a>(alloc: Global) -> Result<Command<'a>, AllocError> {
+    let parameters = [
+        period_option(),
+        into_option(),
+        commitments_option(),
+        out_option(),
+        no_sync_option(),
+        format_option(FORMATS.as_slice(), "text", "How the answer is written"),
+        quiet_option(),
+        exports_argument(),
+    ];
     command_with(
         alloc,
         "split",
         "Cuts CSV exports into parts by time and SKU",
         HELP,
-        options(alloc)?,
+        &parameters,
     )
 }

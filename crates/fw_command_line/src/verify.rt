@@ -1,10 +1,11 @@
 //! `focusd verify`: whether the files of a warehouse are sound.
-ghost use Rattle.std.specs.Prelude.{◌≡◌, Some};
+ghost use Rattle.std.specs.Prelude.{◌≡◌, false};
 ghost use Rattle.clap.specs.declared.builder.action.ArgAction.TheVariants.{SetTrue};
 
 use crate::ids::{DIGEST, EXPECT};
 use crate::options::{command_with, folder_option, summary_option};
-use clap::{Arg, ArgAction, Command};
+use crate::parameter::Parameter;
+use clap::Command;
 use std::alloc::{AllocError, Global};
 
 const EXAMPLE: &str =
@@ -27,35 +28,36 @@ Examples:
     focusd verify --dir costs --expect $(cat costs.digest)";
 
 // The option that prints the digest.
-fn digest_option<'a>(alloc: Global) -> Arg<'a>
-    ensures { result.action ≡ Some SetTrue }
+fn digest_option() -> Parameter
+    ensures { result.action ≡ SetTrue }
 {
-    Arg::new(alloc, DIGEST)
-        .long("digest")
-        .action(ArgAction::SetTrue)
-        .help("Prints the digest of all entries, and nothing else")
+    Parameter::flag(DIGEST, "Prints the digest of all entries, and nothing else")
 }
 
 // The option that names the digest that the warehouse should have.
-fn expect_option<'a>(alloc: Global) -> Arg<'a> {
-    Arg::new(alloc, EXPECT)
-        .long("expect")
-        .value_name("HEX")
-        .help("Compares the digest with this one, of 64 hex digits")
+fn expect_option() -> Parameter
+    ensures { result.is_needed ≡ false }
+{
+    Parameter::option(
+        EXPECT,
+        "HEX",
+        "Compares the digest with this one, of 64 hex digits",
+    )
 }
 
 /// The command's part of the command line.
 pub(crate) fn command<'a>(alloc: Global) -> Result<Command<'a>, AllocError> {
+    let parameters = [
+        folder_option(),
+        digest_option(),
+        expect_option(),
+        summary_option(),
+    ];
     command_with(
         alloc,
         "verify",
         "Reads a warehouse whole, and says whether its files are sound",
         EXAMPLE,
-        vec![in alloc;
-            folder_option(alloc),
-            digest_option(alloc),
-            expect_option(alloc),
-            summary_option(alloc),
-        ]?,
+        &parameters,
     )
 }

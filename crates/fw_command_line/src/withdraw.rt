@@ -1,5 +1,5 @@
 //! `focusd withdraw`: posts are taken out of all reports.
-ghost use Rattle.std.specs.Prelude.{◌≡◌, Some};
+ghost use Rattle.std.specs.Prelude.{◌≡◌, false};
 ghost use Rattle.clap.specs.declared.builder.action.ArgAction.TheVariants.{SetTrue};
 
 use crate::ids::{ALL, SEQ};
@@ -7,7 +7,8 @@ use crate::options::{
     command_with, dry_run_option, folder_option, perhaps_from_option, perhaps_to_option,
     poster_option, yes_option,
 };
-use clap::{Arg, ArgAction, Command};
+use crate::parameter::Parameter;
+use clap::Command;
 use std::alloc::{AllocError, Global};
 
 const HELP: &str =
@@ -29,43 +30,40 @@ Exit status: 0 where the posts are withdrawn, or none was left to withdraw, 1 wh
 no, 2 where the command line is wrong or --yes is missing.";
 
 // The option that names a post by its number.
-fn seq_option<'a>(alloc: Global) -> Arg<'a> {
-    Arg::new(alloc, SEQ).long("seq").value_name("N").help(
+fn seq_option() -> Parameter
+    ensures { result.is_needed ≡ false }
+{
+    Parameter::option(
+        SEQ,
+        "N",
         "The post of this number among the origin's entries, from 1 on",
     )
 }
 
 // The option that takes all posts.
-fn all_option<'a>(alloc: Global) -> Arg<'a>
-    ensures { result.action ≡ Some SetTrue }
+fn all_option() -> Parameter
+    ensures { result.action ≡ SetTrue }
 {
-    Arg::new(alloc, ALL)
-        .long("all")
-        .action(ArgAction::SetTrue)
-        .help("All posts of the origin")
-}
-
-// The options, in the order in which the help has them.
-fn options<'a>(alloc: Global) -> Result<Vec<Arg<'a>>, AllocError> {
-    Ok(vec![in alloc;
-        folder_option(alloc),
-        poster_option(alloc),
-        seq_option(alloc),
-        perhaps_from_option(alloc),
-        perhaps_to_option(alloc),
-        all_option(alloc),
-        dry_run_option(alloc, "Writes nothing: lists the posts alone"),
-        yes_option(alloc, "Withdraws without asking"),
-    ]?)
+    Parameter::flag(ALL, "All posts of the origin")
 }
 
 /// The command's part of the command line.
 pub(crate) fn command<'a>(alloc: Global) -> Result<Command<'a>, AllocError> {
+    let parameters = [
+        folder_option(),
+        poster_option(),
+        seq_option(),
+        perhaps_from_option(),
+        perhaps_to_option(),
+        all_option(),
+        dry_run_option("Writes nothing: lists the posts alone"),
+        yes_option("Withdraws without asking"),
+    ];
     command_with(
         alloc,
         "withdraw",
         "Takes posts out of all reports",
         HELP,
-        options(alloc)?,
+        &parameters,
     )
 }
