@@ -4,6 +4,7 @@ ghost use Rattle.std.specs.Prelude.{◌≡◌, false};
 use crate::dialects::dialect_option;
 use crate::exports::exports_argument;
 use crate::ids::CURRENCY;
+use crate::keeps::keep_option;
 use crate::options::{command_with, format_option, quiet_option, summary_option};
 use crate::parameter::Parameter;
 use clap::Command;
@@ -20,6 +21,13 @@ passed over.
 No warehouse is read. So it doesn't say what `focusd import` warns of or refuses: rows of hours and sub-accounts that another
 origin has too, posts behind those of the files, rows that won't fit, and ids of commitments of the warehouse.
 
+`--keep` checks as an import with it reads: a record whose Tags has the tag already is a fault, and so is a header that doesn't have
+the column once. Of each kept column it prints how many rows have the tag, how many values it has, and the ten that most rows have.
+
+A row that repeats an earlier one of its file, with the same values of all that is read and of kept columns, is no fault. Behind
+the counts a warning says how many do, with the first ten and the record that each repeats. They are found by two hashes of 64 bits:
+24 bytes of memory for each row, and no row is missed.
+
 `--format json` prints all of that, one line for each file. `--summary json` prints one line for all files in its place, with counts
 alone: {\"command\":\"check\",\"ok\":false,\"files\":2,\"records\":5,\"badRecords\":1,\"faults\":1}.
 
@@ -29,6 +37,7 @@ alone: {\"command\":\"check\",\"ok\":false,\"files\":2,\"records\":5,\"badRecord
 Example:
   focusd check january.csv
   focusd check --dialect gcp focus-000000000000.csv
+  focusd check --keep ServiceName=service january.csv
 
 Exit status: 0 where no file has a fault, 1 where one has or can't be read, 2 where the command line is wrong.";
 
@@ -52,6 +61,7 @@ pub(crate) fn command<'a>(alloc: Global) -> Result<Command<'a>, AllocError> {
     let parameters = [
         format_option(FORMATS.as_slice(), "text", "How the answer is written"),
         cost_currency(),
+        keep_option(),
         dialect_option(),
         summary_option(),
         quiet_option(),

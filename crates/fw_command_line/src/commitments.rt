@@ -1,5 +1,9 @@
 //! `focusd commitments`: what commitments cost, covered and saved in a range of time.
+ghost use Rattle.std.specs.Prelude.{◌≡◌, false};
+
+use crate::ids::PRICE_TAG;
 use crate::options::{by_option, command_with, folder_option, format_option};
+use crate::parameter::Parameter;
 use crate::past::as_of_option;
 use crate::ranges::{from_option, last_option, month_option, to_option};
 use crate::selection::{column_option, tags_option};
@@ -23,7 +27,11 @@ part of the EffectiveCost of each row that the commitment took. EligibleCost is 
 EffectiveCost of the rows to which a commitment applies. Coverage is CoveredCost in percent of EligibleCost,
 Savings is CoveredCost less AmortizedCost, and SavingsRate is Savings in percent of EligibleCost. A row to which two
 commitments apply is eligible for both, and counts once in the total. Prices of a provider's rows aren't known, so
-these stay empty.
+these stay empty, unless --price-tag names the tag that has them: a column such as ListCost or ContractedCost that was
+kept by focusd import --keep. Then CoveredCost of a provider's commitments is the sum of that tag's amounts over the rows
+whose CommitmentDiscountStatus is Used, Savings is CoveredCost less AmortizedCost, and SavingsRate is Savings in percent
+of CoveredCost. What they could have covered stays unknown. Rows of these that have no amount there add nothing to
+CoveredCost; they are counted, in UnpricedRows of csv, in unpricedRows of json and below a table.
 
 A table and a page (html) show cents, and percent with one digit after the point, rounded from the exact sums; csv and json
 are exact, to the nano, and have both parts of each rate. With --by the range is cut where a new hour, day or month begins.
@@ -36,6 +44,9 @@ Examples:
     focusd commitments --dir costs --month 2024-01
   which teams used them, month by month
     focusd commitments --dir costs --tag team --last 6 months --by month
+  what providers' commitments saved against the list price, which an import kept
+    focusd import --dir costs --origin aws --keep ListCost aws.csv
+    focusd commitments --dir costs --month 2024-01 --price-tag ListCost
   a page of half a year with a chart, to open in a browser
     focusd commitments --dir costs --last 6 months --by month --format html > commitments.html
   the unused cost of all own commitments, for a program
@@ -44,12 +55,24 @@ Examples:
 /// The formats of the figures.
 const FORMATS: [&str; 4] = ["table", "csv", "json", "html"];
 
+// The option that names the tag that has prices.
+fn price_tag_option() -> Parameter
+    ensures { result.is_needed ≡ false }
+{
+    Parameter::option(
+        PRICE_TAG,
+        "TAG",
+        "The tag that has what a provider's covered rows would have cost, such as ListCost",
+    )
+}
+
 /// The command's part of the command line.
 pub(crate) fn command<'a>(alloc: Global) -> Result<Command<'a>, AllocError> {
     let parameters = [
         folder_option(),
         tags_option(),
         column_option(),
+        price_tag_option(),
         from_option(),
         to_option(),
         month_option(),

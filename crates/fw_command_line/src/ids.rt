@@ -93,6 +93,9 @@ pub const OUT: &str = "out";
 /// The id of the option that names the file of a policy.
 pub const POLICY: &str = "policy";
 
+/// The id of the option that names the tag that has prices.
+pub const PRICE_TAG: &str = "price-tag";
+
 /// The id of the option that prints no progress.
 pub const QUIET: &str = "quiet";
 
