@@ -6,31 +6,20 @@
 What a digest must be is computed here, by hashlib over the bytes of each entry as docs/FORMATS.md has them (tools/fuzz/encode.py writes these).
 tools/bit_changes.py changes single bits of the files.
 """
-import argparse
 import hashlib
-import pathlib
 import re
 import shutil
-import subprocess
 import sys
-import tempfile
 import tomllib
-import unittest
 
-HERE = pathlib.Path(__file__).resolve().parent
+from program_tests import HERE, Case, focusd, focusd_bytes, run_tests
+
 sys.path.insert(0, str(HERE.parent / "tools" / "fuzz"))
 import encode  # noqa: E402
 import oracle  # noqa: E402
 import texts  # noqa: E402
 
-PROGRAM = ""
 SCRIPTS = ("first-report.script", "commitments.script", "providers.script")
-
-
-def focusd(*words, given=b""):
-    """The status, standard output and standard error of a run."""
-    ran = subprocess.run([PROGRAM, *map(str, words)], input=given, capture_output=True)
-    return ran.returncode, ran.stdout.decode(), ran.stderr.decode()
 
 
 def seconds_of(entry):
@@ -75,12 +64,7 @@ def entries_alone(script):
     return b"".join(kept)
 
 
-class Digests(unittest.TestCase):
-    def setUp(self):
-        made = tempfile.TemporaryDirectory()
-        self.addCleanup(made.cleanup)
-        self.top = pathlib.Path(made.name)
-
+class Digests(Case):
     def warehouse(self, name, script, currency="USD"):
         """A warehouse in a folder of this name, which was sent a script."""
         folder = self.top / name
@@ -127,7 +111,8 @@ class Digests(unittest.TestCase):
                 copy = self.top / f"{name}.copy"
                 shutil.copytree(folder, copy)
                 self.assertEqual(self.digest(copy), wanted)
-                dumped = subprocess.run([PROGRAM, "dump", "--dir", str(folder)], stdout=subprocess.PIPE, check=True).stdout
+                status, dumped, _ = focusd_bytes("dump", "--dir", folder)
+                self.assertEqual(status, 0)
                 self.assertEqual(self.digest(self.warehouse(f"{name}.dumped", dumped)), wanted)
 
     def test_earlier_forms_and_both_sides(self):
@@ -216,15 +201,5 @@ class Digests(unittest.TestCase):
         self.assertRegex(re.sub(r"\s+", " ", said), "where a byte of an amount was changed, the row has another amount")
 
 
-def main():
-    global PROGRAM
-    parser = argparse.ArgumentParser(description=__doc__, formatter_class=argparse.RawDescriptionHelpFormatter)
-    parser.add_argument("program", help="the built program")
-    parser.add_argument("tests", nargs="*", metavar="TEST", help="a class, or a test of one")
-    options = parser.parse_args()
-    PROGRAM = str(pathlib.Path(options.program).resolve())
-    unittest.main(argv=[sys.argv[0], *options.tests])
-
-
 if __name__ == "__main__":
-    main()
+    run_tests(__doc__)

@@ -7,7 +7,6 @@
 A TEST is a class, or a test of one; without any all are run. What a stream of several files must give is what a stream without the further
 headers gives.
 """
-import argparse
 import bz2
 import gzip
 import io
@@ -16,13 +15,10 @@ import lzma
 import os
 import pathlib
 import subprocess
-import sys
-import tempfile
-import unittest
 import zipfile
 
-HERE = pathlib.Path(__file__).resolve().parent
-PROGRAM = ""
+from program_tests import Case, program, run_tests
+
 COLUMNS = "BilledCost,EffectiveCost,BillingCurrency,ChargeCategory,ChargePeriodStart,ChargePeriodEnd,Tags"
 MARK = b"\xef\xbb\xbf"
 TOTALS = ("--from", "2024-09", "--to", "2024-10")
@@ -41,22 +37,8 @@ def text(numbers, end="\n", mark=b"", last=True, header=COLUMNS):
     return mark + (end.join(lines) + (end if last else "")).encode()
 
 
-class Exports(unittest.TestCase):
+class Exports(Case):
     """A folder for exports and warehouses."""
-
-    def setUp(self):
-        room = tempfile.TemporaryDirectory()
-        self.addCleanup(room.cleanup)
-        self.top = pathlib.Path(room.name)
-
-    def focusd(self, *words, given=b""):
-        """The status, standard output and standard error of a run."""
-        ran = subprocess.run([PROGRAM, *words], input=given, capture_output=True, cwd=self.top)
-        return ran.returncode, ran.stdout.decode(), ran.stderr.decode()
-
-    def file(self, name, content):
-        (self.top / name).write_bytes(content)
-        return name
 
     def house(self, name, given, *files):
         """A new warehouse with what is imported: what the import printed."""
@@ -204,7 +186,7 @@ class Formats(Exports):
     def test_the_command_that_is_named(self):
         """What is named gives the same rows."""
         self.file("costs.csv.gz", gzip.compress(self.CSV))
-        ran = subprocess.run(["sh", "-c", f"gunzip -c costs.csv.gz | {PROGRAM} check -"], capture_output=True, cwd=self.top)
+        ran = subprocess.run(["sh", "-c", f"gunzip -c costs.csv.gz | {program()} check -"], capture_output=True, cwd=self.top)
         self.assertEqual((ran.returncode, ran.stdout.decode()), self.focusd("check", "-", given=self.CSV)[:2])
 
 
@@ -287,10 +269,4 @@ class Folders(Exports):
 
 
 if __name__ == "__main__":
-    parser = argparse.ArgumentParser(description=__doc__, formatter_class=argparse.RawDescriptionHelpFormatter)
-    parser.add_argument("program", metavar="PROGRAM", help="the built program")
-    parser.add_argument("tests", metavar="TEST", nargs="*", help="a class, or a test of one")
-    options = parser.parse_args()
-    PROGRAM = str(pathlib.Path(options.program).resolve())
-    os.chdir(HERE)
-    unittest.main(argv=[sys.argv[0], *options.tests])
+    run_tests(__doc__)

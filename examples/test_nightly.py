@@ -3,7 +3,6 @@
 
     examples/test_nightly.py out/focusd
 """
-import argparse
 import csv
 import io
 import os
@@ -11,14 +10,11 @@ import pathlib
 import re
 import shutil
 import subprocess
-import sys
-import tempfile
 import time
-import unittest
 
-HERE = pathlib.Path(__file__).resolve().parent
+from program_tests import HERE, Case, focusd, program, run_tests
+
 NIGHTLY = HERE / "nightly"
-PROGRAM = ""
 
 
 def has_open(process, file):
@@ -29,11 +25,9 @@ def has_open(process, file):
         return False
 
 
-class Nights(unittest.TestCase):
+class Nights(Case):
     def setUp(self):
-        folder = tempfile.TemporaryDirectory()
-        self.addCleanup(folder.cleanup)
-        self.top = pathlib.Path(folder.name).resolve()
+        super().setUp()
         self.exports = self.top / "exports"
         self.exports.mkdir()
         self.alert, self.report = self.top / "alert", self.top / "report.csv"
@@ -45,7 +39,8 @@ class Nights(unittest.TestCase):
     def create(folder):
         """Makes the warehouse, as the script says."""
         folder.mkdir()
-        subprocess.run([PROGRAM, "run", "--dir", folder, "--create"], stdin=subprocess.DEVNULL, check=True)
+        status, _, said = focusd("run", "--dir", folder, "--create")
+        assert status == 0, said
 
     def deliver(self, name, text):
         (self.exports / f"{name}.csv").write_text(text, encoding="utf-8")
@@ -54,7 +49,7 @@ class Nights(unittest.TestCase):
         """The status of a night, and what was alerted. Nothing is printed but what has to be."""
         self.alert.unlink(missing_ok=True)
         names = {
-            "FOCUSD": PROGRAM, "FOCUSD_DIR": self.top / "costs", "FOCUSD_EXPORTS": self.exports, "FOCUSD_REPORT": self.report, "FOCUSD_ALERT": f"cat >'{self.alert}'",
+            "FOCUSD": program(), "FOCUSD_DIR": self.top / "costs", "FOCUSD_EXPORTS": self.exports, "FOCUSD_REPORT": self.report, "FOCUSD_ALERT": f"cat >'{self.alert}'",
         }  # fmt: skip
         environment = {"PATH": os.environ["PATH"], **{name: str(value) for name, value in {**names, **other}.items()}}
         ran = subprocess.run([NIGHTLY / "nightly"], env=environment, capture_output=True)
@@ -62,12 +57,11 @@ class Nights(unittest.TestCase):
         self.assertRegex(ran.stderr.decode(), f"^{printing}$")
         return ran.returncode, self.alert.read_text(encoding="utf-8") if self.alert.exists() else None
 
-    def focusd(self, *words):
-        command = [PROGRAM, words[0], "--dir", self.top / "costs", *words[1:]]
-        return subprocess.run(command, capture_output=True, check=True, stdin=subprocess.DEVNULL).stdout.decode()
+    def status(self):
+        return self.do("status", "--dir", "costs")
 
     def entries(self):
-        return int(re.search(r"^Entries +([\d,]+)$", self.focusd("status"), re.M)[1].replace(",", ""))
+        return int(re.search(r"^Entries +([\d,]+)$", self.status(), re.M)[1].replace(",", ""))
 
     def spoiled(self):
         """The export with another currency in its last record."""
@@ -115,7 +109,7 @@ class Nights(unittest.TestCase):
         status, alert = self.night()
         self.assertEqual(status, 1)
         self.assertNotIn("aws-2024-10", alert)
-        self.assertIn("of aws-2024-10", self.focusd("status"))
+        self.assertIn("of aws-2024-10", self.status())
         self.deliver("aws-2024-09", self.good)
         self.assertEqual(self.night(), (0, None))
 
@@ -178,7 +172,7 @@ class Nights(unittest.TestCase):
 
     def test_a_warehouse_that_is_open(self):
         self.assertEqual(self.night(), (0, None))
-        with subprocess.Popen([PROGRAM, "run", "--dir", self.top / "costs"], stdin=subprocess.PIPE, stdout=subprocess.PIPE) as other:
+        with subprocess.Popen([program(), "run", "--dir", self.top / "costs"], stdin=subprocess.PIPE, stdout=subprocess.PIPE) as other:
             # A process has the lock of a folder before it opens the files there.
             while not has_open(other, self.top / "costs" / "right"):
                 self.assertIsNone(other.poll())
@@ -205,7 +199,7 @@ class Nights(unittest.TestCase):
         (self.top / "srv").mkdir()
         self.create(self.top / "srv" / "warehouse")
         shutil.copytree(self.exports, self.top / "srv" / "exports")
-        (self.top / "names.conf").write_text(f"{text}FOCUSD='{PROGRAM}'\n", encoding="utf-8")
+        (self.top / "names.conf").write_text(f"{text}FOCUSD='{program()}'\n", encoding="utf-8")
         run = {"cwd": self.top, "env": {"PATH": os.environ["PATH"]}, "capture_output": True}
         for name in ("names.conf", self.top / "names.conf"):
             ran = subprocess.run([NIGHTLY / "nightly", name], **run)
@@ -229,9 +223,4 @@ class Nights(unittest.TestCase):
 
 
 if __name__ == "__main__":
-    parser = argparse.ArgumentParser(description=__doc__, formatter_class=argparse.RawDescriptionHelpFormatter)
-    parser.add_argument("program", metavar="PROGRAM", help="the built program, as out/focusd")
-    parser.add_argument("tests", nargs="*", metavar="TEST", help="only these tests, as Nights.test_a_bad_night")
-    options = parser.parse_args()
-    PROGRAM = os.path.abspath(options.program)
-    unittest.main(argv=[sys.argv[0], *options.tests])
+    run_tests(__doc__)

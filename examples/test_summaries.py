@@ -5,15 +5,10 @@
 
 The numbers are worked by hand from the files below, and entries and digests are asked of other commands.
 """
-import argparse
 import json
-import pathlib
-import subprocess
-import sys
-import tempfile
-import unittest
 
-PROGRAM = ""
+from program_tests import Case, run_tests
+
 HEADER = "BillingCurrency,ChargeCategory,ChargePeriodStart,ChargePeriodEnd,BilledCost,EffectiveCost\n"
 HOUR = "USD,Usage,2024-09-01T00:00:00Z,2024-09-01T01:00:00Z,"
 GOOD = HEADER + f"{HOUR}1.50,1.50\n{HOUR}2,2\n{HOUR}-0.5,0\n"
@@ -22,21 +17,14 @@ USAGE = 'id = "cd-1"\ncategory = "Usage"\nstart = "2024-09-01T00:00Z"\nhours = 2
 PAID = '[[purchase]]\nat = "2024-09-01T00:00Z"\nbilled = "14.4"\n'
 
 
-class Summaries(unittest.TestCase):
+class Summaries(Case):
     """Each command over a folder with files of its own."""
 
     def setUp(self):
-        room = tempfile.TemporaryDirectory()
-        self.addCleanup(room.cleanup)
-        self.top = pathlib.Path(room.name)
+        super().setUp()
         (self.top / "house").mkdir()
         for name, text in {"good.csv": GOOD, "bad.csv": BAD, "usage.toml": USAGE + PAID, "wrong.toml": USAGE}.items():
-            (self.top / name).write_text(text)
-
-    def focusd(self, *words, given=b""):
-        """The status, standard output and standard error of a run."""
-        ran = subprocess.run([PROGRAM, *words], input=given, capture_output=True, cwd=self.top)
-        return ran.returncode, ran.stdout.decode(), ran.stderr.decode()
+            self.file(name, text)
 
     def told(self, status, *words, given=b""):
         """What a command told as JSON, which stands alone on a line and agrees with its status; and standard error."""
@@ -87,7 +75,7 @@ class Summaries(unittest.TestCase):
     def test_a_replacement(self):
         self.imported(0, "--create", "good.csv")
         words = ("replace", "--dir", "house", "--origin", "aws", "--quiet")
-        (self.top / "more.csv").write_text(GOOD + f"{HOUR}4,4\n")
+        self.file("more.csv", GOOD + f"{HOUR}4,4\n")
         for dry in (["--dry-run"], []):
             self.assertEqual(self.told(0, *words, *dry, "more.csv"), ({"rowsBefore": 3, "rowsAfter": 4}, ""))
         self.assertEqual(self.told(0, *words, "more.csv")[0], {"rowsBefore": 4, "rowsAfter": 4})
@@ -132,8 +120,4 @@ class Summaries(unittest.TestCase):
 
 
 if __name__ == "__main__":
-    parser = argparse.ArgumentParser(description=__doc__, formatter_class=argparse.RawDescriptionHelpFormatter)
-    parser.add_argument("program", help="the program, e.g. out/focusd")
-    given, rest = parser.parse_known_args()
-    PROGRAM = str(pathlib.Path(given.program).resolve())
-    unittest.main(argv=[sys.argv[0], *rest])
+    run_tests(__doc__)

@@ -40,11 +40,16 @@ def say(text):
     print(text, file=sys.stderr, flush=True)
 
 
+def options_of_tests(parser):
+    """The options of a program of tests. All that isn't the parser's is left to `unittest.main`: the names of tests, and its options."""
+    parser.epilog = "Further words name what is run, as CLASS or CLASS.TEST (default: all tests), or are options of unittest, as -v."
+    options, sys.argv[1:] = parser.parse_known_args()
+    return options
+
+
 def run_tests(doc):
-    """Runs the tests of the program that was started. Its help is its docstring, an example, and what `unittest` takes."""
-    if {"-h", "--help"}.intersection(sys.argv[1:]):
-        name = os.path.relpath(os.path.abspath(sys.argv[0]), TOP)
-        print(f"{doc.strip()}\n\n    python3 -B {name}               runs all tests\n    python3 -B {name} CLASS.TEST    runs one\n")
+    """Runs the tests of the program that was started, whose help is a docstring."""
+    options_of_tests(parser_of(doc))
     unittest.main()
 
 

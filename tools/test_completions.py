@@ -25,7 +25,7 @@ import unittest
 
 sys.path.insert(0, os.path.dirname(os.path.abspath(__file__)))
 import make_manual  # noqa: E402
-from command_line import TOP, parser_of  # noqa: E402
+from command_line import TOP, options_of_tests, parser_of  # noqa: E402
 
 # Names that a shell would cut, expand or run, if they were not quoted. Each is alone in its folder.
 HARD = (
@@ -428,6 +428,5 @@ class Fish(AtThePrompt, unittest.TestCase):
 if __name__ == "__main__":
     parser = parser_of(__doc__)
     parser.add_argument("--all-shells", action="store_true", help="try zsh and fish too, where they are installed")
-    options, others = parser.parse_known_args()
-    ALL_SHELLS = options.all_shells
-    unittest.main(argv=[sys.argv[0], *others])
+    ALL_SHELLS = options_of_tests(parser).all_shells
+    unittest.main()
