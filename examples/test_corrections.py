@@ -5,19 +5,13 @@
 
 What must be in the warehouse afterwards is said by other means: a warehouse that was sent the rows that count and no others, and sums made here.
 """
-import argparse
 import decimal
-import os
-import pathlib
 import random
 import re
 import subprocess
-import sys
-import tempfile
-import unittest
 
-HERE = pathlib.Path(__file__).resolve().parent
-PROGRAM = ""
+from program_tests import HERE, Case, program, run_tests
+
 HEADER = "BilledCost,EffectiveCost,BillingCurrency,ChargeCategory,ChargePeriodStart,ChargePeriodEnd,ConsumedQuantity,ConsumedUnit,SkuId,SubAccountId,Tags\n"
 MONTHS = ("--from", "2024-09", "--to", "2024-11")
 # The most rows of a post.
@@ -61,13 +55,11 @@ def cents(amount):
     return f"{rounded:+,}" if rounded else "0.00"
 
 
-class Corrections(unittest.TestCase):
+class Corrections(Case):
     """A folder with a warehouse, and what is asked of it."""
 
     def setUp(self):
-        room = tempfile.TemporaryDirectory()
-        self.addCleanup(room.cleanup)
-        self.top = pathlib.Path(room.name)
+        super().setUp()
         self.folder = self.new_folder("costs")
 
     def new_folder(self, name):
@@ -77,20 +69,16 @@ class Corrections(unittest.TestCase):
         return folder
 
     def focusd(self, command, folder, *words, given=""):
-        """The status, standard output and standard error of a run."""
-        ran = subprocess.run([PROGRAM, command, "--dir", folder, *words], input=given.encode(), capture_output=True)
-        return ran.returncode, ran.stdout.decode(), ran.stderr.decode()
+        """The status, standard output and standard error of a run over a warehouse."""
+        return super().focusd(command, "--dir", folder, *words, given=given)
 
     def file(self, name, records):
-        path = self.top / name
-        path.write_text(HEADER + "".join(records), encoding="utf-8")
-        return str(path)
+        """The path of an export of these records."""
+        return str(self.top / super().file(name, HEADER + "".join(records)))
 
     def do(self, command, *words, folder=None, given=""):
-        """What a run that ends well prints. It says nothing else."""
-        status, printed, said = self.focusd(command, folder or self.folder, *words, given=given)
-        self.assertEqual((status, said), (0, ""), printed)
-        return printed
+        """What a run over a warehouse prints that ends well. It says nothing else."""
+        return super().do(command, folder or self.folder, *words, given=given)
 
     def fails(self, said, command, *words, status=1, folder=None):
         """A run that says this on standard error and changes nothing."""
@@ -257,7 +245,7 @@ class Withdrawals(Corrections):
         self.assertEqual(list(empty.iterdir()), [])
 
     def test_a_terminal_is_asked(self):
-        script = f"{PROGRAM} withdraw --dir {self.folder} --origin aws --all"
+        script = f"{program()} withdraw --dir {self.folder} --origin aws --all"
         for answer, status in (("n", 1), ("", 1), ("y", 0)):
             before = self.kept()
             ran = subprocess.run(["script", "-qec", script, "/dev/null"], input=f"{answer}\n".encode(), capture_output=True)
@@ -448,8 +436,4 @@ class Compactions(Corrections):
 
 
 if __name__ == "__main__":
-    parser = argparse.ArgumentParser(description=__doc__, formatter_class=argparse.RawDescriptionHelpFormatter)
-    parser.add_argument("program", metavar="PROGRAM", help="the built program")
-    PROGRAM = str(pathlib.Path(parser.parse_args().program).resolve())
-    os.chdir(HERE)
-    unittest.main(argv=sys.argv[:1])
+    run_tests(__doc__)

@@ -7,25 +7,20 @@
 The rows that the lines are exported as come from expected.py. Exported rows are also imported into a warehouse of their own, and summed
 by SQLite, in whole nanos.
 """
-import argparse
 import csv
 import datetime
 import decimal
 import io
 import json
 import os
-import pathlib
 import random
 import sqlite3
 import subprocess
-import sys
-import tempfile
-import unittest
 
 import expected
+import program_tests
+from program_tests import HERE, focusd, program, run_tests
 
-HERE = pathlib.Path(__file__).resolve().parent
-PROGRAM = ""
 COLUMNS = [
     "BilledCost", "EffectiveCost", "BillingCurrency", "ChargeCategory", "ChargePeriodStart", "ChargePeriodEnd", "ChargeClass", "CommitmentDiscountId",
     "CommitmentDiscountCategory", "CommitmentDiscountStatus", "ConsumedQuantity", "ConsumedUnit", "SkuId", "SubAccountId", "Tags",
@@ -34,12 +29,6 @@ AMOUNTS = ("BilledCost", "EffectiveCost", "ConsumedQuantity")
 TIMES = ("ChargePeriodStart", "ChargePeriodEnd")
 LOW, HIGH = "2024-01-01T00:00Z", "2024-01-01T06:00Z"
 SIX_HOURS = ("--from", "2024-01-01", "--to", "2024-01-01T06:00Z")
-
-
-def focusd(*words, given=b""):
-    """The status, standard output and standard error of a run."""
-    ran = subprocess.run([PROGRAM, *map(str, words)], input=given, capture_output=True)
-    return ran.returncode, ran.stdout.decode(), ran.stderr.decode()
 
 
 def nanos(text):
@@ -118,30 +107,17 @@ def commitments_of_chance(rng):
         )
 
 
-class Case(unittest.TestCase):
-    """A folder of its own for each test."""
+class Case(program_tests.Case):
+    """A folder of its own for each test, and in it one for a warehouse."""
 
     def setUp(self):
-        folder = tempfile.TemporaryDirectory()
-        self.addCleanup(folder.cleanup)
-        self.top = pathlib.Path(folder.name)
+        super().setUp()
         self.house = self.folder("house")
 
     def folder(self, name):
         path = self.top / name
         path.mkdir()
         return path
-
-    def file(self, name, text):
-        path = self.top / name
-        path.write_bytes(text if isinstance(text, bytes) else text.encode())
-        return path
-
-    def do(self, *words, given=b""):
-        """What a run prints that has to go well."""
-        status, output, error = focusd(*words, given=given)
-        self.assertEqual((status, error), (0, ""), words)
-        return output
 
     def warehouse_of_chance(self, seed):
         """A warehouse made by chance, and what expected.py keeps of it."""
@@ -289,7 +265,7 @@ class Streams(Case):
 
     def test_standard_output(self):
         self.warehouse_of_chance(1)
-        words = [PROGRAM, "export", "--dir", str(self.house), *SIX_HOURS]
+        words = [program(), "export", "--dir", str(self.house), *SIX_HOURS]
         read, write = os.pipe()
         os.close(read)
         ran = subprocess.run(words, stdout=write, stderr=subprocess.PIPE)
@@ -301,17 +277,5 @@ class Streams(Case):
         self.assertIn(b"focusd: F2 Write", ran.stderr)
 
 
-def main():
-    parser = argparse.ArgumentParser(description=__doc__, formatter_class=argparse.RawDescriptionHelpFormatter)
-    parser.add_argument("program", metavar="PROGRAM", help="the built program")
-    parser.add_argument("tests", nargs="*", metavar="TEST", help="a class, or a test of one (default: all)")
-    options = parser.parse_args()
-    global PROGRAM
-    PROGRAM = os.path.abspath(options.program)
-    names = [f"__main__.{name}" for name in options.tests] or ["__main__"]
-    ran = unittest.TextTestRunner().run(unittest.defaultTestLoader.loadTestsFromNames(names))
-    return 0 if ran.wasSuccessful() and ran.testsRun else 1
-
-
 if __name__ == "__main__":
-    sys.exit(main())
+    run_tests(__doc__)

@@ -6,29 +6,19 @@
 A bill under overlapping commitments and a policy is cut into shards, each is reported by itself, and what the reports add up to has
 to be, to the byte, what one warehouse with all rows reports. That in turn is compared with the plain Python of expected.py.
 """
-import argparse
 import collections
 import csv
 import io
 import json
-import os
-import pathlib
 import re
 import subprocess
 import sys
-import tempfile
-import unittest
 
-HERE = pathlib.Path(__file__).resolve().parent
-PROGRAM = ""
+import program_tests
+from program_tests import HERE, focusd_bytes, run_tests
+
 RANGE = ("--from", "2023-12-30", "--to", "2024-01-05")
 FORMATS = ("table", "csv", "json", "html")
-
-
-def focusd(*words, given=b""):
-    """The status, standard output and standard error of a run."""
-    ran = subprocess.run([PROGRAM, *words], input=given, capture_output=True)
-    return ran.returncode, ran.stdout, ran.stderr.decode()
 
 
 def year_script(days=2, rows=12):
@@ -51,34 +41,25 @@ def entries_of(script):
     return found
 
 
-class Case(unittest.TestCase):
-    """A folder of its own for each test."""
+class Case(program_tests.Case):
+    """A folder of its own for each test. What runs print is in bytes."""
 
-    def setUp(self):
-        folder = tempfile.TemporaryDirectory()
-        self.addCleanup(folder.cleanup)
-        self.top = pathlib.Path(folder.name)
+    def focusd(self, *words, given=b""):
+        return focusd_bytes(*words, given=given, cwd=self.top)
 
     def do(self, *words, given=b""):
         """What a run prints that has to go well."""
-        status, output, error = focusd(*map(str, words), given=given)
         # Of a report the policy that it applied is said.
         applied = "costs are shared by the policy for the tag team: entry 10, policy 1\n"
         is_applied = words[0] == "report" and words[2] == getattr(self, "one", "") and "--direct" not in words
-        self.assertEqual((status, error), (0, applied if is_applied else ""), words)
-        return output
+        return super().do(*words, given=given, said=applied if is_applied else "")
 
     def fails(self, status, what, *words, given=b""):
         """A run that has to fail with this status, and to say this."""
-        found, output, error = focusd(*map(str, words), given=given)
+        found, output, error = self.focusd(*words, given=given)
         self.assertEqual((found, output), (status, b""), error)
         self.assertIn(what, error)
         return error
-
-    def file(self, name, text):
-        path = self.top / name
-        path.write_bytes(text if isinstance(text, bytes) else text.encode())
-        return str(path)
 
 
 class Bills(Case):
@@ -166,11 +147,10 @@ class Bills(Case):
     def test_what_one_warehouse_charges_is_right(self):
         """What is compared with elsewhere is what plain Python computes."""
         text = self.script.split("\nreport ")[0]
-        with open(self.policy, encoding="utf-8") as file:
-            policy = file.read()
+        policy = (self.top / self.policy).read_text(encoding="utf-8")
         text += f"\npolicy year 1000 {policy.count(chr(10))}\n{policy}report team 2023-12-30T00:00Z 2024-01-05T00:00Z\n"
         text = re.sub(r"(?m)^policy year \d+ ", f"policy year {len(self.commitments) + text.count(chr(10) + 'post ') + 1} ", text)
-        script = self.file("all.script", text)
+        script = self.top / self.file("all.script", text)
         answers = subprocess.run([sys.executable, str(HERE / "expected.py"), script], capture_output=True, check=True).stdout.decode()
         wanted = answers[answers.rindex("Group,BilledCost") :]
         report = self.file("d.json", self.direct(self.one, *RANGE))
@@ -224,7 +204,7 @@ class Documents(Case):
 
     def charge(self, *documents, words=()):
         files = [self.file(f"{place}.json", text) for place, text in enumerate(documents)]
-        return focusd("charge", "--format", "csv", *words, *files)
+        return self.focusd("charge", "--format", "csv", *words, *files)
 
     def refused(self, what, *documents, words=()):
         status, output, error = self.charge(*documents, words=words)
@@ -429,7 +409,7 @@ class Split(Case):
         for place, (what, line) in enumerate(wrong.items()):
             name = self.file(f"{place}.csv", b"\n".join([HEADER.encode(), *(line.encode() for line in lines), line, b""]))
             out = self.top / f"out-{place}"
-            status, output, error = focusd("split", "--out", str(out), name)
+            status, output, error = self.focusd("split", "--out", out, name)
             self.assertEqual((status, output), (1, b""), what)
             self.assertIn(f"{name}:4: record 3", error)
             self.assertIn(what, error)
@@ -493,7 +473,7 @@ class Split(Case):
 
     def test_options(self):
         for into in ("0", "-1", "1001", "x"):
-            status, _, error = focusd("split", f"--into={into}", "--out", str(self.top / "p"), "-")
+            status, _, error = self.focusd("split", f"--into={into}", "--out", self.top / "p", "-")
             self.assertEqual((status, "--into" in error), (2, True), into)
         self.fails(2, "--out", "split", "-")
         self.fails(2, "--currency", "split", "--currency", "usd", "--out", self.top / "p", "-")
@@ -503,8 +483,4 @@ class Split(Case):
 
 
 if __name__ == "__main__":
-    parser = argparse.ArgumentParser(description=__doc__, formatter_class=argparse.RawDescriptionHelpFormatter)
-    parser.add_argument("program", metavar="PROGRAM", help="the built program")
-    PROGRAM = str(pathlib.Path(parser.parse_args().program).resolve())
-    os.chdir(HERE)
-    unittest.main(argv=sys.argv[:1])
+    run_tests(__doc__)
