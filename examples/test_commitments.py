@@ -9,7 +9,6 @@ Each warehouse is made by chance: rows of a few SKUs and teams, some that provid
 quantities and to costs that overlap, and purchases that come later. It is asked by commitment, by tag and by column, of the whole range and by
 period, as CSV, as JSON and as a page; and the laws of the figures are looked at.
 """
-import argparse
 import csv
 import fractions
 import html.parser
@@ -17,17 +16,16 @@ import io
 import json
 import pathlib
 import random
-import subprocess
-import sys
 import tempfile
 import unittest
 
-HERE = pathlib.Path(__file__).resolve().parent
-sys.path.insert(0, str(HERE))
-import expected  # noqa: E402
-import expected_commitments as oracle  # noqa: E402
+import expected
+import expected_commitments as oracle
+from as_reported import cents
+from entries import command
+from program_tests import HERE, run_tests
+from program_tests import focusd_bytes as focusd
 
-PROGRAM = ""
 RUNS, SEED = 200, 1
 HEADER = "BilledCost,EffectiveCost,BillingCurrency,ChargeCategory,ChargePeriodStart,ChargePeriodEnd,CommitmentDiscountId,CommitmentDiscountCategory,CommitmentDiscountStatus,ConsumedQuantity,ConsumedUnit,SkuId,SubAccountId,Tags\n"  # fmt: skip
 LOW, HIGH = "2024-01-31T00:00Z", "2024-02-02T00:00Z"
@@ -36,20 +34,9 @@ SKUS, TEAMS, ACCOUNTS = ("a", "b", "c"), ("web", "shop", ""), ("one", "two")
 NAMES = ("a", "b", "c", "d")
 
 
-def focusd(*words, given=b""):
-    """The status, standard output and standard error of a run."""
-    ran = subprocess.run([PROGRAM, *words], input=given, capture_output=True)
-    return ran.returncode, ran.stdout, ran.stderr.decode()
-
-
 def time(hour):
     """The instant at which an hour of the range begins."""
     return f"2024-01-31T{hour:02}:00Z" if hour < 24 else f"2024-02-{1 + (hour - 24) // 24:02}T{hour % 24:02}:00Z"
-
-
-def command(words, text):
-    lines = text.splitlines(keepends=True)
-    return f"{words} {len(lines)}\n{text}"
 
 
 class Chance:
@@ -168,13 +155,6 @@ def read_csv(text, keys, by_period):
 # The figures of a page: a cost by its place among the amounts, or a rate by those of its part and its whole.
 SHOWN = {"UsedCost": 0, "UnusedCost": 1, "AmortizedCost": 2, "Utilization": (0, 2), "PurchaseCost": 3, "CoveredCost": 4, "UncoveredCost": 5,
          "EligibleCost": 6, "Coverage": (4, 6), "Savings": 7, "SavingsRate": (7, 6)}  # fmt: skip
-
-
-def cents(nanos):
-    """An amount as people see it: in cents, a tie to the even one."""
-    size, rest = divmod(abs(nanos), 10**7)
-    size += rest > 5 * 10**6 or rest == 5 * 10**6 and size % 2
-    return f"{'-' if nanos < 0 and size else ''}{size // 100:,}.{size % 100:02}"
 
 
 def percent(part, whole):
@@ -404,16 +384,5 @@ class Figures(unittest.TestCase):
             self.assertEqual(focusd("commitments", "--dir", folder, *words)[0], 1, words)
 
 
-def main():
-    global PROGRAM, RUNS, SEED
-    parser = argparse.ArgumentParser(description=__doc__, formatter_class=argparse.RawDescriptionHelpFormatter)
-    parser.add_argument("program")
-    parser.add_argument("--runs", type=int, default=RUNS)
-    parser.add_argument("--seed", type=int, default=SEED)
-    given, rest = parser.parse_known_args()
-    PROGRAM, RUNS, SEED = str(pathlib.Path(given.program).resolve()), given.runs, given.seed
-    unittest.main(argv=[sys.argv[0], *rest])
-
-
 if __name__ == "__main__":
-    main()
+    run_tests(__doc__, RUNS="how many random warehouses", SEED="the seed of the first one")

@@ -7,46 +7,21 @@
 
 Warehouses are made by chance: rows of six months, commitments and policies. Ranges, keys, filters, formats and --top are by chance too.
 """
-import argparse
 import csv
-import datetime
-import fractions
 import io
 import json
-import pathlib
 import random
 import re
-import subprocess
-import sys
-import tempfile
-import unittest
 
 import expected
-from test_past import HEADER, command, policy, sent
+from as_reported import before_of, cents, hour_of, share, time_of
+from entries import HEADER, HouseOfEntries, command, policy, sent
+from expected import spelled as text_of
+from program_tests import OneFolder, focusd, run_tests
 
-PROGRAM = ""
 RUNS, SEED = 120, 1
 TEAMS = ["web", "data", "platform", "team / a", "(odd)", '"q"', "é", ""]
 SKUS = ["m5.large", "s3", "gp3", ""]
-
-
-def focusd(*words, given=b""):
-    """The status, standard output and standard error of a run."""
-    ran = subprocess.run([PROGRAM, *map(str, words)], input=given, capture_output=True)
-    return ran.returncode, ran.stdout.decode(), ran.stderr.decode()
-
-
-def time_of(hour):
-    return (datetime.datetime(1970, 1, 1) + datetime.timedelta(hours=hour)).strftime("%Y-%m-%dT%H:00Z")
-
-
-def hour_of(year, month):
-    year, month = year + (month - 1) // 12, (month - 1) % 12 + 1
-    return (datetime.datetime(year, month, 1) - datetime.datetime(1970, 1, 1)) // datetime.timedelta(hours=1)
-
-
-def text_of(nanos):
-    return expected.spelled(nanos)
 
 
 def row(chance, hour):
@@ -59,11 +34,10 @@ def row(chance, hour):
     return out.getvalue()
 
 
-class House:
+class House(HouseOfEntries):
     """A warehouse by chance in a folder, and the same one in expected.py."""
 
     def __init__(self, folder, chance):
-        self.folder, self.kept = folder, expected.Warehouse()
         low, high = hour_of(2024, 5), hour_of(2024, 11)
         entries = []
         for number in range(1, 4):
@@ -71,16 +45,7 @@ class House:
         if chance.random() < 0.7:
             key = chance.choice(["team", "team", "env"])
             entries.append(command("policy rules 1", policy(key, chance.choice(["web", "data", "prod"]), "platform")))
-        for text in entries:
-            assert sent(self.kept, text).startswith("accepted "), text
-        status, _, said = focusd("run", "--dir", folder, "--create", given="".join(entries).encode())
-        assert status == 0, said
-
-    def sums(self, selection, low, high):
-        """BilledCost, EffectiveCost and what is charged, of each group of a range of hours."""
-        lines = list(self.kept.lines_between(time_of(low), time_of(high)) or ())
-        found = self.kept.selected(selection, lines)
-        return {group: costs if len(costs) == 3 else (*costs, costs[1]) for group, costs in found.items()}
+        super().__init__(folder, entries)
 
 
 def shown(key, text):
@@ -108,43 +73,9 @@ def cut(lines, top):
     return [*lines[:top], (None, [tuple(cost) for cost in others])]
 
 
-def share(part, whole):
-    """In percent with one digit, the nearest, a tie away from 0."""
-    if whole == 0:
-        return ""
-    tenths = int(abs(fractions.Fraction(part, whole)) * 1000 + fractions.Fraction(1, 2))
-    minus = "-" if tenths and (part < 0) != (whole < 0) else ""
-    return f"{minus}{tenths // 10}.{tenths % 10}%"
-
-
-def cents(nanos):
-    size, half = divmod(abs(nanos), 10**7)
-    size += half > 5 * 10**6 or half == 5 * 10**6 and size % 2
-    return f"{'-' if nanos < 0 and size else ''}{size // 100:,}.{size % 100:02}"
-
-
-def before_of(low, high):
-    """The hours just before a range: as many months where it has whole months, else as many hours."""
-    months = [hour_of(1970, 1 + at) for at in range(0, 12 * 80)]
-    if low in months and high in months:
-        return months[2 * months.index(low) - months.index(high)], low
-    return 2 * low - high, low
-
-
-class Compared(unittest.TestCase):
-    @classmethod
-    def setUpClass(cls):
-        cls.made = tempfile.TemporaryDirectory()
-        cls.room = pathlib.Path(cls.made.name)
-
-    @classmethod
-    def tearDownClass(cls):
-        cls.made.cleanup()
-
+class Compared(OneFolder):
     def house(self, chance, name):
-        folder = self.room / name
-        folder.mkdir()
-        return House(folder, chance)
+        return House(self.room / name, chance)
 
     def test_by_chance(self):
         chance = random.Random(SEED)
@@ -271,11 +202,4 @@ class Compared(unittest.TestCase):
 
 
 if __name__ == "__main__":
-    parser = argparse.ArgumentParser(description=__doc__, formatter_class=argparse.RawDescriptionHelpFormatter)
-    parser.add_argument("program", metavar="PROGRAM", help="the built program")
-    parser.add_argument("tests", nargs="*", metavar="TEST", help="a class, or a test of one")
-    parser.add_argument("--runs", type=int, default=RUNS, metavar="N", help=f"how many random comparisons (default: {RUNS})")
-    parser.add_argument("--seed", type=int, default=SEED, metavar="N", help=f"the seed of chance (default: {SEED})")
-    options = parser.parse_args()
-    PROGRAM, RUNS, SEED = str(pathlib.Path(options.program).resolve()), options.runs, options.seed
-    unittest.main(argv=[sys.argv[0], *options.tests])
+    run_tests(__doc__, RUNS="how many random comparisons", SEED="the seed of chance")

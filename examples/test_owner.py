@@ -8,21 +8,17 @@
 Warehouses are made by chance: rows of six months, whose groups have names that stand nowhere else, and policies. Amounts come from the plain Python of
 expected.py. No name of another group may be in what is printed, and two warehouses that differ in other groups alone are answered with the same bytes.
 """
-import argparse
 import csv
 import io
 import json
-import pathlib
 import random
 import re
-import sys
-import tempfile
-import unittest
 
 import expected
-import test_compare
-from test_compare import before_of, cents, focusd, hour_of, share, text_of, time_of
-from test_past import HEADER, command, policy, sent
+from as_reported import before_of, cents, hour_of, share, time_of
+from entries import HEADER, HouseOfEntries, command, policy
+from expected import spelled as text_of
+from program_tests import OneFolder, focusd, run_tests
 
 RUNS, SEED = 200, 1
 FORMATS = ("table", "csv", "json", "html")
@@ -49,30 +45,22 @@ def row(chance, hour, team):
     return out.getvalue()
 
 
-class House:
+class House(HouseOfEntries):
     """A warehouse by chance in a folder, and the same one in expected.py."""
 
     def __init__(self, folder, posts, rules=None):
-        self.folder, self.kept = folder, expected.Warehouse()
         entries = [command(f"post aws {number}", HEADER + "".join(rows)) for number, rows in enumerate(posts, 1)]
         entries += [command("policy rules 1", rules)] if rules else []
-        for text in entries:
-            assert sent(self.kept, text).startswith("accepted "), text
         self.entries = len(entries)
-        folder.mkdir()
-        status, _, said = focusd("run", "--dir", folder, "--create", given="".join(entries).encode())
-        assert status == 0, said
+        super().__init__(folder, entries)
 
     def costs(self, key, group, low, high):
         """What a group cost in some hours, or None where it isn't there."""
-        selection = expected.Selection([expected.Key.named(key)])
-        found = self.kept.selected(selection, list(self.kept.lines_between(time_of(low), time_of(high)) or ()))
-        costs = found.get((group,))
-        return costs and (costs if len(costs) == 3 else (*costs, costs[1]))
+        return self.sums(expected.Selection([expected.Key.named(key)]), low, high).get((group,))
 
     def totals(self, low, high):
         """BilledCost and EffectiveCost of all groups in some hours."""
-        lines = list(self.kept.lines_between(time_of(low), time_of(high)) or ())
+        lines = self.lines(low, high)
         return sum(line.billed for line in lines), sum(line.effective for line in lines)
 
     def stretch(self, key, group, low, high):
@@ -93,16 +81,7 @@ def in_html(text):
     return "".join(HTML.get(letter, letter) for letter in text)
 
 
-class Owned(unittest.TestCase):
-    @classmethod
-    def setUpClass(cls):
-        cls.made = tempfile.TemporaryDirectory()
-        cls.room = pathlib.Path(cls.made.name)
-
-    @classmethod
-    def tearDownClass(cls):
-        cls.made.cleanup()
-
+class Owned(OneFolder):
     def house(self, chance, name):
         """A warehouse, and the names of its groups."""
         names = [name_by_chance(chance) for _ in range(chance.randint(2, 8))]
@@ -273,11 +252,4 @@ class Owned(unittest.TestCase):
 
 
 if __name__ == "__main__":
-    parser = argparse.ArgumentParser(description=__doc__, formatter_class=argparse.RawDescriptionHelpFormatter)
-    parser.add_argument("program", metavar="PROGRAM", help="the built program")
-    parser.add_argument("tests", nargs="*", metavar="TEST", help="a class, or a test of one")
-    parser.add_argument("--runs", type=int, default=RUNS, metavar="N", help=f"how many random questions (default: {RUNS})")
-    parser.add_argument("--seed", type=int, default=SEED, metavar="N", help=f"the seed of chance (default: {SEED})")
-    options = parser.parse_args()
-    test_compare.PROGRAM, RUNS, SEED = str(pathlib.Path(options.program).resolve()), options.runs, options.seed
-    unittest.main(argv=[sys.argv[0], *options.tests])
+    run_tests(__doc__, RUNS="how many random questions", SEED="the seed of chance")

@@ -6,103 +6,20 @@
 A warehouse is sent a script, command by command. What it answered after each entry has to be what it answers later as of that number of
 entries. What that is comes from expected.py: the reports and the lines of the first entries of the script.
 """
-import argparse
-import pathlib
 import re
-import subprocess
-import sys
 import tempfile
-import unittest
 
-import expected
+from entries import ENTRIES, HEADER, HOURS, RANGE, after, body_of, command, row
+from program_tests import Case, OneFolder, focusd, run_tests
 
-HERE = pathlib.Path(__file__).resolve().parent
-PROGRAM = ""
-RANGE = ("--from", "2024-01-01", "--to", "2024-01-05")
-HOURS = ("2024-01-01T00:00Z", "2024-01-05T00:00Z")
-HEADER = "BilledCost,EffectiveCost,BillingCurrency,ChargeCategory,ChargePeriodStart,ChargePeriodEnd,ConsumedQuantity,ConsumedUnit,SkuId,SubAccountId,Tags\n"
 LIST_HEADER = ["Entry", "Origin", "Number", "Tag", "Rules"]
 
 
-def row(day, hour, cost, team):
-    start, end = f"2024-01-{day:02}T{hour:02}:00Z", f"2024-01-{day:02}T{hour + 1:02}:00Z"
-    return f'{cost},{cost},USD,Usage,{start},{end},2,Hours,m5.large,shop,"{{""team"":""{team}"",""env"":""{team}-env""}}"\n'
-
-
-def command(words, text=""):
-    lines = text.splitlines(keepends=True)
-    return f"{words} {len(lines)}\n{text}" if lines else f"{words}\n"
-
-
-def policy(key, *gives):
-    return f'key = "{key}"\n' + "".join(f'[[rule]]\nfrom = "{one}"\nproportional = true\n' for one in gives)
-
-
-# Each kind of entry: posts of three origins, one that is withdrawn and one that is posted again, a commitment, a purchase that is added to it, and policies.
-COMMITMENT = """id = "ri"
-category = "Usage"
-start = "2024-01-01T00:00Z"
-hours = 72
-capacity = "1.5"
-unit = "Hours"
-skus = ["m5.large"]
-[tags]
-team = "platform"
-[[purchase]]
-at = "2024-01-01T00:00Z"
-billed = "100.5"
-"""
-ADDED = 'id = "ri"\nat = "2024-01-02T05:00Z"\nbilled = "33.333333333"\n'
-ENTRIES = [
-    command("post aws 1", HEADER + row(1, 3, "10.25", "web") + row(2, 4, "3.000000001", "data")),
-    command("policy rules 1", policy("team", "platform")),
-    command("post gcp 1", HEADER + row(1, 3, "7", "platform")),
-    command("commit ri 1", COMMITMENT),
-    command("withdraw aws 2 1"),
-    command("post aws 3", HEADER + row(1, 3, "11.25", "web") + row(3, 4, "3.5", "data")),
-    command("add ri 2", ADDED),
-    command("policy rules 2", policy("env", "web-env")),
-    command("post azure 1", HEADER + "".join(row(4, at % 24 % 23, f"0.{at:09}", f"t{at % 7}") for at in range(1, 300))),
-    command("withdraw azure 2 1"),
-    command("policy rules 3", policy("team", "web", "data")),
-    command("withdraw gcp 2 1"),
-]
-
-
-def focusd(*words, given=b""):
-    """The status, standard output and standard error of a run."""
-    ran = subprocess.run([PROGRAM, *map(str, words)], input=given, capture_output=True)
-    return ran.returncode, ran.stdout.decode(), ran.stderr.decode()
-
-
-def sent(kept, text):
-    """What expected.py's warehouse says of a command."""
-    line, _, content = text.partition("\n")
-    words = line.split()
-    if words[0] == "withdraw":
-        return kept.withdraw(words[1], words[2], int(words[3]))
-    how = {"post": kept.post, "commit": kept.commit, "policy": kept.set_policy, "add": kept.add_purchase}[words[0]]
-    return kept.enter(words[1], words[2], how, content.encode())
-
-
-def after(count):
-    """expected.py's warehouse of the first entries."""
-    kept = expected.Warehouse()
-    for text in ENTRIES[:count]:
-        assert sent(kept, text).startswith("accepted "), text
-    return kept
-
-
-def body_of(text):
-    """A report or lines of expected.py without their first line, which says how long they are."""
-    return text.split("\n", 1)[1]
-
-
-class Past(unittest.TestCase):
+class Past(OneFolder):
     @classmethod
     def setUpClass(cls):
-        cls.made = tempfile.TemporaryDirectory()
-        cls.folder = cls.made.name
+        super().setUpClass()
+        cls.folder = str(cls.room)
         focusd("run", "--dir", cls.folder, "--create", given=b"state\n")
         # What was answered after each entry, before the others came.
         cls.then = [cls.answers()]
@@ -110,10 +27,6 @@ class Past(unittest.TestCase):
             status, said, error = focusd("run", "--dir", cls.folder, given=text.encode())
             assert (status, said.split()[0], error) == (0, "accepted", ""), (text, said, error)
             cls.then.append(cls.answers())
-
-    @classmethod
-    def tearDownClass(cls):
-        cls.made.cleanup()
 
     @classmethod
     def answers(cls, *more):
@@ -178,11 +91,10 @@ class Past(unittest.TestCase):
         self.assertIn("the warehouse has no row that counts", said)
 
 
-class Policies(unittest.TestCase):
+class Policies(Case):
     def setUp(self):
-        made = tempfile.TemporaryDirectory()
-        self.addCleanup(made.cleanup)
-        self.folder = made.name
+        super().setUp()
+        self.folder = str(self.top)
         focusd("run", "--dir", self.folder, "--create", given=b"state\n")
 
     def listed(self):
@@ -222,9 +134,4 @@ class Policies(unittest.TestCase):
 
 
 if __name__ == "__main__":
-    parser = argparse.ArgumentParser(description=__doc__, formatter_class=argparse.RawDescriptionHelpFormatter)
-    parser.add_argument("program", metavar="PROGRAM", help="the built program")
-    parser.add_argument("tests", nargs="*", metavar="TEST", help="a class, or a test of one")
-    options = parser.parse_args()
-    PROGRAM = str(pathlib.Path(options.program).resolve())
-    unittest.main(argv=[sys.argv[0], *options.tests])
+    run_tests(__doc__)

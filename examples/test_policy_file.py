@@ -5,24 +5,12 @@
 
 What a report has to be under another policy comes from expected.py: the report of a warehouse whose next entry sets that policy.
 """
-import argparse
-import pathlib
 import random
-import subprocess
-import sys
-import tempfile
-import unittest
 
-from test_past import ENTRIES, HOURS, RANGE, after, body_of, command, policy, sent
+from entries import ENTRIES, HOURS, RANGE, after, body_of, command, policy, sent
+from program_tests import OneFolder, focusd, run_tests
 
-PROGRAM = ""
 TEAMS = ["web", "data", "platform", *(f"t{number}" for number in range(7)), "", "nobody"]
-
-
-def focusd(*words, given=b""):
-    """The status, standard output and standard error of a run."""
-    ran = subprocess.run([PROGRAM, *map(str, words)], input=given, capture_output=True)
-    return ran.returncode, ran.stdout.decode(), ran.stderr.decode()
 
 
 def some_policy(chance):
@@ -39,18 +27,13 @@ def some_policy(chance):
     return text
 
 
-class UnderAPolicy(unittest.TestCase):
+class UnderAPolicy(OneFolder):
     @classmethod
     def setUpClass(cls):
-        cls.made = tempfile.TemporaryDirectory()
-        cls.room = pathlib.Path(cls.made.name)
+        super().setUpClass()
         cls.folder = cls.room / "costs"
         cls.folder.mkdir()
         focusd("run", "--dir", cls.folder, "--create", given="".join(ENTRIES).encode())
-
-    @classmethod
-    def tearDownClass(cls):
-        cls.made.cleanup()
 
     def file(self, text):
         path = self.room / "policy.toml"
@@ -140,9 +123,4 @@ class UnderAPolicy(unittest.TestCase):
 
 
 if __name__ == "__main__":
-    parser = argparse.ArgumentParser(description=__doc__, formatter_class=argparse.RawDescriptionHelpFormatter)
-    parser.add_argument("program", metavar="PROGRAM", help="the built program")
-    parser.add_argument("tests", nargs="*", metavar="TEST", help="a class, or a test of one")
-    options = parser.parse_args()
-    PROGRAM = str(pathlib.Path(options.program).resolve())
-    unittest.main(argv=[sys.argv[0], *options.tests])
+    run_tests(__doc__)

@@ -8,35 +8,24 @@
 The questions are asked of the shipped export, the exports of four providers, and a script of two days under overlapping commitments and a
 policy: keys, filters, maps, ranges and periods by chance, each as CSV and JSON, and what the messages say.
 """
-import argparse
 import csv
-import datetime
 import html
 import io
 import json
-import pathlib
 import random
 import re
 import subprocess
 import sys
-import tempfile
-import unittest
 
-HERE = pathlib.Path(__file__).resolve().parent
-sys.path.insert(0, str(HERE))
-import expected  # noqa: E402
+import expected
+from as_reported import time_of
+from program_tests import HERE, OneFolder, run_tests
+from program_tests import focusd_bytes as focusd
 
-PROGRAM = ""
 RUNS, SEED = 200, 1
 TAGS = ("team", "environment", "project", "nobody", "SkuId")
 COLUMNS = ("SkuId", "SubAccountId", "ChargeCategory", "CommitmentDiscountId", "CommitmentDiscountStatus")
 LEFT_OUT = "ChargedCost is left out: a policy shares the costs of all lines, by one tag\n"
-
-
-def focusd(*words, given=b""):
-    """The status, standard output and standard error of a run."""
-    ran = subprocess.run([PROGRAM, *words], input=given, capture_output=True)
-    return ran.returncode, ran.stdout, ran.stderr.decode()
 
 
 class House:
@@ -61,11 +50,6 @@ class House:
 
     def lines(self, low, high):
         return list(self.kept.lines_between(time_of(low), time_of(high)))
-
-
-def time_of(hour):
-    """The time at which an hour begins."""
-    return (datetime.datetime(1970, 1, 1) + datetime.timedelta(hours=hour)).strftime("%Y-%m-%dT%H:00Z")
 
 
 def toml_text(text):
@@ -137,14 +121,13 @@ def words_of(keys, where, where_not):
     return words
 
 
-class Selections(unittest.TestCase):
+class Selections(OneFolder):
     maxDiff = None
 
     @classmethod
     def setUpClass(cls):
-        cls.room = tempfile.TemporaryDirectory()
-        cls.addClassCleanup(cls.room.cleanup)
-        top = pathlib.Path(cls.room.name)
+        super().setUpClass()
+        top = cls.room
         year = subprocess.run([sys.executable, str(HERE / "make_year.py"), "--days", "2", "--rows-an-hour", "12"], capture_output=True, check=True).stdout
         cls.houses = [
             House(top / "export", exports=[HERE / "focus-export.csv"]),
@@ -309,16 +292,5 @@ class Selections(unittest.TestCase):
         self.assertIn("F1 Read", error)
 
 
-def main():
-    global PROGRAM, RUNS, SEED
-    parser = argparse.ArgumentParser(description=__doc__, formatter_class=argparse.RawDescriptionHelpFormatter)
-    parser.add_argument("program")
-    parser.add_argument("--runs", type=int, default=RUNS, help=f"how many random selections (default: {RUNS})")
-    parser.add_argument("--seed", default=SEED, help=f"default: {SEED}")
-    options, rest = parser.parse_known_args()
-    PROGRAM, RUNS, SEED = str(pathlib.Path(options.program).resolve()), options.runs, options.seed
-    unittest.main(argv=[sys.argv[0], *rest])
-
-
 if __name__ == "__main__":
-    main()
+    run_tests(__doc__, RUNS="how many random selections", SEED="the seed of chance")
