@@ -7,17 +7,15 @@
 The FOCUS export that one in the dialect stands for comes from expected.py. Both are imported: the digests of the warehouses have to be equal, and the
 rows that are exported again are those that expected.py reads.
 """
-import argparse
+import collections
 import csv
 import io
 import json
-import pathlib
 import random
-import sys
-import unittest
 
 import expected
-import test_keeps
+from import_tests import READ, Case, export_of_chance, header_of_chance, rows_of
+from program_tests import HERE, run_tests
 
 RUNS = 100
 NOTE = "BigQuery exports Google's costs so: --dialect gcp reads such times and tags."
@@ -72,23 +70,23 @@ def focus_of(text):
     return expected.csv_of(header, out)
 
 
-class Dialects(test_keeps.Case):
+class Dialects(Case):
     """Exports in the dialect of Google."""
 
     def gcp(self, house, *words, keeps=()):
         return self.house(house, "--dialect", "gcp", *words, keeps=keeps)
 
     def test_the_shipped_export(self):
-        text = (pathlib.Path(__file__).parent / "dialects" / "gcp.csv").read_bytes()
+        text = (HERE / "dialects" / "gcp.csv").read_bytes()
         self.assertIn(b" UTC", text)
         self.assertIn(b'"[{""key""', text)
         file, plain = self.file("gcp.csv", text), self.file("plain.csv", expected.focus_of_gcp(text))
         self.assertEqual(self.gcp("gcp", file), (0, "imported 60 rows, 0 were there already; 1 post\n", ""))
         self.assertEqual(self.house("plain", plain)[0], 0)
         self.assertEqual(self.digest("gcp"), self.digest("plain"))
-        self.assertEqual(self.exported("gcp"), test_keeps.rows_of(expected.focus_of_gcp(text)))
+        self.assertEqual(self.exported("gcp"), rows_of(expected.focus_of_gcp(text)))
         # They are the rows of the provider's export in the form of FOCUS.
-        self.assertEqual(self.exported("gcp"), test_keeps.rows_of((pathlib.Path(__file__).parent / "providers" / "google.csv").read_bytes()))
+        self.assertEqual(self.exported("gcp"), rows_of((HERE / "providers" / "google.csv").read_bytes()))
         # The FOCUS export is the same one, so it is there already.
         self.assertEqual(self.house("gcp", plain)[1], "imported 0 rows, 60 were there already; 1 post\n")
         status, printed, said = self.focusd("check", "--dialect", "gcp", file)
@@ -97,18 +95,13 @@ class Dialects(test_keeps.Case):
         self.assertEqual(printed.replace("gcp.csv", "plain.csv"), self.focusd("check", plain)[1])
 
     def test_exports_by_chance(self):
-        for seed in range(RUNS):
-            with self.subTest(seed=seed):
-                self.check_run(seed)
+        self.check_runs(RUNS)
 
     def check_run(self, seed):
         rng = random.Random(seed)
-        header = [*test_keeps.READ, *test_keeps.OTHERS[: rng.randrange(3)]]
-        if rng.randrange(5) == 0:
-            header.remove("Tags")
-        rng.shuffle(header)
+        header = header_of_chance(rng, rng.randrange(3), 5)
         count = rng.choice([1, 3, 40, 400, 9_000 if seed % 10 == 0 else 40])
-        text = spelled(*in_dialect(test_keeps.export_of_chance(rng, count, header), rng), rng)
+        text = spelled(*in_dialect(export_of_chance(rng, count, header), rng), rng)
         plain = focus_of(text)
         names = self.file(f"{seed}.csv", text), self.file(f"{seed}-plain.csv", plain)
         status, printed, said = self.gcp(f"gcp{seed}", names[0])
@@ -118,7 +111,7 @@ class Dialects(test_keeps.Case):
         # 2 MiB of a file end a post too, so the posts of the two differ where the files are long.
         if len(text) < 2**20:
             self.assertEqual(self.digest(f"gcp{seed}"), self.digest(f"plain{seed}"))
-        self.assertEqual(self.exported(f"gcp{seed}"), test_keeps.rows_of(expected.with_columns_as_tags(plain, [])))
+        self.assertEqual(self.exported(f"gcp{seed}"), rows_of(expected.with_columns_as_tags(plain, [])))
         again = self.gcp(f"gcp{seed}", names[0])
         self.assertEqual((again[0], again[2]), (0, ""))
         self.assertTrue(again[1].startswith("imported 0 rows, "), again)
@@ -132,29 +125,27 @@ class Dialects(test_keeps.Case):
     def test_an_import_that_goes_on(self):
         """An import of a part of the files and then of all of them, and columns that are kept."""
         rng = random.Random(71)
-        texts = [
-            spelled(*in_dialect(test_keeps.export_of_chance(rng, count, [*test_keeps.READ, "ServiceName"]), rng), rng) for count in (5_000, 300, 4_200)
-        ]
+        texts = [spelled(*in_dialect(export_of_chance(rng, count, [*READ, "ServiceName"]), rng), rng) for count in (5_000, 300, 4_200)]
         names = [self.file(f"{place}.csv", text) for place, text in enumerate(texts)]
         keeps = ["ServiceName=service"]
         self.assertEqual(self.gcp("parts", names[0], keeps=keeps)[1], "imported 5000 rows, 0 were there already; 2 posts\n")
         self.assertEqual(self.gcp("parts", *names, keeps=keeps)[1], "imported 4500 rows, 5000 were there already; 5 posts\n")
         self.assertEqual(self.gcp("whole", *names, keeps=keeps)[0], 0)
         self.assertEqual(self.digest("parts"), self.digest("whole"))
-        rows = sum((test_keeps.rows_of(expected.with_columns_as_tags(focus_of(text), keeps)) for text in texts), test_keeps.collections.Counter())
+        rows = sum((rows_of(expected.with_columns_as_tags(focus_of(text), keeps)) for text in texts), collections.Counter())
         self.assertEqual(self.exported("parts"), rows)
 
     def test_replacements(self):
         rng = random.Random(72)
-        old, new = (spelled(*in_dialect(test_keeps.export_of_chance(rng, 300, test_keeps.READ), rng), rng) for _ in range(2))
+        old, new = (spelled(*in_dialect(export_of_chance(rng, 300, READ), rng), rng) for _ in range(2))
         self.assertEqual(self.gcp("house", self.file("old.csv", old))[0], 0)
         status, printed, said = self.focusd("replace", "--dir", "house", "--origin", "aws", "--dialect", "gcp", "--quiet", self.file("new.csv", new))
         self.assertEqual((status, said), (0, ""))
         self.assertTrue(printed.startswith("300 rows replaced by 300; "), printed)
-        self.assertEqual(self.exported("house"), test_keeps.rows_of(focus_of(new)))
+        self.assertEqual(self.exported("house"), rows_of(focus_of(new)))
 
 
-class Faults(test_keeps.Case):
+class Faults(Case):
     """What isn't in the dialect."""
 
     def said_of(self, fields, *words):
@@ -272,16 +263,5 @@ class Faults(test_keeps.Case):
                 self.assertIn("gcp", said)
 
 
-def main():
-    global RUNS
-    parser = argparse.ArgumentParser(description=__doc__, formatter_class=argparse.RawDescriptionHelpFormatter)
-    parser.add_argument("program", metavar="PROGRAM", help="the built program")
-    parser.add_argument("tests", metavar="TEST", nargs="*", help="a class, or a test of one")
-    parser.add_argument("--runs", type=int, default=RUNS, help="how many exports by chance")
-    options = parser.parse_args()
-    test_keeps.PROGRAM, RUNS = str(pathlib.Path(options.program).resolve()), options.runs
-    unittest.main(argv=[sys.argv[0], *options.tests])
-
-
 if __name__ == "__main__":
-    main()
+    run_tests(__doc__, RUNS="how many exports by chance")

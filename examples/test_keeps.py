@@ -7,107 +7,22 @@
 The rows with columns kept as tags come from expected.py. They are compared three times: as `focusd export` writes them, as sums of a report
 by a kept tag, and by the digest of a warehouse into which the export was imported that has the tags in its Tags already.
 """
-import argparse
 import collections
-import csv
 import decimal
-import io
 import json
-import pathlib
 import random
-import subprocess
-import sys
-import tempfile
-import unittest
 
 import expected
+from import_tests import OTHERS, READ, Case, export_of_chance, header_of_chance, rows_of
+from program_tests import run_tests
 
-PROGRAM = ""
 RUNS = 40
-READ = expected.REQUIRED + expected.OPTIONAL
-OTHERS = ["ServiceName", "RegionId", "x_Cost Centre", "größe"]
-VALUES = ["", "", "web", 'the "data", all of it', "größer", "two\nlines", "a\\b", "{}", "null", "東京"]
-MONTH = ("--from", "2024-09", "--to", "2024-10")
-
-
-def export_of_chance(rng, count, header):
-    """An export of some records under a header."""
-    records = []
-    for _ in range(count):
-        hour = rng.randrange(48)
-        start, end = (f"2024-09-{it // 24 + 1:02}T{it % 24:02}:00Z" for it in (hour, hour + 1))
-        row = dict.fromkeys(header, "")
-        row |= {"BillingCurrency": "USD", "ChargeCategory": rng.choice(["Usage", "Tax", "Credit"]), "ChargePeriodStart": start, "ChargePeriodEnd": end}
-        row |= {"BilledCost": expected.spelled(rng.randrange(10**11)), "EffectiveCost": expected.spelled(rng.randrange(10**11))}
-        tags = {"team": rng.choice(["web", 'the "data"\nteam', "", "größer"]), "env": rng.choice(["prod", True, False, None]), "zone": "z"}
-        tags = dict(rng.sample(sorted(tags.items()), rng.randrange(4)))
-        row |= {"Tags": rng.choice(["", "{}"]) if not tags else json.dumps(tags, ensure_ascii=rng.random() < 0.5, indent=rng.choice([None, 1]))}
-        row |= {"SkuId": rng.choice(["vm", "db", "x,y", ""]), "SubAccountId": rng.choice(["a1", "a2", ""])}
-        row |= {column: rng.choice(VALUES) for column in OTHERS if column in header}
-        records.append([row[column] for column in header])
-    return expected.csv_of(header, records)
 
 
 def keeps_of_chance(rng, header):
     """Some columns of a header, each kept as itself or as another tag."""
     columns = rng.sample([it for it in header if it != "Tags"], rng.randrange(1, 4))
     return [it if rng.randrange(2) else f"{it}={rng.choice(['service', 'a', 'zz', 'größe 2'])}{place}" for place, it in enumerate(columns)]
-
-
-class Case(unittest.TestCase):
-    """A folder for exports and warehouses."""
-
-    def setUp(self):
-        room = tempfile.TemporaryDirectory()
-        self.addCleanup(room.cleanup)
-        self.top = pathlib.Path(room.name)
-
-    def focusd(self, *words, given=b""):
-        """The status, standard output and standard error of a run."""
-        ran = subprocess.run([PROGRAM, *words], input=given, capture_output=True, cwd=self.top)
-        return ran.returncode, ran.stdout.decode(), ran.stderr.decode()
-
-    def file(self, name, content):
-        (self.top / name).write_bytes(content if isinstance(content, bytes) else content.encode())
-        return name
-
-    def house(self, name, *words, keeps=()):
-        """What an import into a warehouse, which is made, printed."""
-        (self.top / name).mkdir(exist_ok=True)
-        kept = [word for keep in keeps for word in ("--keep", keep)]
-        return self.focusd("import", "--dir", name, "--create", "--origin", "aws", "--quiet", *kept, *words)
-
-    def digest(self, name):
-        status, printed, said = self.focusd("verify", "--dir", name, "--digest")
-        self.assertEqual((status, said), (0, ""))
-        return printed
-
-    def exported(self, name):
-        """How often each row of a warehouse stands there: its costs, its hour and its tags."""
-        status, printed, said = self.focusd("export", "--dir", name, *MONTH)
-        self.assertEqual(status, 0, said)
-        rows = csv.DictReader(io.StringIO(printed, newline=""))
-        return collections.Counter(row_of(row["BilledCost"], row["EffectiveCost"], row["ChargePeriodStart"], row["Tags"]) for row in rows)
-
-    def report(self, name, key):
-        """The billed cost of each group of a report by a tag."""
-        status, printed, said = self.focusd("report", "--dir", name, "--tag", key, "--format", "csv", *MONTH)
-        self.assertEqual(status, 0, said)
-        rows = list(csv.reader(io.StringIO(printed, newline="")))
-        at = rows[0].index("BilledCost")
-        return {row[0]: decimal.Decimal(row[at]) for row in rows[1:] if row[0] != "TOTAL"}
-
-
-def row_of(billed, effective, start, tags):
-    """A row, as rows are compared: amounts as numbers, the hour without its seconds, tags in order."""
-    return decimal.Decimal(billed), decimal.Decimal(effective), start[:13], tuple(sorted(expected.tags_of(tags).items()))
-
-
-def rows_of(text):
-    """How often each row stands in an export."""
-    header, records = expected.records_of(text)
-    rows = (dict(zip(header, fields)) for fields in records)
-    return collections.Counter(row_of(row["BilledCost"], row["EffectiveCost"], row["ChargePeriodStart"], row["Tags"]) for row in rows)
 
 
 def sums_of(text, key):
@@ -122,16 +37,11 @@ class Keeps(Case):
     """Columns that are kept as tags."""
 
     def test_rows_by_chance(self):
-        for seed in range(RUNS):
-            with self.subTest(seed=seed):
-                self.check_run(seed)
+        self.check_runs(RUNS)
 
     def check_run(self, seed):
         rng = random.Random(seed)
-        header = [*READ, *OTHERS[: rng.randrange(1, 5)]]
-        if rng.randrange(4) == 0:
-            header.remove("Tags")
-        rng.shuffle(header)
+        header = header_of_chance(rng, rng.randrange(1, 5), 4)
         count = rng.choice([1, 3, 40, 400, 9_000 if seed % 8 == 0 else 40])
         text = export_of_chance(rng, count, header)
         keeps = keeps_of_chance(rng, header)
@@ -191,9 +101,7 @@ class Replacements(Case):
         return self.focusd("replace", "--dir", house, "--origin", "aws", "--quiet", *kept, *words, file)
 
     def test_rows_by_chance(self):
-        for seed in range(RUNS):
-            with self.subTest(seed=seed):
-                self.check_run(seed)
+        self.check_runs(RUNS)
 
     def check_run(self, seed):
         rng = random.Random(1_000 + seed)
@@ -310,16 +218,5 @@ class Faults(Case):
             self.assertEqual(list((self.top / "bad").iterdir()), [])
 
 
-def main():
-    global PROGRAM, RUNS
-    parser = argparse.ArgumentParser(description=__doc__, formatter_class=argparse.RawDescriptionHelpFormatter)
-    parser.add_argument("program", metavar="PROGRAM", help="the built program")
-    parser.add_argument("tests", metavar="TEST", nargs="*", help="a class, or a test of one")
-    parser.add_argument("--runs", type=int, default=RUNS, help="how many exports by chance")
-    options = parser.parse_args()
-    PROGRAM, RUNS = str(pathlib.Path(options.program).resolve()), options.runs
-    unittest.main(argv=[sys.argv[0], *options.tests])
-
-
 if __name__ == "__main__":
-    main()
+    run_tests(__doc__, RUNS="how many exports by chance")
