@@ -8,7 +8,6 @@ A TEST is a class, or a test of one; without any all are run.
 The warehouse is made from a script by `focusd run --dir`. What reports and lines must be comes from expected.py; a table is
 made of that here, by Python's decimal.
 """
-import argparse
 import csv
 import datetime
 import decimal
@@ -31,9 +30,8 @@ import time
 import unittest
 
 import expected
+from program_tests import HERE, Case, OneFolder, focusd, new_folder, program, run_tests
 
-HERE = pathlib.Path(__file__).resolve().parent
-PROGRAM = ""
 CENT = decimal.Decimal("0.01")
 COVERAGE_HEADER = [
     "CommitmentDiscountId", "CommitmentDiscountCategory", "Unit", "Capacity", "Used", "Unused", "UsedCost", "UnusedCost", "BilledCost",
@@ -76,23 +74,17 @@ def no_key(key, there):
     return f"focusd: no row and no commitment of the range has the tag {key}; the tags there are: {there}\n"
 
 
-def focusd(*words, given=b""):
-    """The status, standard output and standard error of a run."""
-    ran = subprocess.run([PROGRAM, *words], input=given, capture_output=True)
-    return ran.returncode, ran.stdout.decode(), ran.stderr.decode()
-
-
 def full(*words, given=b""):
     """The status and standard error of a run whose standard output is on a full disk."""
     with open("/dev/full", "wb") as output:
-        ran = subprocess.run([PROGRAM, *words], input=given, stdout=output, stderr=subprocess.PIPE)
+        ran = subprocess.run([program(), *words], input=given, stdout=output, stderr=subprocess.PIPE)
     return ran.returncode, ran.stderr.decode()
 
 
 def at_a_terminal(lines, *words, **options):
     """The status of a run, and the first so many lines that it writes to a terminal as its standard error."""
     ours, terminal = os.openpty()
-    run = subprocess.run([PROGRAM, *words], stderr=terminal, **options)
+    run = subprocess.run([program(), *words], stderr=terminal, **options)
     os.close(terminal)
     said = b""
     while said.count(b"\n") < lines:
@@ -115,7 +107,7 @@ def with_no_reader(words):
     """The status and standard error of a run whose standard output nobody reads."""
     read, write = os.pipe()
     os.close(read)
-    ran = subprocess.run([PROGRAM, *words], stdin=subprocess.DEVNULL, stdout=write, stderr=subprocess.PIPE)
+    ran = subprocess.run([program(), *words], stdin=subprocess.DEVNULL, stdout=write, stderr=subprocess.PIPE)
     os.close(write)
     return ran.returncode, ran.stderr
 
@@ -215,13 +207,20 @@ class Page(html.parser.HTMLParser):
         self.tags.append("/" + tag)
 
 
-class Commands(unittest.TestCase):
+class Paths(Case):
+    """A folder whose files are named by their paths, for runs in another folder."""
+
+    def file(self, name, content):
+        return str(self.top / super().file(name, content))
+
+
+class Commands(OneFolder):
     """Each command over the shipped scripts."""
 
     @classmethod
     def setUpClass(cls):
-        cls.made = tempfile.TemporaryDirectory()
-        cls.folder = cls.made.name
+        super().setUpClass()
+        cls.folder = str(cls.room)
         cls.script = cls.entries()
         status, _, said = focusd("run", "--dir", cls.folder, "--create", given=cls.script)
         assert status == 0, said
@@ -231,10 +230,6 @@ class Commands(unittest.TestCase):
     def entries(cls):
         """The script that the warehouse is made of."""
         return (HERE / "commitments.script").read_bytes()
-
-    @classmethod
-    def tearDownClass(cls):
-        cls.made.cleanup()
 
     def asked(self, *words, saying=""):
         """What a command over the warehouse prints, and nothing but this on standard error; of a report for teams the policy too."""
@@ -571,7 +566,7 @@ class Commands(unittest.TestCase):
             self.assertIn(named, said, words)
 
     def test_a_reader_that_stops_early(self):
-        command = [PROGRAM, "lines", "--dir", self.folder, "--from", "2024-01", "--to", "2024-02"]
+        command = [program(), "lines", "--dir", self.folder, "--from", "2024-01", "--to", "2024-02"]
         with subprocess.Popen(command, stdout=subprocess.PIPE, stderr=subprocess.PIPE) as run:
             run.stdout.read(10)
             run.stdout.close()
@@ -586,7 +581,7 @@ class Commands(unittest.TestCase):
         """A script's standard error has one line, and where that is a terminal also what the system said."""
         remedy = "Look at what feeds the pipe, or at the file that the message names: whether it is there, is a file and may be read. Then run the command again."
         with open(UNREADABLE, "rb") as unreadable:
-            ran = subprocess.run([PROGRAM, "run"], stdin=unreadable, capture_output=True)
+            ran = subprocess.run([program(), "run"], stdin=unreadable, capture_output=True)
             self.assertEqual((ran.returncode, ran.stdout, ran.stderr), (1, b"", b"focusd: F1 Read\n"))
             found = at_a_terminal(2, "run", stdin=unreadable, stdout=subprocess.DEVNULL)
         wanted = ["focusd: F1 Read", f"standard input: {system(errno.EIO)}. What to do: {remedy}"]
@@ -598,7 +593,7 @@ class Commands(unittest.TestCase):
 
     def test_arguments_that_are_not_utf8(self):
         for words, place in (([b"caf\xe9"], 1), (["check", "a.csv", b"caf\xe9.csv", b"\xff"], 3), (["status", "--dir", b"\xff"], 3)):
-            ran = subprocess.run([PROGRAM, *words], capture_output=True)
+            ran = subprocess.run([program(), *words], capture_output=True)
             said = f"focusd: argument {place} is not UTF-8: a file or a folder whose name is not UTF-8 can't be named; rename it\n"
             self.assertEqual((ran.returncode, ran.stdout, ran.stderr.decode()), (2, b"", said), words)
 
@@ -644,7 +639,7 @@ class Commands(unittest.TestCase):
                 self.assertIn(said, printed, command)
 
 
-class OnlyAsked(unittest.TestCase):
+class OnlyAsked(Case):
     """What commands that ask leave of a folder, and what commands that write leave of one without a warehouse."""
 
     EXPORT = str(HERE / "focus-export.csv")
@@ -661,10 +656,8 @@ class OnlyAsked(unittest.TestCase):
     )  # fmt: skip
 
     def setUp(self):
-        room = tempfile.TemporaryDirectory()
-        self.addCleanup(room.cleanup)
-        self.room = pathlib.Path(room.name)
-        self.folder = self.room / "costs"
+        super().setUp()
+        self.folder = self.top / "costs"
         self.folder.mkdir()
         export = pathlib.Path(self.EXPORT).read_bytes()
         done = focusd("run", "--create", "--dir", str(self.folder), given=b"post aws 1 %d\n%s" % (export.count(b"\n"), export))
@@ -735,22 +728,22 @@ class OnlyAsked(unittest.TestCase):
             self.assertEqual(self.found(self.folder), before, words)
 
     def test_an_import_that_is_refused_makes_no_file_in_a_folder_that_is_there(self):
-        wrong = self.room / "wrong.csv"
+        wrong = self.top / "wrong.csv"
         wrong.write_text("BilledCost\n1\n")
-        folder = self.room / "empty"
+        folder = self.top / "empty"
         folder.mkdir()
         self.assertEqual(focusd("import", "--quiet", "--create", "--dir", str(folder), "--origin", "aws", str(wrong))[0], 1)
         self.assertEqual(list(folder.iterdir()), [])
 
     def test_a_folder_that_may_only_be_read(self):
         """As another user where this is the superuser, for whom no mode counts."""
-        program = self.room / "focusd"
-        shutil.copy(PROGRAM, program)
+        copy = self.top / "focusd"
+        shutil.copy(program(), copy)
         user = {"user": 65534, "group": 65534, "extra_groups": []} if os.geteuid() == 0 else {}
-        self.room.chmod(0o755)
+        self.top.chmod(0o755)
 
         def done(words):
-            ran = subprocess.run([str(program), words[0], "--dir", str(self.folder), *words[1:]], stdin=subprocess.DEVNULL, capture_output=True, **user)
+            ran = subprocess.run([copy, words[0], "--dir", str(self.folder), *words[1:]], stdin=subprocess.DEVNULL, capture_output=True, **user)
             return ran.returncode, ran.stdout.decode(), ran.stderr.decode()
 
         try:
@@ -758,8 +751,8 @@ class OnlyAsked(unittest.TestCase):
         except (OSError, subprocess.SubprocessError):
             self.skipTest("no other user can run the program here")
         for name in ("focus-export.csv", "commitment.toml"):
-            shutil.copy(HERE / name, self.room / name)
-        words_of = {words: tuple(str(self.room / pathlib.Path(it).name) if it.startswith(str(HERE)) else it for it in words) for words in self.ASKING}
+            shutil.copy(HERE / name, self.top / name)
+        words_of = {words: tuple(str(self.top / pathlib.Path(it).name) if it.startswith(str(HERE)) else it for it in words) for words in self.ASKING}
         wanted = {words: self.asked(words_of[words]) for words in self.ASKING}
         for file in self.folder.iterdir():
             file.chmod(0o444)
@@ -797,12 +790,12 @@ class OnlyAsked(unittest.TestCase):
                 left.unlink()
                 make()
             for words in self.ASKING:
-                ran = subprocess.run([PROGRAM, words[0], "--dir", str(self.folder), *words[1:]], capture_output=True, timeout=60)
+                ran = subprocess.run([program(), words[0], "--dir", str(self.folder), *words[1:]], capture_output=True, timeout=60)
                 self.assertEqual((ran.returncode, ran.stdout), (1, b""), words)
                 self.assertTrue(ran.stderr.decode().startswith(f"focusd: K1 Io\n{self.folder}: {why}. What to do: "), ran.stderr)
 
 
-class Ranges(unittest.TestCase):
+class Ranges(Case):
     """Questions whose range comes from the rows, or is a month. The ranges are worked out by hand, and the answers over them by expected.py."""
 
     HEADER = "BilledCost,EffectiveCost,BillingCurrency,ChargeCategory,ChargePeriodStart,ChargePeriodEnd,Tags"
@@ -812,9 +805,8 @@ class Ranges(unittest.TestCase):
     )
 
     def setUp(self):
-        made = tempfile.TemporaryDirectory()
-        self.addCleanup(made.cleanup)
-        self.folder = made.name
+        super().setUp()
+        self.folder = str(self.top)
 
     def row(self, start, tags="{}"):
         quoted = tags.replace('"', '""')
@@ -1048,7 +1040,7 @@ class WithdrawnPosts(Commands):
         return script
 
 
-class Outside(unittest.TestCase):
+class Outside(Case):
     """Texts from outside that would act on a terminal: what a table shows of them."""
 
     TEXT = "a\x1b[2Jb\nTotal  999.00\u202e\x85"
@@ -1056,9 +1048,8 @@ class Outside(unittest.TestCase):
     APPLIED = applied(SHOWN, 3, "a 3")
 
     def setUp(self):
-        room = tempfile.TemporaryDirectory()
-        self.addCleanup(room.cleanup)
-        self.folder = room.name
+        super().setUp()
+        self.folder = str(self.top)
         text = json.dumps(self.TEXT)
         tags = json.dumps({self.TEXT: self.TEXT}).replace('"', '""')
         content = {
@@ -1141,18 +1132,15 @@ class Outside(unittest.TestCase):
     def test_names_of_files(self):
         head = "BilledCost,EffectiveCost,BillingCurrency,ChargeCategory,ChargePeriodStart,ChargePeriodEnd"
         row = "0,0,USD,Tax,2024-01-01T00:00Z,2024-01-01T01:00Z"
-        top = pathlib.Path(self.folder)
 
         def file(name, text):
-            path = top / f"{name}\x1b[2J\u202e"
-            path.write_text(text, encoding="utf-8")
-            return str(path)
+            return str(self.top / self.file(f"{name}\x1b[2J\u202e", text))
 
         good, two = file("good", f"{head}\n{row}\n"), file("two", f"{head}\n{row}\n{row}\n")
         wrong, fields = file("wrong", f"{head}\n{row.replace('Tax', 'Rent')}\n"), file("fields", f"{head}\n{row},1\n")
         lacking, none, long = file("lacking", "a\n1\n"), file("none", ""), file("long", f'{head}\n"{"x" * (5 << 20)}')
         own = file("own", f"{head},CommitmentDiscountId,CommitmentDiscountCategory,CommitmentDiscountStatus\n{row},cd-1,Usage,Used\n")
-        folder, missing = top / "folder\x1b[2J\u202e", top / "missing\x1b[2J\u202e"
+        folder, missing = self.top / "folder\x1b[2J\u202e", self.top / "missing\x1b[2J\u202e"
         folder.mkdir()
         for name in (wrong, fields, lacking, none, long, str(folder), str(missing)):
             self.said(1, "check", name)
@@ -1193,7 +1181,7 @@ class Outside(unittest.TestCase):
         self.assertEqual(printed.count("\\u{1b}[2J\\u{202e}"), 3)
 
 
-class Files(unittest.TestCase):
+class Files(Paths):
     """Import and check, over the shipped export."""
 
     EXPORT = HERE / "focus-export.csv"
@@ -1202,16 +1190,9 @@ class Files(unittest.TestCase):
     ROW = b"0.1,0.1,USD,Tax,2024-01-01T00:00Z,2024-01-01T01:00Z\n"
 
     def setUp(self):
-        made, room = tempfile.TemporaryDirectory(), tempfile.TemporaryDirectory()
-        self.addCleanup(made.cleanup)
-        self.addCleanup(room.cleanup)
-        self.folder, self.room = made.name, pathlib.Path(room.name)
-        status, _, said = focusd("run", "--dir", self.folder, "--create")
-        self.assertEqual((status, said), (0, ""))
-
-    def file(self, name, text):
-        (self.room / name).write_bytes(text)
-        return str(self.room / name)
+        super().setUp()
+        self.folder = str(new_folder(self.addCleanup))
+        self.do("run", "--dir", self.folder, "--create")
 
     def imported(self, file):
         return focusd("import", "--quiet", "--dir", self.folder, "--origin", "aws", str(file))
@@ -1351,7 +1332,7 @@ class Files(unittest.TestCase):
         self.assertEqual(self.imported(self.EXPORT)[0], 0)
         terms = self.file("cd.toml", (HERE / "commitment.toml").read_bytes())
         again = self.file("again.csv", self.HEADER + self.ROW)
-        new = str(self.room / "new")
+        new = str(self.top / "new")
         remedy = "Look for a full or failing disk. Then run again and send what wasn't accepted: none counts twice."
         said = f"/(left|right): {re.escape(system(errno.EFBIG))}\\. What to do: {re.escape(remedy)}"
         for folder, *words in (
@@ -1365,12 +1346,12 @@ class Files(unittest.TestCase):
             (new, "compact", "--quiet", "--dir", self.folder, "--into", new),
         ):
             shutil.rmtree(new, ignore_errors=True)
-            ran = subprocess.run([PROGRAM, *words], stdin=subprocess.DEVNULL, capture_output=True, **within(16))
+            ran = subprocess.run([program(), *words], stdin=subprocess.DEVNULL, capture_output=True, **within(16))
             self.assertEqual(ran.returncode, 1, words)
             self.assertRegex(ran.stderr.decode().split("\n", 1)[1], f"^{re.escape(folder)}{said}\n$", words)
             self.assertTrue(ran.stderr.startswith(b"focusd: S3 Device\n"), words)
         script = b"post d 1 2\n" + self.HEADER + self.ROW + b"state\n"
-        ran = subprocess.run([PROGRAM, "run", "--dir", self.folder], input=script, capture_output=True, **within(16))
+        ran = subprocess.run([program(), "run", "--dir", self.folder], input=script, capture_output=True, **within(16))
         self.assertEqual((ran.returncode, ran.stdout, ran.stderr), (0, b"store S3 Device\nstate 1 300 0 0\n", b""))
         status, lines = at_a_terminal(1, "run", "--dir", self.folder, input=script, stdout=subprocess.DEVNULL, **within(16))
         self.assertEqual((status, len(lines)), (0, 1), lines)
@@ -1479,7 +1460,7 @@ class Files(unittest.TestCase):
                 self.assertEqual(focusd("import", "--quiet", "--dir", folder, "--create", "--origin", "aws", file), (1, "", said))
 
     def test_a_folder_in_place_of_a_file(self):
-        folder = str(self.room)
+        folder = str(self.top)
         said = f"focusd: {folder}: F1 Read: it is a folder that has no file whose name ends in .csv\n"
         for words, wanted in (
             (("check", folder), said),
@@ -1490,10 +1471,10 @@ class Files(unittest.TestCase):
             self.assertEqual(focusd(*words), (1, "", wanted), words)
 
     def test_a_message_has_a_line_of_its_own_behind_the_progress(self):
-        one, none = self.file("one.csv", self.HEADER + self.ROW), str(self.room / "none.csv")
+        one, none = self.file("one.csv", self.HEADER + self.ROW), str(self.top / "none.csv")
         for words in (("import", "--dir", self.folder, "--origin", "a"), ("replace", "--dir", self.folder, "--origin", "a"), ("check",)):
             ours, terminal = os.openpty()
-            run = subprocess.run([PROGRAM, *words, one, none], stdin=subprocess.DEVNULL, stdout=subprocess.DEVNULL, stderr=terminal)
+            run = subprocess.run([program(), *words, one, none], stdin=subprocess.DEVNULL, stdout=subprocess.DEVNULL, stderr=terminal)
             os.close(terminal)
             said = b""
             while b"No such file" not in said:
@@ -1642,7 +1623,7 @@ class Files(unittest.TestCase):
         self.assertEqual((status, found["records"], found["badRecords"], found["faults"]), (1, 4500, 900, 1000))
 
 
-class Progress(unittest.TestCase):
+class Progress(OneFolder):
     """What import and check print to a terminal while they read."""
 
     ROWS, POST = 1_500_000, 4_096
@@ -1651,10 +1632,8 @@ class Progress(unittest.TestCase):
 
     @classmethod
     def setUpClass(cls):
-        made = tempfile.TemporaryDirectory()
-        cls.addClassCleanup(made.cleanup)
-        cls.folder = pathlib.Path(made.name)
-        cls.file = cls.folder / "export.csv"
+        super().setUpClass()
+        cls.file = cls.room / "export.csv"
         header = b"BilledCost,EffectiveCost,BillingCurrency,ChargeCategory,ChargePeriodStart,ChargePeriodEnd,Tags\n"
         row = b'0.1,0.1,USD,Usage,2024-01-01T00:00Z,2024-01-01T01:00Z,"{""team"":""web"",""note"":""%s""}"\n' % (b"n" * 150)
         cls.file.write_bytes(header + row * cls.ROWS)
@@ -1665,7 +1644,7 @@ class Progress(unittest.TestCase):
         ours, terminal = os.openpty()
         began = time.monotonic()
         with open(file or os.devnull, "rb") as given:
-            with subprocess.Popen([PROGRAM, *words], stdin=given, stdout=subprocess.PIPE, stderr=terminal) as run:
+            with subprocess.Popen([program(), *words], stdin=given, stdout=subprocess.PIPE, stderr=terminal) as run:
                 os.close(terminal)
                 text = b""
                 # A terminal that nobody holds any more is read to its end, which is an error.
@@ -1705,7 +1684,7 @@ class Progress(unittest.TestCase):
             self.assertEqual(timed[-1][2], 0)
 
     def test_an_import_tells_how_far_it_is(self):
-        words = ("import", "--dir", str(self.folder), "--origin", "aws", "--create")
+        words = ("import", "--dir", str(self.room), "--origin", "aws", "--create")
         self.lines_add_up(self.told(*words, str(self.file)))
         self.assertIn(f"imported {self.ROWS} rows, 0 were there already", self.printed)
         # Standard input has no length, whatever it is.
@@ -1719,7 +1698,7 @@ class Progress(unittest.TestCase):
         self.assertEqual(self.told("check", "--quiet", str(self.file)), [])
 
 
-class Loads(unittest.TestCase):
+class Loads(Paths):
     """Files that are loaded side by side. What is printed is worked out by hand from docs/FORMATS.md."""
 
     HEADER = "BilledCost,EffectiveCost,BillingCurrency,ChargeCategory,ChargePeriodStart,ChargePeriodEnd\n"
@@ -1727,23 +1706,17 @@ class Loads(unittest.TestCase):
     SHORT = "0.1,0.1,USD,Tax,2024-01-01T00:00Z\n"
 
     def setUp(self):
-        made = tempfile.TemporaryDirectory()
-        self.addCleanup(made.cleanup)
-        self.room = pathlib.Path(made.name)
+        super().setUp()
         self.right = self.file("right.csv", self.HEADER + self.ROW)
         self.short = self.file("short.csv", self.HEADER + self.ROW + self.SHORT)
-        (self.room / "costs").mkdir()
-
-    def file(self, name, text):
-        (self.room / name).write_text(text)
-        return str(self.room / name)
+        (self.top / "costs").mkdir()
 
     def test_a_file_that_is_refused(self):
         wanted = "1 accepted\n2 refused V1 Fields 2\nstale 0\nstate 1 1 0 0\n"
         self.assertEqual(focusd("load", self.right, self.short), (0, wanted, ""))
 
     def test_a_folder(self):
-        words = ("load", "--dir", str(self.room / "costs"))
+        words = ("load", "--dir", str(self.top / "costs"))
         wanted = "1 accepted\n2 accepted\nstale 0\nstate 2 2 0 0\n"
         self.assertEqual(focusd(*words, "--create", self.right, self.right), (0, wanted, ""))
         # The same files again are there, and a new number is a new entry.
@@ -1751,7 +1724,7 @@ class Loads(unittest.TestCase):
         self.assertEqual(focusd(*words, self.right, self.right, self.right), (0, wanted, ""))
         wanted = "1 accepted\nstale 0\nstate 4 4 0 0\n"
         self.assertEqual(focusd(*words, "--origin", "g", "--analysts", "16", self.right), (0, wanted, ""))
-        self.assertEqual(focusd("verify", "--dir", str(self.room / "costs"))[0], 0)
+        self.assertEqual(focusd("verify", "--dir", str(self.top / "costs"))[0], 0)
 
     def test_sixty_four_files(self):
         wanted = "".join(f"{number} accepted\n" for number in range(1, 65)) + "stale 0\nstate 64 64 0 0\n"
@@ -1765,20 +1738,20 @@ class Loads(unittest.TestCase):
             (("load", "--currency", "usd", self.right), 2, 'focusd: --currency: "usd" is not three capital letters, as USD'),
             (("load", *[self.right] * 65), 1, "focusd: G1 Counts"),
             # A file that can't be read is found before the folder is looked at.
-            (("load", "--dir", str(self.room / "none"), str(self.room / "none.csv")), 1, f"focusd: F1 Read\n{self.room}/none.csv: "),
-            (("load", self.right, str(self.room)), 1, f"focusd: F1 Read\n{self.room}: it is a folder, and not a file\n"),
-            (("load", "--dir", str(self.room / "none"), self.right), 1, "focusd: K1 Io"),
-            (("load", "--dir", str(self.room / "costs"), self.right), 1, "focusd: S1 NoHouse"),
+            (("load", "--dir", str(self.top / "none"), str(self.top / "none.csv")), 1, f"focusd: F1 Read\n{self.top}/none.csv: "),
+            (("load", self.right, str(self.top)), 1, f"focusd: F1 Read\n{self.top}: it is a folder, and not a file\n"),
+            (("load", "--dir", str(self.top / "none"), self.right), 1, "focusd: K1 Io"),
+            (("load", "--dir", str(self.top / "costs"), self.right), 1, "focusd: S1 NoHouse"),
         ):
             status, printed, said = focusd(*words)
             self.assertEqual((status, printed), (wanted, ""), words)
             self.assertIn(named, said, words)
 
     def test_a_reader_that_stops_early_and_one_that_is_full(self):
-        words = ("load", "--dir", str(self.room / "costs"), "--create", self.right)
+        words = ("load", "--dir", str(self.top / "costs"), "--create", self.right)
         self.assertEqual(with_no_reader(words), (0, b""))
         wanted = "1 already 1\nstale 0\nstate 1 1 0 0\n"
-        self.assertEqual(focusd("load", "--dir", str(self.room / "costs"), self.right), (0, wanted, ""))
+        self.assertEqual(focusd("load", "--dir", str(self.top / "costs"), self.right), (0, wanted, ""))
         self.assertEqual(full("load", self.right), (1, FULL_OUTPUT))
 
     def test_an_origin_that_is_none(self):
@@ -1786,7 +1759,7 @@ class Loads(unittest.TestCase):
         self.assertEqual(focusd("load", "--origin", "a b", self.right), (0, wanted, ""))
 
 
-class Additions(unittest.TestCase):
+class Additions(Paths):
     """Commitments, policies and purchases that are added from files."""
 
     HEADER = "BilledCost,EffectiveCost,BillingCurrency,ChargeCategory,ChargePeriodStart,ChargePeriodEnd,ConsumedQuantity,ConsumedUnit,SkuId,SubAccountId,Tags,CommitmentDiscountId\n"
@@ -1828,9 +1801,7 @@ billed = "1.5"
 """
 
     def setUp(self):
-        made = tempfile.TemporaryDirectory()
-        self.addCleanup(made.cleanup)
-        self.top = pathlib.Path(made.name)
+        super().setUp()
         self.folder = self.top / "costs"
         self.folder.mkdir()
         rows = [self.row(hour) for hour in (0, 1, 2, 2)]
@@ -1846,11 +1817,6 @@ billed = "1.5"
             f"0.1,0.1,USD,{category},2024-01-01T{hour:02}:00:00Z,2024-01-01T{hour + 1:02}:00:00Z,{quantity},{unit},{sku},{account},"
             f'"{{""team"":""web""}}",{discount}\n'
         )
-
-    def file(self, name, text):
-        path = self.top / name
-        path.write_text(text, encoding="utf-8")
-        return str(path)
 
     def add(self, *words, origin="billing"):
         """The status, standard output and standard error of a run, without the names of the folder of the files."""
@@ -2220,7 +2186,7 @@ team.toml: policy by "team": it would be entry 4 (billing 3)
         self.assertEqual(self.kept(), before)
 
     def test_a_reader_that_stops_early_and_one_that_is_full(self):
-        words = [PROGRAM, "add", "--dir", str(self.folder), "--origin", "billing", self.file("cd.toml", self.COMMITMENT)]
+        words = [program(), "add", "--dir", str(self.folder), "--origin", "billing", self.file("cd.toml", self.COMMITMENT)]
         self.assertEqual(full(*words[1:], "--dry-run"), (1, FULL_OUTPUT))
         read, write = os.pipe()
         os.close(read)
@@ -2298,9 +2264,7 @@ class Dumps(unittest.TestCase):
     )  # fmt: skip
 
     def folder(self):
-        made = tempfile.TemporaryDirectory()
-        self.addCleanup(made.cleanup)
-        return made.name
+        return str(new_folder(self.addCleanup))
 
     def done(self, *words, given=b""):
         """What a run prints that has to go well. On standard error stands at most what a report leaves out, and its policy: each folder is asked for tags that it may not have."""
@@ -2492,7 +2456,7 @@ class Dumps(unittest.TestCase):
 
     def test_a_reader_that_stops_early_and_one_that_is_full(self):
         folder = self.made(self.post(b"a", 1, *[self.row(Tags=json.dumps({"team": str(n)})) for n in range(3000)]))
-        with subprocess.Popen([PROGRAM, "dump", "--dir", folder], stdout=subprocess.PIPE, stderr=subprocess.PIPE) as run:
+        with subprocess.Popen([program(), "dump", "--dir", folder], stdout=subprocess.PIPE, stderr=subprocess.PIPE) as run:
             run.stdout.read(10)
             run.stdout.close()
             self.assertEqual((run.stderr.read(), run.wait()), (b"", 0))
@@ -2512,7 +2476,7 @@ class Month(unittest.TestCase):
             self.assertIn(f"focusd {command} ", words)
         with tempfile.TemporaryDirectory() as folder:
             pathlib.Path(folder, "examples").symlink_to(HERE)
-            pathlib.Path(folder, "focusd").symlink_to(PROGRAM)
+            pathlib.Path(folder, "focusd").symlink_to(program())
             shell = {**os.environ, "PATH": f"{folder}:{os.environ['PATH']}"}
             for command, *shown in steps:
                 with self.subTest(command):
@@ -2843,11 +2807,10 @@ class KeptVolumes(unittest.TestCase):
     )
 
     def copy(self, name):
-        folder = tempfile.TemporaryDirectory()
-        self.addCleanup(folder.cleanup)
+        folder = new_folder(self.addCleanup)
         for file in ("left", "right"):
-            shutil.copy(HERE / "volumes" / name / file, folder.name)
-        return folder.name
+            shutil.copy(HERE / "volumes" / name / file, folder)
+        return str(folder)
 
     def answers(self, *scripts):
         """What is answered to the last of these scripts after the others."""
@@ -3061,9 +3024,4 @@ to = { team-4 = 3, shared = 1 }
 
 
 if __name__ == "__main__":
-    parser = argparse.ArgumentParser(description=__doc__, formatter_class=argparse.RawDescriptionHelpFormatter)
-    parser.add_argument("program", metavar="PROGRAM", help="the built program")
-    parser.add_argument("tests", nargs="*", default=[], metavar="TEST", help="the tests (default: all); options of unittest, as -v, stand behind")
-    options, others = parser.parse_known_args()
-    PROGRAM = str(pathlib.Path(options.program).resolve())
-    unittest.main(argv=[sys.argv[0], *options.tests, *others])
+    run_tests(__doc__)
