@@ -21,7 +21,7 @@ import sys
 import tempfile
 
 from bench import Data
-from session import ROOT, built, load, load_since, measure, parser_of_turns, print_head, say, status_after, verdict, whole_number
+from session import ROOT, add_export, built, load, load_since, measure, parser_of_turns, print_head, say, status_after, verdict
 from store import posts_alone, written
 
 sys.path.insert(0, os.path.join(ROOT, "examples"))
@@ -84,6 +84,11 @@ class Runs:
         for name, turn in self.lines:
             clock = f"{turn.processor_seconds:.2f} | {turn.peak / 1e6:.0f}" if turn.is_clocked else " | "
             yield f"| {name} | {turn.seconds:.2f} | {clock} |"
+
+    def print_verdict(self):
+        """Prints whether all answers are right, or which are wrong, and returns the exit status."""
+        print("\nAll answers are right." if not self.wrong else "\n" + "\n".join(f"- WRONG: {it}" for it in self.wrong))
+        return 1 if self.wrong else 0
 
 
 def dicts(printed):
@@ -200,14 +205,12 @@ def run(options):
     room = (max(it.peak for name, it in runs.lines if name == "import") - status.peak) / 1e6
     print(f"\nPeak memory of an import above that of `status`, which opens the same warehouse: {room:.0f} MB.")
     print(f"Goal, below {MOST_MEGABYTES} MB: **{verdict(room < MOST_MEGABYTES)}**")
-    print("\nAll answers are right." if not runs.wrong else "\n" + "\n".join(f"- WRONG: {it}" for it in runs.wrong))
-    return 1 if runs.wrong else 0
+    return runs.print_verdict()
 
 
 def main():
     parser = parser_of_turns(__doc__, turns=3, limit=600, what="how often each import is measured")
-    parser.add_argument("--rows", type=whole_number, default=1_000_000, help="default: 1,000,000")
-    parser.add_argument("--seed", type=whole_number, default=7, help="default: 7")
+    add_export(parser)
     parser.set_defaults(narrow=False)
     return status_after(run, parser.parse_args())
 

@@ -25,7 +25,7 @@ import time
 
 from bench import HOURS, MAKE_EXPORT, START, make
 from commands import Runs, dicts
-from session import ROOT, built, load, load_since, parser_of_turns, print_head, say, status_after, verdict, whole_number
+from session import ROOT, add_export, built, load, load_since, parser_of_turns, print_head, say, status_after, verdict
 
 sys.path.insert(0, os.path.join(ROOT, "examples"))
 import expected  # noqa: E402
@@ -162,14 +162,12 @@ def run(options):
     print(f"\nTwo tags under a filter, at most {MOST_TIMES_ONE} times one tag: **{verdict(times <= MOST_TIMES_ONE)}** ({times:.2f} times)")
     if options.random:
         print(f"\n{options.random:,} random questions, each compared with SQLite.")
-    print("\nAll answers are right." if not runs.wrong else "\n" + "\n".join(f"- WRONG: {it}" for it in runs.wrong))
-    return 1 if runs.wrong else 0
+    return runs.print_verdict()
 
 
 def main():
     parser = parser_of_turns(__doc__, turns=3, limit=600, what="how often each question is asked")
-    parser.add_argument("--rows", type=whole_number, default=1_000_000, help="default: 1,000,000")
-    parser.add_argument("--seed", type=whole_number, default=7, help="default: 7")
+    add_export(parser)
     parser.add_argument("--random", type=int, default=0, metavar="N", help="ask so many random questions too (default: 0)")
     return status_after(run, parser.parse_args())
 

@@ -40,6 +40,12 @@ def parser_of_turns(description, turns, limit=None, program=PROGRAM, what="turns
     return parser
 
 
+def add_export(parser):
+    """The size and the seed of an export that is made."""
+    parser.add_argument("--rows", type=whole_number, default=1_000_000, help="default: 1,000,000")
+    parser.add_argument("--seed", type=whole_number, default=7, help="default: 7")
+
+
 def script_name():
     """The name of the script that runs."""
     return os.path.basename(sys.argv[0])
