@@ -23,6 +23,15 @@ def before_of(low, high):
     return 2 * low - high, low
 
 
+def range_by_chance(chance, months, end, hours):
+    """A range in 2024: at most so many whole months from June or later on, or at most so many hours from July or later on, but before a month."""
+    if chance.random() < 0.6:
+        month = chance.randint(6, 9)
+        return hour_of(2024, month), hour_of(2024, month + chance.randint(1, months))
+    low = chance.randrange(hour_of(2024, 7), hour_of(2024, end))
+    return low, low + chance.randint(1, hours)
+
+
 def cents(nanos):
     """An amount in cents, a tie to the even one."""
     size, half = divmod(abs(nanos), 10**7)

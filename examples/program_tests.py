@@ -31,7 +31,7 @@ def focusd(*words, given=b"", **options):
     return status, printed.decode(), said
 
 
-def new_folder(add_cleanup):
+def temporary_folder(add_cleanup):
     """A temporary folder. Its removal is added to the cleanups of a test or of a class."""
     made = tempfile.TemporaryDirectory()
     add_cleanup(made.cleanup)
@@ -42,7 +42,7 @@ class Case(unittest.TestCase):
     """Tests that each have a folder of their own, in which the program runs."""
 
     def setUp(self):
-        self.top = new_folder(self.addCleanup)
+        self.top = temporary_folder(self.addCleanup)
 
     def focusd(self, *words, given=b""):
         """The status, standard output and standard error of a run in the folder."""
@@ -53,6 +53,12 @@ class Case(unittest.TestCase):
         status, printed, found = self.focusd(*words, given=given)
         self.assertEqual((status, found), (0, said), words)
         return printed
+
+    def new_folder(self, name):
+        """Makes a folder in the folder, and returns its path."""
+        made = self.top / name
+        made.mkdir()
+        return made
 
     def file(self, name, content):
         """Writes a file into the folder, and returns its name there."""
@@ -65,7 +71,7 @@ class OneFolder(unittest.TestCase):
 
     @classmethod
     def setUpClass(cls):
-        cls.room = new_folder(cls.addClassCleanup)
+        cls.room = temporary_folder(cls.addClassCleanup)
 
 
 def run_tests(doc, **numbers):

@@ -30,7 +30,7 @@ import time
 import unittest
 
 import expected
-from program_tests import HERE, Case, OneFolder, focusd, new_folder, program, run_tests
+from program_tests import HERE, Case, OneFolder, focusd, program, run_tests, temporary_folder
 
 CENT = decimal.Decimal("0.01")
 COVERAGE_HEADER = [
@@ -657,8 +657,7 @@ class OnlyAsked(Case):
 
     def setUp(self):
         super().setUp()
-        self.folder = self.top / "costs"
-        self.folder.mkdir()
+        self.folder = self.new_folder("costs")
         export = pathlib.Path(self.EXPORT).read_bytes()
         done = focusd("run", "--create", "--dir", str(self.folder), given=b"post aws 1 %d\n%s" % (export.count(b"\n"), export))
         self.assertEqual(done, (0, "accepted 1\n", ""))
@@ -730,8 +729,7 @@ class OnlyAsked(Case):
     def test_an_import_that_is_refused_makes_no_file_in_a_folder_that_is_there(self):
         wrong = self.top / "wrong.csv"
         wrong.write_text("BilledCost\n1\n")
-        folder = self.top / "empty"
-        folder.mkdir()
+        folder = self.new_folder("empty")
         self.assertEqual(focusd("import", "--quiet", "--create", "--dir", str(folder), "--origin", "aws", str(wrong))[0], 1)
         self.assertEqual(list(folder.iterdir()), [])
 
@@ -1191,7 +1189,7 @@ class Files(Paths):
 
     def setUp(self):
         super().setUp()
-        self.folder = str(new_folder(self.addCleanup))
+        self.folder = str(temporary_folder(self.addCleanup))
         self.do("run", "--dir", self.folder, "--create")
 
     def imported(self, file):
@@ -1709,7 +1707,7 @@ class Loads(Paths):
         super().setUp()
         self.right = self.file("right.csv", self.HEADER + self.ROW)
         self.short = self.file("short.csv", self.HEADER + self.ROW + self.SHORT)
-        (self.top / "costs").mkdir()
+        self.new_folder("costs")
 
     def test_a_file_that_is_refused(self):
         wanted = "1 accepted\n2 refused V1 Fields 2\nstale 0\nstate 1 1 0 0\n"
@@ -1802,8 +1800,7 @@ billed = "1.5"
 
     def setUp(self):
         super().setUp()
-        self.folder = self.top / "costs"
-        self.folder.mkdir()
+        self.folder = self.new_folder("costs")
         rows = [self.row(hour) for hour in (0, 1, 2, 2)]
         self.script = f"post rows 1 {len(rows) + 1}\n{self.HEADER}{''.join(rows)}"
         self.assertEqual(self.focusd("run", "--create", given=self.script.encode())[::2], (0, ""))
@@ -2264,7 +2261,7 @@ class Dumps(unittest.TestCase):
     )  # fmt: skip
 
     def folder(self):
-        return str(new_folder(self.addCleanup))
+        return str(temporary_folder(self.addCleanup))
 
     def done(self, *words, given=b""):
         """What a run prints that has to go well. On standard error stands at most what a report leaves out, and its policy: each folder is asked for tags that it may not have."""
@@ -2807,7 +2804,7 @@ class KeptVolumes(unittest.TestCase):
     )
 
     def copy(self, name):
-        folder = new_folder(self.addCleanup)
+        folder = temporary_folder(self.addCleanup)
         for file in ("left", "right"):
             shutil.copy(HERE / "volumes" / name / file, folder)
         return str(folder)

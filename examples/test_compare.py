@@ -14,7 +14,7 @@ import random
 import re
 
 import expected
-from as_reported import before_of, cents, hour_of, share, time_of
+from as_reported import before_of, cents, hour_of, range_by_chance, share, time_of
 from entries import HEADER, HouseOfEntries, command, policy, sent
 from expected import spelled as text_of
 from program_tests import OneFolder, focusd, run_tests
@@ -92,12 +92,7 @@ class Compared(OneFolder):
         where = [("env", "prod")] if chance.random() < 0.2 else []
         words += [word for key, value in where for word in ("--where", f"{key}={value}")]
         selection = expected.Selection([expected.Key.named(key) for key in keys], [(expected.Key.named(key), value) for key, value in where])
-        if chance.random() < 0.6:
-            month = chance.randint(6, 9)
-            low, high = hour_of(2024, month), hour_of(2024, month + chance.randint(1, 3))
-        else:
-            low = chance.randrange(hour_of(2024, 7), hour_of(2024, 10))
-            high = low + chance.randint(1, 1500)
+        low, high = range_by_chance(chance, months=3, end=10, hours=1500)
         words += ["--from", time_of(low), "--to", time_of(high)]
         first, end = before_of(low, high)
         if chance.random() < 0.3:

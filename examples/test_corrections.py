@@ -63,8 +63,8 @@ class Corrections(Case):
         self.folder = self.new_folder("costs")
 
     def new_folder(self, name):
-        folder = self.top / name
-        folder.mkdir()
+        """A folder with a new warehouse."""
+        folder = super().new_folder(name)
         self.assertEqual(self.focusd("run", folder, "--create")[0], 0)
         return folder
 

@@ -67,8 +67,7 @@ def entries_alone(script):
 class Digests(Case):
     def warehouse(self, name, script, currency="USD"):
         """A warehouse in a folder of this name, which was sent a script."""
-        folder = self.top / name
-        folder.mkdir()
+        folder = self.new_folder(name)
         self.assertEqual(focusd("run", "--dir", folder, "--create", "--currency", currency, given=script)[0], 0)
         return folder
 

@@ -112,12 +112,7 @@ class Case(program_tests.Case):
 
     def setUp(self):
         super().setUp()
-        self.house = self.folder("house")
-
-    def folder(self, name):
-        path = self.top / name
-        path.mkdir()
-        return path
+        self.house = self.new_folder("house")
 
     def warehouse_of_chance(self, seed):
         """A warehouse made by chance, and what expected.py keeps of it."""
@@ -143,7 +138,7 @@ class Rows(Case):
         kinds = set()
         for seed in range(12):
             with self.subTest(seed=seed):
-                self.house = self.folder(f"house-{seed}")
+                self.house = self.new_folder(f"house-{seed}")
                 kept = self.warehouse_of_chance(seed)
                 wanted = self.exported(kept)
                 kinds |= {(row["ChargeCategory"], row["CommitmentDiscountStatus"], row["ChargeClass"]) for row in wanted}
@@ -162,7 +157,7 @@ class Rows(Case):
     def test_the_examples(self):
         for name, low, high in (("commitments", "2023-12-30T00:00Z", "2024-02-01T00:00Z"), ("providers", "2024-09-01T00:00Z", "2024-11-01T00:00Z")):
             script = (HERE / f"{name}.script").read_bytes()
-            house = self.folder(name)
+            house = self.new_folder(name)
             focusd("run", "--dir", house, "--create", given=script)
             kept = expected.Warehouse()
             list(expected.answers(iter(io.BytesIO(script).readline, b""), kept))
@@ -195,10 +190,10 @@ class Sums(Case):
         """Exported rows, imported into a warehouse that has nothing else, cost by each tag what they cost where they come from."""
         for seed in range(6):
             with self.subTest(seed=seed):
-                self.house = self.folder(f"house-{seed}")
+                self.house = self.new_folder(f"house-{seed}")
                 self.warehouse_of_chance(seed)
                 exported = self.file("exported.csv", self.do("export", "--dir", self.house, *SIX_HOURS))
-                again = self.folder(f"again-{seed}")
+                again = self.new_folder(f"again-{seed}")
                 self.do("import", "--dir", again, "--create", "--origin", "x", "--quiet", exported)
                 for key in ("team", "env", "nothing"):
                     reports = [focusd("report", "--dir", it, "--tag", key, *SIX_HOURS, "--format", "csv")[1] for it in (self.house, again)]
@@ -209,7 +204,7 @@ class Sums(Case):
         """SQLite sums the nanos of exported rows by a tag to what the report says."""
         for seed in range(6):
             with self.subTest(seed=seed):
-                self.house = self.folder(f"house-{seed}")
+                self.house = self.new_folder(f"house-{seed}")
                 kept = self.warehouse_of_chance(seed)
                 base = sqlite3.connect(":memory:")
                 base.execute(f"create table rows ({', '.join(f'{c} text' for c in COLUMNS)})")
@@ -259,7 +254,7 @@ class Streams(Case):
         self.assertIn("the warehouse has no row that counts", error)
         self.assertEqual(self.do("export", "--dir", self.house, *SIX_HOURS), ",".join(COLUMNS) + "\n")
         self.assertEqual(self.do("export", "--dir", self.house, *SIX_HOURS, "--format", "jsonl"), "")
-        status, output, error = focusd("export", "--dir", self.folder("empty"))
+        status, output, error = focusd("export", "--dir", self.new_folder("empty"))
         self.assertEqual((status, output), (1, ""))
         self.assertIn("S1 NoHouse", error)
 

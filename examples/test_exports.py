@@ -42,7 +42,7 @@ class Exports(Case):
 
     def house(self, name, given, *files):
         """A new warehouse with what is imported: what the import printed."""
-        (self.top / name).mkdir()
+        self.new_folder(name)
         return self.focusd("import", "--dir", name, "--create", "--origin", "aws", "--quiet", *(files or ["-"]), given=given)
 
     def answers(self, name):

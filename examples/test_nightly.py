@@ -28,8 +28,7 @@ def has_open(process, file):
 class Nights(Case):
     def setUp(self):
         super().setUp()
-        self.exports = self.top / "exports"
-        self.exports.mkdir()
+        self.exports = self.new_folder("exports")
         self.alert, self.report = self.top / "alert", self.top / "report.csv"
         self.good = (HERE / "focus-export.csv").read_text(encoding="utf-8")
         self.deliver("aws-2024-09", self.good)

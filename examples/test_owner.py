@@ -15,7 +15,7 @@ import random
 import re
 
 import expected
-from as_reported import before_of, cents, hour_of, share, time_of
+from as_reported import before_of, cents, hour_of, range_by_chance, share, time_of
 from entries import HEADER, HouseOfEntries, command, policy
 from expected import spelled as text_of
 from program_tests import OneFolder, focusd, run_tests
@@ -100,12 +100,7 @@ class Owned(OneFolder):
     def one(self, chance, house, names):
         group = chance.choice([*names, "", "nobody"])
         step = chance.choice([None, "month", "month", "day"])
-        if chance.random() < 0.6:
-            month = chance.randint(6, 9)
-            low, high = hour_of(2024, month), hour_of(2024, month + chance.randint(1, 2))
-        else:
-            low = chance.randrange(hour_of(2024, 7), hour_of(2024, 9))
-            high = low + chance.randint(1, 1000)
+        low, high = range_by_chance(chance, months=2, end=9, hours=1000)
         asked = ["report", "--dir", house.folder, "--tag", "team", f"--only={group}", "--from", time_of(low), "--to", time_of(high)]
         asked += ["--by", step] if step else []
         asked += ["--as-of", house.entries] if chance.random() < 0.3 else []

@@ -115,14 +115,10 @@ class Bills(Case):
                 self.warehouse(day, named[day], self.commitments)
             else:
                 # A day without rows has what the commitments bring to it.
-                self.do("run", "--dir", self.folder(day), "--create")
+                self.do("run", "--dir", self.new_folder(day), "--create")
                 self.do("add", "--dir", folder, "--origin", "commitments", *self.commitments)
             reports.append(self.file(f"{day}.json", self.direct(folder, *ends, "--by", "hour")))
         self.compare(reports)
-
-    def folder(self, name):
-        (self.top / name).mkdir()
-        return str(self.top / name)
 
     def test_piles_are_shards(self):
         parts = self.top / "parts"

@@ -22,7 +22,7 @@ class Summaries(Case):
 
     def setUp(self):
         super().setUp()
-        (self.top / "house").mkdir()
+        self.new_folder("house")
         for name, text in {"good.csv": GOOD, "bad.csv": BAD, "usage.toml": USAGE + PAID, "wrong.toml": USAGE}.items():
             self.file(name, text)
 
