@@ -275,6 +275,33 @@ class Row:
         )  # fmt: skip
 
 
+def values_of(text, keeps):
+    """Of each column that is kept as COLUMN or as COLUMN=TAG the values of its tag, each with the number of rows that have it, in the order in which
+    they first come. An empty text is none."""
+    header, records = records_of(with_columns_as_tags(text, keeps))
+    at = header.index("Tags")
+    counts = [(column, tag or column, {}) for column, _, tag in (keep.partition("=") for keep in keeps)]
+    for fields in records:
+        tags = tags_of(fields[at])
+        for _column, tag, values in counts:
+            if tags.get(tag):
+                values[tags[tag]] = values.get(tags[tag], 0) + 1
+    return counts
+
+
+def rows_again(text):
+    """The records whose rows have the values of an earlier one, each with the number of the first record that has them."""
+    header, records = records_of(text)
+    times, first, again = Times(), {}, []
+    for number, fields in enumerate(records, 1):
+        row = vars(Row(dict.fromkeys(REQUIRED + OPTIONAL, "") | dict(zip(header, fields)), times, "USD"))
+        values = tuple(sorted(row["tags"].items()) if name == "tags" else value for name, value in sorted(row.items()))
+        values = repr(values)
+        if first.setdefault(values, number) != number:
+            again.append((number, first[values]))
+    return again
+
+
 class Commitment:
     """What was committed to, and what was paid for it."""
 

@@ -1,5 +1,5 @@
 #!/usr/bin/env python3
-"""Runs `focusd import --keep` and `replace --keep` of a built program, and compares the rows with those that another program computed.
+"""Runs `import`, `replace` and `check` of a built program with `--keep`, and compares rows and counts with those that another program computed.
 
     examples/test_keeps.py out/focusd
     examples/test_keeps.py out/focusd Keeps.test_rows_by_chance --runs 200
@@ -159,6 +159,150 @@ class Replacements(Case):
             status, printed, said = self.replace("house", file, keeps=keeps)
             self.assertEqual((status, printed), (2, ""), (keeps, said))
             self.assertTrue(said.startswith("focusd: --keep "), said)
+
+
+def spelled_otherwise(rng, header, fields):
+    """A record of the same row, some of whose fields are spelled otherwise."""
+    fields = list(fields)
+    for name in ("BilledCost", "EffectiveCost"):
+        at = header.index(name)
+        fields[at] = rng.choice([fields[at], "+" + fields[at], "0" + fields[at]]) if fields[at][0] in "0123456789" else fields[at]
+    at = header.index("ChargePeriodEnd")
+    fields[at] = rng.choice([fields[at], fields[at].replace(":00Z", ":00:00Z") if fields[at].count(":") == 1 else fields[at]])
+    if "Tags" in header:
+        at = header.index("Tags")
+        pairs = list(json.loads(fields[at] or "{}").items())
+        rng.shuffle(pairs)
+        fields[at] = json.dumps(dict(pairs), ensure_ascii=rng.random() < 0.5) if pairs else rng.choice(["", "{}"])
+    return fields
+
+
+class Checks(Case):
+    """Columns that are kept as tags where an export is checked, and rows that stand twice."""
+
+    def check(self, file, *words, keeps=(), status=0):
+        """What a check found, as JSON; what it printed as text begins and ends alike."""
+        kept = [word for keep in keeps for word in ("--keep", keep)]
+        ended, printed, said = self.focusd("check", "--quiet", "--format", "json", *kept, *words, file)
+        self.assertEqual((ended, said), (status, ""), (file, said))
+        return json.loads(printed)
+
+    def text(self, file, keeps=()):
+        kept = [word for keep in keeps for word in ("--keep", keep)]
+        return self.focusd("check", "--quiet", *kept, file)[1]
+
+    def test_values_by_chance(self):
+        for seed in range(RUNS):
+            with self.subTest(seed=seed):
+                self.check_values(seed)
+
+    def check_values(self, seed):
+        rng = random.Random(2_000 + seed)
+        header = [*READ, *OTHERS[: rng.randrange(1, 5)]]
+        if rng.randrange(4) == 0:
+            header.remove("Tags")
+        rng.shuffle(header)
+        text = export_of_chance(rng, rng.choice([1, 3, 40, 400, 9_000 if seed % 8 == 0 else 40]), header)
+        keeps = keeps_of_chance(rng, header)
+        with_tags = expected.with_columns_as_tags(text, keeps)
+        file, other = self.file("kept.csv", text), self.file("tags.csv", with_tags)
+        found, wanted = self.check(file, keeps=keeps), self.check(other)
+        lines, counts = self.text(file, keeps).splitlines(), expected.values_of(text, keeps)
+        shown = []
+        for column, tag, values in counts:
+            most = sorted(values.items(), key=lambda it: -it[1])
+            shown.append({"column": column, "tag": tag, "rows": sum(values.values()), "values": len(values)})
+            shown[-1]["mostFrequent"] = [{"value": value, "rows": count} for value, count in most[:10]]
+            rows, number = sum(values.values()), len(values)
+            at = [place for place, line in enumerate(lines) if line.startswith(f'kept "{column}" as "{tag}": ')]
+            self.assertEqual([lines[it] for it in at], [f'kept "{column}" as "{tag}": {rows} row{"s"[: rows != 1]}, {number} value{"s"[: number != 1]}'])
+            behind = [it for it in lines[at[0] + 1 : at[0] + 12] if it.startswith("  .. and ")]
+            self.assertEqual(behind[:1], [f"  .. and {number - 10} more"] if number > 10 else behind[:1])
+        self.assertEqual(found.pop("kept"), shown)
+        # All else is what is found in the export that has the tags in its Tags.
+        self.assertEqual(found | {"file": ""}, wanted | {"file": ""})
+
+    def test_many_values(self):
+        """Of many values the ten that most rows have; of those that as many have, the first."""
+        rows = [f"{Faults.ROW},,v{place}" for place in range(30) for _ in range(1 + place % 3)]
+        text = "\n".join([Faults.HEADER, *rows, ""])
+        [kept] = self.check(self.file("many.csv", text), keeps=["ServiceName=service"])["kept"]
+        self.assertEqual((kept["rows"], kept["values"]), (60, 30))
+        self.assertEqual([(it["value"], it["rows"]) for it in kept["mostFrequent"]], [(f"v{place}", 3) for place in range(2, 30, 3)])
+        printed = self.text("many.csv", ["ServiceName=service"])
+        self.assertIn('kept "ServiceName" as "service": 60 rows, 30 values\n  "v2" 3\n  "v5" 3\n', printed)
+        self.assertIn('  "v29" 3\n  .. and 20 more\n', printed)
+
+    def test_faults(self):
+        """What an import refuses is a fault, and no more."""
+        tags = '"{""service"":""x""}"'
+        long, number = "x" * 1_025, Faults.ROW
+        text = f"{Faults.HEADER}\n{number},,db\n{number},{tags},db\n{number},{tags},\n{number},,{long}\n{number},,".encode() + b"\xff\n" + f"{number.replace('Usage', 'Use')},none,{long}\n".encode()
+        file = self.file("bad.csv", text)
+        found = self.check(file, keeps=["ServiceName=service"], status=1)
+        faults = [(it["code"], it["column"], it["count"], it["places"][0]["record"]) for it in found["findings"]]
+        wanted = [
+            ("V17 TagTwice", "Tags", 1, 2), ("V13 TooLong", "ServiceName", 2, 4), ("V2 NotUtf8", "ServiceName", 1, 5), ("V3 Category", "ChargeCategory", 1, 6), ("V12 BadTags", "Tags", 1, 6),
+        ]  # fmt: skip
+        self.assertEqual(sorted(faults), sorted(wanted))
+        self.assertEqual((found["records"], found["badRecords"], found["faults"], found["rows"]), (6, 4, 6, 2))
+        self.assertEqual(found["kept"], [{"column": "ServiceName", "tag": "service", "rows": 2, "values": 2, "mostFrequent": [{"value": "db", "rows": 1}, {"value": "x", "rows": 1}]}])
+        # Without the option the column isn't read.
+        self.assertEqual([it["code"] for it in self.check(file, status=1)["findings"]], ["V3 Category", "V12 BadTags"])
+
+    def test_headers(self):
+        file = self.file("lacks.csv", f"{Faults.HEADER}\n{Faults.ROW},,db\n")
+        found = self.check(file, keeps=["Region", "ServiceName", "Zone=zone"], status=1)
+        self.assertEqual([(it["code"], it["column"]) for it in found["findings"]], [("H1 MissingColumn", "Region"), ("H1 MissingColumn", "Zone")])
+        self.assertEqual((found["records"], found["faults"], found["kept"][1]["rows"]), (0, 2, 0))
+        file = self.file("twice.csv", f"{Faults.HEADER},ServiceName\n{Faults.ROW},,db,db\n")
+        self.assertEqual([(it["code"], it["column"]) for it in self.check(file, keeps=["ServiceName"], status=1)["findings"]], [("H2 DoubleColumn", "ServiceName")])
+        self.check(file)
+
+    def test_command_lines(self):
+        name = self.file("good.csv", f"{Faults.HEADER}\n{Faults.ROW},,db\n")
+        for keeps in (["=service"], ["ServiceName="], ["Tags"], ["A=b", "C=b"], [""], ["A=" + "x" * 1_025]):
+            kept = [word for keep in keeps for word in ("--keep", keep)]
+            status, printed, said = self.focusd("check", *kept, name)
+            self.assertEqual((status, printed), (2, ""), (keeps, said))
+            self.assertTrue(said.startswith("focusd: --keep "), said)
+
+    def test_rows_that_stand_twice(self):
+        for seed in range(RUNS):
+            with self.subTest(seed=seed):
+                self.check_repeats(seed)
+
+    def check_repeats(self, seed):
+        rng = random.Random(3_000 + seed)
+        header = [*READ, "ServiceName"]
+        rng.shuffle(header)
+        text = export_of_chance(rng, rng.choice([1, 20, 400, 9_000 if seed % 8 == 0 else 40]), header)
+        records = list(expected.records_of(text)[1])
+        for _ in range(rng.choice([0, 1, 3, 30])):
+            records.insert(rng.randrange(len(records) + 1), spelled_otherwise(rng, header, rng.choice(records)))
+        keeps = ["ServiceName"] if rng.randrange(2) else []
+        text = expected.csv_of(header, records)
+        again = expected.rows_again(expected.with_columns_as_tags(text, keeps))
+        found = self.check(self.file("twice.csv", text), keeps=keeps)
+        self.assertEqual(found.get("repeatedRows", 0), len(again))
+        self.assertEqual(found.get("firstRepeated", []), [{"record": number, "earlier": earlier} for number, earlier in again[:10]])
+        printed = self.text("twice.csv", keeps)
+        shown = [f"  record {number} is as record {earlier}" for number, earlier in again[:10]]
+        if again:
+            words = "row repeats" if len(again) == 1 else "rows repeat"
+            shown = ["", f"warning: {len(again)} {words} an earlier row: all values that are read are the same", *shown]
+        shown += [f"  .. and {len(again) - 10} more"] if len(again) > 10 else []
+        self.assertEqual(printed.splitlines()[-len(shown) :] if again else [], shown)
+        self.assertEqual("warning: " in printed, bool(again))
+
+    def test_rows_with_faults_stand_twice_nowhere(self):
+        """Only rows that break no rule are compared; an earlier file's rows aren't."""
+        row, bad = f"{Faults.ROW},,db", f"{Faults.ROW.replace('USD', 'EUR')},,db"
+        first, second = self.file("1.csv", "\n".join([Faults.HEADER, bad, row, bad, row, ""])), self.file("2.csv", f"{Faults.HEADER}\n{row}\n")
+        status, printed, said = self.focusd("check", "--quiet", "--format", "json", first, second)
+        self.assertEqual((status, said), (1, ""))
+        found = [json.loads(line) for line in printed.splitlines()]
+        self.assertEqual((found[0]["repeatedRows"], found[0]["firstRepeated"], "repeatedRows" in found[1]), (1, [{"record": 4, "earlier": 2}], False))
 
 
 class Faults(Case):

@@ -49,7 +49,10 @@ COMMANDS = {
         {"currency": Option(), "dir": Option(), "create": FLAG, "analysts": Option(rule=number_from(1, 16)), "origin": Option(), "strict": FLAG}, 1, MANY,
     ),
     "add": ({"dir": DIR, "origin": DIR, "dry-run": FLAG, "yes": FLAG, **SUMMARY}, 1, MANY),
-    "check": ({"format": Option(rule=one_of("text", "json")), "currency": Option(), "dialect": DIALECT, **SUMMARY, "quiet": FLAG}, 1, MANY),
+    "check": (
+        {"format": Option(rule=one_of("text", "json")), "currency": Option(), "keep": Option(repeats=True), "dialect": DIALECT, **SUMMARY, "quiet": FLAG},
+        1, MANY,
+    ),
     "report": (
         {"dir": DIR, "tag": Option(repeats=True), "column": Option(rule=one_of(*COLUMNS), repeats=True), "where": Option(repeats=True),
          "where-not": Option(repeats=True), "map": Option(), "total-only": FLAG, **HOURS, "by": Option(rule=one_of("hour", "day", "month")),
@@ -180,7 +183,7 @@ def rules_hold(command, given, others):
         return all(time_of(given[name]) is not None for name in ("from", "to") if name in given)
     if command != "load" and not ORIGIN.fullmatch(given.get("origin", "a")):
         return False
-    if command in ("import", "replace") and not keeps_hold(given.get("keep", [])):
+    if command in ("check", "import", "replace") and not keeps_hold(given.get("keep", [])):
         return False
     if command == "withdraw" and ("seq" in given) + ("all" in given) + ("from" in given or "to" in given) != 1:
         return False

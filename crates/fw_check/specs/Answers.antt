@@ -32,12 +32,15 @@ sums_text s =
     (line_end ++ codes "rows ") ++ (decimal s.rows ++ ((line_end ++ codes "hours ") ++ (decimal (length s.hours.entries)
     ++ ((line_end ++ codes "billed ") ++ (text_of s.billed ++ ((line_end ++ codes "effective ") ++ (text_of s.effective ++ line_end)))))))
 
--- The answer for people: the summary, the findings, the sums and the counts. Where there is no finding, nothing stands for them
+-- The answer for people: the summary, the findings, the sums, the counts, and the rows that stand twice. Where there is no finding, nothing stands for
+-- them, and so it is with these rows
 pub record IsAnswer (name : List ℕ) (c : Checker) (text : List ℕ) : Type 0 where
   pub findings : List ℕ
   pub counts : List ℕ
-  pub text_is : text ≡ summary_text name c ++ (findings ++ (sums_text c.statistics ++ counts))
+  pub repeats : List ℕ
+  pub text_is : text ≡ summary_text name c ++ (findings ++ (sums_text c.statistics ++ (counts ++ repeats)))
   pub none : c.findings.items ≡ [] → findings ≡ []
+  pub none_twice : c.repeats.count ≡ 0 → repeats ≡ []
 
 -- a key of a JSON object
 abbrev pub key : List ℕ → List ℕ

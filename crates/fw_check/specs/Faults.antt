@@ -50,7 +50,7 @@ abbrev pub place_value : Place → PlaceValue
 place_value p = record { line = p.line; number = p.record; value = string_bytes p.value }
 
 abbrev pub finding_value : Finding → FindingValue
-finding_value f = record { code = f.code.now; column = f.column.now; expected = f.expected.now; count = f.count; places = map place_value f.places.items }
+finding_value f = record { code = f.code.now; column = string_bytes f.column; expected = f.expected.now; count = f.count; places = map place_value f.places.items }
 
 -- the places of a finding are its first ones, at most so many
 abbrev pub most_places : ℕ

@@ -1,6 +1,9 @@
 pub mod Counts
+pub mod Kept
 pub mod Seen
 pub mod Faults
 pub mod Lines
+pub mod Prints
+pub mod Frequent
 pub mod Checks
 pub mod Answers

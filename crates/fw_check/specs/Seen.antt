@@ -4,9 +4,10 @@ use Rattle.std.specs.Int.{saturate_signed, w128}
 use Rattle.fw_charge.specs.Charge.{Charge, hour_of}
 use Rattle.fw_charge.specs.Codes.{category_code, category_count}
 use Rattle.fw_check.specs.Counts.{kept, counted, counted_all, text_counts}
+use Rattle.fw_check.specs.Kept.{KeptValue, kept_value, with_tags}
 use Rattle.fw_check.specs.declared.statistics.Statistics.{Statistics}
 
--- Statistics as plain values. The counts by hour, currency and tag are in the order in which these first came.
+-- Statistics as plain values. The counts by hour, currency, tag and value are in the order in which these first came.
 pub record Seen : Type 0 where
   pub rows : ℕ
   pub billed : ℤ
@@ -15,6 +16,7 @@ pub record Seen : Type 0 where
   pub hours : List (ℕ × ℕ)
   pub currencies : List (List ℕ × ℕ)
   pub tags : List (List ℕ × ℕ)
+  pub kept_columns : List KeptValue
 
 abbrev pub seen_in : Statistics → Seen
 seen_in s = record {
@@ -25,11 +27,12 @@ seen_in s = record {
   hours = s.hours.entries;
   currencies = text_counts s.currencies.entries;
   tags = text_counts s.tags.keys.entries;
+  kept_columns = map kept_value s.kept.items;
 }
 
--- no row was seen
-abbrev pub nothing_seen : Seen
-nothing_seen = record {
+-- no row was seen; the values of these columns are counted
+abbrev pub nothing_seen : List KeptValue → Seen
+nothing_seen columns = record {
   rows = 0;
   billed = pos 0;
   effective = pos 0;
@@ -37,13 +40,14 @@ nothing_seen = record {
   hours = [];
   currencies = [];
   tags = [];
+  kept_columns = columns;
 }
 
 -- one more at a place
 abbrev pub one_more_at : ℕ → List ℕ → List ℕ
 one_more_at place counts = slice_set counts place (kept (slice_index counts place + 1))
 
--- with one more row: its costs are added, and its category, its hour and each of its tags are counted once more. The currencies stay
+-- with one more row: its costs are added, and its category, its hour, each of its tags and its value in each kept column are counted once more. The currencies stay
 abbrev pub with_row : Charge → Seen → Seen
 with_row row seen = record {
   rows = kept (seen.rows + 1);
@@ -53,6 +57,7 @@ with_row row seen = record {
   hours = counted nat_eq (hour_of row.start) 1 seen.hours;
   currencies = seen.currencies;
   tags = counted_all (map (λ t. t.key) row.tags) seen.tags;
+  kept_columns = map (with_tags row.tags) seen.kept_columns;
 }
 
 -- with these rows, one after the other

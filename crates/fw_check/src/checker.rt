@@ -1,27 +1,38 @@
 //! A text that is checked part by part.
-ghost use Rattle.std.specs.Prelude.{◌≡◌, ◌≤◌, ◌+◌, ℕ, List, [], OnOk, Ok, Err};
+ghost use Rattle.std.specs.Prelude.{◌≡◌, ◌≤◌, ◌+◌, ℕ, List, [], map, None, IfOk, IfSome, OnOk, Err, Result};
 ghost use Rattle.fw_charge.specs.Charge.{Charge};
 ghost use Rattle.fw_rows.specs.FaultNames.{fault_name};
+ghost use Rattle.fw_rows.specs.Kept.{RowsKept};
 ghost use Rattle.fw_rows.specs.Rows.{RowsRead};
 ghost use Rattle.fw_rows.specs.declared.column.Column.{Column as ColumnValue};
-ghost use Rattle.fw_rows.specs.declared.fault.RecordFault.{RecordFault};
-ghost use Rattle.fw_rows.specs.declared.fault.RowFault.TheVariants.{DoubleColumn, MissingColumn, NoRows, Record};
-ghost use Rattle.fw_check.specs.Checks.{checked, headers_again, nothing_checked, with_currency, with_fault, with_header, with_lines, with_read, records_in};
+ghost use Rattle.fw_rows.specs.declared.fault.RowFault.{RowFault};
+ghost use Rattle.fw_rows.specs.declared.fault.RowFault.TheVariants.{DoubleColumn, MissingColumn};
+ghost use Rattle.fw_check.specs.Checks.{Becomes, ReadsFor, checked, headers_again, nothing_checked, with_currency, with_fault, with_header, with_lines, with_read, records_in};
 ghost use Rattle.fw_check.specs.Counts.{kept};
 ghost use Rattle.fw_check.specs.Faults.{column_text, place_value};
+ghost use Rattle.fw_check.specs.Kept.{kept_value, nothing_kept};
+ghost use Rattle.fw_check.specs.Prints.{AreRepeats};
 
-use crate::columns::{is_double, is_missing};
+use crate::columns::{is_double, is_missing, is_read};
 use crate::fields::{first_record, has_next, records_of};
-use crate::findings::{Finding, Place, add_fault, column_name, column_of, value_of};
+use crate::findings::{
+    Finding, Place, add_fault, column_name, column_of, shown_value, value_of,
+};
+use crate::kept::{KeptColumn, columns_of};
+use crate::kept_fields::{copies, field_bytes, field_text, kept_place, times_in};
 use crate::located::{blank, line_ends};
-use crate::repair::repaired;
+use crate::prints::Prints;
+use crate::repair::{emptied, repaired};
+use crate::repeats::{Repeats, repeats_of};
 use crate::statistics::{Statistics, count_text};
 use csv::ByteRecord;
-use fw_column_rows::{KnownTexts, read_columns_after};
+use fw_column_rows::{KnownTexts, read_columns_after, read_columns_keeping};
 use fw_columns::Columns;
 use fw_cut::{Part, cut_off};
 use fw_explain::explain_fault;
-use fw_rows::{Column, Currency, RecordFault, RowFault, read_rows, rows_read_as_one};
+use fw_rows::{
+    Column, Currency, Keep, Keeper, RecordFault, RowFault, read_rows, rows_read_as_one,
+};
 use std::alloc::{AllocError, Global};
 
 /// How many faults of one record are looked for.
@@ -65,6 +76,10 @@ pub struct Checker {
     line_end: u8,
     // what is known of texts of tags
     known: KnownTexts,
+    // the columns that are kept as tags, if any are
+    keeper: Option<Keeper>,
+    // the hashes of the rows that were seen
+    prints: Prints,
     /// How many records were seen, the header not counted.
     pub records: u64,
     /// How many lines were seen.
@@ -79,6 +94,8 @@ pub struct Checker {
     pub findings: Vec<Finding>,
     /// What is in the records that break no rule.
     pub statistics: Statistics,
+    /// The rows that stand twice, once they were [looked for](Checker::find_repeats).
+    pub repeats: Repeats,
 }
 
 impl Drop for Checker {
@@ -87,6 +104,8 @@ impl Drop for Checker {
             currency: _,
             line_end: _,
             known: _,
+            keeper: _,
+            prints: _,
             records: _,
             lines: _,
             repeated: _,
@@ -94,27 +113,62 @@ impl Drop for Checker {
             faults: _,
             findings: _,
             statistics: _,
+            repeats: _,
         } = self;
     }
 }
 
 impl Checker {
-    /// A checker of texts in this currency that has seen nothing.
+    /// A checker of texts in this currency that has seen nothing, and keeps no column.
     pub fn new(alloc: Global, currency: Currency) -> Checker
-        ensures nothing { checked result ≡ nothing_checked currency }
+        ensures nothing { checked result ≡ nothing_checked currency [] }
+        ensures keeps { result.keeper ≡ None }
+        ensures repeated { result.repeated ≡ 0 }
+    {
+        Checker::with(alloc, currency, None, Vec::new(alloc))
+    }
+
+    /// A checker that has seen nothing, and keeps these columns as tags, as an import does.
+    pub fn keeping(
+        alloc: Global,
+        currency: Currency,
+        keeps: &[Keep],
+    ) -> Result<Checker, AllocError>
+        ensures nothing { IfOk result (λ c. checked c
+            ≡ nothing_checked currency (map nothing_kept keeps.now)) }
+        ensures keeps { IfOk result (λ c. IfSome c.keeper (λ k. k.keeps ≡ keeps.now)) }
+        ensures repeated { IfOk result (λ c. c.repeated ≡ 0) }
+    {
+        let columns = columns_of(alloc, keeps)?;
+        let keeper = Keeper::new(alloc, copies(alloc, keeps)?);
+        Ok(Checker::with(alloc, currency, Some(keeper), columns))
+    }
+
+    // A checker that has seen nothing.
+    fn with(
+        alloc: Global,
+        currency: Currency,
+        keeper: Option<Keeper>,
+        kept: Vec<KeptColumn>,
+    ) -> Checker
+        ensures nothing { checked result ≡ nothing_checked currency (map kept_value kept.items) }
+        ensures keeps { result.keeper ≡ keeper }
         ensures repeated { result.repeated ≡ 0 }
     {
         Checker {
             currency,
             line_end: b'\n',
             known: KnownTexts::new(alloc),
+            keeper,
+            prints: Prints::new(alloc),
             records: 0,
             lines: 0,
             repeated: 0,
             bad_records: 0,
             faults: 0,
             findings: Vec::new(alloc),
-            statistics: Statistics::new(alloc),
+            statistics: Statistics::new(alloc, kept),
+            repeats: Repeats::none(alloc),
         }
     }
 
@@ -143,6 +197,28 @@ impl Checker {
             | Err(RowFault::NoRows)
             | Err(RowFault::TooManyRows) => Ok(()),
         }
+    }
+
+    /// Checks a header for the columns that are kept: each that it doesn't have just once is a fault. Those that are read by their names too were looked
+    /// at by [`Checker::check_header`].
+    pub fn check_kept(
+        &mut self,
+        alloc: Global,
+        header: &[u8],
+        keeps: &[Keep],
+    ) -> Result<(), AllocError>
+        ensures { OnOk result (self.old.faults ≤ self.new.faults) }
+    {
+        let header = first_record(alloc, header)?;
+        for keep in keeps {
+            match times_in(&header, keep.column()) {
+                0 => self.note_text(alloc, Kind::of(MISSING), keep.column())?,
+                1 => {}
+                _ if is_read(keep.column()) => {}
+                _ => self.note_text(alloc, Kind::of(DOUBLE), keep.column())?,
+            }
+        }
+        Ok(())
     }
 
     // Counts the faults of a header, of which this is the first one.
@@ -209,12 +285,23 @@ impl Checker {
         Ok(())
     }
 
+    /// Looks for the rows that stand twice among those that broke no rule: rows with the same values, tags of kept columns among them. They are no
+    /// faults.
+    pub fn find_repeats(&mut self, alloc: Global) -> Result<(), AllocError>
+        ensures repeats { OnOk result (AreRepeats self.old.prints.rows.items self.new.repeats) }
+        ensures faults { OnOk result (self.new.faults ≡ self.old.faults) }
+        ensures records { OnOk result (self.new.records ≡ self.old.records) }
+    {
+        self.repeats = repeats_of(alloc, &mut self.prints.rows)?;
+        Ok(())
+    }
+
     // Counts a fault of the whole text, of a column or of none. Its place is the header.
     fn note_text(
         &mut self,
         alloc: Global,
         fault: Kind,
-        column: &'static str,
+        column: &str,
     ) -> Result<(), AllocError>
         ensures counted { OnOk result (checked self.new ≡
             with_fault fault.code.now column.now fault.expected.now
@@ -234,7 +321,7 @@ impl Checker {
         &mut self,
         alloc: Global,
         fault: Kind,
-        column: &'static str,
+        column: &str,
         place: Place,
     ) -> Result<(), AllocError>
         ensures counted { OnOk result (checked self.new ≡
@@ -274,22 +361,15 @@ impl Checker {
 
     /// Checks the records of a part. The answer is the header's fault, if it has one, or `NoMemory`.
     pub fn check(&mut self, alloc: Global, part: &Part) -> Result<(), RowFault>
-        // Where the part reads as rows, these are counted, and no fault is.
-        ensures rows { OnOk result ((rows : List Charge)
-            → RowsRead self.old.currency part.now.text.items (Ok rows)
-            → checked self.new ≡ with_read (records_in part.now) rows (checked self.old)) }
-        // Where it has no record, nothing is.
-        ensures none { OnOk result (RowsRead self.old.currency part.now.text.items (Err NoRows)
-            → checked self.new ≡ checked self.old) }
-        // Where one of its records breaks a rule, at least one fault is counted.
-        ensures bad { OnOk result ((number : ℕ) (fault : RecordFault)
-            → RowsRead self.old.currency part.now.text.items (Err (Record number fault))
-            → kept (self.old.faults + 1) ≤ self.new.faults) }
+        // The part reads as rows, or as a first fault. Rows are counted, and no fault is; where there is no record, nothing is; and where a record breaks a
+        // rule, at least one fault is.
+        ensures read { OnOk result ((r : Result (List Charge) RowFault)
+            × ReadsFor self.old.keeper self.old.currency part.now.text.items r
+            × Becomes (records_in part.now) r (checked self.old) (checked self.new)) }
         // Faults that were counted stay.
         ensures stays { OnOk result (self.old.faults ≤ self.new.faults) }
     {
         let text = part.text.as_slice();
-        rows_read_as_one(text, self.currency);
         let (head, body) = text.split_at(part.header.min(text.len()));
         let header = first_record(alloc, head)?;
         match self.read(alloc, text) {
@@ -308,10 +388,29 @@ impl Checker {
 
     // The rows of a text, or its first fault.
     fn read(&mut self, alloc: Global, text: &[u8]) -> Result<Columns, RowFault>
-        ensures rows { RowsRead self.old.currency text.now result }
+        ensures rows { ReadsFor self.old.keeper self.old.currency text.now result }
         ensures same { checked self.new ≡ checked self.old }
     {
-        read_columns_after(alloc, text, self.currency, &mut self.known)
+        match self.keeper.take() {
+            Some(keeper) => self.read_keeping(alloc, text, keeper),
+            None => read_columns_after(alloc, text, self.currency, &mut self.known),
+        }
+    }
+
+    // The rows of a text with the tags of its kept columns, or its first fault.
+    fn read_keeping(
+        &mut self,
+        alloc: Global,
+        text: &[u8],
+        keeper: Keeper,
+    ) -> Result<Columns, RowFault>
+        ensures rows { RowsKept self.old.currency keeper.keeps text.now result }
+        ensures same { checked self.new ≡ checked self.old }
+    {
+        let mut keeper = keeper;
+        let read = read_columns_keeping(alloc, text, self.currency, &mut self.known, &mut keeper);
+        self.keeper = Some(keeper);
+        read
     }
 
     // Counts the rows of records without a fault.
@@ -320,6 +419,7 @@ impl Checker {
     {
         let count = rows.len() as u64;
         self.statistics.add_all(alloc, rows)?;
+        self.prints.add_all(rows, self.records)?;
         self.records = self.records.saturating_add(count);
         self.lines = self.lines.saturating_add(line_ends(text, self.line_end));
         self.count_currency(alloc, count)?;
@@ -512,6 +612,11 @@ impl Checker {
         ensures { OnOk result (self.old.faults ≤ self.new.faults) }
     {
         let record = first_record(alloc, text)?;
+        if let Some(place) = self.kept_place(header, &record, fault) {
+            self.note_kept(alloc, header, &record, fault, place)?;
+            *text = emptied(alloc, &record, place)?;
+            return Ok(true);
+        }
         match self.note_column(alloc, header, &record, fault)? {
             Some(column) => {
                 *text = repaired(alloc, header, &record, column, &self.currency)?;
@@ -519,6 +624,39 @@ impl Checker {
             }
             None => Ok(false),
         }
+    }
+
+    // The place of the field that a fault is of, where that is of a kept column alone.
+    fn kept_place(
+        &self,
+        header: &ByteRecord,
+        record: &ByteRecord,
+        fault: RecordFault,
+    ) -> Option<usize> {
+        let keeper = self.keeper.as_ref()?;
+        kept_place(header, record, keeper.keeps(), fault)
+    }
+
+    // Counts a fault of a field in a kept column.
+    fn note_kept(
+        &mut self,
+        alloc: Global,
+        header: &ByteRecord,
+        fields: &ByteRecord,
+        fault: RecordFault,
+        place: usize,
+    ) -> Result<(), AllocError>
+        ensures { OnOk result (self.old.faults ≤ self.new.faults) }
+    {
+        let column = field_text(header, place);
+        let value = shown_value(alloc, field_bytes(fields, place))?;
+        let line = self.lines.saturating_add(1);
+        let place = Place {
+            line,
+            record: self.records,
+            value,
+        };
+        self.add(alloc, Kind::of(fault.name()), column, place)
     }
 
     // Counts a fault of a record. The answer is the column in which it is.
@@ -567,6 +705,7 @@ impl Checker {
     {
         if counts {
             self.statistics.add_all(alloc, rows)?;
+            self.prints.add_all(rows, self.records.saturating_sub(1))?;
             self.count_currency(alloc, rows.len() as u64)?;
         }
         Ok(None)

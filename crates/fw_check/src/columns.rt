@@ -38,3 +38,8 @@ pub(crate) fn is_double(header: &ByteRecord, column: Column) -> bool {
     }
     times > 1
 }
+
+/// Whether a column is read by this name.
+pub(crate) fn is_read(name: &str) -> bool {
+    Column::ALL.iter().any(|column| column.name() == name)
+}

@@ -40,7 +40,7 @@ pub struct Finding {
     /// The code and the name, as `V5 Cost`.
     pub code: &'static str,
     /// The name of the column, or the empty text where the fault is of the whole record.
-    pub column: &'static str,
+    pub column: String,
     /// What was expected.
     pub expected: &'static str,
     /// How many there are.
@@ -85,7 +85,7 @@ fn finding_of(findings: &[Finding], code: &str, column: &str) -> usize
     ensures within { result ≤ length findings.now }
 {
     for (place, finding) in findings.iter().enumerate() {
-        if finding.code == code && finding.column == column {
+        if finding.code == code && finding.column.as_str() == column {
             return place;
         }
     }
@@ -97,7 +97,7 @@ pub(crate) fn add_fault(
     alloc: Global,
     findings: &mut Vec<Finding>,
     code: &'static str,
-    column: &'static str,
+    column: &str,
     expected: &'static str,
     place: Place,
 ) -> Result<(), AllocError>
@@ -110,6 +110,7 @@ pub(crate) fn add_fault(
         findings[at].add(place)?;
         return Ok(());
     }
+    let column = String::from_str(alloc, column)?;
     let mut places = Vec::new(alloc);
     places.push(place)?;
     findings.push(Finding {
@@ -236,8 +237,8 @@ fn too_long(header: &ByteRecord, record: &ByteRecord) -> Column {
     Column::Tags
 }
 
-// A value, or its first 60 characters and a mark. A byte that isn't printable ASCII, in a value that isn't UTF-8, is shown as `?`.
-fn shown_value(alloc: Global, value: &[u8]) -> Result<String, AllocError> {
+/// A value, or its first 60 characters and a mark. A byte that isn't printable ASCII, in a value that isn't UTF-8, is shown as `?`.
+pub(crate) fn shown_value(alloc: Global, value: &[u8]) -> Result<String, AllocError> {
     let mut shown = String::new(alloc);
     let is_cut = match str::from_utf8(value) {
         Ok(text) => push_letters(&mut shown, text)?,

@@ -37,30 +37,37 @@ pub(crate) fn repaired(
     column: Column,
     currency: &Currency,
 ) -> Result<Vec<u8>, AllocError> {
-    let mut text = Vec::new(alloc);
-    put_repaired(&mut text, header, record, column, currency)?;
-    Ok(text)
+    let value = harmless(header, record, column, currency);
+    with_value(alloc, record, column.place_in(header), value)
 }
 
-// Writes that text.
-fn put_repaired(
-    text: &mut Vec<u8>,
-    header: &ByteRecord,
+/// A text of the record, with an empty field at a place.
+pub(crate) fn emptied(
+    alloc: Global,
     record: &ByteRecord,
-    column: Column,
-    currency: &Currency,
-) -> Result<(), AllocError> {
-    let place = column.place_in(header);
+    place: usize,
+) -> Result<Vec<u8>, AllocError> {
+    with_value(alloc, record, Some(place), b"")
+}
+
+// A text of a record, with another value at a place.
+fn with_value(
+    alloc: Global,
+    record: &ByteRecord,
+    place: Option<usize>,
+    value: &[u8],
+) -> Result<Vec<u8>, AllocError> {
+    let mut text = Vec::new(alloc);
     for at in 0..record.len() {
-        let value = if Some(at) == place {
-            harmless(header, record, column, currency)
+        let field = if Some(at) == place {
+            value
         } else {
             record.get(at).unwrap_or(b"")
         };
-        put_field(text, at, value)?;
+        put_field(&mut text, at, field)?;
     }
     text.push(b'\n')?;
-    Ok(())
+    Ok(text)
 }
 
 // Writes a field in quotes, behind a comma where it isn't the first.

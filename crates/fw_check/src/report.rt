@@ -5,6 +5,9 @@ ghost use Rattle.fw_table.specs.Shown.{shown_text};
 
 use crate::checker::Checker;
 use crate::findings::{Finding, Place};
+use crate::frequent::{most_frequent, rows_in};
+use crate::kept::KeptColumn;
+use crate::repeats::{Repeat, Repeats};
 use crate::statistics::Statistics;
 use fw_charge::Category;
 use fw_table::shown_text;
@@ -26,10 +29,12 @@ fn text_of(alloc: Global, name: &str, checker: &Checker) -> Result<String, Alloc
     let findings = findings_text(alloc, name, checker.findings.as_slice())?;
     let sums = sums_text(alloc, &checker.statistics)?;
     let counts = counts_text(alloc, &checker.statistics)?;
+    let repeats = repeats_text(alloc, &checker.repeats)?;
     let mut text = summary_text(alloc, name, checker)?;
     text.push_str(findings.as_str())?;
     text.push_str(sums.as_str())?;
     text.push_str(counts.as_str())?;
+    text.push_str(repeats.as_str())?;
     Ok(text)
 }
 
@@ -95,7 +100,7 @@ fn put_findings(text: &mut String, name: &str, findings: &[Finding]) -> Result<(
 // A group of faults, and its first places.
 fn put_finding(text: &mut String, name: &str, finding: &Finding) -> Result<(), AllocError> {
     let code = finding.code;
-    let column = finding.column;
+    let column = finding.column.as_str();
     let count = finding.count;
     let expected = finding.expected;
     if column.is_empty() {
@@ -133,13 +138,62 @@ fn sums_text(alloc: Global, statistics: &Statistics) -> Result<String, AllocErro
     format!(in alloc; "\nrows {rows}\nhours {hours}\nbilled {billed}\neffective {effective}\n")
 }
 
-// The counts by category, currency and tag.
+// The counts by category, currency, tag and value of a kept column.
 fn counts_text(alloc: Global, statistics: &Statistics) -> Result<String, AllocError> {
     let mut text = String::new(alloc);
     put_categories(&mut text, statistics)?;
     put_counts(&mut text, "currency", &statistics.currencies)?;
     put_counts(&mut text, "tag", &statistics.tags.keys)?;
+    for kept in statistics.kept.as_slice() {
+        put_kept(alloc, &mut text, kept)?;
+    }
     Ok(text)
+}
+
+// Writes how many rows have a value of a kept column, how many values there are, and the most frequent ones.
+fn put_kept(alloc: Global, text: &mut String, kept: &KeptColumn) -> Result<(), AllocError> {
+    let (column, key) = (kept.column.as_str(), kept.key.as_str());
+    let rows = counted_text(alloc, rows_in(&kept.values), "row")?;
+    let values = kept.values.len();
+    let word = counted_text(alloc, values as u64, "value")?;
+    write!(text, "kept {column:?} as {key:?}: {rows}, {word}\n")?;
+    let most = most_frequent(alloc, &kept.values)?;
+    for (value, count) in most.as_slice() {
+        write!(text, "  {value:?} {count}\n")?;
+    }
+    if values > most.len() {
+        let more = values - most.len();
+        write!(text, "  .. and {more} more\n")?;
+    }
+    Ok(())
+}
+
+// The rows that stand twice; nothing where there is none.
+fn repeats_text(alloc: Global, repeats: &Repeats) -> Result<String, AllocError>
+    ensures { IfOk result (λ text. repeats.count.now ≡ 0 → string_bytes text ≡ []) }
+{
+    let mut text = String::new(alloc);
+    if repeats.count == 0 {
+        return Ok(text);
+    }
+    put_repeats(alloc, &mut text, repeats)?;
+    Ok(text)
+}
+
+// Writes the rows that stand twice.
+fn put_repeats(alloc: Global, text: &mut String, repeats: &Repeats) -> Result<(), AllocError> {
+    let count = counted_text(alloc, repeats.count, "row")?;
+    let verb = if repeats.count == 1 { "repeats" } else { "repeat" };
+    write!(text, "\nwarning: {count} {verb} an earlier row: all values that are read are the same\n")?;
+    for repeat in repeats.first.as_slice() {
+        let Repeat { number, earlier } = *repeat;
+        write!(text, "  record {number} is as record {earlier}\n")?;
+    }
+    let more = repeats.count.saturating_sub(repeats.first.len() as u64);
+    if more > 0 {
+        write!(text, "  .. and {more} more\n")?;
+    }
+    Ok(())
 }
 
 // Writes how many rows there are of each category.
@@ -252,7 +306,7 @@ fn put_json_finding(text: &mut String, finding: &Finding) -> Result<(), AllocErr
     text.push_str("{\"code\":")?;
     put_json(text, finding.code)?;
     text.push_str(",\"column\":")?;
-    put_json(text, finding.column)?;
+    put_json(text, finding.column.as_str())?;
     text.push_str(",\"expected\":")?;
     put_json(text, finding.expected)?;
     let count = finding.count;
@@ -294,6 +348,73 @@ fn put_json_statistics(
     text.push_str("},\"tags\":{")?;
     put_json_counts(text, &statistics.tags.keys)?;
     text.push('}')?;
+    put_json_kept(alloc, text, statistics.kept.as_slice())?;
+    put_json_repeats(text, &checker.repeats)?;
+    Ok(())
+}
+
+// The kept columns as a member of a JSON object; nothing where none is kept.
+fn put_json_kept(
+    alloc: Global,
+    text: &mut String,
+    kept: &[KeptColumn],
+) -> Result<(), AllocError> {
+    if kept.is_empty() {
+        return Ok(());
+    }
+    text.push_str(",\"kept\":[")?;
+    let mut is_first = true;
+    for column in kept {
+        if !is_first {
+            text.push(',')?;
+        }
+        is_first = false;
+        put_json_column(alloc, text, column)?;
+    }
+    text.push(']')?;
+    Ok(())
+}
+
+// A kept column as a JSON object.
+fn put_json_column(alloc: Global, text: &mut String, kept: &KeptColumn) -> Result<(), AllocError> {
+    text.push_str("{\"column\":")?;
+    put_json(text, kept.column.as_str())?;
+    text.push_str(",\"tag\":")?;
+    put_json(text, kept.key.as_str())?;
+    let rows = rows_in(&kept.values);
+    let values = kept.values.len();
+    write!(text, ",\"rows\":{rows},\"values\":{values},\"mostFrequent\":[")?;
+    let mut is_first = true;
+    for (value, count) in most_frequent(alloc, &kept.values)?.as_slice() {
+        if !is_first {
+            text.push(',')?;
+        }
+        is_first = false;
+        text.push_str("{\"value\":")?;
+        put_json(text, value)?;
+        write!(text, ",\"rows\":{count}}}")?;
+    }
+    text.push_str("]}")?;
+    Ok(())
+}
+
+// The rows that stand twice as members of a JSON object; nothing where there is none.
+fn put_json_repeats(text: &mut String, repeats: &Repeats) -> Result<(), AllocError> {
+    let count = repeats.count;
+    if count == 0 {
+        return Ok(());
+    }
+    write!(text, ",\"repeatedRows\":{count},\"firstRepeated\":[")?;
+    let mut is_first = true;
+    for repeat in repeats.first.as_slice() {
+        if !is_first {
+            text.push(',')?;
+        }
+        is_first = false;
+        let Repeat { number, earlier } = *repeat;
+        write!(text, "{{\"record\":{number},\"earlier\":{earlier}}}")?;
+    }
+    text.push(']')?;
     Ok(())
 }
 

@@ -2,10 +2,12 @@
 ghost use Rattle.std.specs.Prelude.{◌≡◌, ◌-◌, ◌<◌, map, nat_eq, OnOk};
 ghost use Rattle.fw_charge.specs.Codes.{category_code, category_count};
 ghost use Rattle.fw_check.specs.Counts.{counted, counted_all, text_counts};
+ghost use Rattle.fw_check.specs.Kept.{kept_value};
 ghost use Rattle.fw_check.specs.Seen.{seen_in, nothing_seen, with_row, with_rows};
 ghost use Rattle.fw_row_table.specs.Lending.{tags_lent};
 ghost use Rattle.std.specs.Str.{bytes_eq};
 
+use crate::kept::{KeptColumn, count_kept};
 use fw_charge::Category;
 use fw_columns::{Columns, LentRow, LentTags};
 use indexmap::IndexMap;
@@ -39,6 +41,8 @@ pub struct Statistics {
     pub currencies: IndexMap<String, u64>,
     /// The tags.
     pub tags: Coverage,
+    /// The columns that are kept as tags.
+    pub kept: Vec<KeptColumn>,
 }
 
 impl Drop for Statistics {
@@ -51,6 +55,7 @@ impl Drop for Statistics {
             hours: _,
             currencies: _,
             tags: _,
+            kept: _,
         } = self;
     }
 }
@@ -104,9 +109,9 @@ fn count_tags(
 }
 
 impl Statistics {
-    /// Nothing was seen.
-    pub(crate) fn new(alloc: Global) -> Statistics
-        ensures { seen_in result ≡ nothing_seen }
+    /// Nothing was seen. The values of these columns are counted.
+    pub(crate) fn new(alloc: Global, kept: Vec<KeptColumn>) -> Statistics
+        ensures { seen_in result ≡ nothing_seen (map kept_value kept.items) }
     {
         Statistics {
             rows: 0,
@@ -118,6 +123,7 @@ impl Statistics {
             tags: Coverage {
                 keys: IndexMap::new(alloc),
             },
+            kept,
         }
     }
 
@@ -134,6 +140,7 @@ impl Statistics {
         self.categories[category] = self.categories[category].saturating_add(1);
         count_hour(&mut self.hours, row.hour())?;
         count_tags(alloc, &mut self.tags.keys, row.tags())?;
+        count_kept(alloc, self.kept.as_mut_slice(), row.tags())?;
         Ok(())
     }
 

@@ -3,21 +3,23 @@ ghost use Rattle.std.specs.Prelude.{◌≡◌, ◌≤◌, IfOk, IsTrue};
 
 use clap::ArgMatches;
 use fw_check::{Checker, as_json, as_text};
-use fw_command_line::{DIALECT, FILES, FORMAT, QUIET};
+use fw_command_line::{DIALECT, FILES, FORMAT, KEEP, QUIET};
 use fw_console::{
     Fault, Member, print_answer, read_currency, say_fault, tell, tells_json, wrong_use,
 };
 use fw_cut::Part;
 use fw_dialect::Dialect;
-use fw_export_files::{Taker, Walk, code_of, walk_files};
-use fw_rows::{Currency, RowFault};
-use std::alloc::Global;
+use fw_export_files::{Taker, Walk, code_of, read_keeps, walk_files};
+use fw_rows::{Currency, Keep, RowFault};
+use std::alloc::{AllocError, Global};
 use std::process::ExitCode;
 
 /// A check of exports.
 #[derive(Drop)]
 struct Check {
     currency: Currency,
+    /// The columns that are kept as tags.
+    keeps: Vec<Keep>,
     is_json: bool,
     /// Whether nothing is printed of each export.
     is_silent: bool,
@@ -63,11 +65,16 @@ pub fn check_files(rt: &HostRuntime, options: &ArgMatches<'_>) -> Result<ExitCod
     let Some(currency) = read_currency(options) else {
         return Ok(wrong_use(rt, "--currency: it must be three capital letters, e.g. USD"));
     };
+    let keeps = match read_keeps(rt.alloc(), options.get_strs(KEEP).unwrap_or(&[]))? {
+        Ok(keeps) => keeps,
+        Err(why) => return Ok(wrong_use(rt, why.as_str())),
+    };
     let files = options.get_strs(FILES).unwrap_or(&[]);
     let mut walk = Walk::new(rt, options.get_flag(QUIET), files);
     walk.dialect = options.get_str(DIALECT).and_then(Dialect::of_name);
     let mut check = Check {
         currency,
+        keeps,
         is_json: options.get_str(FORMAT) == Some("json"),
         is_silent: tells_json(options),
         found: Found::default(),
@@ -87,8 +94,13 @@ pub fn check_files(rt: &HostRuntime, options: &ArgMatches<'_>) -> Result<ExitCod
 
 impl Check {
     // Nothing was found yet.
-    fn start(&mut self, alloc: Global) {
-        self.checker = Checker::new(alloc, self.currency);
+    fn start(&mut self, alloc: Global) -> Result<(), AllocError> {
+        self.checker = if self.keeps.is_empty() {
+            Checker::new(alloc, self.currency)
+        } else {
+            Checker::keeping(alloc, self.currency, self.keeps.as_slice())?
+        };
+        Ok(())
     }
 
     // Prints what was found, also where the export can't be read to its end. Whether it has no fault.
@@ -100,6 +112,7 @@ impl Check {
         if is_whole {
             checker.end(rt.alloc())?;
         }
+        checker.find_repeats(rt.alloc())?;
         self.found = self.found.and(checker);
         if !self.is_silent {
             print_found(rt, name, checker, self.is_json)?;
@@ -111,7 +124,7 @@ impl Check {
     fn propose(&self, rt: &HostRuntime, walk: &Walk<'_>) {
         for finding in self.checker.findings.iter() {
             for place in finding.places.iter() {
-                if walk.propose(rt, finding.column, place.value.as_str()) {
+                if walk.propose(rt, finding.column.as_str(), place.value.as_str()) {
                     return;
                 }
             }
@@ -129,8 +142,10 @@ impl Taker for Check {
     }
 
     fn begin(&mut self, rt: &HostRuntime, header: &[u8], line_end: u8) -> Result<bool, Fault> {
-        self.start(rt.alloc());
+        self.start(rt.alloc())?;
         self.checker.check_header(rt.alloc(), header)?;
+        self.checker
+            .check_kept(rt.alloc(), header, self.keeps.as_slice())?;
         self.checker.pass_header(header, line_end);
         Ok(self.checker.faults == 0)
     }
@@ -169,7 +184,7 @@ impl Taker for Check {
     }
 
     fn take_none(&mut self, rt: &HostRuntime, walk: &mut Walk<'_>) -> Result<bool, Fault> {
-        self.start(rt.alloc());
+        self.start(rt.alloc())?;
         self.finish(rt, walk.name.as_str(), true)
     }
 }

@@ -65,7 +65,7 @@ fn is_right(checker: &Checker) -> bool {
             None => 0,
         };
         if finding.code != *code
-            || finding.column != *column
+            || finding.column.as_str() != *column
             || finding.count != *count
             || first != *line
         {
@@ -97,7 +97,7 @@ fn are_found_in_header(alloc: Global) -> Result<bool, RowFault> {
     checker.check_header(alloc, HEADER.as_bytes())?;
     checker.end(alloc)?;
     for (finding, (code, column)) in checker.findings.iter().zip(HEADER_FINDINGS) {
-        if finding.code != *code || finding.column != *column {
+        if finding.code != *code || finding.column.as_str() != *column {
             return Ok(false);
         }
     }

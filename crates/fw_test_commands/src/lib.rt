@@ -13,6 +13,8 @@ mod ended;
 #[cfg(test)]
 mod importing;
 #[cfg(test)]
+mod keeping;
+#[cfg(test)]
 mod limits;
 #[cfg(test)]
 mod loads;

@@ -42,5 +42,6 @@ returns-clause-counts c =
         hours = old.seen.hours;
         currencies = counts j;
         tags = old.seen.tags;
+        kept_columns = old.seen.kept_columns;
       };
     }
