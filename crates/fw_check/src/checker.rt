@@ -15,9 +15,7 @@ ghost use Rattle.fw_check.specs.Prints.{AreRepeats};
 
 use crate::columns::{is_double, is_missing, is_read};
 use crate::fields::{first_record, has_next, records_of};
-use crate::findings::{
-    Finding, Place, add_fault, column_name, column_of, shown_value, value_of,
-};
+use crate::findings::{Finding, Place, add_fault, column_name, column_of, shown_value, value_of};
 use crate::kept::{KeptColumn, columns_of};
 use crate::kept_fields::{copies, field_bytes, field_text, kept_place, times_in};
 use crate::located::{blank, line_ends};
@@ -30,9 +28,7 @@ use fw_column_rows::{KnownTexts, read_columns_after, read_columns_keeping};
 use fw_columns::Columns;
 use fw_cut::{Part, cut_off};
 use fw_explain::explain_fault;
-use fw_rows::{
-    Column, Currency, Keep, Keeper, RecordFault, RowFault, read_rows, rows_read_as_one,
-};
+use fw_rows::{Column, Currency, Keep, Keeper, RecordFault, RowFault, read_rows, rows_read_as_one};
 use std::alloc::{AllocError, Global};
 
 /// How many faults of one record are looked for.
@@ -129,11 +125,7 @@ impl Checker {
     }
 
     /// A checker that has seen nothing, and keeps these columns as tags, as an import does.
-    pub fn keeping(
-        alloc: Global,
-        currency: Currency,
-        keeps: &[Keep],
-    ) -> Result<Checker, AllocError>
+    pub fn keeping(alloc: Global, currency: Currency, keeps: &[Keep]) -> Result<Checker, AllocError>
         ensures nothing { IfOk result (λ c. checked c
             ≡ nothing_checked currency (map nothing_kept keeps.now)) }
         ensures keeps { IfOk result (λ c. IfSome c.keeper (λ k. k.keeps ≡ keeps.now)) }
@@ -297,12 +289,7 @@ impl Checker {
     }
 
     // Counts a fault of the whole text, of a column or of none. Its place is the header.
-    fn note_text(
-        &mut self,
-        alloc: Global,
-        fault: Kind,
-        column: &str,
-    ) -> Result<(), AllocError>
+    fn note_text(&mut self, alloc: Global, fault: Kind, column: &str) -> Result<(), AllocError>
         ensures counted { OnOk result (checked self.new ≡
             with_fault fault.code.now column.now fault.expected.now
             (record { line = 1; number = 0; value = [] }) (checked self.old)) }

@@ -183,8 +183,15 @@ fn repeats_text(alloc: Global, repeats: &Repeats) -> Result<String, AllocError>
 // Writes the rows that stand twice.
 fn put_repeats(alloc: Global, text: &mut String, repeats: &Repeats) -> Result<(), AllocError> {
     let count = counted_text(alloc, repeats.count, "row")?;
-    let verb = if repeats.count == 1 { "repeats" } else { "repeat" };
-    write!(text, "\nwarning: {count} {verb} an earlier row: all values that are read are the same\n")?;
+    let verb = if repeats.count == 1 {
+        "repeats"
+    } else {
+        "repeat"
+    };
+    write!(
+        text,
+        "\nwarning: {count} {verb} an earlier row: all values that are read are the same\n"
+    )?;
     for repeat in repeats.first.as_slice() {
         let Repeat { number, earlier } = *repeat;
         write!(text, "  record {number} is as record {earlier}\n")?;
@@ -354,11 +361,7 @@ fn put_json_statistics(
 }
 
 // The kept columns as a member of a JSON object; nothing where none is kept.
-fn put_json_kept(
-    alloc: Global,
-    text: &mut String,
-    kept: &[KeptColumn],
-) -> Result<(), AllocError> {
+fn put_json_kept(alloc: Global, text: &mut String, kept: &[KeptColumn]) -> Result<(), AllocError> {
     if kept.is_empty() {
         return Ok(());
     }
@@ -383,7 +386,10 @@ fn put_json_column(alloc: Global, text: &mut String, kept: &KeptColumn) -> Resul
     put_json(text, kept.key.as_str())?;
     let rows = rows_in(&kept.values);
     let values = kept.values.len();
-    write!(text, ",\"rows\":{rows},\"values\":{values},\"mostFrequent\":[")?;
+    write!(
+        text,
+        ",\"rows\":{rows},\"values\":{values},\"mostFrequent\":["
+    )?;
     let mut is_first = true;
     for (value, count) in most_frequent(alloc, &kept.values)?.as_slice() {
         if !is_first {
