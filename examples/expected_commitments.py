@@ -11,17 +11,18 @@ OWN, PROVIDER = "own", "provider"
 
 
 class Figures:
-    """What is summed of commitments, in nanos."""
+    """What is summed of commitments, in nanos; and how many covered rows have no price."""
 
     def __init__(self):
-        self.used = self.unused = self.paid = self.covered = self.eligible = 0
+        self.used = self.unused = self.paid = self.covered = self.eligible = self.unpriced = 0
 
-    def amounts(self, keeper):
-        """The amounts by column; those that need the rows' own prices are None of a provider's commitments."""
+    def amounts(self, keeper, has_list=False):
+        """The amounts by column. Of a provider's commitments those that need prices are None where no tag has them, and what could have
+        been covered always is."""
         amortized = self.used + self.unused
-        known = (self.used, self.unused, amortized, self.paid)
-        priced = (self.covered, self.eligible - self.covered, self.eligible, self.covered - amortized)
-        return known + (priced if keeper == OWN else (None,) * 4)
+        covered, savings = (self.covered, self.covered - amortized) if keeper == OWN or has_list else (None, None)
+        uncovered, eligible = (self.eligible - self.covered, self.eligible) if keeper == OWN else (None, None)
+        return (self.used, self.unused, amortized, self.paid, covered, uncovered, eligible, savings)
 
 
 def covered_parts(lines):
@@ -46,15 +47,26 @@ def eligible_rows(warehouse, low, high):
                 yield row, found
 
 
+def listed_rows(warehouse, low, high, tag):
+    """Each row of a range of hours that a provider's commitment covers, beside its price: the amount that the tag has, or None."""
+    for hour in range(warehouse.times.hour(low), warehouse.times.hour(high)):
+        for row in warehouse.rows.get(hour, ()):
+            if row.status == "Used":
+                try:
+                    yield row, expected.nanos(row.tags.get(tag, ""))
+                except expected.Unknown:
+                    yield row, None
+
+
 def of_row(key, row):
     """The value of a key on a row by itself."""
-    line = expected.Line(row.hour, row.category, ("", "", ""), row.billed, row.effective, row.quantity, row.sku, row.account, row.tags)
+    line = expected.Line(row.hour, row.category, (row.id, row.kind, row.status), row.billed, row.effective, row.quantity, row.sku, row.account, row.tags)
     return key.of(line)
 
 
-def figures(warehouse, low, high, keys=()):
+def figures(warehouse, low, high, keys=(), price_tag=None):
     """The figures of a range of hours by who keeps the commitments and by name: the id of a commitment, or the values of keys where there are
-    some; and those of all under the name None."""
+    some; and those of all under the name None. Where a tag has prices, what providers' commitments cover is summed at these."""
     own = {c.id for c in warehouse.commitments}
     kept = {OWN: defaultdict(Figures), PROVIDER: defaultdict(Figures)}
 
@@ -81,20 +93,29 @@ def figures(warehouse, low, high, keys=()):
         for name in names:
             kept[OWN][name].eligible += row.effective
         kept[OWN][None].eligible += row.effective
+    for row, price in listed_rows(warehouse, low, high, price_tag) if price_tag is not None else ():
+        name = tuple(of_row(key, row) for key in keys) or (row.id,)
+        add(PROVIDER, name, *(("unpriced", 1) if price is None else ("covered", price)))
     return kept
 
 
-def records(warehouse, low, high, keys=()):
-    """The records of a range of hours as the program has them: each its kind, its keeper, its name and its amounts."""
+def records(warehouse, low, high, keys=(), price_tag=None):
+    """The records of a range of hours as the program has them: each its kind, its keeper, its name, its amounts and how many rows have no
+    price, None where it has no prices of a tag."""
     found, of_all = [], []
-    kept = figures(warehouse, low, high, keys)
+    kept = figures(warehouse, low, high, keys, price_tag)
     kind = "group" if keys else "commitment"
+
+    def record(kind, keeper, name):
+        has_list, one = price_tag is not None, kept[keeper][name]
+        return kind, keeper, name, one.amounts(keeper, has_list), one.unpriced if has_list and keeper == PROVIDER else None
+
     for keeper in (OWN, PROVIDER):
         names = sorted((name for name in kept[keeper] if name is not None), key=lambda name: [text.encode() for text in name])
         for name in names:
-            found.append((kind, keeper, name, kept[keeper][name].amounts(keeper)))
+            found.append(record(kind, keeper, name))
         if names:
-            of_all.append(("total", keeper, None, kept[keeper][None].amounts(keeper)))
+            of_all.append(record("total", keeper, None))
     return found + of_all
 
 

@@ -50,10 +50,20 @@ class Chance:
         digits = self.dice.choice([0, 1, 2, 9])
         return f"{self.dice.randrange(most)}" + (f".{self.dice.randrange(10**digits):0{digits}}" if digits else "")
 
+    def price(self):
+        """What an import may have kept as a price: mostly an amount, also with more digits than a nano has; or something else."""
+        chosen = self.dice.random()
+        if chosen < 0.7:
+            return self.dice.choice(["", "-", "+"]) * (chosen < 0.1) + self.amount(40) + self.dice.choice(["", "", "5", "499", "e1", "E-3"]) * (chosen < 0.4)
+        return self.dice.choice(["", " 1", "1,000.00", "free", "1.2.3", "100000000.000000001", "0." + "3" * 38, "0." + "3" * 39, "1e41", ".", "null"])
+
     def row(self):
         dice, hour = self.dice, self.dice.randrange(HOURS)
         team = dice.choice(TEAMS)
-        tags = json.dumps({"team": team}) if team else ""
+        tags = {"team": team} if team else {}
+        if dice.random() < 0.8:
+            tags["ListCost"] = self.price()
+        tags = json.dumps(tags) if tags else ""
         billed, effective = self.amount(20), self.amount(20)
         category, discount, quantity = "Usage", ",,", f"{dice.randrange(1, 9)}" + dice.choice(["", ".5", ".333333333"])
         chosen = dice.random()
@@ -136,12 +146,12 @@ def amount_of(text):
     return expected.nanos(text) if text else None
 
 
-def read_csv(text, keys, by_period):
-    """The records of a CSV: each its hours, kind, keeper, name, units and amounts."""
+def read_csv(text, keys, by_period, has_list=False):
+    """The records of a CSV: each its hours, kind, keeper, name, units, amounts and how many rows have no price."""
     header, *rows = csv.reader(io.StringIO(text.decode()))
     hours = ["From", "To"] if by_period else []
     names = [key.name for key in keys] or ["CommitmentDiscountId", "Unit", "Capacity", "UsedCapacity"]
-    if header != [*hours, "Kind", "Keeper", *names, *oracle.AMOUNTS]:
+    if header != [*hours, "Kind", "Keeper", *names, *oracle.AMOUNTS, *["UnpricedRows"] * has_list]:
         raise AssertionError(header)
     for row in rows:
         cells = iter(row)
@@ -149,7 +159,9 @@ def read_csv(text, keys, by_period):
         kind, keeper = next(cells), next(cells)
         name = tuple(next(cells) for _ in (keys or [0]))
         units = None if keys else (next(cells), amount_of(next(cells)), amount_of(next(cells)))
-        yield period, (kind, keeper, None if kind == "total" else name, tuple(map(amount_of, cells))), units
+        amounts = tuple(amount_of(next(cells)) for _ in oracle.AMOUNTS)
+        unpriced = next(cells, "")
+        yield period, (kind, keeper, None if kind == "total" else name, amounts, int(unpriced) if unpriced else None), units
 
 
 # The figures of a page: a cost by its place among the amounts, or a rate by those of its part and its whole.
@@ -165,11 +177,16 @@ def percent(part, whole):
     return f"{'-' if part < 0 else ''}{tenths // 10}.{tenths % 10}%"
 
 
+def savings_whole(amounts):
+    """What savings are measured by: what could have been covered, or what was covered where only that is known."""
+    return amounts[6] if amounts[6] is not None else amounts[4]
+
+
 def shown(amounts):
     """The figures of a record as a page shows them."""
-    for at in SHOWN.values():
+    for name, at in SHOWN.items():
         if isinstance(at, tuple):
-            yield percent(amounts[at[0]], amounts[at[1]])
+            yield percent(amounts[at[0]], savings_whole(amounts) if name == "SavingsRate" else amounts[at[1]])
         else:
             yield "" if amounts[at] is None else cents(amounts[at])
 
@@ -224,31 +241,43 @@ class Figures(unittest.TestCase):
             house = self.house(seed)
             dice = random.Random(-seed)
             keys = dice.choice([[], [], [expected.Key("team")], [expected.Key("SkuId", True)], [expected.Key("team"), expected.Key("SubAccountId", True)]])
-            with self.subTest(seed=seed, keys=keys):
-                self.check(house, keys)
-                self.check_periods(house, keys, dice.choice(["day", "month"]))
-                self.check_page(house, keys, dice.choice([None, "day", "month"]))
+            price_tag = dice.choice([None, "ListCost", "ListCost", "team"])
+            with self.subTest(seed=seed, keys=keys, price_tag=price_tag):
+                self.check(house, keys, price_tag)
+                self.check_periods(house, keys, price_tag, dice.choice(["day", "month"]))
+                self.check_page(house, keys, price_tag, dice.choice([None, "day", "month"]))
                 self.check_laws(house)
 
-    def words(self, keys):
-        return [word for key in keys for word in ("--column" if key.is_column else "--tag", key.name)]
+    def words(self, keys, price_tag):
+        words = [word for key in keys for word in ("--column" if key.is_column else "--tag", key.name)]
+        return [*words, "--price-tag", price_tag] if price_tag else words
 
-    def check(self, house, keys):
-        words = ["--from", LOW, "--to", HIGH, *self.words(keys)]
-        right = oracle.records(house.kept, LOW, HIGH, keys)
-        found = list(read_csv(house.asked(*words, "--format", "csv"), keys, False))
+    def check(self, house, keys, price_tag):
+        words = ["--from", LOW, "--to", HIGH, *self.words(keys, price_tag)]
+        right = oracle.records(house.kept, LOW, HIGH, keys, price_tag)
+        found = list(read_csv(house.asked(*words, "--format", "csv"), keys, False, price_tag is not None))
         self.assertEqual([record for _, record, _ in found], right)
         if not keys:
             kept = oracle.units(house.kept, LOW, HIGH)
-            for _, (kind, keeper, name, _), units in found:
+            for _, (kind, keeper, name, _, _), units in found:
                 own = kind == "commitment" and keeper == "own"
                 self.assertEqual(units, kept.get(name[0], ("", 0, 0)) if own else ("", None, None), name)
-        self.check_json(json.loads(house.asked(*words, "--format", "json")), right, keys)
+        self.check_json(json.loads(house.asked(*words, "--format", "json")), right, keys, price_tag)
+        self.check_note(house.asked(*words).decode(), right, price_tag)
 
-    def check_json(self, found, right, keys):
+    def check_note(self, text, right, price_tag):
+        """Behind a table it is said how many rows have no price, where some have none."""
+        count = sum(unpriced or 0 for kind, *_, unpriced in right if kind == "total")
+        note = text.splitlines()[-1] if count else ""
+        rows = "1 row that is covered by providers' commitments has" if count == 1 else f"{count} rows that are covered by providers' commitments have"
+        self.assertEqual(note, f"{rows} no amount in the tag {price_tag}: CoveredCost and Savings are too low by what it would be." if count else "")
+        self.assertEqual(text.count("no amount"), 1 if count else 0)
+
+    def check_json(self, found, right, keys, price_tag):
         self.assertEqual((found["keys"], found["currency"], found["from"], found["to"]), ([key.name for key in keys], "USD", LOW, HIGH))
+        self.assertEqual(found.get("priceTag"), price_tag)
         self.assertEqual(len(found["records"]), len(right))
-        for one, (kind, keeper, name, amounts) in zip(found["records"], right):
+        for one, (kind, keeper, name, amounts, unpriced) in zip(found["records"], right):
             self.assertEqual((one["kind"], one["keeper"]), (kind, keeper))
             if kind == "group":
                 self.assertEqual(one["keys"], {key.name: text for key, text in zip(keys, name)})
@@ -257,28 +286,30 @@ class Figures(unittest.TestCase):
             members = [column[0].lower() + column[1:] for column in oracle.AMOUNTS]
             self.assertEqual([amount_of(one.get(member, "")) for member in members], list(amounts))
             used, _, amortized, _, covered, _, eligible, savings = amounts
-            for rate, part, whole in (("utilization", used, amortized), ("coverage", covered, eligible), ("effectiveSavingsRate", savings, eligible)):
-                spelled = {"part": expected.spelled(part), "whole": expected.spelled(whole)} if part is not None else None
+            whole = savings_whole(amounts)
+            for rate, part, whole in (("utilization", used, amortized), ("coverage", covered, eligible), ("effectiveSavingsRate", savings, whole)):
+                spelled = {"part": expected.spelled(part), "whole": expected.spelled(whole)} if None not in (part, whole) else None
                 self.assertEqual(one.get(rate), spelled)
+            self.assertEqual(one.get("unpricedRows"), unpriced)
 
-    def check_periods(self, house, keys, step):
-        words = ["--from", LOW, "--to", HIGH, *self.words(keys), "--by", step]
-        right = [(period, record) for period in periods(step) for record in oracle.records(house.kept, *period, keys)]
-        found = list(read_csv(house.asked(*words, "--format", "csv"), keys, True))
+    def check_periods(self, house, keys, price_tag, step):
+        words = ["--from", LOW, "--to", HIGH, *self.words(keys, price_tag), "--by", step]
+        right = [(period, record) for period in periods(step) for record in oracle.records(house.kept, *period, keys, price_tag)]
+        found = list(read_csv(house.asked(*words, "--format", "csv"), keys, True, price_tag is not None))
         self.assertEqual([(period, record) for period, record, _ in found], right)
         told = json.loads(house.asked(*words, "--format", "json"))
         self.assertEqual((told["by"], [(one["from"], one["to"]) for one in told["periods"]]), (step, periods(step)))
         self.assertEqual(sum(len(one["records"]) for one in told["periods"]), len(right))
 
-    def check_page(self, house, keys, step):
-        """The tables that a reader of a page gets, cell by cell, and the chart."""
-        words = ["--from", LOW, "--to", HIGH, *self.words(keys), *(["--by", step] if step else [])]
+    def check_page(self, house, keys, price_tag, step):
+        """The tables that a reader of a page gets, cell by cell, the chart, and what is said of prices."""
+        words = ["--from", LOW, "--to", HIGH, *self.words(keys, price_tag), *(["--by", step] if step else [])]
         text = house.asked(*words, "--format", "html").decode()
         page = Tables(text)
         names = [*([key.name for key in keys] or ["Commitment"]), "Keeper", *SHOWN]
 
         def rows(low, high, period):
-            for kind, keeper, name, amounts in oracle.records(house.kept, low, high, keys):
+            for kind, keeper, name, amounts, _ in oracle.records(house.kept, low, high, keys, price_tag):
                 texts = ["Total", *[""] * (len(keys) - 1)] if kind == "total" else [text or "(none)" for text in name]
                 yield [*period, *texts, keeper, *shown(amounts)]
 
@@ -294,13 +325,17 @@ class Figures(unittest.TestCase):
         self.assertEqual(sorted(drawn), sorted(["c0", "c1"] * len(periods(step))) if step else [])
         for word in ("<script", "http:", "https:", "src=", "href="):
             self.assertNotIn(word, text)
+        unpriced = sum(one or 0 for kind, *_, one in oracle.records(house.kept, LOW, HIGH, keys, price_tag) if kind == "total")
+        said = f"{unpriced} row{' that is' if unpriced == 1 else 's that are'} covered by providers"
+        self.assertEqual((said in text, "no amount in the tag" in text), (unpriced > 0, unpriced > 0))
+        self.assertEqual(f"prices of what providers' commitments cover: {price_tag}</p>" in text, price_tag is not None)
 
     def check_laws(self, house):
         """Per commitment and per group the parts sum to the totals, and savings are what reports without and with the commitments differ by."""
-        by_id = oracle.figures(house.kept, LOW, HIGH)
-        by_team = oracle.figures(house.kept, LOW, HIGH, [expected.Key("team")])
+        by_id = oracle.figures(house.kept, LOW, HIGH, (), "ListCost")
+        by_team = oracle.figures(house.kept, LOW, HIGH, [expected.Key("team")], "ListCost")
         for keeper in ("own", "provider"):
-            for what in ("used", "unused", "paid", "covered"):
+            for what in ("used", "unused", "paid", "covered", "unpriced"):
                 total = getattr(by_id[keeper][None], what)
                 for kept in (by_id, by_team):
                     self.assertEqual(sum(getattr(one, what) for name, one in kept[keeper].items() if name), total)
@@ -359,6 +394,47 @@ class Figures(unittest.TestCase):
         status, text, error = focusd("commitments", "--dir", str(folder), "--month", "2024-09", "--format", "csv")
         self.assertEqual(status, 0, error)
         return {record[2]: record[3] for _, record, _ in read_csv(text, [], False) if record[0] == "commitment"}
+
+    def test_prices_that_an_import_kept(self):
+        """A column is kept as a tag, and read as the price of what a provider's commitment covers."""
+        header = HEADER.replace(",Tags", ",Tags,ListCost")
+        rows = [
+            ("0,3.25,USD,Usage,2024-01-31T00:00Z,2024-01-31T01:00Z,plan,Spend,Used,1,Hours,b,one,", "4.0000000005"),  # rounds to the even nano
+            ("0,1,USD,Usage,2024-01-31T01:00Z,2024-01-31T02:00Z,plan,Spend,Used,1,Hours,b,one,", "1.5E0"),
+            ("0,2,USD,Usage,2024-01-31T02:00Z,2024-01-31T03:00Z,plan,Spend,Used,1,Hours,b,one,", ""),  # no price
+            ("0.75,0.75,USD,Usage,2024-01-31T00:00Z,2024-01-31T01:00Z,plan,Spend,Unused,1,Hours,b,one,", "9"),  # not covered
+            ("0,1,USD,Usage,2024-01-31T00:00Z,2024-01-31T01:00Z,other,Usage,Used,1,Hours,b,one,", "$2"),  # no amount
+        ]
+        file = pathlib.Path(self.made.name) / "kept.csv"
+        file.write_text(header + "".join(f"{row},{price}\n" for row, price in rows))
+        folder = str(pathlib.Path(self.made.name) / "kept")
+        status, _, error = focusd("import", "--quiet", "--create", "--dir", folder, "--origin", "kept", "--keep", "ListCost=price", str(file))
+        self.assertEqual(status, 0, error)
+        words = ["commitments", "--dir", folder, "--from", LOW, "--to", HIGH, "--price-tag"]
+        found = focusd(*words, "price", "--format", "csv")[1].decode().splitlines()[1:]
+        self.assertEqual(
+            found,
+            [
+                "commitment,provider,other,,,,1.000000000,0.000000000,1.000000000,0.000000000,0.000000000,,,-1.000000000,1",
+                "commitment,provider,plan,,,,6.250000000,0.750000000,7.000000000,0.000000000,5.500000000,,,-1.500000000,1",
+                "total,provider,,,,,7.250000000,0.750000000,8.000000000,0.000000000,5.500000000,,,-2.500000000,2",
+            ],
+        )
+        table = focusd(*words, "price")[1].decode()
+        self.assertEqual(
+            [line.rstrip() for line in table.splitlines()],
+            [
+                "Commitment  Keeper    Utilization  UnusedCost  AmortizedCost  CoveredCost  EligibleCost  Coverage  Savings  SavingsRate",
+                "----------  --------  -----------  ----------  -------------  -----------  ------------  --------  -------  -----------",
+                "other       provider       100.0%        0.00           1.00         0.00                            -1.00",
+                "plan        provider        89.3%        0.75           7.00         5.50                            -1.50       -27.3%",
+                "----------  --------  -----------  ----------  -------------  -----------  ------------  --------  -------  -----------",
+                "Total       provider        90.6%        0.75           8.00         5.50                            -2.50       -45.5%",
+                "",
+                "2 rows that are covered by providers' commitments have no amount in the tag price: CoveredCost and Savings are too low by what it would be.",
+            ],
+        )
+        self.assertIn("\n4 rows that are covered", focusd(*words, "absent")[1].decode())
 
     def test_four_exports_by_hand(self):
         """The sums that docs/FINOPS.md works out."""

@@ -76,7 +76,7 @@ COMMANDS = {
     "export": ({"dir": DIR, **HOURS, "format": Option(rule=one_of("csv", "jsonl"))}, 0, 0),
     "coverage": ({"dir": DIR, **HOURS, "as-of": Option(), "format": Option(rule=one_of("table", "csv"))}, 0, 0),
     "commitments": (
-        {"dir": DIR, "tag": Option(repeats=True), "column": Option(rule=one_of(*COLUMNS), repeats=True), **HOURS,
+        {"dir": DIR, "tag": Option(repeats=True), "column": Option(rule=one_of(*COLUMNS), repeats=True), "price-tag": Option(), **HOURS,
          "by": Option(rule=one_of("hour", "day", "month")), "as-of": Option(), "format": Option(rule=one_of("table", "csv", "json", "html"))}, 0, 0,
     ),
     "policy": ({"dir": DIR}, 1, 1),

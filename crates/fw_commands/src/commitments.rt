@@ -5,7 +5,7 @@ use crate::range::{read_hours, wrong_hours};
 use crate::wanted::{WantedKey, read_some_keys};
 use clap::ArgMatches;
 use fw_calendar::{Period, Step};
-use fw_command_line::{BY, FORMAT};
+use fw_command_line::{BY, FORMAT, PRICE_TAG};
 use fw_console::{Fault, letters, step_of};
 use fw_figures::{Sheet, SheetFormat, commitments_of, written};
 use fw_snapshot::Snapshot;
@@ -16,6 +16,8 @@ use std::process::ExitCode;
 #[derive(Debug, Drop)]
 struct Figured {
     keys: Vec<WantedKey>,
+    /// The tag that has the prices of what providers' commitments cover.
+    price_tag: Option<String>,
     step: Option<Step>,
     format: SheetFormat,
 }
@@ -29,6 +31,14 @@ impl Figured {
         }
         Ok(names)
     }
+
+    // The tag that has prices, where one has.
+    fn price_tag(&self) -> Option<&str> {
+        match &self.price_tag {
+            Some(tag) => Some(tag.as_str()),
+            None => None,
+        }
+    }
 }
 
 /// Prints the figures of commitments that the options ask for.
@@ -41,8 +51,13 @@ pub fn print_commitments(rt: &HostRuntime, options: &ArgMatches<'_>) -> Result<E
         Ok(keys) => keys,
         Err(status) => return Ok(status),
     };
+    let price_tag = match options.get_str(PRICE_TAG) {
+        Some(tag) => Some(String::from_str(rt.alloc(), tag)?),
+        None => None,
+    };
     let figured = Figured {
         keys,
+        price_tag,
         step: step_of(options.get_str(BY)),
         format: format_of(options.get_str(FORMAT)),
     };
@@ -81,11 +96,19 @@ fn figures_text(
     for key in &figured.keys {
         sources.push(key.source())?;
     }
-    let found = commitments_of(alloc, snapshot, sources.as_slice(), hours, figured.step)?;
+    let found = commitments_of(
+        alloc,
+        snapshot,
+        sources.as_slice(),
+        figured.price_tag(),
+        hours,
+        figured.step,
+    )?;
     let names = figured.names(alloc)?;
     let currency = snapshot.state().currency();
     let sheet = Sheet {
         keys: names.as_slice(),
+        price_tag: figured.price_tag(),
         currency: letters(&currency),
         hours,
         step: figured.step,

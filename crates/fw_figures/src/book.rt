@@ -30,6 +30,8 @@ pub(crate) struct Book {
     alloc: Global,
     // how many keys are asked for; none where the names are ids
     keys: usize,
+    // whether a tag has the prices of the rows that providers' commitments cover
+    has_list: bool,
     own: BTreeMap<Vec<String>, Figures>,
     provider: BTreeMap<Vec<String>, Figures>,
     own_total: Figures,
@@ -41,6 +43,7 @@ impl Drop for Book {
         let Self {
             alloc: _,
             keys: _,
+            has_list: _,
             own: _,
             provider: _,
             own_total: _,
@@ -50,11 +53,12 @@ impl Drop for Book {
 }
 
 impl Book {
-    /// A book for so many keys, with nothing in it.
-    pub(crate) fn new(alloc: Global, keys: usize) -> Book {
+    /// A book for so many keys, with nothing in it, where a tag has the prices of what providers' commitments cover, or none does.
+    pub(crate) fn new(alloc: Global, keys: usize, has_list: bool) -> Book {
         Book {
             alloc,
             keys,
+            has_list,
             own: BTreeMap::new(alloc),
             provider: BTreeMap::new(alloc),
             own_total: Figures::none(),
@@ -65,6 +69,14 @@ impl Book {
     /// Whether the names are ids of commitments.
     pub(crate) fn is_by_commitment(&self) -> bool {
         self.keys == 0
+    }
+
+    /// Whether it is known what would have been paid for what was covered.
+    pub(crate) fn is_priced(&self, keeper: Keeper) -> bool {
+        match keeper {
+            Keeper::Own => true,
+            Keeper::Provider => self.has_list,
+        }
     }
 
     /// The figures by name, in rising order of the names.
@@ -118,23 +130,36 @@ impl Book {
         Ok(())
     }
 
-    /// Adds what the lines at the rows' own prices came to, by the same keys.
-    pub(crate) fn add_prices(&mut self, groups: &[Group]) -> Result<(), AllocError> {
+    /// Adds what the lines at prices came to, by the same keys.
+    pub(crate) fn add_prices(
+        &mut self,
+        commitments: &[Commitment],
+        groups: &[Group],
+    ) -> Result<(), AllocError> {
         for group in groups {
             let parts = Parts::of(group, self.keys);
             if parts.status == DiscountStatus::Used.word() {
-                self.add(
-                    Keeper::Own,
-                    group,
-                    parts,
-                    Amount::Covered,
-                    group.effective(),
-                )?;
+                let keeper = keeper_of(commitments, parts.id);
+                self.add_covered(keeper, group, parts)?;
             } else {
                 self.add_eligible(group, parts)?;
             }
         }
         Ok(())
+    }
+
+    // Adds what was covered. Of a provider's commitment BilledCost of the lines counts the rows that have no price.
+    fn add_covered(
+        &mut self,
+        keeper: Keeper,
+        group: &Group,
+        parts: Parts<'_>,
+    ) -> Result<(), AllocError> {
+        self.add(keeper, group, parts, Amount::Covered, group.effective())?;
+        match keeper {
+            Keeper::Own => Ok(()),
+            Keeper::Provider => self.add(keeper, group, parts, Amount::Unpriced, group.billed()),
+        }
     }
 
     // Adds what could have been covered: beside a commitment to the figures of the commitment, and by itself to those of the keys and of all.

@@ -1,13 +1,13 @@
 //! The figures of commitments as CSV.
 use crate::parts::{Commitments, Part};
-use crate::record::{Record, Units, amounts_of, records_of};
+use crate::record::{Record, Units, amounts_of, records_of, unpriced_of};
 use crate::sheet::Sheet;
 use csv::{Writer, WriterBuilder};
 use fw_calendar::hour_text;
 use std::alloc::{AllocError, Global};
 
 /// The figures as CSV: a line of names, and a record for each commitment or group and for all together, exact to the nano. By period each record has
-/// the hours that it is of in front.
+/// the hours that it is of in front. Where a tag has prices, it ends with how many rows have none.
 pub(crate) fn csv_text(
     alloc: Global,
     commitments: &Commitments<'_>,
@@ -52,6 +52,9 @@ fn write_header(
         "Savings",
     ] {
         names.push(name.as_bytes())?;
+    }
+    if sheet.price_tag.is_some() {
+        names.push(b"UnpricedRows")?;
     }
     write_record(writer, names.as_slice())
 }
@@ -113,6 +116,9 @@ fn cells_of(
     for amount in amounts_of(record)? {
         cells.push(amount_text(alloc, amount)?)?;
     }
+    if sheet.price_tag.is_some() {
+        cells.push(count_text(alloc, unpriced_of(record))?)?;
+    }
     Ok(cells)
 }
 
@@ -146,6 +152,14 @@ pub(crate) fn quantity_text(alloc: Global, quantity: u128) -> Result<String, All
 fn amount_text(alloc: Global, amount: Option<i128>) -> Result<String, AllocError> {
     match amount {
         Some(nanos) => fw_money::text(alloc, nanos),
+        None => Ok(String::new(alloc)),
+    }
+}
+
+// A count; empty where it isn't known.
+fn count_text(alloc: Global, count: Option<i128>) -> Result<String, AllocError> {
+    match count {
+        Some(count) => format!(in alloc; "{count}"),
         None => Ok(String::new(alloc)),
     }
 }

@@ -13,13 +13,15 @@ pub enum Amount {
     Unused,
     /// BilledCost of its purchases.
     Paid,
-    /// What was covered, at the rows' own prices.
+    /// What was covered, at the prices of the rows.
     Covered,
     /// What could have been covered, at the rows' own prices.
     Eligible,
+    /// How many rows that were covered have no price.
+    Unpriced,
 }
 
-/// What is summed of commitments, in nanos.
+/// What is summed of commitments, in nanos; and a count of rows.
 #[derive(Clone, Copy, Debug, Drop, PartialEq, Eq)]
 pub struct Figures {
     /// EffectiveCost of what was used.
@@ -28,10 +30,12 @@ pub struct Figures {
     pub unused: i128,
     /// BilledCost of the purchases.
     pub paid: i128,
-    /// What was covered, at the rows' own prices.
+    /// What was covered: of own commitments at the rows' own prices, of those of providers at the prices that rows have.
     pub covered: i128,
     /// What could have been covered, at the rows' own prices.
     pub eligible: i128,
+    /// How many rows that were covered have no price. Nothing of them is in what was covered.
+    pub unpriced: i128,
 }
 
 impl Figures {
@@ -43,6 +47,7 @@ impl Figures {
           paid = pos 0;
           covered = pos 0;
           eligible = pos 0;
+          unpriced = pos 0;
         } }
     {
         Figures {
@@ -51,6 +56,7 @@ impl Figures {
             paid: 0,
             covered: 0,
             eligible: 0,
+            unpriced: 0,
         }
     }
 
@@ -65,6 +71,7 @@ impl Figures {
             Amount::Paid => figures.paid = sum(self.paid, nanos)?,
             Amount::Covered => figures.covered = sum(self.covered, nanos)?,
             Amount::Eligible => figures.eligible = sum(self.eligible, nanos)?,
+            Amount::Unpriced => figures.unpriced = sum(self.unpriced, nanos)?,
         }
         Ok(figures)
     }

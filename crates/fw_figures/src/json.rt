@@ -1,7 +1,7 @@
 //! The figures of commitments as JSON.
 use crate::csv_text::quantity_text;
 use crate::parts::{Commitments, Part};
-use crate::record::{Record, amounts_of, records_of};
+use crate::record::{Record, amounts_of, records_of, savings_whole, unpriced_of};
 use crate::sheet::Sheet;
 use fw_calendar::{Period, hour_text};
 use serde_json::Value;
@@ -51,6 +51,10 @@ fn head_text(alloc: Global, sheet: &Sheet<'_, '_, '_>) -> Result<String, AllocEr
     let currency = json_string(alloc, sheet.currency)?;
     let hours = hours_text(alloc, sheet.hours)?;
     write!(text, "],\"currency\":{currency},{hours},")?;
+    if let Some(tag) = sheet.price_tag {
+        let tag = json_string(alloc, tag)?;
+        write!(text, "\"priceTag\":{tag},")?;
+    }
     Ok(text)
 }
 
@@ -159,7 +163,17 @@ fn push_amounts(alloc: Global, text: &mut String, record: &Record<'_>) -> Result
     let [used, _, amortized, _, covered, _, eligible, savings] = amounts;
     push_rate(alloc, text, "utilization", used, amortized)?;
     push_rate(alloc, text, "coverage", covered, eligible)?;
-    push_rate(alloc, text, "effectiveSavingsRate", savings, eligible)
+    let whole = savings_whole(covered, eligible);
+    push_rate(alloc, text, "effectiveSavingsRate", savings, whole)?;
+    push_unpriced(text, record)
+}
+
+// Adds how many rows have no price, where a tag has prices.
+fn push_unpriced(text: &mut String, record: &Record<'_>) -> Result<(), AllocError> {
+    let Some(count) = unpriced_of(record) else {
+        return Ok(());
+    };
+    write!(text, ",\"unpricedRows\":{count}")
 }
 
 // Adds the two parts of a rate, where both are known.

@@ -2,9 +2,9 @@
 use crate::book::Keeper;
 use crate::figures::Amount;
 use crate::parts::{Commitments, Part};
-use crate::record::{Record, amounts_of, records_of};
+use crate::record::{Record, amounts_of, records_of, savings_whole};
 use crate::sheet::Sheet;
-use crate::table::{cost_text, name_columns, rate_text, shown_at};
+use crate::table::{cost_text, name_columns, rate_text, shown_at, unpriced_note};
 use fw_calendar::{Step, hour_text};
 use fw_query::{Entry, Report};
 use fw_series::{
@@ -44,8 +44,26 @@ pub(crate) fn page_text(
         push_periods(alloc, &mut page, commitments, sheet, step)?;
     }
     push_whole(alloc, &mut page, commitments, sheet)?;
+    if let Some(tag) = sheet.price_tag {
+        push_note(alloc, &mut page, &commitments.whole, tag)?;
+    }
     end_page(&mut page)?;
     Ok(page)
+}
+
+// Adds how many rows have no price, where some have none.
+fn push_note(
+    alloc: Global,
+    page: &mut Vec<u8>,
+    whole: &Part<'_>,
+    tag: &str,
+) -> Result<(), AllocError> {
+    let Some(note) = unpriced_note(alloc, whole, tag)? else {
+        return Ok(());
+    };
+    push_markup(page, "<p class=\"quiet\">")?;
+    push_shown(alloc, page, note.as_str())?;
+    push_markup(page, "</p>\n")
 }
 
 // Adds what the page is of.
@@ -61,6 +79,10 @@ fn push_about(
     push_shown(alloc, page, sheet.currency)?;
     if sheet.step.is_some() {
         push_markup(page, "; the chart shows AmortizedCost")?;
+    }
+    if let Some(tag) = sheet.price_tag {
+        push_markup(page, "; prices of what providers' commitments cover: ")?;
+        push_shown(alloc, page, tag)?;
     }
     push_markup(page, "</p>\n")
 }
@@ -282,6 +304,7 @@ fn figures_of(alloc: Global, record: &Record<'_>) -> Result<Vec<String>, AllocEr
     cells.push(cost_text(alloc, eligible)?)?;
     cells.push(rate_text(alloc, covered, eligible)?)?;
     cells.push(cost_text(alloc, savings)?)?;
-    cells.push(rate_text(alloc, savings, eligible)?)?;
+    let whole = savings_whole(covered, eligible);
+    cells.push(rate_text(alloc, savings, whole)?)?;
     Ok(cells)
 }

@@ -29,7 +29,7 @@ pub struct Commitments<'a> {
 }
 
 /// The figures of the commitments of a snapshot in a range of hours, by commitment, or by keys where there are some; and, where there is a step,
-/// those of each period of the range.
+/// those of each period of the range. Where there is a price tag, what providers' commitments cover is summed at the amounts that it has.
 ///
 /// # Errors
 /// `Range` where the range has no hour or more than 26,304; `TotalTooLarge` where the costs of the lines of the range or of a period pass
@@ -38,6 +38,7 @@ pub fn commitments_of<'a>(
     alloc: Global,
     snapshot: &'a Snapshot,
     keys: &[Source<'_>],
+    price_tag: Option<&str>,
     hours: Period,
     step: Option<Step>,
 ) -> Result<Commitments<'a>, QueryFault> {
@@ -46,9 +47,9 @@ pub fn commitments_of<'a>(
         keys: all.as_slice(),
         filters: &[],
     };
-    let whole = part_of(alloc, snapshot, &selector, hours)?;
+    let whole = part_of(alloc, snapshot, &selector, price_tag, hours)?;
     let parts = match step {
-        Some(step) => parts_of(alloc, snapshot, &selector, hours, step)?,
+        Some(step) => parts_of(alloc, snapshot, &selector, price_tag, hours, step)?,
         None => Vec::new(alloc),
     };
     Ok(Commitments { whole, parts })
@@ -84,15 +85,17 @@ fn part_of<'a>(
     alloc: Global,
     snapshot: &'a Snapshot,
     selector: &Selector<'_, '_, '_>,
+    price_tag: Option<&str>,
     period: Period,
 ) -> Result<Part<'a>, QueryFault> {
     let Period { from, to } = period;
     let keys = selector.keys.len().saturating_sub(OWN_KEYS);
-    let mut book = Book::new(alloc, keys);
+    let commitments = snapshot.state().commitment_list();
+    let mut book = Book::new(alloc, keys, price_tag.is_some());
     let lines = selected(alloc, snapshot, selector, from, to)?;
-    book.add_lines(snapshot.state().commitment_list(), lines.groups())?;
-    let prices = priced(alloc, snapshot, selector, from, to)?;
-    book.add_prices(prices.as_slice())?;
+    book.add_lines(commitments, lines.groups())?;
+    let prices = priced(alloc, snapshot, selector, price_tag, from, to)?;
+    book.add_prices(commitments, prices.as_slice())?;
     let units = if book.is_by_commitment() {
         coverage(alloc, snapshot, from, to)?
     } else {
@@ -110,6 +113,7 @@ fn parts_of<'a>(
     alloc: Global,
     snapshot: &'a Snapshot,
     selector: &Selector<'_, '_, '_>,
+    price_tag: Option<&str>,
     hours: Period,
     step: Step,
 ) -> Result<Vec<Part<'a>>, QueryFault> {
@@ -119,7 +123,7 @@ fn parts_of<'a>(
     }
     let periods = periods(alloc, step, hours.from, hours.to)?;
     for period in &periods {
-        parts.push(part_of(alloc, snapshot, selector, *period)?)?;
+        parts.push(part_of(alloc, snapshot, selector, price_tag, *period)?)?;
     }
     Ok(parts)
 }

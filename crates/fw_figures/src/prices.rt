@@ -1,18 +1,19 @@
-//! The lines at the rows' own prices of a range of hours, summed by group.
-ghost use Rattle.std.specs.Prelude.{◌≡◌, ◌+◌, ◌-◌, ◌++◌, ◌<◌, ◌^◌, [], All, IfErr, IfOk, List, MatchOption, OnOk, length, map};
+//! The lines at prices of a range of hours, summed by group.
+ghost use Rattle.std.specs.Prelude.{◌≡◌, ◌+◌, ◌-◌, ◌<◌, ◌^◌, [], All, IfErr, IfOk, List, MatchOption, OnOk, length, map, option_copied};
 ghost use Rattle.fw_amortise.specs.LineValue.{LineValue};
 ghost use Rattle.fw_charge.specs.Charge.{Charge, hour_of};
 ghost use Rattle.fw_cover.specs.RosterView.{HasHour};
-ghost use Rattle.fw_figures.specs.Prices.{ArePriced, HasCounted, prices_of};
-ghost use Rattle.fw_finops.specs.Lines.{price_lines};
+ghost use Rattle.fw_figures.specs.Prices.{ArePriced, CountsHour, HasCounted};
 ghost use Rattle.fw_query.specs.Refusals.{AreRefused};
+ghost use Rattle.fw_select.specs.Selectors.{costs_of};
+ghost use Rattle.fw_select.specs.Table.{AreSums};
 ghost use Rattle.fw_snapshot.specs.History.{commitments_of, rows_of};
 ghost use Rattle.fw_sums.specs.Hours.{AreByHour, HasHours, all_rows, lent, rows_of_list};
 ghost use Rattle.fw_sums.specs.Limits.{IsRange};
 
 use fw_columns::{Columns, LentRow};
 use fw_cover::{Roster, references};
-use fw_finops::price_lines;
+use fw_finops::lines_at_prices;
 use fw_query::{MOST_HOURS, QueryFault, Shown};
 use fw_select::{Counter, Group, Selector};
 use fw_snapshot::Snapshot;
@@ -20,8 +21,10 @@ use fw_sums::{HourPlace, every_hour, rows_at, rows_by_hour};
 use fw_terms::Commitment;
 use std::alloc::{AllocError, Global};
 
-/// What the lines at the rows' own prices come to in the hours from `from` up to, and not including, `to`, counted from 1970: of those that the
-/// selector takes, a group for each list of values that its keys have on one of them, with the exact sums of both costs.
+/// What the lines at prices come to in the hours from `from` up to, and not including, `to`, counted from 1970: of those that the selector takes, a
+/// group for each list of values that its keys have on one of them, with the exact sums of both costs. These are the lines at the rows' own
+/// prices; and, where a tag has prices, those of the rows that providers' commitments cover at these prices, where EffectiveCost is the price,
+/// and BilledCost is a nano for each row that has none.
 ///
 /// # Errors
 /// `Range` where the range has no hour or more than 26,304; `NoMemory` where memory ran out.
@@ -29,19 +32,22 @@ pub fn priced(
     alloc: Global,
     snapshot: &Snapshot,
     selector: &Selector<'_, '_, '_>,
+    tag: Option<&str>,
     from: u64,
     to: u64,
 ) -> Result<Vec<Group>, QueryFault>
     ensures range { IfOk result (λ _. IsRange from to) }
-    ensures priced { IfOk result (λ groups. ArePriced (commitments_of snapshot.now.entries) (rows_of
-        snapshot.now.entries) selector.now from (to - from) groups.items) }
+    ensures priced { IfOk result (λ groups. ArePriced (commitments_of snapshot.now.entries)
+        (option_copied tag.entry) (rows_of snapshot.now.entries) selector.now from (to - from)
+        groups.items) }
     ensures fault { IfErr result (AreRefused from to) }
 {
     if from >= to || to - from > MOST_HOURS {
         return Err(QueryFault::Range);
     }
     let shown = Shown::of(alloc, snapshot.state())?;
-    Ok(groups_on(alloc, &shown, selector, from, (to - from) as usize)?)
+    let hours = (to - from) as usize;
+    Ok(groups_on(alloc, &shown, selector, tag, from, hours)?)
 }
 
 // The totals of the lines of a state in so many hours from this one on.
@@ -49,12 +55,13 @@ fn groups_on(
     alloc: Global,
     shown: &Shown,
     selector: &Selector<'_, '_, '_>,
+    tag: Option<&str>,
     from: u64,
     hours: usize,
 ) -> Result<Vec<Group>, AllocError>
     requires { from + hours < 2 ^ 64 }
-    ensures { IfOk result (λ groups. ArePriced (commitments_of shown.now.entries) (rows_of
-        shown.now.entries) selector.now from hours groups.items) }
+    ensures { IfOk result (λ groups. ArePriced (commitments_of shown.now.entries) (option_copied
+        tag.entry) (rows_of shown.now.entries) selector.now from hours groups.items) }
 {
     let segments = shown.segments(alloc)?;
     groups_of(
@@ -62,6 +69,7 @@ fn groups_on(
         segments.as_slice(),
         shown.state().commitment_list(),
         selector,
+        tag,
         from,
         hours,
     )
@@ -73,12 +81,13 @@ fn groups_of<'a>(
     segments: &[&'a Columns],
     commitments: &'a [Commitment],
     selector: &Selector<'_, '_, '_>,
+    tag: Option<&str>,
     from: u64,
     hours: usize,
 ) -> Result<Vec<Group>, AllocError>
     requires { from + hours < 2 ^ 64 }
-    ensures { IfOk result (λ groups. ArePriced commitments.now (all_rows (lent segments.now))
-        selector.now from hours groups.items) }
+    ensures { IfOk result (λ groups. ArePriced commitments.now (option_copied tag.entry) (all_rows
+        (lent segments.now)) selector.now from hours groups.items) }
 {
     let every = every_hour(alloc, hours)?;
     let by_hour = rows_by_hour(alloc, segments, from, every.as_slice())?;
@@ -88,6 +97,7 @@ fn groups_of<'a>(
         alloc,
         &mut counter,
         selector,
+        tag,
         segments,
         &roster,
         by_hour.as_slice(),
@@ -101,6 +111,7 @@ fn add_hours<'a>(
     alloc: Global,
     counter: &mut Counter,
     selector: &Selector<'_, '_, '_>,
+    tag: Option<&str>,
     segments: &[&'a Columns],
     roster: &Roster<'a>,
     by_hour: &[Vec<HourPlace>],
@@ -110,14 +121,14 @@ fn add_hours<'a>(
     requires roster { HasHours roster.now from (length by_hour.now) }
     requires by_hour { (rows : List Charge) × AreByHour (lent segments.now) rows from (length
         by_hour.now) by_hour.now }
-    requires empty { HasCounted counter.old selector.now [] }
-    ensures { OnOk result (HasCounted counter.new selector.now (prices_of roster.now.commitments
-        from (map (rows_of_list (lent segments.now)) by_hour.now))) }
+    requires empty { AreSums counter.old.table [] }
+    ensures { OnOk result (HasCounted counter.new selector.now roster.now.commitments
+        (option_copied tag.entry) from (map (rows_of_list (lent segments.now)) by_hour.now)) }
 {
     let mut hour = from;
     for places in by_hour {
         let rows = rows_at(alloc, segments, places.as_slice())?;
-        add_hour(alloc, counter, selector, roster, rows.as_slice(), hour)?;
+        add_hour(alloc, counter, selector, tag, roster, rows.as_slice(), hour)?;
         hour += 1;
     }
     Ok(())
@@ -128,21 +139,22 @@ fn add_hour<'a>(
     alloc: Global,
     counter: &mut Counter,
     selector: &Selector<'_, '_, '_>,
+    tag: Option<&str>,
     roster: &Roster<'a>,
     rows: &[LentRow<'a>],
     hour: u64,
 ) -> Result<(), AllocError>
     requires hour { HasHour roster.now hour }
     requires rows { All (λ r. hour_of r.start ≡ hour) rows.now }
-    ensures { OnOk result ((before : List LineValue) → HasCounted counter.old selector.now before
-        → HasCounted counter.new selector.now (before ++ price_lines roster.now.commitments rows.now
-        hour)) }
+    ensures { OnOk result ((before : List LineValue) → AreSums counter.old.table (costs_of
+        selector.now before) → CountsHour counter.new before selector.now roster.now.commitments
+        (option_copied tag.entry) rows.now hour) }
 {
     let Some(hour) = hour_of_rows(rows, hour) else {
         return Ok(());
     };
     let rows = references(alloc, rows)?;
-    let lines = price_lines(alloc, roster, rows.as_slice(), hour)?;
+    let lines = lines_at_prices(alloc, roster, rows.as_slice(), hour, tag)?;
     counter.add_lines(selector, lines.as_slice())?;
     Ok(())
 }

@@ -13,6 +13,8 @@ pub(crate) struct Record<'b> {
     /// The texts of the name; none where the record is of all.
     pub(crate) texts: Option<&'b [String]>,
     pub(crate) figures: Figures,
+    /// Whether it is known what would have been paid for what was covered.
+    pub(crate) is_priced: bool,
     pub(crate) units: Option<Units<'b>>,
 }
 
@@ -90,6 +92,7 @@ fn push_named<'b>(
             keeper,
             texts: Some(texts.as_slice()),
             figures: *figures,
+            is_priced: part.book.is_priced(keeper),
             units: units_of(part.units.as_slice(), texts.as_slice()),
         })?;
     }
@@ -107,29 +110,45 @@ fn push_total<'b>(
             keeper,
             texts: None,
             figures: book.total(keeper),
+            is_priced: book.is_priced(keeper),
             units: None,
         })?;
     }
     Ok(())
 }
 
-/// The amounts of a record in nanos, in the order of their columns. What needs the rows' own prices isn't known of a provider's commitments.
+/// The amounts of a record in nanos, in the order of their columns. What a provider's commitments covered is known where rows have prices, and what
+/// they could have covered isn't.
 pub(crate) fn amounts_of(record: &Record<'_>) -> Result<[Option<i128>; 8], AllocError> {
     let figures = record.figures;
-    let is_priced = record.keeper == Keeper::Own;
+    let is_own = record.keeper == Keeper::Own;
     Ok([
         Some(figures.used),
         Some(figures.unused),
         Some(figures.amortised()?),
         Some(figures.paid),
-        where_priced(is_priced, figures.covered),
-        where_priced(is_priced, figures.uncovered()?),
-        where_priced(is_priced, figures.eligible),
-        where_priced(is_priced, figures.savings()?),
+        where_known(record.is_priced, figures.covered),
+        where_known(is_own, figures.uncovered()?),
+        where_known(is_own, figures.eligible),
+        where_known(record.is_priced, figures.savings()?),
     ])
 }
 
-// An amount that is known where prices are.
-fn where_priced(is_priced: bool, nanos: i128) -> Option<i128> {
-    if is_priced { Some(nanos) } else { None }
+/// How many rows that providers' commitments cover have no price, where a tag has prices; none of own commitments.
+pub(crate) fn unpriced_of(record: &Record<'_>) -> Option<i128> {
+    let is_listed = record.is_priced && record.keeper == Keeper::Provider;
+    where_known(is_listed, record.figures.unpriced)
+}
+
+/// What savings are measured by: what could have been covered, or what was where only that is known.
+pub(crate) fn savings_whole(covered: Option<i128>, eligible: Option<i128>) -> Option<i128> {
+    match eligible {
+        Some(cost) => Some(cost),
+        None => covered,
+    }
+}
+
+// An amount that is known.
+fn where_known(is_known: bool, nanos: i128) -> Option<i128> {
+    if is_known { Some(nanos) } else { None }
 }

@@ -25,6 +25,8 @@ pub enum SheetFormat {
 pub struct Sheet<'s, 'n, 'c> {
     /// The names of the keys; none where the figures are by commitment.
     pub keys: &'s [&'n str],
+    /// The tag that has the prices of what providers' commitments cover, where one has.
+    pub price_tag: Option<&'n str>,
     /// The currency of all costs.
     pub currency: &'c str,
     /// The hours of the range.

@@ -1,8 +1,9 @@
 //! The figures of commitments as tables.
+use crate::book::Keeper;
 use crate::parts::{Commitments, Part};
-use crate::record::{Record, amounts_of, records_of};
+use crate::record::{Record, amounts_of, records_of, savings_whole};
 use crate::sheet::Sheet;
-use fw_table::{Align, Line, cents_text, share_text, table_text};
+use fw_table::{Align, Line, cents_text, share_text, shown_text, table_text};
 use std::alloc::{AllocError, Global};
 
 /// The names of the columns behind the texts.
@@ -34,7 +35,46 @@ pub(crate) fn table_of(
     }
     table.push(Line::Rule)?;
     push_lines(alloc, &mut table, sheet, &commitments.whole, true)?;
-    table_text(alloc, aligns_of(alloc, sheet)?.as_slice(), table.as_slice())
+    let mut text = table_text(alloc, aligns_of(alloc, sheet)?.as_slice(), table.as_slice())?;
+    if let Some(tag) = sheet.price_tag {
+        push_note(alloc, &mut text, &commitments.whole, tag)?;
+    }
+    Ok(text)
+}
+
+// Adds a line that says how many rows have no price, where some have none.
+fn push_note(
+    alloc: Global,
+    text: &mut String,
+    whole: &Part<'_>,
+    tag: &str,
+) -> Result<(), AllocError> {
+    let Some(note) = unpriced_note(alloc, whole, tag)? else {
+        return Ok(());
+    };
+    write!(text, "\n{note}\n")
+}
+
+/// What is said where rows that providers' commitments cover have no price: how many, and what that does to the figures.
+pub(crate) fn unpriced_note(
+    alloc: Global,
+    whole: &Part<'_>,
+    tag: &str,
+) -> Result<Option<String>, AllocError> {
+    let count = whole.book.total(Keeper::Provider).unpriced;
+    if count == 0 {
+        return Ok(None);
+    }
+    let rows = if count == 1 {
+        "row that is"
+    } else {
+        "rows that are"
+    };
+    let have = if count == 1 { "has" } else { "have" };
+    let tag = shown_text(alloc, tag)?;
+    Ok(Some(format!(in alloc;
+        "{count} {rows} covered by providers' commitments {have} no amount in the tag {tag}: CoveredCost and Savings are too low by what it would be."
+    )?))
 }
 
 // How many columns have texts: the period, the name, and who keeps the commitments.
@@ -151,7 +191,8 @@ fn push_amounts(
     cells.push(cost_text(alloc, eligible)?)?;
     cells.push(rate_text(alloc, covered, eligible)?)?;
     cells.push(cost_text(alloc, savings)?)?;
-    cells.push(rate_text(alloc, savings, eligible)?)?;
+    let whole = savings_whole(covered, eligible);
+    cells.push(rate_text(alloc, savings, whole)?)?;
     Ok(())
 }
 

@@ -3,3 +3,4 @@ pub mod CostFacts
 pub mod LawFacts
 pub mod ListedFacts
 pub mod OpenFacts
+pub mod PricedFacts

@@ -1,3 +1,4 @@
 pub mod Prices
 pub mod Lines
 pub mod Costs
+pub mod Listed

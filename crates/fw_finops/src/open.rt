@@ -111,8 +111,8 @@ fn eligible_line<'a>(commitment: &'a Commitment, row: &LentRow<'a>, hour: u32) -
     row_line(row, Some(discount), hour)
 }
 
-// The discount that a row belongs to.
-fn discount_of_row<'a>(row: &LentRow<'a>) -> Option<LineDiscount<'a>>
+/// The discount that a row belongs to.
+pub(crate) fn discount_of_row<'a>(row: &LentRow<'a>) -> Option<LineDiscount<'a>>
     ensures { option_map discount_of result ≡ row.now.discount }
 {
     let discount = row.discount()?;

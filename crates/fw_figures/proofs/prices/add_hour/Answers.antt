@@ -1,27 +1,27 @@
-use Rattle.std.proofs.Common.{◌≡◌, ◌∙◌, ◌++◌, Bor, [], ap, append-nil, map, subst, sym}
+use Rattle.std.proofs.Common.{◌≡◌, ◌∙◌, ◌++◌, Bor, ap, map, subst, sym}
 use Rattle.fw_charge.specs.Charge.{Charge}
-use Rattle.fw_finops.specs.Lines.{price_lines}
+use Rattle.fw_finops.specs.Listed.{ArePricedLines}
 use Rattle.fw_select.specs.Selectors.{costs_of}
 use Rattle.fw_select.specs.Table.{AreSums}
-use Rattle.fw_figures.specs.Prices.{HasCounted}
-use Rattle.fw_figures.proofs.PriceFacts.{costs_of-append, no_prices}
+use Rattle.fw_figures.proofs.PriceFacts.{costs_of-append, counts_none}
 use Rattle.fw_figures.proofs.prices.add_hour.Goals as goal
 
 pub returns-in_default : goal.returns-in_default
-returns-in_default c = λ before counted.
-    let none : price_lines c.args.roster.now.commitments c.args.rows.now c.args.hour ≡ [] =
-    ap (λ rows. price_lines c.args.roster.now.commitments rows c.args.hour) c.in_default.ensures ∙ no_prices c.args.roster.now.commitments c.args.hour in
-    subst (HasCounted c.args.counter.now c.args.selector.now) (sym (ap (λ l. before ++ l) none ∙ append-nil before)) counted
+returns-in_default c = λ before sums.
+    counts_none c.args.counter.now before c.args.selector.now c.args.roster.now.commitments _ c.args.rows.now c.args.hour c.in_default.ensures sums
 
-pub price_lines-requires : goal.price_lines-requires
-price_lines-requires c = rw c.in-Some.ensures c.requires.hour
+pub lines_at_prices-requires : goal.lines_at_prices-requires
+lines_at_prices-requires c = rw c.in-Some.ensures c.requires.hour
 
 pub returns : goal.returns
 returns c =
     let rows : map (λ (r : Bor Charge). r.now) c.as_slice.result.now ≡ c.args.rows.now = ap (map (λ (r : Bor Charge). r.now)) c.as_slice.ensures.value ∙ c.in_ok-rows.ensures in
-    let lines : c.as_slice-2.result.now ≡ price_lines c.args.roster.now.commitments c.args.rows.now c.args.hour =
-    c.as_slice-2.ensures.value ∙ (rw (rows, c.in-Some.ensures) at c.in_ok-lines.ensures) in
-    λ before counted.
-    subst (AreSums c.add_lines.new.self.table)
-    (ap (λ l. costs_of c.args.selector.now before ++ costs_of c.args.selector.now l) lines ∙ sym (costs_of-append c.args.selector.now before (price_lines c.args.roster.now.commitments c.args.rows.now c.args.hour)))
-    (c.in_ok-add_lines.ensures (costs_of c.args.selector.now before) counted)
+    let lines = c.in_ok-lines.lines.items in
+    λ before sums. record {
+      lines = lines;
+      are_lines = rw (rows, c.in-Some.ensures) at c.in_ok-lines.ensures;
+      sums =
+          subst (AreSums c.add_lines.new.self.table)
+          (ap (λ l. costs_of c.args.selector.now before ++ costs_of c.args.selector.now l) c.as_slice-2.ensures.value ∙ sym (costs_of-append c.args.selector.now before lines))
+          (c.in_ok-add_lines.ensures (costs_of c.args.selector.now before) sums);
+    }

@@ -1,16 +1,18 @@
-use Rattle.std.proofs.Common.{◌≡◌, ◌∙◌, ◌+◌, ◌++◌, ◌∷◌, [], All, ap, length, map, refl, rules, subst, sym, take, arith}
+use Rattle.std.proofs.Common.{◌≡◌, ◌∙◌, ◌+◌, ◌++◌, ◌∷◌, [], All, ap, length, map, refl, sym, take, arith}
 use Rattle.std.proofs.lemmas.List.{length-map, length-take-le, map_more, take_all}
 use Rattle.fw_charge.specs.Charge.{Charge, hour_of}
 use Rattle.fw_sums.specs.Hours.{lent, rows_at, rows_of_list}
 use Rattle.fw_sums.proofs.HourFacts.{has_hour}
 use Rattle.fw_sums.proofs.TurnFacts.{of_turn, there_in_turn}
-use Rattle.fw_finops.specs.Lines.{price_lines}
-use Rattle.fw_figures.specs.Prices.{HasCounted, prices_of}
-use Rattle.fw_figures.proofs.PriceFacts.{prices_more}
+use Rattle.fw_figures.specs.Prices.{CountsHour}
+use Rattle.fw_figures.proofs.PriceFacts.{HasCounted-more}
 use Rattle.fw_figures.proofs.prices.add_hours.Goals as goal
 
 pub loop-places-init : goal.loop-places-init
-loop-places-init c = record { counted = c.requires.empty; at = omega arith }
+loop-places-init c = record {
+  counted = record { lines = []; are_lines = refl; sums = c.requires.empty };
+  at = omega arith;
+}
 
 pub rows_at-requires : goal.rows_at-requires
 rows_at-requires c =
@@ -31,7 +33,6 @@ pub loop-places-preserved : goal.loop-places-preserved
 loop-places-preserved c =
     let kept = c.loop-places.invariant in
     let found = rows_of_list (lent c.args.segments.now) in
-    let cs = c.args.roster.now.commitments in
     let long : length (map found (take c.loop-places.places-index c.args.by_hour.now)) ≡ c.loop-places.places-index =
     length-map (take c.loop-places.places-index c.args.by_hour.now) found ∙ length-take-le c.loop-places.places-index c.args.by_hour.now (omega arith) in
     let more : map found (take (c.loop-places.places-index + 1) c.args.by_hour.now) ≡ map found (take c.loop-places.places-index c.args.by_hour.now) ++ found c.places-item.result ∷ [] =
@@ -39,12 +40,10 @@ loop-places-preserved c =
     ∙ ap (λ v. map found (take c.loop-places.places-index c.args.by_hour.now) ++ found v ∷ []) (sym c.places-item.is) in
     let rows : c.as_slice-in-loop-places.result.now ≡ found c.places-item.result =
     c.as_slice-in-loop-places.ensures.value ∙ c.in_ok-rows.ensures ∙ ap (rows_at (lent c.args.segments.now)) c.as_slice.ensures.value in
-    let all : prices_of cs c.args.from (map found (take (c.loop-places.places-index + 1) c.args.by_hour.now))
-    ≡ prices_of cs c.args.from (map found (take c.loop-places.places-index c.args.by_hour.now)) ++ price_lines cs (found c.places-item.result) c.loop-places.hour =
-    ap (prices_of cs c.args.from) more
-    ∙ prices_more cs c.args.from c.loop-places.hour (map found (take c.loop-places.places-index c.args.by_hour.now)) (found c.places-item.result) (kept.at ∙ ap (λ n. c.args.from + n) (sym long)) in
+    let added : CountsHour c.add_hour.new.counter kept.counted.lines c.args.selector.now c.args.roster.now.commitments _ (found c.places-item.result) c.loop-places.hour =
+    rw rows at (c.in_ok-add_hour.ensures kept.counted.lines kept.counted.sums) in
     record {
-      counted = subst (HasCounted c.add_hour.new.counter c.args.selector.now) (sym all) (rw rows at (c.in_ok-add_hour.ensures (prices_of cs c.args.from (map found (take c.loop-places.places-index c.args.by_hour.now))) kept.counted));
+      counted = rw more (HasCounted-more _ c.add_hour.new.counter c.args.selector.now c.args.roster.now.commitments _ c.args.from c.loop-places.hour _ (found c.places-item.result) (kept.at ∙ ap (λ n. c.args.from + n) (sym long)) kept.counted added);
       at = let h = kept.at in omega arith;
     }
 

@@ -1,14 +1,12 @@
-use Rattle.std.proofs.Common.{◌≡◌, ◌∙◌, ap, arith, false, get_or, length, map, replicate, subst, true}
+use Rattle.std.proofs.Common.{◌≡◌, ◌∙◌, ap, arith, false, get_or, length, map, option_copied, replicate, subst, true}
 use Rattle.std.specs.List.{range_with_len}
 use Rattle.std.proofs.lemmas.List.{get_or-replicate, length-replicate}
 use Rattle.fw_amortise.specs.Lines.{rows_in}
 use Rattle.fw_sums.specs.Hours.{all_rows, lent, rows_marked, rows_of_list}
 use Rattle.fw_sums.proofs.HourFacts.{by_hour_long}
 use Rattle.fw_sums.proofs.MarkFacts.{every_hour}
-use Rattle.fw_select.specs.Groups.{AreTotals}
 use Rattle.fw_select.specs.Selectors.{costs_of}
-use Rattle.fw_figures.specs.Prices.{HasCounted, prices_between, prices_of}
-use Rattle.fw_figures.proofs.PriceFacts.{prices_are}
+use Rattle.fw_figures.specs.Prices.{ArePricesOf, HasCounted}
 use Rattle.fw_figures.proofs.prices.groups_of.Goals as goal
 
 pub add_hours-requires-clause-fits : goal.add_hours-requires-clause-fits
@@ -36,10 +34,10 @@ returns c =
     c.in_ok-by_hour.ensures.each
     ∙ ap (λ n. map (λ h. rows_in h (rows_marked c.as_slice.result.now c.args.from rows)) (range_with_len c.args.from n)) (ap length items ∙ length-replicate c.args.hours true)
     ∙ every_hour rows c.args.from c.args.hours c.as_slice.result.now (λ k below. ap (λ l. get_or l k false) items ∙ get_or-replicate c.args.hours k true false below) in
-    let lines : prices_of c.args.commitments.now c.args.from (map (rows_of_list (lent c.args.segments.now)) c.in_ok-by_hour.by_hour.items) ≡ prices_between c.args.commitments.now rows c.args.from c.args.hours =
-    ap (prices_of c.args.commitments.now c.args.from) each ∙ prices_are c.args.commitments.now rows c.args.hours c.args.from in
-    let done : HasCounted c.add_hours.new.counter c.args.selector.now (prices_of c.args.commitments.now c.args.from (map (rows_of_list (lent c.args.segments.now)) c.in_ok-by_hour.by_hour.items)) =
+    let done : HasCounted c.add_hours.new.counter c.args.selector.now c.args.commitments.now (option_copied c.args.tag.entry) c.args.from (map (rows_of_list (lent c.args.segments.now)) c.in_ok-by_hour.by_hour.items) =
     rw (c.in_ok-roster.ensures, c.as_slice-2.ensures.value) at c.in_ok-add_hours.ensures in
-    let counted : HasCounted c.add_hours.new.counter c.args.selector.now (prices_between c.args.commitments.now rows c.args.from c.args.hours) =
-    subst (HasCounted c.add_hours.new.counter c.args.selector.now) lines done in
-    c.in_ok-into_groups.ensures (costs_of c.args.selector.now (prices_between c.args.commitments.now rows c.args.from c.args.hours)) counted
+    record {
+      lines = done.lines;
+      are_lines = subst (λ by_hour. ArePricesOf c.args.commitments.now (option_copied c.args.tag.entry) c.args.from by_hour done.lines) each done.are_lines;
+      are_totals = c.in_ok-into_groups.ensures (costs_of c.args.selector.now done.lines) done.sums;
+    }
