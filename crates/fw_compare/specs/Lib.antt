@@ -3,3 +3,4 @@ pub mod Costs
 pub mod Groups
 pub mod Shares
 pub mod Shown
+pub mod Ranges

@@ -40,16 +40,14 @@ fn read_end(alloc: Global, text: Option<&str>) -> Result<Option<u64>, AllocError
 
 impl Before {
     /// The hours that a range is compared with. `Range` where the range or these have no hour.
-    pub(crate) fn of(self, alloc: Global, hours: Period) -> Result<Period, Fault> {
+    pub(crate) fn of(self, hours: Period) -> Result<Period, Fault> {
         if hours.from >= hours.to || hours.to > u64::from(LAST_HOUR) + 1 {
             return Err(Fault::Range);
         }
         match (self.from, self.to) {
             (Some(from), Some(to)) => Ok(Period { from, to }),
-            (Some(from), None) if from <= u64::from(LAST_HOUR) => Ok(hours_from(
-                alloc, hours, from,
-            )?),
-            _ => hours_before(alloc, hours)?.ok_or(Fault::Range),
+            (Some(from), None) if from <= u64::from(LAST_HOUR) => Ok(hours_from(hours, from)),
+            _ => hours_before(hours).ok_or(Fault::Range),
         }
     }
 }

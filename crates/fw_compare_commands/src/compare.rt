@@ -107,7 +107,7 @@ impl<'q> HoursQuestion for Comparing<'q> {
         snapshot: &Snapshot,
         hours: Period,
     ) -> Result<Vec<u8>, Fault> {
-        let before = self.before.of(rt.alloc(), hours)?;
+        let before = self.before.of(hours)?;
         say_before(rt, before)?;
         match self.policy {
             Some(given) => {

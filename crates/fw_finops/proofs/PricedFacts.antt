@@ -6,7 +6,6 @@ use Rattle.std.proofs.lemmas.Int.{ints}
 use Rattle.std.proofs.lemmas.List.Elements.{filter-append}
 use Rattle.fw_charge.specs.Charge.{Charge}
 use Rattle.fw_charge.specs.Tags.{group_of}
-use Rattle.fw_money.specs.declared.nanos.MoneyFault.{MoneyFault}
 use Rattle.fw_money.proofs.ReadingLaws.{reads-apart, reads-one}
 use Rattle.fw_amortise.specs.Carrying.{cost_of_all}
 use Rattle.fw_amortise.specs.LineValue.{LineValue}

@@ -50,8 +50,8 @@ fn price_by(row: &LentRow<'_>, tag: &str) -> Option<Nanos>
 }
 
 // That a price is missing: one nano, where it is.
-fn missing(price: Option<Nanos>) -> Nanos
-    ensures { result ≡ missing price }
+fn missing(price: &Option<Nanos>) -> Nanos
+    ensures { result ≡ missing price.now }
 {
     match price {
         Some(_) => Nanos::of_fields(0),
@@ -60,19 +60,19 @@ fn missing(price: Option<Nanos>) -> Nanos
 }
 
 // What is known of a price: nothing where it is missing.
-fn known(price: Option<Nanos>) -> Nanos
-    ensures { result ≡ known price }
+fn known(price: &Option<Nanos>) -> Nanos
+    ensures { result ≡ known price.now }
 {
     match price {
-        Some(price) => price,
+        Some(price) => *price,
         None => Nanos::of_fields(0),
     }
 }
 
 // A row that is covered, at its price.
 #[tactic(auto, unfolding(crate::specs::Listed::listed_line, fw_amortise::specs::Lines::given_line))]
-fn listed_line<'a>(row: &LentRow<'a>, price: Option<Nanos>, hour: u32) -> Line<'a>
-    ensures { result ≡ listed_line hour row.now price }
+fn listed_line<'a>(row: &LentRow<'a>, price: &Option<Nanos>, hour: u32) -> Line<'a>
+    ensures { result ≡ listed_line hour row.now price.now }
 {
     Line::of_fields(LineFields {
         hour,
@@ -102,7 +102,7 @@ fn push_row<'a>(
         return Ok(());
     }
     let price = price_by(row, tag);
-    lines.push(listed_line(row, price, hour))?;
+    lines.push(listed_line(row, &price, hour))?;
     Ok(())
 }
 

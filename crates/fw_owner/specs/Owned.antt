@@ -1,10 +1,13 @@
 -- What one group of a report cost.
-use Rattle.std.specs.Prelude.{◌≡◌, ◌<◌, ◌≤◌, ◌⊎◌, ℕ, Bool, All, List, [], map, Option, Some, None, option_map, is_some, unwrap_or, ⊤}
+use Rattle.std.specs.Prelude.{◌≡◌, ◌+◌, ◌<◌, ◌≤◌, ◌⊎◌, ℕ, Bool, All, List, [], map, Option, Some, None, option_map, is_some, unwrap_or}
 use Rattle.std.specs.List.{find}
 use Rattle.std.specs.Str.{bytes_eq}
 use Rattle.fw_calendar.specs.Periods.{ArePeriods}
+use Rattle.fw_calendar.specs.declared.steps.Period.{Period}
 use Rattle.fw_calendar.specs.declared.steps.Step.{Step}
+use Rattle.fw_charge.specs.Charge.{last_hour}
 use Rattle.fw_compare.specs.Costs.{less, none}
+use Rattle.fw_compare.specs.Ranges.{AreBefore, HasNoneBefore}
 use Rattle.fw_compare.specs.declared.costs.Costs.{Costs}
 use Rattle.fw_entry.specs.Entry as entry
 use Rattle.fw_query.specs.OfHistory.{IsReportOn}
@@ -37,19 +40,18 @@ pub record IsFound (history : List entry.EntryValue) (key group : List ℕ) (fro
   pub report : IsReportOn history key from to entries
   pub costs_are : costs ≡ found group entries
 
--- what a group cost in the hours before an hour, and how much more it costs now
-pub record IsBefore (history : List entry.EntryValue) (key group : List ℕ) (hour : ℕ) (now : Costs) (before : Before) : Type 0 where
-  pub ends : before.hours.to ≡ hour
-  pub some : before.hours.from < before.hours.to
+-- what a group cost in the hours before others, and how much more it costs in these
+pub record IsBefore (history : List entry.EntryValue) (key group : List ℕ) (hours : Period) (now : Costs) (before : Before) : Type 0 where
+  pub are_before : AreBefore hours before.hours
   pub costs : Option Costs
   pub are_found : IsFound history key group before.hours.from before.hours.to costs
   pub costs_are : before.costs ≡ or_none costs
   pub change_is : before.change ≡ less now before.costs
 
--- the same, where there are hours before
-abbrev pub IsBeforeIfAny : List entry.EntryValue → List ℕ → List ℕ → ℕ → Costs → Option Before → Type 0
-IsBeforeIfAny history key group hour now None = ⊤
-IsBeforeIfAny history key group hour now (Some before) = IsBefore history key group hour now before
+-- the same, where there are hours before; nothing where there are none, or the hours end behind the year 9999
+abbrev pub IsBeforeIfAny : List entry.EntryValue → List ℕ → List ℕ → Period → Costs → Option Before → Type 0
+IsBeforeIfAny history key group hours now None = (last_hour + 1 < hours.to) ⊎ HasNoneBefore hours
+IsBeforeIfAny history key group hours now (Some before) = IsBefore history key group hours now before
 
 -- what a group cost in some hours, whether their report has it, and what it cost before
 pub record IsStretch (history : List entry.EntryValue) (key group : List ℕ) (stretch : Stretch) : Type 0 where
@@ -57,7 +59,7 @@ pub record IsStretch (history : List entry.EntryValue) (key group : List ℕ) (s
   pub are_found : IsFound history key group stretch.hours.from stretch.hours.to costs
   pub costs_are : stretch.costs ≡ or_none costs
   pub there : stretch.is_there ≡ is_some costs
-  pub before : IsBeforeIfAny history key group stretch.hours.from stretch.costs stretch.before
+  pub before : IsBeforeIfAny history key group stretch.hours stretch.costs stretch.before
 
 -- the same of each period of a range
 pub record AreStretches (history : List entry.EntryValue) (key group : List ℕ) (from to : ℕ) (step : Step) (parts : List Stretch) : Type 0 where

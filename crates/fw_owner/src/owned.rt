@@ -30,7 +30,7 @@ pub struct Stretch {
     pub is_there: bool,
     /// What the group cost; nothing where it isn't there.
     pub costs: Costs,
-    /// What it cost before; none where the hours before would begin before 1970.
+    /// What it cost before; none where there are no hours before ([`hours_before`]), or the hours end behind the year 9999.
     pub before: Option<Before>,
 }
 
@@ -50,7 +50,7 @@ impl Drop for Owned {
 }
 
 /// What one group of a query's report cost in the range and, where there is a step, in each period of it, as the reports of these hours have it; and
-/// beside each what it cost in the hours before: as many months where it has whole months, else as many hours ([`hours_before`]).
+/// beside each what it cost in the hours before: as many months where it is whole months, else as many hours ([`hours_before`]).
 ///
 /// # Errors
 /// `Range` where the range has no hour or more than 26,304; `TotalTooLarge` where the costs of all groups in the range, in a period or in the hours
@@ -139,28 +139,25 @@ fn before_of(
     now: Costs,
 ) -> Result<Option<Before>, QueryFault>
     requires { hours.from < hours.to }
-    ensures before { IfOk result (IsBeforeIfAny snapshot.now.entries key.now group.now hours.from
-        now) }
+    ensures before { IfOk result (IsBeforeIfAny snapshot.now.entries key.now group.now hours now) }
     ensures fault { IfErr result (IsRefusedUpTo snapshot.now.entries key.now hours.to) }
 {
     if hours.to > u64::from(LAST_HOUR) + 1 {
         return Ok(None);
     }
-    match hours_before(alloc, hours)? {
-        Some(before) if before.from < before.to => {
-            let found = costs_of(alloc, snapshot, key, before, group)?;
-            let costs = found.unwrap_or(Costs::NONE);
-            let Some(change) = now.less(costs) else {
-                return Err(QueryFault::NoMemory);
-            };
-            Ok(Some(Before {
-                hours: before,
-                costs,
-                change,
-            }))
-        }
-        _ => Ok(None),
-    }
+    let Some(before) = hours_before(hours) else {
+        return Ok(None);
+    };
+    let found = costs_of(alloc, snapshot, key, before, group)?;
+    let costs = found.unwrap_or(Costs::NONE);
+    let Some(change) = now.less(costs) else {
+        return Err(QueryFault::NoMemory);
+    };
+    Ok(Some(Before {
+        hours: before,
+        costs,
+        change,
+    }))
 }
 
 // What the report of some hours says of a group, where it has the group.
