@@ -171,7 +171,7 @@ SHOWN = {"UsedCost": 0, "UnusedCost": 1, "AmortizedCost": 2, "Utilization": (0, 
 
 def percent(part, whole):
     """A rate as people see it: with one digit, the nearest, a tie away from 0; none where the whole isn't above 0."""
-    if part is None or whole <= 0:
+    if None in (part, whole) or whole <= 0:
         return ""
     tenths = int(abs(fractions.Fraction(part, whole)) * 1000 + fractions.Fraction(1, 2))
     return f"{'-' if part < 0 else ''}{tenths // 10}.{tenths % 10}%"
