@@ -170,7 +170,7 @@ fn put_kept(alloc: Global, text: &mut String, kept: &KeptColumn) -> Result<(), A
 
 // The rows that stand twice; nothing where there is none.
 fn repeats_text(alloc: Global, repeats: &Repeats) -> Result<String, AllocError>
-    ensures { IfOk result (λ text. repeats.count.now ≡ 0 → string_bytes text ≡ []) }
+    ensures { IfOk result (λ text. repeats.now.count ≡ 0 → string_bytes text ≡ []) }
 {
     let mut text = String::new(alloc);
     if repeats.count == 0 {
