@@ -28,9 +28,10 @@ returns c =
     let test = has_kind code column in
     let at : c.finding_of-at.result ≡ position_or_len test fs = c.finding_of-at.ensures.value ∙ ap (position_or_len test) c.as_slice.ensures.value in
     let past : length fs ≤ position_or_len test fs = omega (arith, c.len.ensures) in
-    let made : Finding = record { code = c.args.code; column = c.args.column; expected = c.args.expected; count = 1; places = c.push.new.self } in
+    let made : Finding = record { code = c.args.code; column = c.in_ok-column.column; expected = c.args.expected; count = 1; places = c.push.new.self } in
     let places : c.push.new.self.items ≡ c.args.place ∷ [] = c.in_ok-push.ensures.items ∙ ap (λ (l : List Place). l ++ c.args.place ∷ []) c.new-places.ensures.items in
     ap (map finding_value) c.in_ok-push-2.ensures.items
     ∙ map-append finding_value fs (made ∷ [])
+    ∙ ap (λ (t : List ℕ). map finding_value fs ++ new_finding code t expected (map place_value c.push.new.self.items) ∷ []) c.in_ok-column.ensures.ok
     ∙ ap (λ (p : List Place). map finding_value fs ++ new_finding code column expected (map place_value p) ∷ []) places
     ∙ sym (noted_new code column expected (place_value c.args.place) fs past)
