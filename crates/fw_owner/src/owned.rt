@@ -148,7 +148,10 @@ fn before_of(
     let Some(before) = hours_before(hours) else {
         return Ok(None);
     };
-    let found = costs_of(alloc, snapshot, key, before, group)?;
+    let found = match costs_of(alloc, snapshot, key, before, group) {
+        Ok(found) => found,
+        Err(fault) => return Err(fault),
+    };
     let costs = found.unwrap_or(Costs::NONE);
     let Some(change) = now.less(costs) else {
         return Err(QueryFault::NoMemory);
