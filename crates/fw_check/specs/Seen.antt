@@ -47,9 +47,9 @@ nothing_seen columns = record {
 abbrev pub one_more_at : ℕ → List ℕ → List ℕ
 one_more_at place counts = slice_set counts place (kept (slice_index counts place + 1))
 
--- with one more row: its costs are added, and its category, its hour, each of its tags and its value in each kept column are counted once more. The currencies stay
-abbrev pub with_row : Charge → Seen → Seen
-with_row row seen = record {
+-- with one more row, but for its values in kept columns: its costs are added, and its category, its hour and each of its tags are counted once more. The currencies stay
+abbrev pub with_counts : Charge → Seen → Seen
+with_counts row seen = record {
   rows = kept (seen.rows + 1);
   billed = saturate_signed w128 (seen.billed +ℤ row.billed);
   effective = saturate_signed w128 (seen.effective +ℤ row.effective);
@@ -57,8 +57,16 @@ with_row row seen = record {
   hours = counted nat_eq (hour_of row.start) 1 seen.hours;
   currencies = seen.currencies;
   tags = counted_all (map (λ t. t.key) row.tags) seen.tags;
-  kept_columns = map (with_tags row.tags) seen.kept_columns;
+  kept_columns = seen.kept_columns;
 }
+
+-- with the value of one more row in each kept column
+abbrev pub with_values : Charge → Seen → Seen
+with_values row seen = record seen { kept_columns = map (with_tags row.tags) seen.kept_columns }
+
+-- with one more row
+abbrev pub with_row : Charge → Seen → Seen
+with_row row seen = with_values row (with_counts row seen)
 
 -- with these rows, one after the other
 abbrev pub with_rows : List Charge → Seen → Seen

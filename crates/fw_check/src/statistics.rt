@@ -3,7 +3,7 @@ ghost use Rattle.std.specs.Prelude.{◌≡◌, ◌-◌, ◌<◌, map, nat_eq, On
 ghost use Rattle.fw_charge.specs.Codes.{category_code, category_count};
 ghost use Rattle.fw_check.specs.Counts.{counted, counted_all, text_counts};
 ghost use Rattle.fw_check.specs.Kept.{kept_value};
-ghost use Rattle.fw_check.specs.Seen.{seen_in, nothing_seen, with_row, with_rows};
+ghost use Rattle.fw_check.specs.Seen.{seen_in, nothing_seen, with_counts, with_row, with_rows, with_values};
 ghost use Rattle.fw_row_table.specs.Lending.{tags_lent};
 ghost use Rattle.std.specs.Str.{bytes_eq};
 
@@ -131,6 +131,14 @@ impl Statistics {
     fn add(&mut self, alloc: Global, row: &LentRow<'_>) -> Result<(), AllocError>
         ensures { OnOk result (seen_in self.new ≡ with_row row.now (seen_in self.old)) }
     {
+        self.add_counts(alloc, row)?;
+        self.add_kept(alloc, row)
+    }
+
+    // Counts a row, but for its values in kept columns.
+    fn add_counts(&mut self, alloc: Global, row: &LentRow<'_>) -> Result<(), AllocError>
+        ensures { OnOk result (seen_in self.new ≡ with_counts row.now (seen_in self.old)) }
+    {
         self.rows = self.rows.saturating_add(1);
         self.billed = self.billed.saturating_add(i128::from(row.billed().count()));
         self.effective = self
@@ -140,8 +148,14 @@ impl Statistics {
         self.categories[category] = self.categories[category].saturating_add(1);
         count_hour(&mut self.hours, row.hour())?;
         count_tags(alloc, &mut self.tags.keys, row.tags())?;
-        count_kept(alloc, self.kept.as_mut_slice(), row.tags())?;
         Ok(())
+    }
+
+    // Counts the values of a row in kept columns.
+    fn add_kept(&mut self, alloc: Global, row: &LentRow<'_>) -> Result<(), AllocError>
+        ensures { OnOk result (seen_in self.new ≡ with_values row.now (seen_in self.old)) }
+    {
+        count_kept(alloc, self.kept.as_mut_slice(), row.tags())
     }
 
     /// Counts rows.
