@@ -34,10 +34,10 @@ returns c =
     c.in_ok-by_hour.ensures.each
     ∙ ap (λ n. map (λ h. rows_in h (rows_marked c.as_slice.result.now c.args.from rows)) (range_with_len c.args.from n)) (ap length items ∙ length-replicate c.args.hours true)
     ∙ every_hour rows c.args.from c.args.hours c.as_slice.result.now (λ k below. ap (λ l. get_or l k false) items ∙ get_or-replicate c.args.hours k true false below) in
-    let done : HasCounted c.add_hours.new.counter c.args.selector.now c.args.commitments.now (option_copied c.args.tag.entry) c.args.from (map (rows_of_list (lent c.args.segments.now)) c.in_ok-by_hour.by_hour.items) =
+    let done : HasCounted c.add_hours.new.counter c.args.selector.now c.args.commitments.now (option_copied c.args.tag) c.args.from (map (rows_of_list (lent c.args.segments.now)) c.in_ok-by_hour.by_hour.items) =
     rw (c.in_ok-roster.ensures, c.as_slice-2.ensures.value) at c.in_ok-add_hours.ensures in
     record {
       lines = done.lines;
-      are_lines = subst (λ by_hour. ArePricesOf c.args.commitments.now (option_copied c.args.tag.entry) c.args.from by_hour done.lines) each done.are_lines;
+      are_lines = subst (λ by_hour. ArePricesOf c.args.commitments.now (option_copied c.args.tag) c.args.from by_hour done.lines) each done.are_lines;
       are_totals = c.in_ok-into_groups.ensures (costs_of c.args.selector.now done.lines) done.sums;
     }
