@@ -13,7 +13,6 @@ mod ended;
 #[cfg(test)]
 mod importing;
 #[cfg(test)]
-mod keeping;
 #[cfg(test)]
 mod limits;
 #[cfg(test)]
