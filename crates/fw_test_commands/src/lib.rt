@@ -13,7 +13,6 @@ mod ended;
 #[cfg(test)]
 mod importing;
 #[cfg(test)]
-#[cfg(test)]
 mod limits;
 #[cfg(test)]
 mod loads;
