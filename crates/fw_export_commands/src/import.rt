@@ -104,9 +104,7 @@ fn import_all<'a>(
     let mut walk = walk;
     let is_whole = walk_files(rt, files, &mut walk, import);
     import.repeated = walk.repeated;
-    let is_whole = is_whole?;
-    import.make_checkpoint(rt.alloc())?;
-    if !is_whole {
+    if !is_whole? {
         return Ok(ExitCode::FAILURE);
     }
     look_behind(rt, import)?;

@@ -187,6 +187,7 @@ impl<'a> Import<'a> {
             }
             Outcome::Same => self.same = self.same.saturating_add(taken.rows),
         }
+        self.make_checkpoint(rt.alloc())?;
         Ok(true)
     }
 
@@ -204,9 +205,8 @@ impl<'a> Import<'a> {
         Ok(())
     }
 
-    /// Makes a checkpoint where it pays. It joins segments, so those that the importer keeps are let go of. An import makes one, at its end: so
-    /// each row is written twice, to the log and to the body, however long the import is. One that was killed leaves a longer log.
-    pub(crate) fn make_checkpoint(&mut self, alloc: Global) -> Result<(), StoreFault> {
+    // Makes a checkpoint where it pays. It joins segments, so those that the importer keeps are let go of.
+    fn make_checkpoint(&mut self, alloc: Global) -> Result<(), StoreFault> {
         if let Some(store) = self.house.store() {
             if store.checkpoint_pays() {
                 store.checkpoint(alloc)?;
