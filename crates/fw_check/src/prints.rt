@@ -35,7 +35,7 @@ struct Hashes {
 /// Odd numbers with many bits of either kind, one for each hash.
 const MULTIPLIERS: (u64, u64) = (0x9E37_79B9_7F4A_7C15, 0xD6E8_FEB8_6659_FD93);
 
-// The hash of a number behind others. Each bit of either one turns about half of the bits.
+// The hash of a number behind others: the lower half of a product, its upper bits added to its lower ones by xor.
 fn mixed(state: u64, number: u64, multiplier: u64) -> u64 {
     let product = (state ^ number).wrapping_mul(multiplier);
     product ^ (product >> 32)
