@@ -144,9 +144,10 @@ class Finder:
     def keep(self, reader, inputs, why):
         digest = hashlib.sha256(repr(inputs).encode()).hexdigest()[:10]
         folder = os.path.join(self.options.found, f"{reader.name}-{digest}")
-        if os.path.isdir(folder):
+        try:
+            os.makedirs(folder)
+        except FileExistsError:  # It was kept before, perhaps by another job.
             return None
-        os.makedirs(folder)
         for number, one in enumerate(inputs):
             reader.write(os.path.join(folder, f"{number}{reader.extension}"), one)
         with open(os.path.join(folder, "case.json"), "w", encoding="utf-8") as file:
@@ -177,6 +178,7 @@ def work(options, number, answers):
     """One job: changes inputs until its time or its runs are over."""
     stopped = []
     signal.signal(signal.SIGTERM, lambda *_: stopped.append(True))
+    signal.pthread_sigmask(signal.SIG_UNBLOCK, {signal.SIGTERM})
     with tempfile.TemporaryDirectory(dir=room()) as folder:
         os.chdir(folder)
         session, chance = Session(options.program, options.limit, options.peer), random.Random(f"{options.seed}/{number}")
@@ -221,9 +223,12 @@ def fuzz(options):
     context = multiprocessing.get_context("fork")
     answers = context.Queue()
     jobs = [context.Process(target=work, args=(options, number, answers)) for number in range(options.jobs)]
+    # A signal waits until this process and each job know what to do at it.
+    signal.pthread_sigmask(signal.SIG_BLOCK, {signal.SIGTERM})
     for job in jobs:
         job.start()
     signal.signal(signal.SIGTERM, lambda *_: [job.terminate() for job in jobs])
+    signal.pthread_sigmask(signal.SIG_UNBLOCK, {signal.SIGTERM})
     left = len(jobs)
     while left:
         try:
