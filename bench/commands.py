@@ -4,10 +4,11 @@ each took, as Markdown.
 
     python3 bench/commands.py --date 2026-01-31 > result.md
 
-The export is imported, and posted by a script, in turns; the reports of both must be those of examples/expected.py. The report by day, the
-statistics of `check` and the lines are compared with sums that this program makes of the export by itself, in whole nanos. Then four
-commitments are posted, and the coverage is compared with sums over the lines. A dump is run into a new folder, whose dump must have the same
-bytes. Progress goes to standard error. It takes some minutes, most of them to make the data.
+The export is imported by one worker and by four, and posted by a script, in turns; the reports of all must be those of examples/expected.py. In the
+same turns plain Rust (peers/expert) checks the same rows, keeps them and appends each post to a file that it syncs; an import that is run again,
+`check` and `dump` take their turns too. The report by day, the statistics of `check` and the lines are compared with sums that this program makes of
+the export by itself, in whole nanos. Then four commitments are posted, and the coverage is compared with sums over the lines. A dump is run into a new
+folder, whose dump must have the same bytes. Progress goes to standard error. It takes some minutes, most of them to make the data.
 
 Exit status: 0 all answers are right, 1 one isn't, 2 a wrong command line or a machine on which nothing can be measured.
 """
@@ -21,7 +22,7 @@ import sys
 import tempfile
 
 from bench import Data
-from session import ROOT, add_export, built, load, load_since, measure, parser_of_turns, print_head, say, status_after, verdict
+from session import ROOT, RUST, add_export, build_rust, built, load, load_since, measure, parser_of_turns, print_head, say, status_after, verdict
 from store import posts_alone, written
 
 sys.path.insert(0, os.path.join(ROOT, "examples"))
@@ -30,6 +31,10 @@ import expected  # noqa: E402
 # The goals: an import beside the same rows by a script, and its memory beside that of the warehouse alone.
 MOST_TIMES_SCRIPT = 1.2
 MOST_MEGABYTES = 100
+# Each work beside plain Rust that keeps the rows in a synced file: by the processor, or by the clock; at most so many times as long, and better so many.
+IMPORT, FOUR, SCRIPT, AGAIN, CHECK, DUMP = "import", "import --workers 4", "the same rows by a script", "import again", "check", "dump"
+BESIDE = {IMPORT: ("processor_seconds", 1.3, 1.0), FOUR: ("seconds", 0.6, 0.45), AGAIN: ("processor_seconds", 1.0, 0.6),
+          CHECK: ("processor_seconds", 1.0, 0.7), DUMP: ("processor_seconds", 1.3, 1.0)}
 MONTH = ("--from", "2024-01-02", "--to", "2024-01-31")
 COSTS = ("BilledCost", "EffectiveCost")
 
@@ -95,27 +100,47 @@ def dicts(printed):
     return list(csv.DictReader(printed.decode().splitlines()))
 
 
-def imports(runs, data, posts, folders):
-    """The export by import and by script, in turns: the processor seconds of each, the median of the turns."""
-    taken = {}
+def imports(runs, data, posts, folders, peer):
+    """The export by import and by script, and other commands over it, in turns beside plain Rust: what each took, by its name."""
+    taken, log = collections.defaultdict(list), os.path.join(runs.options.scratch, "commands-peer.log")
     for turn in range(runs.options.turns):
-        ways = {
-            "import": (("import", "--quiet", "--dir", folders["import"], "--create", "--origin", "bench", data.export), os.devnull),
-            "the same rows by a script": (("run", "--dir", folders["script"], "--create"), posts),
-        }
-        for name, (words, stdin) in ways.items():
-            folder = words[words.index("--dir") + 1]
+        for folder in (folders["import"], folders["four"], folders["script"]):
             shutil.rmtree(folder, ignore_errors=True)
             os.mkdir(folder)
-            took = runs.run(name, *words, stdin=stdin, shown=turn == 0)
-            taken.setdefault(name, []).append(took.processor_seconds)
-    again = runs.run("import again", "import", "--quiet", "--dir", folders["import"], "--origin", "bench", data.export)
-    runs.expect("an import that is run again imports nothing", again.output.startswith(f"imported 0 rows, {data.rows} were there already".encode()))
-    for name in ("import", "script"):
+        named = ("--create", "--origin", "bench", data.export)
+        ways = {
+            IMPORT: (("import", "--quiet", "--dir", folders["import"], *named), os.devnull),
+            FOUR: (("import", "--quiet", "--workers", "4", "--dir", folders["four"], *named), os.devnull),
+            SCRIPT: (("run", "--dir", folders["script"], "--create"), posts),
+            AGAIN: (("import", "--quiet", "--dir", folders["import"], "--origin", "bench", data.export), os.devnull),
+            CHECK: (("check", "--quiet", data.export), os.devnull),
+            DUMP: (("dump", "--dir", folders["import"]), os.devnull),
+        }
+        for name, (words, stdin) in ways.items():
+            taken[name].append(runs.run(name, *words, stdin=stdin, shown=turn == 0))
+        if peer:
+            taken[RUST].append(measure([peer, "--log", log, "--syncs", "1"], data.script, runs.options))
+            runs.expect(f"{RUST} ends well", taken[RUST][-1].status == 0)
+    runs.expect("an import that is run again imports nothing", taken[AGAIN][0].output.startswith(f"imported 0 rows, {data.rows} were there already".encode()))
+    for name in ("import", "four", "script"):
         asked = ("report", "--dir", folders[name], "--tag", "team", *MONTH, "--format", "csv")
         report = runs.run("report --format csv", *asked, shown=name == "import")
         runs.expect(f"the report after {name} is that of expected.py", report.output == data.right_report)
-    return {name: statistics.median(seconds) for name, seconds in taken.items()}
+    return taken
+
+
+def median_of(turns, unit="processor_seconds"):
+    return statistics.median(getattr(turn, unit) for turn in turns)
+
+
+def beside_plain_rust(taken):
+    """The lines of a table of each work beside plain Rust."""
+    yield "| beside plain Rust that keeps the rows in a synced file | s | plain Rust, s | times | at most | better |"
+    yield "|---|---:|---:|---:|---|---|"
+    for name, (unit, most, better) in BESIDE.items():
+        own, other = median_of(taken[name], unit), median_of(taken[RUST], unit)
+        by = ", by the clock" if unit == "seconds" else ""
+        yield f"| {name}{by} | {own:.2f} | {other:.2f} | {own / other:.2f} | {most}: {verdict(own <= most * other)} | {better}: {verdict(own <= better * other)} |"
 
 
 def with_costs(sums):
@@ -188,20 +213,23 @@ def run(options):
     program = built(options.program)
     data, before = Data(options), load()
     posts = written(os.path.join(options.scratch, os.path.basename(data.script) + ".posts"), posts_alone(data.script))
+    notes = []
+    peer = build_rust(options, notes)
     say("summing the export")
     sums, runs = Sums(data.export), Runs(program, options)
     with tempfile.TemporaryDirectory(dir=options.scratch) as room:
-        folders = {it: os.path.join(room, it) for it in ("import", "script", "copy")}
-        medians = imports(runs, data, posts, folders)
+        folders = {it: os.path.join(room, it) for it in ("import", "four", "script", "copy")}
+        taken = imports(runs, data, posts, folders, peer)
         status = questions(runs, data, sums, folders["import"])
         coverage(runs, sums, folders["import"], room)
         dumps(runs, folders, room)
     print_head(options)
     print(f"{load_since(before)}\n")
     print("\n".join(runs.table()))
-    taken, beside = medians["import"], medians["the same rows by a script"]
-    print(f"\nImport beside the same rows by a script, processor time, the median of {options.turns} turns: {taken:.2f} and {beside:.2f} s.")
-    print(f"Goal, at most {MOST_TIMES_SCRIPT} times: **{verdict(taken <= MOST_TIMES_SCRIPT * beside)}** ({taken / beside:.2f} times)")
+    print("\n" + "\n".join(beside_plain_rust(taken) if peer else notes))
+    own, other = median_of(taken[IMPORT]), median_of(taken[SCRIPT])
+    print(f"\nImport beside the same rows by a script, processor time, the median of {options.turns} turns: {own:.2f} and {other:.2f} s.")
+    print(f"Goal, at most {MOST_TIMES_SCRIPT} times: **{verdict(own <= MOST_TIMES_SCRIPT * other)}** ({own / other:.2f} times)")
     room = (max(it.peak for name, it in runs.lines if name == "import") - status.peak) / 1e6
     print(f"\nPeak memory of an import above that of `status`, which opens the same warehouse: {room:.0f} MB.")
     print(f"Goal, below {MOST_MEGABYTES} MB: **{verdict(room < MOST_MEGABYTES)}**")

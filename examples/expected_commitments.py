@@ -119,6 +119,16 @@ def records(warehouse, low, high, keys=(), price_tag=None):
     return found + of_all
 
 
+def usable(commitment, row):
+    """What a row to which a commitment applies could have used of it, in nanos: its quantity; or, of a commitment to a cost, its BilledCost at the
+    rate, rounded up."""
+    return row.quantity if commitment.kind == "Usage" else -(-row.billed * commitment.rates[row.sku] // 10**6)
+
+
 def units(warehouse, low, high):
-    """Of each own commitment with a line its unit, capacity and what was used of it, by its id."""
-    return {id: (unit, capacity, used) for id, _, unit, capacity, used, *_ in warehouse.coverage(low, high)}
+    """Of each own commitment with a line its unit, capacity, what was used of it and what rows could have used of it, by its id."""
+    eligible = defaultdict(int)
+    for row, commitments in eligible_rows(warehouse, low, high):
+        for commitment in commitments:
+            eligible[commitment.id] += usable(commitment, row)
+    return {id: (unit, capacity, used, eligible[id]) for id, _, unit, capacity, used, *_ in warehouse.coverage(low, high)}

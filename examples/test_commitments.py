@@ -150,7 +150,7 @@ def read_csv(text, keys, by_period, has_list=False):
     """The records of a CSV: each its hours, kind, keeper, name, units, amounts and how many rows have no price."""
     header, *rows = csv.reader(io.StringIO(text.decode()))
     hours = ["From", "To"] if by_period else []
-    names = [key.name for key in keys] or ["CommitmentDiscountId", "Unit", "Capacity", "UsedCapacity"]
+    names = [key.name for key in keys] or ["CommitmentDiscountId", "Unit", "Capacity", "UsedCapacity", "EligibleCapacity"]
     if header != [*hours, "Kind", "Keeper", *names, *oracle.AMOUNTS, *["UnpricedRows"] * has_list]:
         raise AssertionError(header)
     for row in rows:
@@ -158,7 +158,7 @@ def read_csv(text, keys, by_period, has_list=False):
         period = tuple(next(cells) for _ in hours)
         kind, keeper = next(cells), next(cells)
         name = tuple(next(cells) for _ in (keys or [0]))
-        units = None if keys else (next(cells), amount_of(next(cells)), amount_of(next(cells)))
+        units = None if keys else (next(cells), *(amount_of(next(cells)) for _ in range(3)))
         amounts = tuple(amount_of(next(cells)) for _ in oracle.AMOUNTS)
         unpriced = next(cells, "")
         yield period, (kind, keeper, None if kind == "total" else name, amounts, int(unpriced) if unpriced else None), units
@@ -257,13 +257,26 @@ class Figures(unittest.TestCase):
         right = oracle.records(house.kept, LOW, HIGH, keys, price_tag)
         found = list(read_csv(house.asked(*words, "--format", "csv"), keys, False, price_tag is not None))
         self.assertEqual([record for _, record, _ in found], right)
+        told = json.loads(house.asked(*words, "--format", "json"))
         if not keys:
             kept = oracle.units(house.kept, LOW, HIGH)
-            for _, (kind, keeper, name, _, _), units in found:
-                own = kind == "commitment" and keeper == "own"
-                self.assertEqual(units, kept.get(name[0], ("", 0, 0)) if own else ("", None, None), name)
-        self.check_json(json.loads(house.asked(*words, "--format", "json")), right, keys, price_tag)
+            self.check_units(found, lambda _: kept)
+            for one, (_, record, _) in zip(told["records"], found):
+                own = record[:2] == ("commitment", "own")
+                members = [one.get(member) for member in ("unit", "capacity", "usedCapacity", "eligibleCapacity")]
+                unit, *quantities = kept[record[2][0]] if own else (None, None, None, None)
+                self.assertEqual(members, [unit, *map(expected.spelled, quantities)] if own else [None] * 4)
+        self.check_json(told, right, keys, price_tag)
         self.check_note(house.asked(*words).decode(), right, price_tag)
+
+    def check_units(self, found, units):
+        """What is known in units of each own commitment, and of no other record; and rows used no more than they could have used."""
+        for period, (kind, keeper, name, _, _), shown in found:
+            own = kind == "commitment" and keeper == "own"
+            self.assertEqual(shown, units(period)[name[0]] if own else ("", None, None, None), name)
+            if own:
+                _, capacity, used, eligible = shown
+                self.assertLessEqual(used, min(capacity, eligible))
 
     def check_note(self, text, right, price_tag):
         """Behind a table it is said how many rows have no price, where some have none."""
@@ -297,6 +310,8 @@ class Figures(unittest.TestCase):
         right = [(period, record) for period in periods(step) for record in oracle.records(house.kept, *period, keys, price_tag)]
         found = list(read_csv(house.asked(*words, "--format", "csv"), keys, True, price_tag is not None))
         self.assertEqual([(period, record) for period, record, _ in found], right)
+        if not keys:
+            self.check_units(found, lambda period: oracle.units(house.kept, *period))
         told = json.loads(house.asked(*words, "--format", "json"))
         self.assertEqual((told["by"], [(one["from"], one["to"]) for one in told["periods"]]), (step, periods(step)))
         self.assertEqual(sum(len(one["records"]) for one in told["periods"]), len(right))
@@ -393,7 +408,7 @@ class Figures(unittest.TestCase):
             self.assertEqual(status, 0, error)
         status, text, error = focusd("commitments", "--dir", str(folder), "--month", "2024-09", "--format", "csv")
         self.assertEqual(status, 0, error)
-        return {record[2]: record[3] for _, record, _ in read_csv(text, [], False) if record[0] == "commitment"}
+        return {record[2]: (record[3], units) for _, record, units in read_csv(text, [], False) if record[0] == "commitment"}
 
     def test_prices_that_an_import_kept(self):
         """A column is kept as a tag, and read as the price of what a provider's commitment covers."""
@@ -415,9 +430,9 @@ class Figures(unittest.TestCase):
         self.assertEqual(
             found,
             [
-                "commitment,provider,other,,,,1.000000000,0.000000000,1.000000000,0.000000000,0.000000000,,,-1.000000000,1",
-                "commitment,provider,plan,,,,6.250000000,0.750000000,7.000000000,0.000000000,5.500000000,,,-1.500000000,1",
-                "total,provider,,,,,7.250000000,0.750000000,8.000000000,0.000000000,5.500000000,,,-2.500000000,2",
+                "commitment,provider,other,,,,,1.000000000,0.000000000,1.000000000,0.000000000,0.000000000,,,-1.000000000,1",
+                "commitment,provider,plan,,,,,6.250000000,0.750000000,7.000000000,0.000000000,5.500000000,,,-1.500000000,1",
+                "total,provider,,,,,,7.250000000,0.750000000,8.000000000,0.000000000,5.500000000,,,-2.500000000,2",
             ],
         )
         table = focusd(*words, "price")[1].decode()
@@ -435,21 +450,35 @@ class Figures(unittest.TestCase):
             ],
         )
         self.assertIn("\n4 rows that are covered", focusd(*words, "absent")[1].decode())
+        missing = "focusd: no row and no commitment of the range has the tag {}; the tags there are: "
+        self.assertTrue(focusd(*words, "absent", "--format", "csv")[2].startswith(missing.format("absent")))
+        self.assertTrue(focusd(*words, "price", "--tag", "nobody")[2].startswith(missing.format("nobody")))
+        self.assertEqual(focusd(*words, "price")[2], "")
 
     def test_four_exports_by_hand(self):
         """The sums that docs/FINOPS.md works out."""
         own = 'id = "own"\nstart = "2024-09-01T00:00Z"\nhours = 2\n{}[[purchase]]\nat = "2024-09-01T00:00Z"\nbilled = "{}"\n'
         hours = 'category = "Usage"\nunit = "Hours"\nskus = ["B88317"]\ncapacity = "4.5"\n'
         spend = 'category = "Spend"\ncapacity = "1"\nrates = { "2DA5-55D3-E679" = 1000000 }\n'
-        for name, commitment, end, amounts in (
-            ("amazon", None, "0b3c6a52", (2692288294, 0, 2692288294, 0, None, None, None, None)),
-            ("microsoft", None, "8e2a", (0, 0, 0, 2429201562, None, None, None, None)),
-            ("google", own.format(spend, 2), "own", (0, 2 * 10**9, 2 * 10**9, 2 * 10**9, 0, 0, 0, -2 * 10**9)),
-            ("oracle", own.format(hours, 3), "own", (3 * 10**9, 0, 3 * 10**9, 3 * 10**9, 4843171415, 1607153785, 6450325200, 1843171415)),
-        ):
+        of_provider = ("", None, None, None)
+        for name, commitment, end, units, amounts in (
+            ("amazon", None, "0b3c6a52", of_provider, (2692288294, 0, 2692288294, 0, None, None, None, None)),
+            ("microsoft", None, "8e2a", of_provider, (0, 0, 0, 2429201562, None, None, None, None)),
+            ("google", own.format(spend, 2), "own", ("", 2 * 10**9, 0, 0), (0, 2 * 10**9, 2 * 10**9, 2 * 10**9, 0, 0, 0, -2 * 10**9)),
+            (
+                "oracle", own.format(hours, 3), "own", ("Hours", 9 * 10**9, 9 * 10**9, 12 * 10**9),
+                (3 * 10**9, 0, 3 * 10**9, 3 * 10**9, 4843171415, 1607153785, 6450325200, 1843171415),
+            ),
+        ):  # fmt: skip
             with self.subTest(name):
-                found = {id[0]: kept for id, kept in self.provided(name, commitment).items() if id[0].endswith(end)}
-                self.assertEqual(list(found.values()), [amounts])
+                found = [kept for id, kept in self.provided(name, commitment).items() if id[0].endswith(end)]
+                self.assertEqual(found, [(amounts, units)])
+
+    def test_a_commitment_to_a_cost_by_hand(self):
+        """What docs/FINOPS.md works out of half of each row's cost."""
+        half = 'id = "own"\nstart = "2024-09-01T00:00Z"\nhours = 2\ncategory = "Spend"\ncapacity = "1"\nrates = { B88317 = 500000 }\n[[purchase]]\nat = "2024-09-01T00:00Z"\nbilled = "3"\n'
+        _, units = self.provided("oracle", half)[("own",)]
+        self.assertEqual(units, ("", 2 * 10**9, 2 * 10**9, 3225162602))
 
     def test_wrong_use(self):
         folder = str(pathlib.Path(self.made.name) / "wrong")

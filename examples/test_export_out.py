@@ -187,7 +187,7 @@ class Rows(Case):
 
 class Sums(Case):
     def test_a_round_trip(self):
-        """Exported rows, imported into a warehouse that has nothing else, cost by each tag what they cost where they come from."""
+        """Exported rows, imported into a warehouse that has nothing else, cost by each tag and by each column what they cost where they come from."""
         for seed in range(6):
             with self.subTest(seed=seed):
                 self.house = self.new_folder(f"house-{seed}")
@@ -195,8 +195,9 @@ class Sums(Case):
                 exported = self.file("exported.csv", self.do("export", "--dir", self.house, *SIX_HOURS))
                 again = self.new_folder(f"again-{seed}")
                 self.do("import", "--dir", again, "--create", "--origin", "x", "--quiet", exported)
-                for key in ("team", "env", "nothing"):
-                    reports = [focusd("report", "--dir", it, "--tag", key, *SIX_HOURS, "--format", "csv")[1] for it in (self.house, again)]
+                columns = [("--column", it) for it in ("SkuId", "SubAccountId", "ChargeCategory", "CommitmentDiscountId", "CommitmentDiscountStatus")]
+                for keys in *(("--tag", it) for it in ("team", "env", "nothing")), *columns, ("--tag", "team", "--tag", "env", *columns[0], *columns[3]):
+                    reports = [focusd("report", "--dir", it, *keys, *SIX_HOURS, "--format", "csv")[1] for it in (self.house, again)]
                     self.assertGreater(len(reports[0].splitlines()), 1)
                     self.assertEqual(*reports)
 

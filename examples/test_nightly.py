@@ -157,6 +157,16 @@ class Nights(Case):
         self.assertEqual(status, 1)
         self.assertRegex(alert, r"^of the report:\nfocusd: .+ has the tag squad; .+\n$")
 
+    def test_a_policy_for_the_tag(self):
+        """A report that says which policy it applied leaves nothing out; one under a policy for another tag does."""
+        self.assertEqual(self.night(), (0, None))
+        for tag, status in ("team", 0), ("environment", 1):
+            (self.top / "policy.toml").write_text(f'key = "{tag}"\n[[rule]]\nfrom = ""\nto = {{ web = 3, data = 1 }}\n', encoding="utf-8")
+            self.do("add", "--dir", "costs", "--yes", "--origin", tag, "policy.toml")
+            ended, alerted = self.night()
+            self.assertEqual(ended, status, alerted)
+        self.assertIn("the policy is for the tag environment, so ChargedCost is EffectiveCost", alerted)
+
     def test_an_alert_that_fails(self):
         """What went wrong is printed then, so cron mails it, and systemd keeps it."""
         self.deliver("aws-2024-09", self.spoiled())

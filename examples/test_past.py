@@ -35,7 +35,7 @@ class Past(OneFolder):
             ("report", "--tag", "team", *RANGE, "--format", "csv"), ("report", "--tag", "team", *RANGE), ("report", "--tag", "env", *RANGE, "--format", "csv"),
             ("report", "--tag", "team", *RANGE, "--by", "day", "--top", "2", "--format", "json"), ("report", "--tag", "team", "--format", "csv"),
             ("report", "--tag", "team", *RANGE, "--format", "html"), ("lines", *RANGE), ("lines",), ("coverage", *RANGE, "--format", "csv"),
-            ("report", "--tag", "team", "--direct", *RANGE),
+            ("report", "--tag", "team", "--direct", *RANGE), ("export", *RANGE), ("export", *RANGE, "--format", "jsonl"),
         ]  # fmt: skip
         return [focusd(words[0], "--dir", cls.folder, *words[1:], *more) for words in asked]
 
@@ -72,7 +72,7 @@ class Past(OneFolder):
         self.assertIn("--as-of", focusd("status", "--help")[1])
 
     def test_more_than_there_are(self):
-        for words in (("report", "--tag", "team", *RANGE), ("lines",), ("coverage", *RANGE), ("report", "--tag", "team", "--direct")):
+        for words in (("report", "--tag", "team", *RANGE), ("lines",), ("coverage", *RANGE), ("report", "--tag", "team", "--direct"), ("export", *RANGE)):
             for count in (len(ENTRIES) + 1, 10**6, 2**64 - 1):
                 status, printed, said = focusd(words[0], "--dir", self.folder, *words[1:], "--as-of", count)
                 self.assertEqual((status, printed), (1, ""))

@@ -6,7 +6,7 @@
     examples/test_selections.py out/focusd --seed 7         others
 
 The questions are asked of the shipped export, the exports of four providers, and a script of two days under overlapping commitments and a
-policy: keys, filters, maps, ranges and periods by chance, each as CSV and JSON, and what the messages say.
+policy: keys, filters, maps, ranges, periods and policies by chance, each as CSV and JSON, and what the messages say.
 """
 import csv
 import html
@@ -16,6 +16,7 @@ import random
 import re
 import subprocess
 import sys
+import tomllib
 
 import expected
 from as_reported import time_of
@@ -94,6 +95,19 @@ class Chance:
                 text += "values = { " + ", ".join(f"{toml_text(old)} = {toml_text(new)}" for old, new in values.items() if old) + " }\n"
         return text
 
+    def policy(self, key):
+        """The text of a policy for a tag, of groups that lines have and of others, or none."""
+        if self.random.random() < 0.4:
+            return None
+        groups = sorted({*(key.of(line) for line in self.all), "nobody", "a b"})
+        gives = self.random.sample(groups, min(len(groups) - 1, self.random.randint(1, 3)))
+        rest = [group for group in groups if group not in gives]
+        text = f"key = {toml_text(key.name)}\n"
+        for group in gives:
+            shares = ", ".join(f"{toml_text(to)} = {self.random.randint(0, 9)}" for to in self.random.sample(rest, self.random.randint(1, min(4, len(rest)))))
+            text += f"[[rule]]\nfrom = {toml_text(group)}\n" + self.random.choice(["proportional = true\n", f"to = {{ {shares} }}\n"])
+        return text
+
     def hours(self):
         low = self.random.randrange(self.house.low - 3, self.house.high)
         return low, self.random.randrange(low + 1, self.house.high + 3)
@@ -135,7 +149,7 @@ class Selections(OneFolder):
             House(top / "commitments", script=(HERE / "commitments.script").read_bytes()),
             House(top / "year", script=year),
         ]
-        cls.map_file = top / "maps.toml"
+        cls.map_file, cls.policy_file = top / "maps.toml", top / "policy.toml"
 
     def ask(self, house, *words):
         status, output, error = focusd("report", "--dir", house.folder, *words)
@@ -153,10 +167,25 @@ class Selections(OneFolder):
                 self.map_file.write_text(maps)
                 words += ["--map", str(self.map_file)]
             selection = expected.Selection(keys, where, where_not, expected.maps_of(maps.encode()) if maps else ())
-            if selection.is_one_tag():
-                continue
             with self.subTest(run=run, words=words, maps=maps):
-                self.compare(chance.house, words, keys, selection, low, high)
+                if selection.is_one_tag():
+                    self.compare_charges(chance, words, keys[0], selection, low, high)
+                else:
+                    self.compare(chance.house, words, keys, selection, low, high)
+
+    def compare_charges(self, chance, words, key, selection, low, high):
+        """A report by one tag has charges: under the policy of the warehouse, or under one that is given."""
+        kept, policy = chance.house.kept, chance.policy(key)
+        stored = kept.policy
+        if policy is not None:
+            self.policy_file.write_text(policy)
+            words = [*words, "--policy", str(self.policy_file)]
+            kept.policy = {"key": key.name, "rule": tomllib.loads(policy)["rule"]}
+        wanted = kept.selected(selection, chance.house.lines(low, high))
+        kept.policy = stored
+        rows = [[group, *map(expected.spelled, wanted[(group,)])] for group in sorted((group for (group,) in wanted), key=str.encode)]
+        text = self.ask(chance.house, *words, "--format", "csv")[0]
+        self.assertEqual(list(csv.reader(io.StringIO(text))), [["Group", "BilledCost", "EffectiveCost", "ChargedCost"], *rows], policy)
 
     def compare(self, house, words, keys, selection, low, high):
         wanted = house.kept.selected(selection, house.lines(low, high))
@@ -209,6 +238,10 @@ class Selections(OneFolder):
         table = self.ask(house, "--total-only")[0].splitlines()
         self.assertEqual([len(line.split()) for line in table], [2, 2, 2])
         self.assertEqual(table[0].split(), ["BilledCost", "EffectiveCost"])
+        page = self.ask(house, "--total-only", "--format", "html")[0]
+        self.assertIn("<h1>Costs by range</h1>", page)
+        self.assertIn('<tr><th scope="row">(all)</th>', page)
+        self.assertIn("<h1>Costs by period</h1>", self.ask(house, "--total-only", "--by", "day", "--format", "html")[0])
 
     def test_a_page(self):
         """Its table has a row for each group, its chart the periods of each, and nothing of it speaks of charges."""
@@ -218,7 +251,7 @@ class Selections(OneFolder):
         page = self.ask(house, *words, "--format", "html")[0]
         selection = expected.Selection(keys, where_not=[(keys[0], "platform")], maps=expected.maps_of(self.map_file.read_bytes()))
         sums = house.kept.selected(selection, house.lines(house.low, house.high))
-        rows = re.findall(r"<tr><td>([^<]*)</td><td>([^<]*)</td><td>([^<]*)</td>", page)
+        rows = re.findall(r'<tr><th scope="row">([^<]*)</th><td>([^<]*)</td><td>([^<]*)</td>', page)
         names = {"": "(untagged)", "a / b": '"a / b"', "(untagged)": '"(untagged)"'}
         wanted = {f"{names.get(team, team)} / {account or '(none)'}" for team, account in sums}
         self.assertEqual({html.unescape(name) for name, *_ in rows if name != "Total"}, wanted)

@@ -54,29 +54,30 @@ def old_edits(top, commit):
     return {(crate_of(path), entry.split()[2]) for entry, path in entries if is_edit(path)}
 
 
-def beside_imports(text):
-    """The lines of a source file that aren't blank and import nothing."""
-    return [line for line in text.splitlines() if line.strip() and not IMPORT.match(line)]
+def words_of(text):
+    """The words of a source file, however they stand on its lines, but for those that import names. A line with a comment or a text is one word."""
+    lines = [line.strip() for line in text.splitlines() if line.strip() and not IMPORT.match(line)]
+    return [word for line in lines for word in ([line] if re.search(r'//|--|"', line) else line.split())]
 
 
-def has_other_imports_alone(top, commit, path):
-    """Whether a source file is another than in a commit in the lines alone that import names, as where what it uses has moved to another crate."""
+def has_the_same_words(top, commit, path):
+    """Whether a source file is another than in a commit in its layout alone, or in the lines that import names, as where what it uses has moved to another crate."""
     old = output_of(["git", "show", f"{commit}:{path}"], top)
     if old is None or not path.endswith((".rt", ".antt")):
         return False
     with open(os.path.join(top, path), encoding="utf-8", errors="replace") as file:
-        return beside_imports(old) == beside_imports(file.read())
+        return words_of(old) == words_of(file.read())
 
 
 def changes_since(top, commit):
-    """What changed since a commit, other imports aside; None where the commit isn't here. An edit that is gone, or that has only another name, is no change."""
+    """What changed since a commit, layout and imports aside; None where the commit isn't here. An edit that is gone, or that has only another name, is no change."""
     named = output_of(["git", "diff", "--name-status", "--no-renames", "-z", commit, "--", "crates"], top)
     new = output_of(["git", "ls-files", "-z", "--others", "--exclude-standard", "crates"], top)
     if named is None or new is None:
         return None
     words = named.split("\0")
     paths = [(status, path) for status, path in zip(words[::2], words[1::2])] + [("A", path) for path in new.split("\0")]
-    paths = [(status, path) for status, path in paths if path.count("/") > 1 and not (status == "M" and has_other_imports_alone(top, commit, path))]
+    paths = [(status, path) for status, path in paths if path.count("/") > 1 and not (status == "M" and has_the_same_words(top, commit, path))]
     added = sorted(path for status, path in paths if is_edit(path) and status != "D")
     hashes = (output_of(["git", "hash-object", "--", *added], top) or "").split() if added else []
     known = old_edits(top, commit)

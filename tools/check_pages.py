@@ -1,5 +1,5 @@
 #!/usr/bin/env python3
-"""Checks the pages: README.md, CONTRIBUTING.md, and the Markdown files of docs, examples, bench and tools/fuzz.
+"""Checks the pages: README.md, CONTRIBUTING.md, and the Markdown files of docs, examples, bench and tools/fuzz; and the lines of clauses.
 
     tools/check_pages.py              prints each fault as PAGE:LINE: FAULT
     tools/check_pages.py --figures    prints the size of each page, its words a sentence, its longest lines and its longest sentence too
@@ -19,6 +19,7 @@ For example, `docs/DISK.md:12: no heading of README.md has the anchor #run-it`. 
 - a page whose sentences have more than 18 words on average: those of paragraphs and list items, a code span as one word
 - a decision of more than 80 words: the text of a section of docs/DECISIONS.md, from its heading to the next one
 - words for which the field has a usual one, as `want of memory` for `out of memory`
+- a line of a contract, in a source file of a crate, of more than 100 columns
 
 In a path `..` and a part in capitals, as NAME, stand for anything (but not in the name of a page), and an extension may
 be left out. A file named by its end alone, as `src/lib.rt`, has to be in a crate that its section names, if any.
@@ -39,6 +40,8 @@ from command_line import add_top, parser_of, status_of_faults
 from crates_txt import deps_of, lines_in
 
 PAGE = re.compile(r"README\.md|CONTRIBUTING\.md|(docs|examples|bench|tools/fuzz)/[^/]+\.md")
+# The first line of a clause.
+CLAUSE = re.compile(r"\s*(requires|ensures)\b")
 MOST_COLUMNS = 100
 MOST_LINES = {"README.md": 150, "CONTRIBUTING.md": 200, "docs/PROOFS.md": 300, "docs/BENCHMARKS.md": 300, "docs/CLUSTER.md": 300}
 MOST_WORDS_A_SENTENCE = 18
@@ -314,7 +317,7 @@ class Repository:
         self.clauses = self._clauses()
         self.all_clauses = set().union(*self.clauses.values())
 
-    def _text(self, path):
+    def text(self, path):
         with open(os.path.join(self.top, path), encoding="utf-8", errors="replace") as file:
             return file.read()
 
@@ -322,13 +325,13 @@ class Repository:
         """What each crate of crates.txt stands on."""
         if "crates.txt" not in self.paths:
             raise PagesError(f"{self.top} has no crates.txt")
-        return deps_of(lines_in(self._text("crates.txt")))
+        return deps_of(lines_in(self.text("crates.txt")))
 
     def _read(self, path):
         # Pages, data and answers give no names.
         if path.endswith((".md", ".csv", ".answers", ".expected")) or not os.path.isfile(os.path.join(self.top, path)):
             return
-        text, source = self._text(path), re.fullmatch(r"crates/(\w+)/src/.+\.rt", path)
+        text, source = self.text(path), re.fullmatch(r"crates/(\w+)/src/.+\.rt", path)
         self.words.update(NAME.findall(text))
         if source and source[1] in self.crates:
             self.crates[source[1]].add(text)
@@ -353,7 +356,7 @@ class Repository:
 
     def pages(self):
         """The pages that are checked."""
-        return [Page(path, self._text(path)) for path in self.files if PAGE.fullmatch(path)]
+        return [Page(path, self.text(path)) for path in self.files if PAGE.fullmatch(path)]
 
     def has_item(self, name):
         """Whether there is an item, as `fw_money::parse`, `State::apply` or `escapes::push_escaped`.
@@ -379,7 +382,7 @@ class Repository:
         folders = tuple(f"{path.rstrip('/')}/" for path in paths)
         files = {*self.paths.intersection(paths), *(file for file in self.files if file.startswith(folders))} - self.folders
         begins = re.compile(rf"^\s*(?:(?:{DEFINING})\s+)*{re.escape(name)}(?!\w)", re.MULTILINE)
-        return any(begins.search(self._text(file)) for file in files)
+        return any(begins.search(self.text(file)) for file in files)
 
     def is_path(self, path):
         """Whether there is a file or a folder of this path."""
@@ -569,10 +572,28 @@ def check_sizes(page):
             yield Fault(page.path, line, f'the decision "{heading}" has {words} words, more than {MOST_WORDS_OF_A_DECISION}')
 
 
+def clause_lines(text):
+    """The lines of a source file in which its contracts stand: each with its number."""
+    depth = 0
+    for number, line in enumerate(text.splitlines(), 1):
+        if depth or CLAUSE.match(line):
+            yield number, line
+            depth = max(0, depth + line.count("{") - line.count("}"))
+
+
+def check_contracts(repository):
+    """The lines of clauses that are too long."""
+    for path in repository.files:
+        if re.fullmatch(r"crates/\w+/src/.+\.rt", path):
+            for number, line in clause_lines(repository.text(path)):
+                if len(line) > MOST_COLUMNS:
+                    yield Fault(path, number, f"{len(line)} columns, more than {MOST_COLUMNS}: break the clause, or name the fact in specs")
+
+
 def faults_of(repository):
-    """The faults of all pages, and the pages."""
+    """The faults of all pages and of the lines of clauses, and the pages."""
     pages = {page.path: page for page in repository.pages()}
-    faults = []
+    faults = [*check_contracts(repository)]
     for page in pages.values():
         faults += [
             *check_links(page, pages, repository),

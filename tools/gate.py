@@ -13,7 +13,7 @@
 `rt ci` proves from nothing, but for what it has passed on this machine, of the same files over the same libraries: that it takes as it is, and says so. It
 runs over a copy of the tree without edits. The edits are tried beside it, many of them in one check (tools/edits.py), each crate's once the crate is proved.
 
-An edit is due once its own text changed, or a file that it turns, imports aside, or a definition that this file goes by: since the commit up to which its crate's edits are
+An edit is due once its own text changed, or a file that it turns, layout and imports aside, or a definition that this file goes by: since the commit up to which its crate's edits are
 known to be refused (tools/edits-tried), or under another logic of the toolchain. First come the edits whose text is new, then the crates with edits that are due, those first whose edits were
 tried longest ago, then the others in the same order, until the budget is spent. What is left over stays due.
 
@@ -41,10 +41,15 @@ from due import DueError, Records
 from edits import REFUSED, Edit, Lanes, run_crate
 from meter import Meter, processor, table
 
+# Runs `rt ci`.
+RT_CI = os.path.join(os.path.dirname(os.path.abspath(__file__)), "rt_ci.py")
 # The crates that are programs: what is built of them is kept.
 PROGRAMS = ("focusd", "fw_first_look", "fw_simulate")
 # The budget for edits, in minutes of the processor.
 BUDGET = 15
+# What a proof takes at the most, in bytes. `rt ci` goes by sizes of files, and reckons with two and three times as much for a crate that stands on many others: it would
+# prove one or two of those at a time, and leave the other processors idle.
+MOST_MEMORY = 5_000_000_000
 # A line of `rt ci` that says no more than that all is well with one item.
 ITEM = re.compile(r"(fn|struct|enum|union|impl|trait|type|const|static) \S.*: (proved|assumed)$|statements |crate .*: modules ")
 # A line of `rt ci` that says that a crate is proved and built.
@@ -94,6 +99,17 @@ def copy_tree(top, to, crates):
 def is_shown(line, of_program):
     """Whether a line of `rt ci` goes to standard output: all but the thousands that say that one item is proved."""
     return not ITEM.match(line) and not (of_program and not line.startswith("rt: ") and " passed, " not in line)
+
+
+def free_memory():
+    """The memory of the machine that is free, in bytes."""
+    with open("/proc/meminfo", encoding="ascii") as file:
+        return 1024 * int(re.search(r"^MemAvailable:\s+(\d+) kB$", file.read(), re.M)[1])
+
+
+def lanes_of(processors, free):
+    """How many proofs run side by side: one a processor, as many as memory holds."""
+    return max(1, min(processors, free // MOST_MEMORY))
 
 
 class Tries:
@@ -148,7 +164,11 @@ def run_gate(room, log_path, flags, of_program, number_of_crates, tries):
     """Runs `rt ci` in the room, and the edits beside it: the exit status, the steps, minutes by the clock of `rt ci` alone and of all, and processor seconds."""
     began, used = time.monotonic(), processor()
     meter, proved = Meter(), 0
-    process = subprocess.Popen(["rt", "ci", *flags], cwd=room, stdin=subprocess.DEVNULL, stdout=subprocess.PIPE, stderr=subprocess.STDOUT, start_new_session=True)
+    lanes = lanes_of(len(os.sched_getaffinity(0)), free_memory())
+    process = subprocess.Popen(
+        [sys.executable, "-B", RT_CI, *flags], cwd=room, env={"RT_JOBS": str(lanes), **os.environ}, stdin=subprocess.DEVNULL, stdout=subprocess.PIPE, stderr=subprocess.STDOUT,
+        start_new_session=True,
+    )  # fmt: skip
     try:
         with open(log_path, "wb") as log:
             for raw in process.stdout:

@@ -62,7 +62,8 @@ Each of these would meet its contract too. They were found by reading, and no ch
 
 One reader saw the clauses of `fw_serve`, `fw_recover`, `fw_threads`, `fw_snapshot`, `fw_segment` and `fw_query`, and no body. The
 reader named 54 wrong bodies that would break [the promise](PROOFS.md), and for 52 of them the clause that refuses it. Must-fail
-edits turn these clauses. The other two stand here: `Store::run` with a checkpoint, and `Closed` for what may be stored.
+edits turn these clauses. The other two stand here: `Store::run` with a checkpoint, and `Closed` for what may be stored. Another
+reader of the same, who looked for what no clause refuses, named twenty. Seven are refused, and the others stand here.
 """
 UNJUDGED = """
 Nothing is known of these bodies. Where must-fail edits turn the same clauses, they are refused.

@@ -33,6 +33,8 @@
 #define LAST_FILE 19
 /* from which place on this has files of its own */
 #define OWN_FILES 500
+/* how many milliseconds the task of a thread that was joined is awaited: it stands in /proc for a moment after that, longer on a full machine */
+#define AWAITED 2000
 
 struct end {
     unsigned long number;
@@ -53,8 +55,8 @@ static unsigned long *count;
 static unsigned long own;
 /* the file of the ends, and those that a child writes to; the first is below 0 where one allocation alone is refused */
 static int ends = -1, outputs[2];
-/* how many threads were started that are neither joined nor detached */
-static long unjoined;
+/* how many threads were started that are neither joined nor detached, and how many were detached */
+static long unjoined, detached;
 /* whether this thread is starting another one */
 static _Thread_local int starts __attribute__((tls_model("initial-exec")));
 
@@ -100,10 +102,24 @@ __attribute__((constructor)) static void begin(void) {
     begin_children();
 }
 
-/* Whether this is the only thread, each other one was joined, no file is open but the first three, and none stands in the working folder. */
-static int is_alone(void) {
+/* Whether this is the only thread, and each other one was joined. */
+static int is_only_thread(void) {
     struct stat tasks;
-    if (__atomic_load_n(&unjoined, __ATOMIC_SEQ_CST) != 0 || stat("/proc/self/task", &tasks) != 0 || tasks.st_nlink != 3) {
+    for (int passed = 0; __atomic_load_n(&unjoined, __ATOMIC_SEQ_CST) == 0 && stat("/proc/self/task", &tasks) == 0; passed++) {
+        if (tasks.st_nlink == 3) {
+            return 1;
+        }
+        if (passed == AWAITED || __atomic_load_n(&detached, __ATOMIC_SEQ_CST) != 0) {
+            return 0;
+        }
+        usleep(1000);
+    }
+    return 0;
+}
+
+/* Whether this is the only thread, no file is open but the first three, and none stands in the working folder. */
+static int is_alone(void) {
+    if (!is_only_thread()) {
         return 0;
     }
     for (int file = FIRST_FILE; file <= LAST_FILE; file++) {
@@ -236,5 +252,6 @@ int pthread_join(pthread_t thread, void **ended) {
 }
 
 int pthread_detach(pthread_t thread) {
+    __atomic_add_fetch(&detached, 1, __ATOMIC_SEQ_CST);
     return counted(next_detach(thread), -1);
 }

@@ -170,11 +170,12 @@ def runs(words, given, piece, shim, room):
 
 def is_right(status, said):
     """Whether a test under a refused allocation ended as it has to."""
-    error = re.search(r"^error: (\w+)", said, re.M)
+    error = re.search(r"^error: (\w+(?:\(\w+)*)", said, re.M)
     if status is None or status == 0 or error is None:
         return status == 0
     is_answered, is_stopped = status > 0, status == -signal.SIGABRT and STOPPED.search(said) is not None
-    return (is_answered or is_stopped) and error.group(1) in OUT_OF_MEMORY
+    # An error may hold the one that it comes of, as `Store(NoMemory)` does.
+    return (is_answered or is_stopped) and not OUT_OF_MEMORY.isdisjoint(error.group(1).split("("))
 
 
 def shown(text):

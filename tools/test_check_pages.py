@@ -197,6 +197,14 @@ class Repositories(unittest.TestCase):
             self.assertEqual(self.faults("- a\n" * (most + 1), page), [f"{most + 1}: {most + 1} lines, more than {most}"])
         self.assert_passes("- a\n" * 1000, "docs/FORMATS.md")
 
+    def test_lines_of_clauses(self):
+        text = "fn f()\n    requires a { b\n        c }\n{\n    call();\n}\n    ensures { d }\n"
+        self.assertEqual([number for number, _ in check_pages.clause_lines(text)], [2, 3, 7])
+        long = f"pub fn long()\n    ensures {{ true\n        {'+ 1 ' * 24}}}\n{{\n    // {'x' * 120}\n}}\n"
+        write(self.top, {"crates/fw_low/src/long.rt": long})
+        found, _ = check_pages.faults_of(check_pages.Repository(self.top))
+        self.assertEqual([(fault.page, fault.line) for fault in found], [("crates/fw_low/src/long.rt", 3)])
+
     def test_usual_words(self):
         usual = "the usual word is out of memory, or a failed allocation"
         self.assertEqual(self.faults("# A\n\nIt ends\nfor want\nof memory.\n", "docs/A.md"), [f'4: "for want of memory": {usual}'])

@@ -128,7 +128,17 @@ class Terminal:
         ready = f"[ready {self.prompts}]".encode()
         if self.await_one(ready, b"[more]") != ready:
             os.write(self.screen, b"\x03")
+            self.await_behind_interrupt(ready)
+
+    def await_behind_interrupt(self, ready):
+        """Waits for the prompt behind an interrupt. On a full machine a shell may lose it; an empty line then brings the next one."""
+        try:
             self.await_one(ready)
+        except TimeoutError:
+            self.lost = ""
+            self.prompts += 1
+            os.write(self.screen, b"\r")
+            self.await_one(f"[ready {self.prompts}]".encode())
 
     def enter(self, keys):
         """Types these keys and Enter, and waits for the next prompt."""
@@ -369,7 +379,7 @@ class Bash(AtThePrompt, unittest.TestCase):
 
     def test_what_is_offered(self):
         commands = "add charge check checkpoint commitments compact compare coverage dump explain export help import lines load policy replace report run split status verify withdraw".split()
-        options = ["--create", "--currency", "--dialect", "--dir", "--help", "--keep", "--origin", "--quiet", "--summary"]
+        options = ["--create", "--currency", "--dialect", "--dir", "--help", "--keep", "--origin", "--quiet", "--summary", "--workers"]
         folder = self.room.folder_with(["-x.csv", "a b.csv", "a$(touch PWNED).csv"], ["costs now"])
         for words, offered in (
             ([""], sorted(commands)),

@@ -12,6 +12,7 @@ import due  # noqa: E402
 import gate  # noqa: E402
 import meter  # noqa: E402
 import refuse_allocations  # noqa: E402
+import rt_ci  # noqa: E402
 from command_line import TOP, run_tests  # noqa: E402
 from crates_txt import below, deps_of, lines_in  # noqa: E402
 
@@ -49,6 +50,47 @@ class Lines(unittest.TestCase):
             self.assertEqual(gate.BUILT.match(line)[1], "fw_money", line)
         for line in ["rt: fw_money NOT PROVED", "rt: fw_money: its tests are proved"]:
             self.assertIsNone(gate.BUILT.match(line), line)
+
+
+class Lanes(unittest.TestCase):
+    def test_a_proof_has_a_processor_where_it_has_memory(self):
+        most = gate.MOST_MEMORY
+        for processors, free, lanes in [(4, 5 * most, 4), (4, 4 * most, 4), (4, 4 * most - 1, 3), (2, 9 * most, 2), (8, most, 1), (4, 0, 1)]:
+            self.assertEqual(gate.lanes_of(processors, free), lanes, (processors, free))
+
+    def test_the_memory_that_is_free_is_read(self):
+        self.assertGreater(gate.free_memory(), 0)
+
+
+class Checksums(unittest.TestCase):
+    def test_each_is_worked_out_once(self):
+        asked = []
+
+        class Crate:
+            def __init__(self, folder, *below):
+                self.folder, self.below = folder, below
+
+            def stamp(self):
+                asked.append(self.folder)
+                return self.folder + "".join(it.stamp() for it in self.below)
+
+        low = Crate("low")
+        sides = Crate("left", low), Crate("right", low)
+        top, wanted = Crate("top", *sides), Crate("top", *sides).stamp()
+        asked.clear()
+        Crate.stamp = rt_ci.once(Crate.stamp)
+        self.assertEqual([top.stamp(), top.stamp()], [wanted, wanted])
+        self.assertEqual(sorted(asked), ["left", "low", "right", "top"])
+
+    def test_another_release_is_known_as_one(self):
+        with tempfile.TemporaryDirectory() as kit:
+            os.mkdir(os.path.join(kit, "bin"))
+            path = os.path.join(kit, "bin", "rt")
+            self.assertFalse(rt_ci.is_release(path))
+            for line, known in [("rattle-kit-13b logic 1", True), ("rattle-kit-13f logic 1", False)]:
+                with open(os.path.join(kit, "KIT-ID"), "w", encoding="utf-8") as file:
+                    file.write(line)
+                self.assertEqual(rt_ci.is_release(path), known)
 
 
 class Files(unittest.TestCase):
@@ -145,6 +187,23 @@ class Changes(unittest.TestCase):
                 self.assertEqual(changes.changes_since(top, commit).files, {"crates/changed/src/lib.rt"} if is_due else set(), line)
             repository.write("crates/changed/src/lib.rt", SOURCE.replace("+ 1\n", "+ 2\n"))
             self.assertEqual(changes.changes_since(top, commit).files, {"crates/changed/src/lib.rt"})
+
+    def test_another_layout_is_no_change(self):
+        with tempfile.TemporaryDirectory() as top:
+            repository = Repository(top)
+            repository.fill()
+            code, clause = "crates/changed/src/lib.rt", "    ensures { result ≡ byte + 1 }\n"
+            repository.write(code, SOURCE + "// a comment, and code behind it\nconst NAME: &str = \"a b\";\n")
+            commit = repository.commit("before")
+            text = SOURCE + "// a comment, and code behind it\nconst NAME: &str = \"a b\";\n"
+            for new, is_due in [
+                (text.replace(clause, "    ensures { result\n        ≡ byte + 1 }\n\n"), False),
+                (text.replace(clause, "    ensures { result ≡ byte\n        + 2 }\n"), True),
+                (text.replace("// a comment, and code behind it", "// a comment,\nand code behind it"), True),
+                (text.replace("a b", "a  b"), True),
+            ]:
+                repository.write(code, new)
+                self.assertEqual(changes.changes_since(top, commit).files, {code} if is_due else set(), new)
 
     def test_what_was_tried_up_to_a_commit_is_due_again_once_it_changes(self):
         with tempfile.TemporaryDirectory() as top:
@@ -287,7 +346,8 @@ class Refusals(unittest.TestCase):
     def test_a_test_ends_by_an_error_that_says_that_memory_ran_out(self):
         stopped, answered = "test stopped at src/ended.rt:32:5\nerror: AllocError\n", "error: AllocError\n"
         failed = "test stopped at src/ended.rt:15:5\n"
-        right = [(0, ""), (1, answered), (-6, stopped)]
+        within = [stopped.replace("AllocError", error) for error in ("Store(NoMemory)", "Import(Rows(NoMemory))", "Store(Device)")]
+        right = [(0, ""), (1, answered), (-6, stopped), *((-6, said) for said in within)]
         wrong = [
             (None, stopped),
             (1, ""),
@@ -295,6 +355,8 @@ class Refusals(unittest.TestCase):
             (-6, failed),
             (-6, answered),
             (-6, stopped.replace("AllocError", "Corrupt")),
+            (-6, stopped.replace("AllocError", "Rows(NoRows)")),
+            (-6, stopped.replace("AllocError", "Gap { NoMemory: 1 }")),
             (-6, stopped.replace("ended.rt", "decoders.rt")),
             (-11, stopped),
         ]

@@ -44,7 +44,11 @@ COLUMNS = ("SkuId", "SubAccountId", "ChargeCategory", "CommitmentDiscountId", "C
 SUMMARY = {"summary": Option(rule=one_of("text", "json"))}
 COMMANDS = {
     "run": ({"currency": Option(), "dir": Option(), "create": FLAG, "workers": Option(rule=number_from(1, 64)), "strict": FLAG}, 0, 0),
-    "import": ({"dir": DIR, "create": FLAG, "currency": Option(), "origin": DIR, "keep": Option(repeats=True), "dialect": DIALECT, **SUMMARY, "quiet": FLAG}, 1, MANY),
+    "import": (
+        {"dir": DIR, "create": FLAG, "currency": Option(), "origin": DIR, "keep": Option(repeats=True), "dialect": DIALECT,
+         "workers": Option(rule=number_from(1, 64)), **SUMMARY, "quiet": FLAG},
+        1, MANY,
+    ),
     "load": (
         {"currency": Option(), "dir": Option(), "create": FLAG, "analysts": Option(rule=number_from(1, 16)), "origin": Option(), "strict": FLAG}, 1, MANY,
     ),

@@ -352,14 +352,15 @@ class Csv(ScriptReader):
             return []
         lay((None, None))
         size = sum(map(len, inputs))
-        ended = session.run(["import", "--dir", HOUSE, "--create", "--origin", "import", *taken], size=size)
+        workers = ["--workers", str(1 + size % 4)]
+        ended = session.run(["import", "--dir", HOUSE, "--create", "--origin", "import", *workers, *taken], size=size)
         skipped = f"; {counted(repeated, 'repeated header')} skipped" if repeated else ""
         wanted = f"imported {counted(rows, 'row')}, 0 were there already; {counted(posts, 'post')}{skipped}\n".encode()
         alarm = session.take_alarm()
         if alarm or ended.status != 0 or ended.out != wanted:
             return [(None, alarm or f"import of right files: status {ended.status}, {clipped(ended.out)!r} {clipped(ended.error)!r}, not {wanted!r}")]
         if bad:
-            ended = session.run(["import", "--dir", HOUSE, "--origin", "other", bad[0]], size=size)
+            ended = session.run(["import", "--dir", HOUSE, "--origin", "other", *workers, bad[0]], size=size)
             if ended.status != 1 or not re.search(rb"\b%s\b" % bad[1].encode(), ended.error):
                 return [(names.index(bad[0]), f"import of a file with {bad[1]}: status {ended.status}, {clipped(ended.out)!r} {clipped(ended.error)!r}")]
             for number, part in enumerate(bad[2], 1):
@@ -834,6 +835,9 @@ class CommandLines(Reader):
         # The folder's warehouse is in USD, so another currency is a wrong word.
         if ended.status == 2 and any(word.startswith(b"--currency") for word in words):
             return b"USD" in ended.error
+        # Where one end of the hours is given, the other one is the warehouse's. So the hours may be none.
+        if ended.status == 2 and sum(word.split(b"=")[0] in (b"--from", b"--to") for word in words) == 1:
+            return b"\nfocusd: Q1 Range: " in b"\n" + ended.error
         return ended.status == 0 or ended.status == 1 and bool(re.match(rb"[^\n]", ended.error))
 
     def smaller(self, words, fails, most):

@@ -98,7 +98,7 @@ fn run_command<R: Threads + Wait + Sync>(
 ) -> Result<ExitCode, Fault> {
     match matches.subcommand() {
         Some(("run", options)) => serve_script(rt, threads, options),
-        Some(("import", options)) => import_files(rt, options),
+        Some(("import", options)) => import_files(rt, threads, options),
         Some(("load", options)) => load_files(rt, threads, options),
         Some(("add", options)) => add_files(rt, options),
         Some(("replace", options)) => replace_rows(rt, options),

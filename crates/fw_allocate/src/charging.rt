@@ -45,7 +45,8 @@ fn charges_of(
     requires rising { IsRising (groups_in direct.now) }
     requires small { size_of direct.now ≤ 10 ^ 19 }
     requires few { length gifts.now ≤ 64 }
-    ensures { IfOk result (λ charged. charged.items ≡ charges_with direct.now gifts.now (texts groups.now)) }
+    ensures { IfOk result (λ charged. charged.items
+        ≡ charges_with direct.now gifts.now (texts groups.now)) }
 {
     let mut charged = Vec::with_capacity(alloc, groups.len())?;
     for group in groups {

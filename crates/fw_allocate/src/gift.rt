@@ -112,8 +112,10 @@ impl<'a> Receivers<'a> {
         rules: &[Rule],
         give: &'a Give,
     ) -> Result<Receivers<'a>, AllocError>
-        ensures groups { IfOk result (λ r. texts r.groups.items ≡ receivers direct.now rules.now (give_view give.now)) }
-        ensures weights { IfOk result (λ r. r.weights.items ≡ weights direct.now rules.now (give_view give.now)) }
+        ensures groups { IfOk result (λ r. texts r.groups.items
+            ≡ receivers direct.now rules.now (give_view give.now)) }
+        ensures weights { IfOk result (λ r. r.weights.items
+            ≡ weights direct.now rules.now (give_view give.now)) }
     {
         match give {
             Give::Fixed(targets) => Receivers::of_targets(alloc, targets),
@@ -141,8 +143,10 @@ impl<'a> Receivers<'a> {
         direct: &'a [Cost],
         rules: &[Rule],
     ) -> Result<Receivers<'a>, AllocError>
-        ensures groups { IfOk result (λ r. texts r.groups.items ≡ receivers direct.now rules.now proportional) }
-        ensures weights { IfOk result (λ r. r.weights.items ≡ weights direct.now rules.now proportional) }
+        ensures groups { IfOk result (λ r. texts r.groups.items
+            ≡ receivers direct.now rules.now proportional) }
+        ensures weights { IfOk result (λ r. r.weights.items
+            ≡ weights direct.now rules.now proportional) }
     {
         let mut groups = Vec::new(alloc);
         let mut weights = Vec::new(alloc);

@@ -42,7 +42,8 @@ fn names_of<'a>(
 
 /// Adds the groups of the costs.
 fn push_direct<'a>(groups: &mut Vec<&'a str>, direct: &'a [Cost]) -> Result<(), AllocError>
-    ensures { OnOk result (texts groups.new.items ≡ texts groups.old.items ++ groups_in direct.now) }
+    ensures { OnOk result (texts groups.new.items
+        ≡ texts groups.old.items ++ groups_in direct.now) }
 {
     for cost in direct {
         groups.push(cost.group())?;
@@ -62,7 +63,8 @@ fn push_givers<'a>(groups: &mut Vec<&'a str>, rules: &'a [Rule]) -> Result<(), A
 
 /// Adds the groups that the rules name as targets.
 fn push_targets<'a>(groups: &mut Vec<&'a str>, rules: &'a [Rule]) -> Result<(), AllocError>
-    ensures { OnOk result (texts groups.new.items ≡ texts groups.old.items ++ targets_of rules.now) }
+    ensures { OnOk result (texts groups.new.items
+        ≡ texts groups.old.items ++ targets_of rules.now) }
 {
     for rule in rules {
         push_given(groups, rule.give())?;
@@ -72,7 +74,8 @@ fn push_targets<'a>(groups: &mut Vec<&'a str>, rules: &'a [Rule]) -> Result<(), 
 
 /// Adds the groups that a rule names as targets.
 fn push_given<'a>(groups: &mut Vec<&'a str>, give: &'a Give) -> Result<(), AllocError>
-    ensures { OnOk result (texts groups.new.items ≡ texts groups.old.items ++ groups_given (give_view give.now)) }
+    ensures { OnOk result (texts groups.new.items
+        ≡ texts groups.old.items ++ groups_given (give_view give.now)) }
 {
     match give {
         Give::Fixed(targets) => push_all(groups, targets),
@@ -82,7 +85,8 @@ fn push_given<'a>(groups: &mut Vec<&'a str>, give: &'a Give) -> Result<(), Alloc
 
 /// Adds the groups of the targets.
 fn push_all<'a>(groups: &mut Vec<&'a str>, targets: &'a [Target]) -> Result<(), AllocError>
-    ensures { OnOk result (texts groups.new.items ≡ texts groups.old.items ++ map (λ t. t.group) targets.now) }
+    ensures { OnOk result (texts groups.new.items
+        ≡ texts groups.old.items ++ map (λ t. t.group) targets.now) }
 {
     for target in targets {
         groups.push(target.group())?;

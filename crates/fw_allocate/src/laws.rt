@@ -7,10 +7,13 @@ ghost use Rattle.fw_terms.specs.Texts.{IsRising};
 
 /// At most one list is what the groups are charged, so [`charge`](crate::charge) has one answer.
 pub fn charges_are_one()
-    ensures { (direct : List CostValue) (rules : List RuleValue) (a b : List CostValue) → AreCharges direct rules a → AreCharges direct rules b → a ≡ b }
+    ensures { (direct : List CostValue) (rules : List RuleValue) (a b : List CostValue)
+        → AreCharges direct rules a → AreCharges direct rules b → a ≡ b }
 {}
 
 /// A policy moves costs and makes none: what the groups are charged sums to what they cost.
 pub fn charges_keep_the_total()
-    ensures { (direct : List CostValue) (policy : PolicyValue) (charged : List CostValue) → IsRising (groups_in direct) → IsPolicy policy → AreCharges direct policy.rules charged → total_cost charged ≡ total_cost direct }
+    ensures { (direct : List CostValue) (policy : PolicyValue) (charged : List CostValue)
+        → IsRising (groups_in direct) → IsPolicy policy → AreCharges direct policy.rules charged
+        → total_cost charged ≡ total_cost direct }
 {}

@@ -1,3 +1,4 @@
 pub mod SumFacts
+pub mod TrueFacts
 mod TextFacts
 mod MemberFacts

@@ -1,5 +1,6 @@
 pub mod Exported
 pub mod LineRows
+pub mod TrueRows
 pub mod Instants
 pub mod Cells
 pub mod Objects

@@ -104,7 +104,8 @@ fn write_cells<'t>(
     tags: &'t str,
 ) -> Result<(), AllocError>
     ensures { OnOk result ((text : List ℕ) → HasWritten writer.old text
-        → HasWritten writer.new (text ++ record_line (map field_of (map option_copied cells.now) ++ tags.now ∷ []))) }
+        → HasWritten writer.new (text
+        ++ record_line (map field_of (map option_copied cells.now) ++ tags.now ∷ []))) }
 {
     let mut fields = fields_of(alloc, cells)?;
     fields.push(tags.as_bytes())?;

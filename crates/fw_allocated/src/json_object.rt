@@ -28,8 +28,9 @@ pub(crate) fn push_object(
     tags: &str,
 ) -> Result<(), AllocError>
     requires { length names.now ≡ length cells.now }
-    ensures { OnOk result (string_bytes text.new ≡ string_bytes text.old
-        ++ object_line (map (λ s. string_bytes s) names.now) (map option_copied cells.now) tags.now) }
+    ensures { OnOk result (string_bytes text.new
+        ≡ string_bytes text.old ++ object_line (map (λ s. string_bytes s) names.now)
+        (map option_copied cells.now) tags.now) }
 {
     text.push_str("{")?;
     push_members(alloc, text, names, cells)?;

@@ -61,7 +61,8 @@ fn push_row_at<'r, 'a>(
     place: usize,
 ) -> Result<(), AllocError>
     ensures { OnOk result (map (λ r. r.now) used.new.items
-        ≡ map (λ r. r.now) used.old.items ++ option_to_list (slice_get (map (λ r. r.now) rows.now) place)) }
+        ≡ map (λ r. r.now) used.old.items
+        ++ option_to_list (slice_get (map (λ r. r.now) rows.now) place)) }
 {
     if place < rows.len() {
         used.push(rows[place])?;

@@ -4,6 +4,7 @@ ghost use Rattle.fw_charge.specs.Charge.{Charge};
 ghost use Rattle.fw_snapshot.specs.History.{commitments_of, rows_of};
 ghost use Rattle.fw_allocated.specs.LineRows.{AreExportsAt};
 ghost use Rattle.fw_allocated.specs.Texts.{AreRowTexts, head_text};
+ghost use Rattle.fw_allocated.specs.TrueRows.{AreOfTrueRowsAt};
 
 use crate::csv_text::{csv_head, csv_rows};
 use crate::format::ExportFormat;
@@ -25,6 +26,8 @@ pub fn head_text(alloc: Global, format: ExportFormat) -> Result<Vec<u8>, AllocEr
 
 /// The rows that the lines of an hour are exported as, counted from 1970, under the commitments and over the rows that count of a state. Costs
 /// are in the currency, which is its code, with nine digits behind the point; instants are those of UTC. The one error is that memory ran out.
+///
+/// Each row that is written is of the row of the hour of which its line is a part: its tags, period, SKU, sub-account, unit and class are that row's.
 pub fn hour_text(
     alloc: Global,
     shown: &Shown,
@@ -33,8 +36,12 @@ pub fn hour_text(
     hour: u64,
 ) -> Result<Vec<u8>, AllocError>
     requires { hour + 1 < 2 ^ 64 }
-    ensures { IfOk result (λ text. (exports : List Charge)
+    ensures text { IfOk result (λ text. (exports : List Charge)
         × AreExportsAt (commitments_of shown.now.entries) (rows_of shown.now.entries) hour exports
+        × AreRowTexts format currency.now exports text.items) }
+    ensures rows { IfOk result (λ text. (exports : List Charge)
+        × AreOfTrueRowsAt (commitments_of shown.now.entries)
+        (rows_of shown.now.entries) hour exports
         × AreRowTexts format currency.now exports text.items) }
 {
     let segments = shown.segments(alloc)?;

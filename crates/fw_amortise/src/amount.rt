@@ -27,5 +27,6 @@ pub fn hour_amount(total: Nanos, hours: u32, hour: u32) -> Nanos
 
 /// The amounts of the hours of a term are the total.
 pub fn amounts_are_the_total()
-    ensures { (total hours : ℕ) → 0 < hours → sum_by (amount_of total hours) (range_with_len 0 hours) ≡ total }
+    ensures { (total hours : ℕ) → 0 < hours
+        → sum_by (amount_of total hours) (range_with_len 0 hours) ≡ total }
 {}

@@ -28,7 +28,8 @@ fn push_purchases_of<'a>(
     commitment: &'a Commitment,
     hour: u32,
 ) -> Result<(), AllocError>
-    ensures { OnOk result (lines.new.items ≡ lines.old.items ++ purchase_lines_of hour commitment.now) }
+    ensures { OnOk result (lines.new.items
+        ≡ lines.old.items ++ purchase_lines_of hour commitment.now) }
 {
     for purchase in commitment.purchases() {
         if is_in_hour(purchase.at(), hour) {
@@ -45,7 +46,8 @@ fn push_purchases<'a>(
     commitments: &'a [Commitment],
     hour: u32,
 ) -> Result<(), AllocError>
-    ensures { OnOk result (lines.new.items ≡ lines.old.items ++ purchase_lines commitments.now hour) }
+    ensures { OnOk result (lines.new.items
+        ≡ lines.old.items ++ purchase_lines commitments.now hour) }
 {
     for commitment in commitments {
         push_purchases_of(lines, commitment, hour)?;
@@ -60,7 +62,8 @@ fn push_given<'a>(
     rows: &[&LentRow<'a>],
     hour: u32,
 ) -> Result<(), AllocError>
-    ensures { OnOk result (lines.new.items ≡ lines.old.items ++ given_lines (map (λ r. r.now) rows.now) hour) }
+    ensures { OnOk result (lines.new.items
+        ≡ lines.old.items ++ given_lines (map (λ r. r.now) rows.now) hour) }
 {
     for row in rows {
         if !is_eligible(row) {
@@ -95,8 +98,11 @@ fn push_rests<'a>(
     hour: u32,
 ) -> Result<(), AllocError>
     requires one_each { length cover.now.row_left.items ≡ length rows.now }
-    requires left { (r : ℕ) → taken_of_row r cover.now.taken.items + slice_index cover.now.row_left.items r ≡ slice_index (quantities_of (map (λ r. r.now) rows.now)) r }
-    ensures { OnOk result (lines.new.items ≡ lines.old.items ++ rest_lines (map (λ r. r.now) rows.now) cover.now.taken.items hour) }
+    requires left { (r : ℕ) → taken_of_row r cover.now.taken.items
+        + slice_index cover.now.row_left.items r
+        ≡ slice_index (quantities_of (map (λ r. r.now) rows.now)) r }
+    ensures { OnOk result (lines.new.items
+        ≡ lines.old.items ++ rest_lines (map (λ r. r.now) rows.now) cover.now.taken.items hour) }
 {
     for (place, row) in rows.iter().enumerate() {
         push_rest(lines, row, cover.row_left[place], hour)?;
@@ -128,10 +134,14 @@ fn push_shared_at<'a>(
 ) -> Result<(), AllocError>
     requires place { place < length commitments.now }
     requires commitments { length cover.now.unused.items ≡ length commitments.now }
-    requires within { All (IsTakeWithin (length commitments.now) (length rows.now)) cover.now.taken.items }
+    requires within { All (IsTakeWithin (length commitments.now) (length rows.now))
+        cover.now.taken.items }
     requires takes { takes.now ≡ takes_of place cover.now.taken.items }
-    requires unused { (c : ℕ) → used_of c cover.now.taken.items + slice_index cover.now.unused.items c ≡ slice_index (capacities_of commitments.now) c }
-    ensures { OnOk result ((c : CommitmentValue) → slice_get commitments.now place ≡ Some c → AddsShared commitments.now (map (λ r. r.now) rows.now) cover.now.taken.items hour (filter (λ c. is_in_term c.1 hour) ((place, c) ∷ [])) lines.old.items lines.new.items) }
+    requires unused { (c : ℕ) → used_of c cover.now.taken.items
+        + slice_index cover.now.unused.items c ≡ slice_index (capacities_of commitments.now) c }
+    ensures { OnOk result ((c : CommitmentValue) → slice_get commitments.now place ≡ Some c
+        → AddsShared commitments.now (map (λ r. r.now) rows.now) cover.now.taken.items hour
+        (filter (λ c. is_in_term c.1 hour) ((place, c) ∷ [])) lines.old.items lines.new.items) }
 {
     let commitment = &commitments[place];
     if !is_in_term(commitment, hour) {
@@ -160,10 +170,16 @@ fn push_shared<'a>(
 ) -> Result<(), AllocError>
     requires hour { HasHour roster.now hour }
     requires commitments { length cover.now.unused.items ≡ length roster.now.commitments }
-    requires takes { All (IsTakeWithin (length roster.now.commitments) (length rows.now)) cover.now.taken.items }
-    requires runs { cover.now.taken.items ≡ flat_map (λ c. takes_of c.0 cover.now.taken.items) (roster_order roster.now) }
-    requires unused { (c : ℕ) → used_of c cover.now.taken.items + slice_index cover.now.unused.items c ≡ slice_index (capacities_of roster.now.commitments) c }
-    ensures { OnOk result (AddsShared roster.now.commitments (map (λ r. r.now) rows.now) cover.now.taken.items hour (running roster.now.commitments hour) lines.old.items lines.new.items) }
+    requires takes { All (IsTakeWithin (length roster.now.commitments) (length rows.now))
+        cover.now.taken.items }
+    requires runs { cover.now.taken.items ≡ flat_map (λ c. takes_of c.0 cover.now.taken.items)
+        (roster_order roster.now) }
+    requires unused { (c : ℕ) → used_of c cover.now.taken.items
+        + slice_index cover.now.unused.items c
+        ≡ slice_index (capacities_of roster.now.commitments) c }
+    ensures { OnOk result (AddsShared roster.now.commitments
+        (map (λ r. r.now) rows.now) cover.now.taken.items hour
+        (running roster.now.commitments hour) lines.old.items lines.new.items) }
 {
     let commitments = roster.commitments();
     let mut left: &[Taken] = &cover.taken;
@@ -205,7 +221,8 @@ pub fn lines_by_roster<'a>(
 ) -> Result<Vec<Line<'a>>, AllocError>
     requires hour { HasHour roster.now hour }
     requires rows { All (λ r. hour_of r.start ≡ hour) (map (λ r. r.now) rows.now) }
-    ensures { IfOk result (λ v. AreHourLines roster.now.commitments (map (λ r. r.now) rows.now) hour v.items) }
+    ensures { IfOk result (λ v. AreHourLines roster.now.commitments
+        (map (λ r. r.now) rows.now) hour v.items) }
 {
     let cover = roster.cover(alloc, rows, hour)?;
     let mut lines = Vec::with_capacity(alloc, rows.len())?;
@@ -231,7 +248,8 @@ pub fn own_lines<'a>(
 ) -> Result<Vec<Line<'a>>, AllocError>
     requires hour { HasHour roster.now hour }
     requires cover { IsHourCover roster.now.commitments (map (λ r. r.now) rows.now) hour cover.now }
-    ensures { IfOk result (λ lines. AreOwnLines roster.now.commitments (map (λ r. r.now) rows.now) hour lines.items) }
+    ensures { IfOk result (λ lines. AreOwnLines roster.now.commitments
+        (map (λ r. r.now) rows.now) hour lines.items) }
 {
     let expected = cover.taken.len().saturating_add(roster.order().len());
     let mut own = Vec::with_capacity(alloc, expected)?;
@@ -252,7 +270,8 @@ pub fn lines_of_hour<'a>(
     hour: u32,
 ) -> Result<Vec<Line<'a>>, AllocError>
     requires { All (λ r. hour_of r.start ≡ hour) (map (λ r. r.now) rows.now) }
-    ensures { IfOk result (λ v. AreHourLines commitments.now (map (λ r. r.now) rows.now) hour v.items) }
+    ensures { IfOk result (λ v. AreHourLines commitments.now
+        (map (λ r. r.now) rows.now) hour v.items) }
 {
     let lent = lend(alloc, rows)?;
     let rows = references(alloc, &lent)?;

@@ -54,7 +54,8 @@ fn shares_of(
 ) -> Result<Vec<u128>, AllocError>
     requires term { IsTrue (is_in_term commitment.now hour) }
     requires whole { sum_by (λ t. t.weight) takes.now + unused ≡ commitment.now.capacity }
-    ensures shares { IfOk result (λ v. IsShares (amount_in commitment.now hour) (weights_of takes.now unused) v.items) }
+    ensures shares { IfOk result (λ v. IsShares (amount_in commitment.now hour)
+        (weights_of takes.now unused) v.items) }
     ensures enough { IfOk result (λ v. length takes.now ≤ length v.items) }
     ensures small { IfOk result (λ v. All (λ s. s ≤ 10 ^ 17) v.items) }
 {
@@ -75,7 +76,9 @@ fn push_used<'a>(
     requires takes { AreTakesOf (length rows.now) takes.now }
     requires one_each { length takes.now ≤ length shares.now }
     requires shares { All (λ s. s ≤ 10 ^ 17) shares.now }
-    ensures { OnOk result (lines.new.items ≡ lines.old.items ++ map (λ p. used_line hour commitment.now (map (λ r. r.now) rows.now) p.0 p.1) (zip takes.now shares.now)) }
+    ensures { OnOk result (lines.new.items
+        ≡ lines.old.items ++ map (λ p. used_line hour commitment.now
+        (map (λ r. r.now) rows.now) p.0 p.1) (zip takes.now shares.now)) }
 {
     for (at, take) in takes.iter().enumerate() {
         lines.push(used_line(commitment, rows, take, shares[at], hour))?;
@@ -91,7 +94,8 @@ fn push_unused<'a>(
     hour: u32,
 ) -> Result<(), AllocError>
     requires { All (λ s. s ≤ 10 ^ 17) shares.now }
-    ensures { OnOk result (lines.new.items ≡ lines.old.items ++ map (unused_line hour commitment.now) shares.now) }
+    ensures { OnOk result (lines.new.items
+        ≡ lines.old.items ++ map (unused_line hour commitment.now) shares.now) }
 {
     for share in shares {
         lines.push(unused_line(commitment, *share, hour))?;
@@ -112,7 +116,8 @@ pub(crate) fn push_commitment<'a>(
     requires term { IsTrue (is_in_term commitment.now hour) }
     requires takes { AreTakesOf (length rows.now) takes.now }
     requires whole { sum_by (λ t. t.weight) takes.now + unused ≡ commitment.now.capacity }
-    ensures { OnOk result (AddsCommitment hour commitment.now (map (λ r. r.now) rows.now) takes.now unused lines.old.items lines.new.items) }
+    ensures { OnOk result (AddsCommitment hour commitment.now
+        (map (λ r. r.now) rows.now) takes.now unused lines.old.items lines.new.items) }
 {
     let shares = shares_of(alloc, commitment, takes, unused, hour)?;
     push_used(lines, commitment, rows, takes, &shares, hour)?;

@@ -74,7 +74,8 @@ fn number_digits(alloc: Global, hour: u64) -> Result<String, AllocError>
 
 /// The date of the day in which an hour since 1970 lies, or `None` past the year 9999.
 pub(crate) fn date_of(hour: u64) -> Option<Date>
-    ensures { MatchOption result (last_hour < hour) (λ date. (hour ≤ last_hour) × IsDateOf hour date) }
+    ensures { MatchOption result (last_hour < hour)
+        (λ date. (hour ≤ last_hour) × IsDateOf hour date) }
 {
     Date::from_unix_epoch_day((hour / DAY_HOURS) as i64).ok()
 }

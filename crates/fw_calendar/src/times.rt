@@ -19,7 +19,8 @@ const DATE_LENGTH: usize = 10;
 /// first hour; of an instant on a whole hour, as `2024-01-31T14:00Z`, that hour. `None` where the text is none of these, or the time
 /// lies before 1970. The one error is that memory ran out.
 pub fn read_time(alloc: Global, text: &str) -> Result<Option<u64>, AllocError>
-    ensures value { IfOk result (λ hour. MatchOption hour ((h : ℕ) → ¬ IsTimeText text.now h) (IsTimeText text.now)) }
+    ensures value { IfOk result (λ hour. MatchOption hour ((h : ℕ) → ¬ IsTimeText text.now h)
+        (IsTimeText text.now)) }
     ensures in_range { IfOk result (λ hour. IfSome hour (λ h. h ≤ last_hour)) }
 {
     let mut instant = String::from_str(alloc, text)?;
@@ -53,7 +54,8 @@ pub fn read_month(alloc: Global, text: &str) -> Result<Option<Period>, AllocErro
 // The hour that begins at a second, if one does.
 fn whole_hour(second: u64) -> Option<u64>
     requires { second ≤ last_second }
-    ensures value { MatchOption result ((h : ℕ) → ¬ (second ≡ h * seconds_per_hour)) (λ h. second ≡ h * seconds_per_hour) }
+    ensures value { MatchOption result ((h : ℕ) → ¬ (second ≡ h * seconds_per_hour))
+        (λ h. second ≡ h * seconds_per_hour) }
     ensures in_range { IfSome result (λ h. h ≤ last_hour) }
 {
     (second % SECONDS_PER_HOUR == 0).then_some(second / SECONDS_PER_HOUR)

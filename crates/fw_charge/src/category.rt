@@ -52,7 +52,8 @@ impl Category {
     /// The category with this word, or `None` where no category has it.
     #[tactic(auto, unfolding(crate::specs::Codes::category_word))]
     pub fn from_word(word: &str) -> Option<Category>
-        ensures { MatchOption result ((k : Category) → ¬ (word.now ≡ category_word k)) (λ k. word.now ≡ category_word k) }
+        ensures { MatchOption result ((k : Category) → ¬ (word.now ≡ category_word k))
+            (λ k. word.now ≡ category_word k) }
     {
         match word {
             "Usage" => Some(Category::Usage),

@@ -6,7 +6,8 @@ ghost use Rattle.fw_charge.specs.Codes.{class_word, class_code, class_of};
 /// `Correction`, and `None` where it is anything else.
 #[tactic(auto, unfolding(crate::specs::Codes::class_word))]
 pub fn class_from_word(word: &str) -> Option<bool>
-    ensures { MatchOption result ((c : Bool) → ¬ (word.now ≡ class_word c)) (λ c. word.now ≡ class_word c) }
+    ensures { MatchOption result ((c : Bool) → ¬ (word.now ≡ class_word c))
+        (λ c. word.now ≡ class_word c) }
 {
     match word {
         "" => Some(false),

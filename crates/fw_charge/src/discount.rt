@@ -31,7 +31,8 @@ impl DiscountKind {
     /// The kind with this word, or `None` where no kind has it.
     #[tactic(auto, unfolding(crate::specs::Codes::kind_word))]
     pub fn from_word(word: &str) -> Option<DiscountKind>
-        ensures { MatchOption result ((k : DiscountKind) → ¬ (word.now ≡ kind_word k)) (λ k. word.now ≡ kind_word k) }
+        ensures { MatchOption result ((k : DiscountKind) → ¬ (word.now ≡ kind_word k))
+            (λ k. word.now ≡ kind_word k) }
     {
         match word {
             "Usage" => Some(DiscountKind::Usage),
@@ -90,7 +91,8 @@ impl DiscountStatus {
     /// The status with this word, or `None` where no status has it.
     #[tactic(auto, unfolding(crate::specs::Codes::status_word))]
     pub fn from_word(word: &str) -> Option<DiscountStatus>
-        ensures { MatchOption result ((s : DiscountStatus) → ¬ (word.now ≡ status_word s)) (λ s. word.now ≡ status_word s) }
+        ensures { MatchOption result ((s : DiscountStatus) → ¬ (word.now ≡ status_word s))
+            (λ s. word.now ≡ status_word s) }
     {
         match word {
             "Used" => Some(DiscountStatus::Used),

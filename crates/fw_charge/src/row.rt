@@ -244,7 +244,8 @@ fn copy_discount(alloc: Global, discount: Option<&Discount>) -> Result<Option<Di
 
 /// An equal text, if there is one.
 fn copy_text(text: Option<&String>) -> Result<Option<String>, AllocError>
-    ensures { IfOk result (λ copy. option_map string_bytes copy ≡ option_map (λ t. string_bytes t.now) text.entry) }
+    ensures { IfOk result (λ copy. option_map string_bytes copy
+        ≡ option_map (λ t. string_bytes t.now) text.entry) }
 {
     match text {
         Some(text) => Ok(Some(text.clone()?)),

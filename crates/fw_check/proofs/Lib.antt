@@ -2,3 +2,6 @@ pub mod CountFacts
 pub mod FieldFacts
 pub mod FaultFacts
 pub mod AnswerFacts
+mod RepeatFacts
+mod HeaderFacts
+mod HeaderLaw

@@ -6,4 +6,5 @@ pub mod Lines
 pub mod Prints
 pub mod Frequent
 pub mod Checks
+pub mod Headers
 pub mod Answers

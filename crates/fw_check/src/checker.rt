@@ -1,23 +1,25 @@
 //! A text that is checked part by part.
-ghost use Rattle.std.specs.Prelude.{◌≡◌, ◌≤◌, ◌+◌, ℕ, List, [], map, None, IfOk, IfSome, OnOk, Err, Result};
+ghost use Rattle.std.specs.Prelude.{◌≡◌, ◌≤◌, ◌+◌, ℕ, List, [], flat_map, map, None, IfOk, IfSome, OnOk, Err, Result};
+ghost use Rattle.csv.specs.Records.{fields_of};
 ghost use Rattle.fw_charge.specs.Charge.{Charge};
 ghost use Rattle.fw_rows.specs.FaultNames.{fault_name};
 ghost use Rattle.fw_rows.specs.Kept.{RowsKept};
-ghost use Rattle.fw_rows.specs.Rows.{RowsRead};
+ghost use Rattle.fw_rows.specs.Rows.{RowsRead, header_of, records_of};
 ghost use Rattle.fw_rows.specs.declared.column.Column.{Column as ColumnValue};
 ghost use Rattle.fw_rows.specs.declared.fault.RowFault.{RowFault};
 ghost use Rattle.fw_rows.specs.declared.fault.RowFault.TheVariants.{DoubleColumn, MissingColumn};
 ghost use Rattle.fw_check.specs.Checks.{Becomes, ReadsFor, checked, headers_again, nothing_checked, with_currency, with_fault, with_header, with_lines, with_read, records_in};
 ghost use Rattle.fw_check.specs.Counts.{kept};
 ghost use Rattle.fw_check.specs.Faults.{column_text, place_value};
+ghost use Rattle.fw_check.specs.Headers.{HasCounted, OthersStay, double_in, faults_of, header_code, header_faults, kept_faults, missing_in};
 ghost use Rattle.fw_check.specs.Kept.{kept_value, nothing_kept};
 ghost use Rattle.fw_check.specs.Prints.{AreRepeats};
 
-use crate::columns::{is_double, is_missing, is_read};
-use crate::fields::{first_record, has_next, records_of};
+use crate::columns::{HeaderFault, REQUIRED, double_fault, fault_behind, missing_fault};
+use crate::fields::{field_bytes, first_record, has_next, records_of};
 use crate::findings::{Finding, Place, add_fault, column_name, column_of, shown_value, value_of};
 use crate::kept::{KeptColumn, columns_of};
-use crate::kept_fields::{copies, field_bytes, field_text, kept_place, times_in};
+use crate::kept_fields::{copies, field_text, kept_place};
 use crate::located::{blank, line_ends};
 use crate::prints::Prints;
 use crate::repair::{emptied, repaired};
@@ -28,7 +30,7 @@ use fw_column_rows::{KnownTexts, read_columns_after, read_columns_keeping};
 use fw_columns::Columns;
 use fw_cut::{Part, cut_off};
 use fw_explain::explain_fault;
-use fw_rows::{Column, Currency, Keep, Keeper, RecordFault, RowFault, read_rows, rows_read_as_one};
+use fw_rows::{Column, Currency, Keep, Keeper, RecordFault, RowFault};
 use std::alloc::{AllocError, Global};
 
 /// How many faults of one record are looked for.
@@ -52,6 +54,16 @@ impl Kind {
         Kind {
             code,
             expected: explain_fault(code).expected,
+        }
+    }
+
+    // The kind of a fault of a header.
+    fn of_header(fault: HeaderFault) -> Kind
+        ensures { result.code.now ≡ header_code fault }
+    {
+        match fault {
+            HeaderFault::Missing => Kind::of(MISSING),
+            HeaderFault::Double => Kind::of(DOUBLE),
         }
     }
 }
@@ -164,9 +176,15 @@ impl Checker {
         }
     }
 
-    /// Checks a header, before its lines are counted. Each column that it must have and doesn't have is a fault, and so is each one that it has more than
+    /// Checks a header, before its lines are counted. Each column that it must have and doesn't have is a fault, and then each one that it has more than
     /// once. Behind a header with a fault no part can be checked.
     pub fn check_header(&mut self, alloc: Global, header: &[u8]) -> Result<(), AllocError>
+        // An error comes only where memory runs out.
+        ensures counted { OnOk result (HasCounted
+            (header_faults (header_of (records_of header.now)))
+            (checked self.old) (checked self.new)) }
+        ensures others { OthersStay self.old self.new }
+        // Where rows are read, the header's fault is one of these.
         ensures missing { OnOk result ((column : ColumnValue) →
             RowsRead self.old.currency header.now (Err (MissingColumn column)) →
             kept (self.old.faults + 1) ≤ self.new.faults) }
@@ -175,94 +193,104 @@ impl Checker {
             kept (self.old.faults + 1) ≤ self.new.faults) }
         ensures stays { OnOk result (self.old.faults ≤ self.new.faults) }
     {
-        rows_read_as_one(header, self.currency);
-        match read_rows(alloc, header, self.currency) {
-            Err(RowFault::MissingColumn(column)) => {
-                self.note_columns(alloc, header, Kind::of(MISSING), column)
-            }
-            Err(RowFault::DoubleColumn(column)) => {
-                self.note_columns(alloc, header, Kind::of(DOUBLE), column)
-            }
-            Err(RowFault::NoMemory) => Err(AllocError),
-            Ok(_)
-            | Err(RowFault::Record { .. })
-            | Err(RowFault::NoRows)
-            | Err(RowFault::TooManyRows) => Ok(()),
-        }
+        let header = first_record(alloc, header)?;
+        self.check_missing(alloc, &header, &REQUIRED)?;
+        self.check_double(alloc, &header, &Column::ALL)
     }
 
-    /// Checks a header for the columns that are kept: each that it doesn't have just once is a fault. Those that are read by their names too were looked
-    /// at by [`Checker::check_header`].
+    // Counts those of some columns that a header doesn't have.
+    fn check_missing(
+        &mut self,
+        alloc: Global,
+        header: &ByteRecord,
+        columns: &[Column],
+    ) -> Result<(), AllocError>
+        ensures counted { OnOk result (HasCounted
+            (flat_map (missing_in (fields_of header.now)) columns.now)
+            (checked self.old) (checked self.new)) }
+        ensures others { OthersStay self.old self.new }
+        ensures stays { OnOk result (self.old.faults ≤ self.new.faults) }
+    {
+        for column in columns {
+            self.note_column_fault(alloc, column.name(), missing_fault(header, *column))?;
+        }
+        Ok(())
+    }
+
+    // Counts those of some columns that a header has more than once.
+    fn check_double(
+        &mut self,
+        alloc: Global,
+        header: &ByteRecord,
+        columns: &[Column],
+    ) -> Result<(), AllocError>
+        ensures counted { OnOk result (HasCounted
+            (flat_map (double_in (fields_of header.now)) columns.now)
+            (checked self.old) (checked self.new)) }
+        ensures others { OthersStay self.old self.new }
+        ensures stays { OnOk result (self.old.faults ≤ self.new.faults) }
+    {
+        for column in columns {
+            self.note_column_fault(alloc, column.name(), double_fault(header, *column))?;
+        }
+        Ok(())
+    }
+
+    /// Checks a header for the columns that are kept: each that it doesn't have just once is a fault, in the order in which they are kept. That one is
+    /// missing which each header must have, and that one stands twice which is read by its name, was looked at by [`Checker::check_header`].
     pub fn check_kept(
         &mut self,
         alloc: Global,
         header: &[u8],
         keeps: &[Keep],
     ) -> Result<(), AllocError>
-        ensures { OnOk result (self.old.faults ≤ self.new.faults) }
-    {
-        let header = first_record(alloc, header)?;
-        for keep in keeps {
-            match times_in(&header, keep.column()) {
-                0 => self.note_text(alloc, Kind::of(MISSING), keep.column())?,
-                1 => {}
-                _ if is_read(keep.column()) => {}
-                _ => self.note_text(alloc, Kind::of(DOUBLE), keep.column())?,
-            }
-        }
-        Ok(())
-    }
-
-    // Counts the faults of a header, of which this is the first one.
-    fn note_columns(
-        &mut self,
-        alloc: Global,
-        header: &[u8],
-        fault: Kind,
-        first: Column,
-    ) -> Result<(), AllocError>
-        ensures counted { OnOk result (kept (self.old.faults + 1) ≤ self.new.faults) }
+        // An error comes only where memory runs out.
+        ensures counted { OnOk result (HasCounted
+            (kept_faults (header_of (records_of header.now)) keeps.now)
+            (checked self.old) (checked self.new)) }
+        ensures others { OthersStay self.old self.new }
         ensures stays { OnOk result (self.old.faults ≤ self.new.faults) }
     {
         let header = first_record(alloc, header)?;
-        self.note_text(alloc, fault, first.name())?;
-        self.note_missing(alloc, &header, first)?;
-        self.note_double(alloc, &header, first)?;
-        Ok(())
+        self.check_columns(alloc, &header, keeps)
     }
 
-    // Counts the columns, but for the first one, that a header must have and doesn't have.
-    fn note_missing(
+    // Counts the faults of kept columns in a header, in their order.
+    fn check_columns(
         &mut self,
         alloc: Global,
         header: &ByteRecord,
-        first: Column,
+        keeps: &[Keep],
     ) -> Result<(), AllocError>
-        ensures { OnOk result (self.old.faults ≤ self.new.faults) }
+        ensures counted { OnOk result (HasCounted (kept_faults (fields_of header.now) keeps.now)
+            (checked self.old) (checked self.new)) }
+        ensures others { OthersStay self.old self.new }
+        ensures stays { OnOk result (self.old.faults ≤ self.new.faults) }
     {
-        for column in Column::ALL.iter() {
-            if *column != first && is_missing(header, *column) {
-                self.note_text(alloc, Kind::of(MISSING), column.name())?;
-            }
+        for place in 0..keeps.len() {
+            let name = keeps[place].column();
+            let fault = fault_behind(header, &keeps[..place], name);
+            self.note_column_fault(alloc, name, fault)?;
         }
         Ok(())
     }
 
-    // Counts the columns, but for the first one, that a header has more than once.
-    fn note_double(
+    // Counts the fault of a column of a header, if it has one.
+    fn note_column_fault(
         &mut self,
         alloc: Global,
-        header: &ByteRecord,
-        first: Column,
+        name: &str,
+        fault: Option<HeaderFault>,
     ) -> Result<(), AllocError>
-        ensures { OnOk result (self.old.faults ≤ self.new.faults) }
+        ensures counted { OnOk result (HasCounted (faults_of name.now fault)
+            (checked self.old) (checked self.new)) }
+        ensures others { OthersStay self.old self.new }
+        ensures stays { OnOk result (self.old.faults ≤ self.new.faults) }
     {
-        for column in Column::ALL.iter() {
-            if *column != first && is_double(header, *column) {
-                self.note_text(alloc, Kind::of(DOUBLE), column.name())?;
-            }
+        match fault {
+            Some(fault) => self.note_text(alloc, Kind::of_header(fault), name),
+            None => Ok(()),
         }
-        Ok(())
     }
 
     /// Ends the check of a text. One that has no record has a fault, if it has no other.
@@ -293,6 +321,7 @@ impl Checker {
         ensures counted { OnOk result (checked self.new ≡
             with_fault fault.code.now column.now fault.expected.now
             (record { line = 1; number = 0; value = [] }) (checked self.old)) }
+        ensures others { OthersStay self.old self.new }
         ensures stays { OnOk result (self.old.faults ≤ self.new.faults) }
     {
         let place = Place {
@@ -314,6 +343,7 @@ impl Checker {
         ensures counted { OnOk result (checked self.new ≡
             with_fault fault.code.now column.now fault.expected.now
             (place_value place) (checked self.old)) }
+        ensures others { OthersStay self.old self.new }
         ensures stays { OnOk result (self.old.faults ≤ self.new.faults) }
     {
         self.faults = self.faults.saturating_add(1);
@@ -359,16 +389,33 @@ impl Checker {
         let text = part.text.as_slice();
         let (head, body) = text.split_at(part.header.min(text.len()));
         let header = first_record(alloc, head)?;
-        match self.read(alloc, text) {
+        let read = self.read(alloc, text);
+        self.add_read(alloc, head, &header, body, read)?;
+        Ok(())
+    }
+
+    // Counts what records behind a header read as: their rows, or the faults of each.
+    fn add_read(
+        &mut self,
+        alloc: Global,
+        head: &[u8],
+        header: &ByteRecord,
+        body: &[u8],
+        read: Result<Columns, RowFault>,
+    ) -> Result<(), RowFault>
+        ensures read { OnOk result (Becomes body.now read (checked self.old) (checked self.new)) }
+        ensures stays { OnOk result (self.old.faults ≤ self.new.faults) }
+    {
+        match read {
             Ok(rows) => {
                 self.add_rows(alloc, &rows, body)?;
                 Ok(())
             }
             Err(RowFault::NoRows) => Ok(()),
             Err(RowFault::Record { fault, .. }) => {
-                self.check_faulty(alloc, head, &header, body, fault)
+                self.check_faulty(alloc, head, header, body, fault)
             }
-            Err(RowFault::TooManyRows) => self.check_pieces(alloc, head, &header, body),
+            Err(RowFault::TooManyRows) => self.check_pieces(alloc, head, header, body),
             Err(fault) => Err(fault),
         }
     }

@@ -1,27 +1,18 @@
 //! Faults of fields in columns that are kept as tags.
 ghost use Rattle.std.specs.Prelude.{◌≡◌, IfOk};
 
+use crate::columns::is_name_at;
+use crate::fields::field_bytes;
 use crate::findings::column_of;
 use csv::ByteRecord;
 use fw_charge::Tag;
 use fw_rows::{Column, Keep, RecordFault};
 use std::alloc::{AllocError, Global};
 
-/// How often a header has a column.
-pub(crate) fn times_in(header: &ByteRecord, name: &str) -> usize {
-    let mut times: usize = 0;
-    for place in 0..header.len() {
-        if header.get(place).unwrap_or(b"") == name.as_bytes() {
-            times = times.saturating_add(1);
-        }
-    }
-    times
-}
-
 // The first place at which a header has a column.
 fn place_in(header: &ByteRecord, name: &str) -> Option<usize> {
     for place in 0..header.len() {
-        if header.get(place).unwrap_or(b"") == name.as_bytes() {
+        if is_name_at(header, place, name) {
             return Some(place);
         }
     }
@@ -51,11 +42,6 @@ pub(crate) fn kept_place(
         }
     }
     None
-}
-
-/// The bytes of a record at a place; none of them where there is no such field.
-pub(crate) fn field_bytes(record: &ByteRecord, place: usize) -> &[u8] {
-    record.get(place).unwrap_or(b"")
 }
 
 /// The text of a record at a place; the empty text where it isn't UTF-8.

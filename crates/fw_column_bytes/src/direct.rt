@@ -42,7 +42,8 @@ fn places_into<'a>(
     count: u32,
     bytes: &'a [u8],
 ) -> Result<&'a [u8], ReadError>
-    ensures { Gives (λ x. (list.new.items, x.now)) result (times (place_at (map string_bytes names.now)) count bytes.now) }
+    ensures { Gives (λ x. (list.new.items, x.now)) result
+        (times (place_at (map string_bytes names.now)) count bytes.now) }
 {
     list.clear();
     let mut rest = bytes;
@@ -61,7 +62,8 @@ fn tag_places_into<'a>(
     names: &[String],
     bytes: &'a [u8],
 ) -> Result<&'a [u8], ReadError>
-    ensures { Gives (λ x. (list.new.items, x.now)) result (tag_places_at (map string_bytes names.now) bytes.now) }
+    ensures { Gives (λ x. (list.new.items, x.now)) result
+        (tag_places_at (map string_bytes names.now) bytes.now) }
 {
     let (count, rest) = u32_at(bytes)?;
     if count > Tags::MOST as u32 {
@@ -79,7 +81,8 @@ fn row_lists_after<'a>(
     bytes: &'a [u8],
 ) -> Result<(RowLists, &'a [u8]), ReadError>
     requires { count ≤ most_column_rows }
-    ensures { Gives (λ x. (x.0, x.1.now)) result (times (tag_places_at (map string_bytes names.now)) count bytes.now) }
+    ensures { Gives (λ x. (x.0, x.1.now)) result
+        (times (tag_places_at (map string_bytes names.now)) count bytes.now) }
 {
     let mut column = RowLists::new(alloc);
     let mut list = Vec::new(alloc);
@@ -100,7 +103,8 @@ fn whole_body_of<'a>(
     bytes: &'a [u8],
 ) -> Result<(WholeBody, &'a [u8]), ReadError>
     requires { count ≤ most_column_rows }
-    ensures { Gives (λ x. (whole_body_view x.0, x.1.now)) result (body_at (map string_bytes names.now) count bytes.now) }
+    ensures { Gives (λ x. (whole_body_view x.0, x.1.now)) result
+        (body_at (map string_bytes names.now) count bytes.now) }
 {
     let (amounts, rest) = amounts_of(alloc, count, bytes)?;
     let (periods, rest) = periods_of(alloc, count, rest)?;
@@ -230,7 +234,8 @@ fn columns_with(alloc: Global, whole: WholeRead) -> Result<Option<Columns>, Allo
 /// Rows by column whose columns are taken over as they stand, and the bytes after them. `None` where all fields are in range, and no rows have these
 /// columns.
 pub fn taken_over(alloc: Global, bytes: &[u8]) -> Result<Option<(Columns, &[u8])>, ReadError>
-    ensures found { IfOk result (λ found. IfSome found (λ x. columns_at bytes.now ≡ Ok (x.0, x.1.now))) }
+    ensures found { IfOk result (λ found. IfSome found
+        (λ x. columns_at bytes.now ≡ Ok (x.0, x.1.now))) }
     ensures faulty { IfErr result (λ e. Fails e (columns_at bytes.now)) }
 {
     let (whole, rest) = whole_of(alloc, bytes)?;

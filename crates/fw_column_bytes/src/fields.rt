@@ -65,7 +65,8 @@ pub fn bytes_after(
     count: u32,
     bytes: &[u8],
 ) -> Result<(Vec<u8>, &[u8]), ReadError>
-    ensures { Gives (λ x. (x.0.items, x.1.now)) result (times (byte_at least most) count bytes.now) }
+    ensures { Gives (λ x. (x.0.items, x.1.now)) result
+        (times (byte_at least most) count bytes.now) }
 {
     let mut column = Vec::new(alloc);
     let mut rest = bytes;
@@ -94,7 +95,8 @@ fn is_text_code(names: &[String], code: u32) -> bool
 /// The code of a name of 1 to 256 bytes, or 0.
 #[tactic(auto, unfolding(crate::specs::Reading::text_code_at, fw_bytes::specs::Reading::checked))]
 fn text_code_of<'a>(names: &[String], bytes: &'a [u8]) -> Result<(u32, &'a [u8]), ReadError>
-    ensures { Gives (λ x. (x.0, x.1.now)) result (text_code_at (map string_bytes names.now) bytes.now) }
+    ensures { Gives (λ x. (x.0, x.1.now)) result
+        (text_code_at (map string_bytes names.now) bytes.now) }
 {
     let (code, rest) = u32_at(bytes)?;
     if !is_text_code(names, code) {
@@ -110,7 +112,8 @@ pub fn text_codes_after<'a>(
     count: u32,
     bytes: &'a [u8],
 ) -> Result<(Vec<u32>, &'a [u8]), ReadError>
-    ensures { Gives (λ x. (x.0.items, x.1.now)) result (times (text_code_at (map string_bytes names.now)) count bytes.now) }
+    ensures { Gives (λ x. (x.0.items, x.1.now)) result
+        (times (text_code_at (map string_bytes names.now)) count bytes.now) }
 {
     let mut column = Vec::new(alloc);
     let mut rest = bytes;
@@ -141,7 +144,8 @@ fn places_after<'a>(
     count: u32,
     bytes: &'a [u8],
 ) -> Result<(Vec<u32>, &'a [u8]), ReadError>
-    ensures { Gives (λ x. (x.0.items, x.1.now)) result (times (place_at (map string_bytes names.now)) count bytes.now) }
+    ensures { Gives (λ x. (x.0.items, x.1.now)) result
+        (times (place_at (map string_bytes names.now)) count bytes.now) }
 {
     let mut column = Vec::new(alloc);
     let mut rest = bytes;
@@ -160,7 +164,8 @@ fn tag_places_of<'a>(
     names: &[String],
     bytes: &'a [u8],
 ) -> Result<(Vec<u32>, &'a [u8]), ReadError>
-    ensures { Gives (λ x. (x.0.items, x.1.now)) result (tag_places_at (map string_bytes names.now) bytes.now) }
+    ensures { Gives (λ x. (x.0.items, x.1.now)) result
+        (tag_places_at (map string_bytes names.now) bytes.now) }
 {
     let (count, rest) = u32_at(bytes)?;
     if count > Tags::MOST as u32 {
@@ -177,7 +182,8 @@ pub fn tag_lists_after<'a>(
     count: u32,
     bytes: &'a [u8],
 ) -> Result<(Vec<Vec<u32>>, &'a [u8]), ReadError>
-    ensures { Gives (λ x. (map (λ list. list.items) x.0.items, x.1.now)) result (times (tag_places_at (map string_bytes names.now)) count bytes.now) }
+    ensures { Gives (λ x. (map (λ list. list.items) x.0.items, x.1.now)) result
+        (times (tag_places_at (map string_bytes names.now)) count bytes.now) }
 {
     let mut column = Vec::new(alloc);
     let mut rest = bytes;
@@ -191,7 +197,8 @@ pub fn tag_lists_after<'a>(
 
 /// So many names.
 fn names_after(alloc: Global, count: u32, bytes: &[u8]) -> Result<(Vec<String>, &[u8]), ReadError>
-    ensures { Gives (λ x. (map string_bytes x.0.items, x.1.now)) result (times tag_text_at count bytes.now) }
+    ensures { Gives (λ x. (map string_bytes x.0.items, x.1.now)) result
+        (times tag_text_at count bytes.now) }
 {
     let mut column = Vec::new(alloc);
     let mut rest = bytes;

@@ -150,7 +150,8 @@ pub fn discounts_of<'a>(
     count: u32,
     bytes: &'a [u8],
 ) -> Result<(DiscountsRead, &'a [u8]), ReadError>
-    ensures { Gives (λ x. (discounts_view x.0, x.1.now)) result (discounts_at (map string_bytes names.now) count bytes.now) }
+    ensures { Gives (λ x. (discounts_view x.0, x.1.now)) result
+        (discounts_at (map string_bytes names.now) count bytes.now) }
 {
     let (ids, rest) = text_codes_after(alloc, names, count, bytes)?;
     let (kinds, rest) = bytes_after(alloc, 0, 2, count, rest)?;
@@ -183,7 +184,8 @@ pub fn texts_of<'a>(
     count: u32,
     bytes: &'a [u8],
 ) -> Result<(TextsRead, &'a [u8]), ReadError>
-    ensures { Gives (λ x. (texts_view x.0, x.1.now)) result (texts_at (map string_bytes names.now) count bytes.now) }
+    ensures { Gives (λ x. (texts_view x.0, x.1.now)) result
+        (texts_at (map string_bytes names.now) count bytes.now) }
 {
     let (units, rest) = text_codes_after(alloc, names, count, bytes)?;
     let (skus, rest) = text_codes_after(alloc, names, count, rest)?;
@@ -203,7 +205,8 @@ fn body_of<'a>(
     count: u32,
     bytes: &'a [u8],
 ) -> Result<(BodyRead, &'a [u8]), ReadError>
-    ensures { Gives (λ x. (body_view x.0, x.1.now)) result (body_at (map string_bytes names.now) count bytes.now) }
+    ensures { Gives (λ x. (body_view x.0, x.1.now)) result
+        (body_at (map string_bytes names.now) count bytes.now) }
 {
     let (amounts, rest) = amounts_of(alloc, count, bytes)?;
     let (periods, rest) = periods_of(alloc, count, rest)?;

@@ -58,7 +58,8 @@ fn text_of(names: &[String], code: u32) -> Option<&str>
 #[tactic(auto, unfolding(crate::specs::Reading::fields_at_place))]
 fn fields_of(parts: &PartsRead, place: usize) -> FieldsRead<'_>
     requires { HasPlace (parts_view parts.now) place }
-    ensures { fields_with result (fields_at_place (parts_view parts.now) place).1.1.1.1 ≡ fields_at_place (parts_view parts.now) place }
+    ensures { fields_with result (fields_at_place (parts_view parts.now) place).1.1.1.1
+        ≡ fields_at_place (parts_view parts.now) place }
 {
     let names = parts.front.names.as_slice();
     let body = &parts.body;
@@ -120,7 +121,8 @@ fn agree(fields: &FieldsRead<'_>, tags: &[Tag]) -> bool
 
 /// Fields that agree, as they are added to columns.
 fn view_of<'a>(fields: &FieldsRead<'a>) -> RowView<'a>
-    ensures { (tags : List TagText) → fields_agree (fields_with fields.now tags) ≡ true → charge_with result tags ≡ row_from (fields_with fields.now tags) }
+    ensures { (tags : List TagText) → fields_agree (fields_with fields.now tags) ≡ true
+        → charge_with result tags ≡ row_from (fields_with fields.now tags) }
 {
     RowView {
         billed: fields.billed,
@@ -150,8 +152,10 @@ fn push_at(
     requires fit { FitParts (parts_view parts.now) }
     requires place { place < parts.now.front.count }
     requires few { length rows.old < most_column_rows }
-    ensures agrees { OnOk result (fields_agree (fields_at_place (parts_view parts.now) place) ≡ true) }
-    ensures added { OnOk result (rows.new ≡ rows.old ++ row_from (fields_at_place (parts_view parts.now) place) ∷ []) }
+    ensures agrees { OnOk result (fields_agree (fields_at_place (parts_view parts.now) place)
+        ≡ true) }
+    ensures added { OnOk result (rows.new ≡ rows.old
+        ++ row_from (fields_at_place (parts_view parts.now) place) ∷ []) }
     ensures refused { IfErr result (Refuses (fields_at_place (parts_view parts.now) place) left) }
 {
     let fields = fields_of(parts, place);
@@ -181,7 +185,8 @@ fn rows_of(alloc: Global, parts: &PartsRead, left: usize) -> Result<Columns, Rea
 
 /// Whether rows are spelled as bytes begin, all but those that are left behind them.
 fn is_spelled(alloc: Global, rows: &Columns, bytes: &[u8], left: usize) -> Result<bool, AllocError>
-    ensures { IfOk result (λ is. is ≡ bytes_eq (columns rows.now) (take (length bytes.now - left) bytes.now)) }
+    ensures { IfOk result (λ is. is ≡ bytes_eq (columns rows.now)
+        (take (length bytes.now - left) bytes.now)) }
 {
     let len = bytes.len().saturating_sub(left);
     let (front, _) = bytes.split_at(len);

@@ -9,6 +9,7 @@ ghost use Rattle.fw_column_bytes.specs.Spelling.{amounts, columns, discounts, fl
 
 use fw_bytes::{put_byte, put_i64, put_text, put_u32, put_u64};
 use fw_columns::Columns;
+use fw_row_table::Packed;
 use std::alloc::AllocError;
 
 /// Writes numbers of eight bytes, with a sign.
@@ -93,7 +94,8 @@ fn put_periods(out: &mut Vec<u8>, rows: &Columns) -> Result<(), AllocError>
 
 /// Writes the discounts.
 fn put_discounts(out: &mut Vec<u8>, rows: &Columns) -> Result<(), AllocError>
-    ensures { OnOk result (out.new.items ≡ out.old.items ++ discounts (names_of rows.now) rows.now) }
+    ensures { OnOk result (out.new.items
+        ≡ out.old.items ++ discounts (names_of rows.now) rows.now) }
 {
     put_codes(out, rows.discounts())?;
     out.extend_from_slice(rows.kinds())?;
@@ -123,7 +125,8 @@ fn put_texts(out: &mut Vec<u8>, rows: &Columns) -> Result<(), AllocError>
 /// Writes the codes of the texts at these places.
 fn put_places(out: &mut Vec<u8>, places: &[u32]) -> Result<(), AllocError>
     requires { All (λ place. place ≤ 2 ^ 30) places.now }
-    ensures { OnOk result (out.new.items ≡ out.old.items ++ flat_map (λ place. number32 (1 + place)) places.now) }
+    ensures { OnOk result (out.new.items
+        ≡ out.old.items ++ flat_map (λ place. number32 (1 + place)) places.now) }
 {
     for place in places {
         put_u32(out, 1 + *place)?;
@@ -131,15 +134,25 @@ fn put_places(out: &mut Vec<u8>, places: &[u32]) -> Result<(), AllocError>
     Ok(())
 }
 
-/// Writes the tags of each row.
+/// Writes the tags of each row. Rows with the same tags have the same bytes, which are made once and then copied.
 fn put_tags(out: &mut Vec<u8>, rows: &Columns) -> Result<(), AllocError>
     ensures { OnOk result (out.new.items ≡ out.old.items ++ tags (names_of rows.now) rows.now) }
 {
     let _count = rows.name_count();
+    let mut spelled = Packed::new(*out.allocator());
     for place in 0..rows.len() {
-        let places = rows.tag_places(place);
-        put_u32(out, (places.len() / 2) as u32)?;
-        put_places(out, places)?;
+        let code = rows.tag_list_code(place) as usize;
+        if code < spelled.len() {
+            out.extend_from_slice(spelled.list(code))?;
+        } else {
+            let start = out.len();
+            let places = rows.tag_places(place);
+            put_u32(out, (places.len() / 2) as u32)?;
+            put_places(out, places)?;
+            if code == spelled.len() {
+                spelled = spelled.with(&out[start..])?;
+            }
+        }
     }
     Ok(())
 }

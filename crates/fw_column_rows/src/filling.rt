@@ -57,7 +57,8 @@ impl Filling {
     fn text_code(&mut self, text: &str) -> Result<u32, AllocError>
         requires tags { AreTagsOf self.old.known self.old.places.items self.old.columns }
         requires room { length self.old.known < most_texts + most_post_rows }
-        ensures tags { OnOk result (AreTagsOf self.new.known self.new.places.items self.new.columns) }
+        ensures tags { OnOk result (AreTagsOf self.new.known self.new.places.items
+            self.new.columns) }
         ensures rows { self.new.columns ≡ self.old.columns }
         ensures few { OnOk result (length self.new.known ≤ length self.old.known + 1) }
         ensures within { IfOk result (λ code. code < length self.new.places.items) }
@@ -77,8 +78,11 @@ impl Filling {
         requires few { length self.old.known ≤ most_texts + length self.old.columns }
         requires room { length self.old.columns < most_post_rows }
         requires stands { ViewStands (texts_of cells.now) row.now }
-        ensures row { let at = texts_of cells.now in JudgedWithin (length_rules at) (λ _. AddsView at row.now self.old.columns self.new.columns) result }
-        ensures tags { OnOk result (AreTagsOf self.new.known self.new.places.items self.new.columns) }
+        ensures row { let at = texts_of cells.now
+            in JudgedWithin (length_rules at)
+            (λ _. AddsView at row.now self.old.columns self.new.columns) result }
+        ensures tags { OnOk result (AreTagsOf self.new.known self.new.places.items
+            self.new.columns) }
         ensures few { OnOk result (length self.new.known ≤ most_texts + length self.new.columns) }
     {
         let code = self.text_code(cells.text(Column::Tags))?;
@@ -104,7 +108,9 @@ fn add_known(
     requires room { length columns.old < most_post_rows }
     requires stands { ViewStands (texts_of cells.now) row.now }
     requires known { HasTagsOf (texts_of cells.now column.Tags) place columns.old }
-    ensures { let at = texts_of cells.now in JudgedWithin (length_rules at) (λ _. AddsView at row.now columns.old columns.new) result }
+    ensures { let at = texts_of cells.now
+        in JudgedWithin (length_rules at)
+        (λ _. AddsView at row.now columns.old columns.new) result }
 {
     if !cells.are_short() {
         return Err(Refusal::Broken(RecordFault::TooLong));
@@ -127,8 +133,11 @@ fn add_new(
     requires stands { ViewStands (texts_of cells.now) row.now }
     requires within { code < length known.old }
     requires text { slice_index_or known.old code [] ≡ texts_of cells.now column.Tags }
-    ensures row { let at = texts_of cells.now in JudgedWithin (length_rules at) (λ _. AddsView at row.now columns.old columns.new) result }
-    ensures tags { OnOk result (HasTagsOf (texts_of cells.now column.Tags) (length columns.old) columns.new) }
+    ensures row { let at = texts_of cells.now
+        in JudgedWithin (length_rules at)
+        (λ _. AddsView at row.now columns.old columns.new) result }
+    ensures tags { OnOk result (HasTagsOf (texts_of cells.now column.Tags)
+        (length columns.old) columns.new) }
     ensures texts { known.new ≡ known.old }
 {
     if let Some(tags) = known.tags(code) {
@@ -150,8 +159,11 @@ fn add_with(
     requires room { length columns.old < most_post_rows }
     requires stands { ViewStands (texts_of cells.now) row.now }
     requires stated { TagsAnswer (texts_of cells.now column.Tags) (Ok tags.now) }
-    ensures row { let at = texts_of cells.now in JudgedWithin (length_rules at) (λ _. AddsView at row.now columns.old columns.new) result }
-    ensures tags { OnOk result (HasTagsOf (texts_of cells.now column.Tags) (length columns.old) columns.new) }
+    ensures row { let at = texts_of cells.now
+        in JudgedWithin (length_rules at)
+        (λ _. AddsView at row.now columns.old columns.new) result }
+    ensures tags { OnOk result (HasTagsOf (texts_of cells.now column.Tags)
+        (length columns.old) columns.new) }
 {
     prove!(tags.as_slice().len() <= Tags::MOST);
     if !cells.are_short() {

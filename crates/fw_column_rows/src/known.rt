@@ -96,7 +96,8 @@ impl KnownTexts {
 
     /// The tags that the text with a code states, where they are known.
     pub(crate) fn tags(&self, code: u32) -> Option<&Tags>
-        ensures { IfSome result (λ tags. TagsAnswer (slice_index_or self.now code []) (Ok tags.now)) }
+        ensures { IfSome result (λ tags. TagsAnswer (slice_index_or self.now code [])
+            (Ok tags.now)) }
     {
         match self.tags.as_slice().get(code as usize) {
             Some(tags) => tags.as_ref(),

@@ -17,7 +17,8 @@ pub(crate) fn view_of<'a>(
     currency: Currency,
     periods: &mut PeriodReaders,
 ) -> Result<RowView<'a>, RecordFault>
-    ensures { let at = texts_of cells.now in Judged (view_rules currency at) (ViewStands at) result }
+    ensures { let at = texts_of cells.now
+        in Judged (view_rules currency at) (ViewStands at) result }
 {
     let charged = cells.charged(currency, periods)?;
     let discount = cells.discount()?;

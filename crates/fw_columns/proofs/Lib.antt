@@ -1,7 +1,7 @@
 mod JoinFacts
 mod GroupFacts
 mod AddFacts
-mod KeptFacts
+pub mod KeptFacts
 pub mod PartFacts
 mod PartColumns
 mod PartRows
@@ -10,3 +10,4 @@ mod RunFacts
 pub mod SkuFacts
 mod MetFacts
 mod OrderFacts
+pub mod HourListFacts

@@ -35,7 +35,8 @@ pub fn add_row(
     requires columns { AreColumns table.old (rows_of table.old) }
     requires few { length (rows_of table.old) < most_column_rows }
     requires valid { IsCharge (charge_with row.now (tags_lent tags)) }
-    ensures { OnOk result (AreColumns table.new (rows_of table.old ++ charge_with row.now (tags_lent tags.entry) ∷ [])) }
+    ensures { OnOk result (AreColumns table.new
+        (rows_of table.old ++ charge_with row.now (tags_lent tags.entry) ∷ [])) }
 {
     let last = codes_at(table, table.tags.len().wrapping_sub(1));
     let codes = see_texts(&mut table.names, last, row)?;
@@ -51,7 +52,8 @@ pub fn add_row_like(table: &mut Table, row: &RowView<'_>, place: usize) -> Resul
     requires few { length (rows_of table.old) < most_column_rows }
     requires place { place < length (rows_of table.old) }
     requires valid { IsCharge (charge_with row.now (tags_at (rows_of table.old) place)) }
-    ensures { OnOk result (AreColumns table.new (rows_of table.old ++ charge_with row.now (tags_at (rows_of table.old) place) ∷ [])) }
+    ensures { OnOk result (AreColumns table.new
+        (rows_of table.old ++ charge_with row.now (tags_at (rows_of table.old) place) ∷ [])) }
 {
     let other = codes_at(table, place);
     let codes = see_texts(&mut table.names, other, row)?;
@@ -98,7 +100,8 @@ fn see_texts(names: &mut Names, like: TextCodes, row: &RowView<'_>) -> Result<Te
 #[tactic(auto, unfolding(fw_row_table::specs::Texts::with_texts, fw_row_table::specs::Codes::text_code))]
 fn see_code(names: &mut Names, like: u32, text: Option<&str>) -> Result<u32, AllocError>
     requires { length names.old + 1 ≤ 2 ^ 30 }
-    ensures seen { OnOk result (names.new ≡ with_texts names.old (option_to_list (option_copied text.entry))) }
+    ensures seen { OnOk result (names.new ≡ with_texts names.old
+        (option_to_list (option_copied text.entry))) }
     ensures code { IfOk result (λ code. code ≡ text_code names.new (option_copied text.entry)) }
     ensures grown { OnOk result (length names.old ≤ length names.new) }
     ensures few { OnOk result (length names.new ≤ length names.old + 1) }

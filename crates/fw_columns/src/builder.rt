@@ -70,7 +70,8 @@ impl ColumnsBuilder {
     fn push_parts(&mut self, row: &RowView<'_>, tags: LentTags<'_>) -> Result<(), AllocError>
         requires few { length self.old < most_column_rows }
         requires valid { IsCharge (charge_with row.now (tags_lent tags)) }
-        ensures added { OnOk result (self.new ≡ self.old ++ charge_with row.now (tags_lent tags.entry) ∷ []) }
+        ensures added { OnOk result (self.new ≡ self.old
+            ++ charge_with row.now (tags_lent tags.entry) ∷ []) }
         ensures refused { OnErr result (self.new ≡ []) }
     {
         swap(&mut self.list, &mut self.like);
@@ -90,7 +91,8 @@ impl ColumnsBuilder {
         requires few { length self.old < most_column_rows }
         requires place { place < length self.old }
         requires valid { IsCharge (charge_with row.now (tags_at self.old place)) }
-        ensures added { OnOk result (self.new ≡ self.old ++ charge_with row.now (tags_at self.old place) ∷ []) }
+        ensures added { OnOk result (self.new ≡ self.old
+            ++ charge_with row.now (tags_at self.old place) ∷ []) }
         ensures refused { OnErr result (self.new ≡ []) }
     {
         match add_row_like(&mut self.table, row, place) {

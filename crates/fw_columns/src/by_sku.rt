@@ -39,8 +39,10 @@ impl SkusByHour {
         skus: &[u32],
     ) -> Result<SkusByHour, AllocError>
         requires few { length skus.now ≤ most_column_rows }
-        requires rows { (rows : List Charge) × AreByHour by_hour.now rows × (skus.now ≡ sku_codes rows) }
-        ensures { IfOk result (λ by_sku. (rows : List Charge) → AreByHour by_hour.now rows → skus.now ≡ sku_codes rows → AreSkusByHour by_sku rows) }
+        requires rows { (rows : List Charge) × AreByHour by_hour.now rows
+            × (skus.now ≡ sku_codes rows) }
+        ensures { IfOk result (λ by_sku. (rows : List Charge) → AreByHour by_hour.now rows
+            → skus.now ≡ sku_codes rows → AreSkusByHour by_sku rows) }
     {
         let hours = by_hour.hours().len();
         let mut codes = Vec::new(alloc);
@@ -68,7 +70,9 @@ impl SkusByHour {
     /// The codes of the hour with this number, counted from 0.
     pub fn codes_in(&self, number: usize) -> &[u32]
         requires { HasSkus self.now number }
-        ensures { result.now ≡ slice_range self.now.codes.items (slice_index self.now.before.items number) (slice_index self.now.before.items (number + 1)) }
+        ensures { result.now ≡ slice_range self.now.codes.items
+            (slice_index self.now.before.items number)
+            (slice_index self.now.before.items (number + 1)) }
     {
         let first = self.before[number] as usize;
         let end = self.before[number + 1] as usize;
@@ -78,8 +82,10 @@ impl SkusByHour {
     /// The places of the rows of the hour with this number that have the code at a place among the hour's codes, both counted from 0.
     pub fn places_of(&self, number: usize, which: usize) -> &[u16]
         requires hour { HasSkus self.now number }
-        requires code { slice_index self.now.before.items number + which < slice_index self.now.before.items (number + 1) }
-        ensures { slice_get self.now.places (slice_index self.now.before.items number + which) ≡ Some result.now }
+        requires code { slice_index self.now.before.items number + which
+            < slice_index self.now.before.items (number + 1) }
+        ensures { slice_get self.now.places (slice_index self.now.before.items number + which)
+            ≡ Some result.now }
     {
         let first = self.before[number] as usize;
         self.places.list(first + which)
@@ -105,10 +111,15 @@ impl Met {
     ) -> Result<usize, AllocError>
         requires places { All (λ place. place < length skus.now) places.now }
         requires earlier { (c : ℕ) → slice_index_or self.old.last.items c 0 ≤ vec_len codes.old }
-        ensures codes { OnOk result (codes.new.items ≡ codes.old.items ++ each_once (map (λ place. slice_index_or skus.now place 0) places.now)) }
-        ensures met { OnOk result ((c : ℕ) → slice_index_or self.new.last.items c 0 ≤ vec_len codes.new) }
+        ensures codes { OnOk result (codes.new.items
+            ≡ codes.old.items ++ each_once
+            (map (λ place. slice_index_or skus.now place 0) places.now)) }
+        ensures met { OnOk result ((c : ℕ) → slice_index_or self.new.last.items c 0
+            ≤ vec_len codes.new) }
         ensures count { IfOk result (λ count. count ≤ vec_len self.new.lists) }
-        ensures lists { IfOk result (λ count. take count (map vec_items self.new.lists.items) ≡ map (λ code. filter (λ place. slice_index_or skus.now place 0 == code) places.now) (each_once (map (λ place. slice_index_or skus.now place 0) places.now))) }
+        ensures lists { IfOk result (λ count. take count (map vec_items self.new.lists.items)
+            ≡ map (λ code. filter (λ place. slice_index_or skus.now place 0 == code) places.now)
+            (each_once (map (λ place. slice_index_or skus.now place 0) places.now))) }
     {
         let before = codes.len();
         for place in places {
@@ -139,7 +150,8 @@ fn last_of(last: &[usize], code: usize) -> usize
 // Notes something of a code.
 fn note(last: &mut Vec<usize>, code: usize, listed: usize) -> Result<(), AllocError>
     requires { code < 2 ^ 32 }
-    ensures { OnOk result ((c : ℕ) → slice_index_or last.new.items c 0 ≡ (if c == code then listed else slice_index_or last.old.items c 0)) }
+    ensures { OnOk result ((c : ℕ) → slice_index_or last.new.items c 0
+        ≡ (if c == code then listed else slice_index_or last.old.items c 0)) }
 {
     if code >= last.len() {
         last.resize(code + 1, 0)?;
@@ -148,10 +160,16 @@ fn note(last: &mut Vec<usize>, code: usize, listed: usize) -> Result<(), AllocEr
     Ok(())
 }
 
-// Adds a place to one of the lists.
-fn add_place(lists: &mut Vec<Vec<u16>>, which: usize, place: u16) -> Result<(), AllocError>
+/// Adds a place to one of the lists.
+pub(crate) fn add_place(
+    lists: &mut Vec<Vec<u16>>,
+    which: usize,
+    place: u16,
+) -> Result<(), AllocError>
     requires { which < vec_len lists.old }
-    ensures lists { OnOk result ((k : ℕ) → slice_index_or (map vec_items lists.new.items) k [] ≡ (if k == which then slice_index_or (map vec_items lists.old.items) k [] ++ place ∷ [] else slice_index_or (map vec_items lists.old.items) k [])) }
+    ensures lists { OnOk result ((k : ℕ) → slice_index_or (map vec_items lists.new.items) k []
+        ≡ (if k == which then slice_index_or (map vec_items lists.old.items) k [] ++ place ∷ []
+        else slice_index_or (map vec_items lists.old.items) k [])) }
     ensures len { vec_len lists.new ≡ vec_len lists.old }
 {
     lists[which].push(place)?;
@@ -161,7 +179,9 @@ fn add_place(lists: &mut Vec<Vec<u16>>, which: usize, place: u16) -> Result<(), 
 // Makes one of the lists, or one more, the list of one place. A list that was there keeps its memory.
 fn begin_list(lists: &mut Vec<Vec<u16>>, which: usize, place: u16) -> Result<(), AllocError>
     requires { which ≤ vec_len lists.old }
-    ensures lists { OnOk result ((k : ℕ) → slice_index_or (map vec_items lists.new.items) k [] ≡ (if k == which then place ∷ [] else slice_index_or (map vec_items lists.old.items) k [])) }
+    ensures lists { OnOk result ((k : ℕ) → slice_index_or (map vec_items lists.new.items) k []
+        ≡ (if k == which then place ∷ []
+        else slice_index_or (map vec_items lists.old.items) k [])) }
     ensures some { OnOk result (which < vec_len lists.new) }
     ensures len { OnOk result (vec_len lists.old ≤ vec_len lists.new) }
 {

@@ -18,7 +18,8 @@ use fw_row_table::{Lists, Names, Table, category_at};
 /// Whether columns are those of rows, 1 to 65,536 of them.
 pub fn are_columns(table: &Table) -> bool
     requires few { length table.now.lists ≤ length table.now.tags.items }
-    requires numbered { AreNumbered table.now.lists table.now.tags.items (lists_there table.now.lists table.now.tags.items) }
+    requires numbered { AreNumbered table.now.lists table.now.tags.items
+        (lists_there table.now.lists table.now.tags.items) }
     ensures some { IsTrue result → 0 < length (rows_of table.now) }
     ensures columns { IsTrue result → AreColumns table.now (rows_of table.now) }
     ensures of_rows { (rows : List Charge) → 0 < length rows

@@ -13,7 +13,8 @@ use fw_money::Nanos;
 /// The code of a discount's kind, 0 where there is no discount.
 #[tactic(auto, unfolding(fw_row_table::specs::Table::kind_kept))]
 pub fn kind_kept(discount: Option<&str>, kind: DiscountKind) -> u8
-    ensures { (status : Option DiscountStatus) → result ≡ kind_kept (discount_with discount.entry kind status) }
+    ensures { (status : Option DiscountStatus)
+        → result ≡ kind_kept (discount_with discount.entry kind status) }
 {
     match discount {
         Some(_) => kind.code(),
@@ -24,7 +25,8 @@ pub fn kind_kept(discount: Option<&str>, kind: DiscountKind) -> u8
 /// The code of a discount's status, 0 where it is null or there is no discount.
 #[tactic(auto, unfolding(fw_row_table::specs::Table::status_kept))]
 pub fn status_kept(discount: Option<&str>, status: Option<DiscountStatus>) -> u8
-    ensures { (kind : DiscountKind) → result ≡ status_kept (discount_with discount.entry kind status) }
+    ensures { (kind : DiscountKind) → result
+        ≡ status_kept (discount_with discount.entry kind status) }
 {
     match discount {
         Some(_) => status_code(status),

@@ -1,5 +1,5 @@
 //! Rows kept by column.
-ghost use Rattle.std.specs.Prelude.{◌≡◌, ◌<◌, ◌≤◌, ◌+◌, ◌*◌, ◌↔◌, ◌++◌, ℕ, Some, length, map, nat_abs, option_map, pos, slice_get, slice_index, All, Contains, IfOk};
+ghost use Rattle.std.specs.Prelude.{◌≡◌, ◌<◌, ◌≤◌, ◌+◌, ◌-◌, ◌*◌, ◌↔◌, ◌++◌, ℕ, Some, length, map, nat_abs, option_map, pos, slice_get, slice_index, slice_range, All, Contains, IfOk};
 ghost use Rattle.std.specs.List.{flat_map};
 ghost use Rattle.std.specs.List.Sorted.{IsStrictlyIncreasing};
 ghost use Rattle.fw_charge.specs.Charge.{Charge, hour_of};
@@ -18,9 +18,9 @@ use crate::builder::ColumnsBuilder;
 use crate::by_hour::RowsByHour;
 use crate::by_sku::SkusByHour;
 use crate::grouping::group_codes;
-use crate::joining::joined;
+use crate::joining::{joined, joined_all};
 use fw_charge::Row;
-use fw_row_table::{LentRow, Names, Table, fields_at, lent_row, lent_tags, table_len};
+use fw_row_table::{Lengths, LentRow, Names, Table, fields_at, lent_row, lent_tags};
 use std::alloc::{AllocError, Global};
 use std::marker::Model;
 use std::sync::Arc;
@@ -44,6 +44,7 @@ struct Kept {
     table: Table,
     by_hour: RowsByHour,
     by_sku: SkusByHour,
+    lengths: Lengths,
     /// How many bytes the rows are written in.
     encoded_len: usize,
 }
@@ -54,6 +55,7 @@ impl Drop for Kept {
             table: _,
             by_hour: _,
             by_sku: _,
+            lengths: _,
             encoded_len: _,
         } = self;
     }
@@ -66,13 +68,20 @@ impl Model for Columns {
     ghost use Rattle.fw_charge.specs.Spelling.{row, IsRow};
     ghost use Rattle.fw_row_table.specs.Table.{rows_of, AreColumns};
     ghost use Rattle.fw_columns.specs.ByHour.{AreByHour};
+    ghost use Rattle.fw_row_table.specs.Lengths.{AreLengths};
     ghost use Rattle.fw_columns.specs.BySku.{AreSkusByHour};
 
     ghost Value = { List Charge };
 
     ghost view = { λ c. rows_of c.shared.value.table };
 
-    ghost invariant = { λ c. (0 < length (rows_of c.shared.value.table)) × AreColumns c.shared.value.table (rows_of c.shared.value.table) × AreByHour c.shared.value.by_hour (rows_of c.shared.value.table) × AreSkusByHour c.shared.value.by_sku (rows_of c.shared.value.table) × (c.shared.value.encoded_len ≡ length (flat_map row (rows_of c.shared.value.table))) × All IsRow (rows_of c.shared.value.table) };
+    ghost invariant = { λ c. (0 < length (rows_of c.shared.value.table))
+        × AreColumns c.shared.value.table (rows_of c.shared.value.table)
+        × AreByHour c.shared.value.by_hour (rows_of c.shared.value.table)
+        × AreSkusByHour c.shared.value.by_sku (rows_of c.shared.value.table)
+        × (c.shared.value.encoded_len ≡ length (flat_map row (rows_of c.shared.value.table)))
+        × All IsRow (rows_of c.shared.value.table)
+        × AreLengths c.shared.value.lengths c.shared.value.table };
 }
 
 impl Columns {
@@ -90,7 +99,8 @@ impl Columns {
         table.shrink();
         let by_hour = RowsByHour::of_starts(alloc, table.starts.as_slice())?;
         let by_sku = SkusByHour::of_rows(alloc, &by_hour, table.skus.as_slice())?;
-        let encoded_len = table_len(alloc, &table)?;
+        let lengths = Lengths::of_table(alloc, &table)?;
+        let encoded_len = lengths.of_rows(&table, 0, table.billed.len());
         Ok(Columns {
             shared: Arc::new(
                 alloc,
@@ -98,6 +108,7 @@ impl Columns {
                     table,
                     by_hour,
                     by_sku,
+                    lengths,
                     encoded_len,
                 },
             )?,
@@ -169,6 +180,18 @@ impl Columns {
         self.shared.encoded_len
     }
 
+    /// How many bytes the rows have where they are written, together, from the place `first` on and before the place `end`: at most 527,429 each. No text
+    /// and no tag is looked at.
+    pub fn rows_len(&self, first: usize, end: usize) -> usize
+        requires order { first ≤ end }
+        requires within { end ≤ length self.now }
+        ensures value { result ≡ length (flat_map row (slice_range self.now first end)) }
+        ensures few { result ≤ 527429 * (end - first) }
+        ensures valid { All IsRow self.now }
+    {
+        self.shared.lengths.of_rows(&self.shared.table, first, end)
+    }
+
     /// The row at a place, counted from 0.
     pub fn row(&self, place: usize) -> Result<Row, AllocError>
         requires { place < length self.now }
@@ -226,7 +249,8 @@ impl Columns {
     pub fn hours(&self) -> &[u32]
         ensures hours { result.now ≡ hours_of self.now }
         ensures rising { IsStrictlyIncreasing result.now }
-        ensures each { (hour : ℕ) → Contains result.now hour ↔ Contains (map (λ c. hour_of c.start) self.now) hour }
+        ensures each { (hour : ℕ) → Contains result.now hour
+            ↔ Contains (map (λ c. hour_of c.start) self.now) hour }
         ensures some { 0 < length result.now }
     {
         self.by_hour().hours()
@@ -236,7 +260,8 @@ impl Columns {
     /// `number` of the [hours](Columns::hours).
     pub fn places_in(&self, number: usize) -> &[u16]
         requires { number < length (hours_of self.now) }
-        ensures places { result.now ≡ places_of_hour (slice_index (hours_of self.now) number) self.now }
+        ensures places { result.now ≡ places_of_hour
+            (slice_index (hours_of self.now) number) self.now }
         ensures within { All (λ place. place < length self.now) result.now }
         ensures some { 0 < length result.now }
     {
@@ -257,8 +282,11 @@ impl Columns {
     /// have no SKU.
     pub fn places_of_sku(&self, number: usize, which: usize) -> &[u16]
         requires hour { number < length (hours_of self.now) }
-        requires sku { which < length (skus_of_hour (slice_index (hours_of self.now) number) self.now) }
-        ensures places { result.now ≡ places_of_sku (slice_index (hours_of self.now) number) (slice_index (skus_of_hour (slice_index (hours_of self.now) number) self.now) which) self.now }
+        requires sku { which < length (skus_of_hour
+            (slice_index (hours_of self.now) number) self.now) }
+        ensures places { result.now ≡ places_of_sku (slice_index (hours_of self.now) number)
+            (slice_index (skus_of_hour (slice_index (hours_of self.now) number) self.now) which)
+            self.now }
         ensures within { All (λ place. place < length self.now) result.now }
     {
         self.by_sku().places_of(number, which)
@@ -287,7 +315,8 @@ impl Columns {
 
     /// The code of the id of each row's commitment discount: 0 where there is no discount, else 1 more than the id's place among the names.
     pub fn discount_codes(&self) -> &[u32]
-        ensures { result.now ≡ map (λ c. text_code (names_of self.now) (option_map (λ d. d.id) c.discount)) self.now }
+        ensures { result.now ≡ map (λ c. text_code (names_of self.now)
+            (option_map (λ d. d.id) c.discount)) self.now }
     {
         self.table().discounts.as_slice()
     }
@@ -302,10 +331,25 @@ impl Columns {
         Ok(columns)
     }
 
+    /// The rows of each in turn, together at most [`Columns::MOST_ROWS`]. There is one at least; the rows of one alone are shared.
+    pub fn concat_all(alloc: Global, parts: &[&Columns]) -> Result<Columns, AllocError>
+        requires some { 0 < length parts.now }
+        requires few { length (flat_map (λ part. part.now) parts.now) ≤ most_column_rows }
+        ensures { IfOk result (λ columns. columns ≡ flat_map (λ part. part.now) parts.now) }
+    {
+        if parts.len() == 1 {
+            return parts[0].copy();
+        }
+        let joined = joined_all(alloc, parts)?;
+        let columns = Columns::of_table(alloc, joined)?;
+        Ok(columns)
+    }
+
     /// The code of each row's group under a tag key: 0 where the group is the empty text, else 1 more than the group's place in the
     /// names. Two rows have one code exactly where they have one group. Each list of tags is searched once, however many rows have it.
     pub fn tag_codes(&self, key: &str) -> Result<Vec<u32>, AllocError>
-        ensures codes { IfOk result (λ codes. codes.items ≡ map (tag_code key.now (names_of self.now)) self.now) }
+        ensures codes { IfOk result (λ codes. codes.items
+            ≡ map (tag_code key.now (names_of self.now)) self.now) }
         ensures agree { IfOk result (λ codes. AgreeWithGroups key.now self.now codes.items) }
     {
         let kept = self.table();

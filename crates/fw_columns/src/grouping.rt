@@ -11,7 +11,8 @@ use std::alloc::{AllocError, Global};
 /// The code of each row's group under a key: each list of tags is searched once.
 pub fn group_codes(alloc: Global, table: &Table, key: &str) -> Result<Vec<u32>, AllocError>
     requires { AreColumns table.now (rows_of table.now) }
-    ensures { IfOk result (λ codes. codes.items ≡ map (tag_code key.now table.now.names) (rows_of table.now)) }
+    ensures { IfOk result (λ codes. codes.items
+        ≡ map (tag_code key.now table.now.names) (rows_of table.now)) }
 {
     let key = table.names.place(key);
     let empty = table.names.place("");

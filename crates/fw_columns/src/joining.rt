@@ -3,8 +3,10 @@ ghost use Rattle.std.specs.Prelude.{◌≡◌, ◌≤◌, ◌<◌, ◌+◌, ◌+
 ghost use Rattle.fw_row_table.specs.Names.{place_of};
 ghost use Rattle.fw_row_table.specs.Texts.{with_texts};
 ghost use Rattle.fw_row_table.specs.Table.{most_column_rows, rows_of, AreColumns};
+ghost use Rattle.std.specs.List.{flat_map};
 ghost use Rattle.fw_columns.specs.Joining.{replaced, replaced_code, AreCodesBelow, AreListsBelow, ArePlainOf, AreCodedOf, AreListsOf};
 
+use crate::columns::Columns;
 use fw_row_table::{Lists, Table, joined_names, places_in};
 use std::alloc::{AllocError, Global};
 
@@ -71,6 +73,74 @@ pub fn joined(alloc: Global, first: &Table, second: &Table) -> Result<Table, All
         sub_accounts: coded.sub_accounts,
         tags: listed.tags,
     })
+}
+
+/// The table of the rows of one table and then those of another.
+fn both(alloc: Global, first: &Table, second: &Table) -> Result<Table, AllocError>
+    requires first { AreColumns first.now (rows_of first.now) }
+    requires second { AreColumns second.now (rows_of second.now) }
+    requires few { length (rows_of first.now) + length (rows_of second.now) ≤ most_column_rows }
+    ensures rows { IfOk result (λ table.
+        rows_of table ≡ rows_of first.now ++ rows_of second.now) }
+    ensures as_many { IfOk result (λ table.
+        length (rows_of first.now) ≤ length (rows_of table)) }
+    ensures columns { IfOk result (λ table. AreColumns table (rows_of table)) }
+{
+    let table = joined(alloc, first, second)?;
+    Ok(table)
+}
+
+/// The table of the rows of three tables in turn.
+fn three(alloc: Global, first: &Table, second: &Table, third: &Table) -> Result<Table, AllocError>
+    requires first { AreColumns first.now (rows_of first.now) }
+    requires second { AreColumns second.now (rows_of second.now) }
+    requires third { AreColumns third.now (rows_of third.now) }
+    requires few { length (rows_of first.now) + length (rows_of second.now)
+        + length (rows_of third.now) ≤ most_column_rows }
+    ensures rows { IfOk result (λ table.
+        rows_of table ≡ rows_of first.now ++ (rows_of second.now ++ rows_of third.now)) }
+    ensures as_many { IfOk result (λ table.
+        length (rows_of first.now) ≤ length (rows_of table)) }
+    ensures columns { IfOk result (λ table. AreColumns table (rows_of table)) }
+{
+    let last = both(alloc, second, third)?;
+    let table = both(alloc, first, &last)?;
+    Ok(table)
+}
+
+/// The halves of four parts or more.
+fn halves<'a, 'c>(parts: &'a [&'c Columns]) -> (&'a [&'c Columns], &'a [&'c Columns])
+    requires { 4 ≤ length parts.now }
+    ensures front { (2 ≤ length result.0.now) × (length result.0.now < length parts.now) }
+    ensures back { (2 ≤ length result.1.now) × (length result.1.now < length parts.now) }
+    ensures rows { flat_map (λ part. part.now) parts.now
+        ≡ flat_map (λ part. part.now) result.0.now ++ flat_map (λ part. part.now) result.1.now }
+    ensures count { length (flat_map (λ part. part.now) parts.now)
+        ≡ length (flat_map (λ part. part.now) result.0.now)
+        + length (flat_map (λ part. part.now) result.1.now) }
+{
+    parts.split_at(parts.len() / 2)
+}
+
+/// The table of the rows of two or more in turn. Halves are joined, so that no row is copied more often than their number can be halved.
+pub fn joined_all(alloc: Global, parts: &[&Columns]) -> Result<Table, AllocError>
+    requires two { 2 ≤ length parts.now }
+    requires few { length (flat_map (λ part. part.now) parts.now) ≤ most_column_rows }
+    ensures rows { IfOk result (λ table.
+        rows_of table ≡ flat_map (λ part. part.now) parts.now) }
+    ensures some { IfOk result (λ table. 0 < length (rows_of table)) }
+    ensures columns { IfOk result (λ table. AreColumns table (rows_of table)) }
+{
+    match parts {
+        [first, second] => both(alloc, first.table(), second.table()),
+        [first, second, third] => three(alloc, first.table(), second.table(), third.table()),
+        _ => {
+            let (front, back) = halves(parts);
+            let front = joined_all(alloc, front)?;
+            let back = joined_all(alloc, back)?;
+            both(alloc, &front, &back)
+        }
+    }
 }
 
 /// The columns without places of two tables in turn.
@@ -144,9 +214,11 @@ fn see_lists(
 ) -> Result<Vec<u32>, AllocError>
     requires few { length lists.old + length other.now ≤ 2 ^ 30 }
     requires within { All (λ list. All (λ place. place < length places.now) list) other.now }
-    ensures seen { OnOk result (lists.new ≡ with_texts lists.old (map (replaced places.now) other.now)) }
+    ensures seen { OnOk result (lists.new ≡ with_texts lists.old
+        (map (replaced places.now) other.now)) }
     ensures few { OnOk result (length lists.new ≤ length lists.old + length other.now) }
-    ensures codes { IfOk result (λ codes. codes.items ≡ map (place_of lists.new) (map (replaced places.now) other.now)) }
+    ensures codes { IfOk result (λ codes. codes.items
+        ≡ map (place_of lists.new) (map (replaced places.now) other.now)) }
 {
     let mut codes = Vec::with_capacity(alloc, other.len())?;
     let mut moved = Vec::new(alloc);
@@ -192,7 +264,8 @@ fn joined_codes(
     requires one { All (λ place. place ≤ 2 ^ 30) one.now }
     requires second { All (λ code. code ≤ length two.now) second.now }
     requires two { All (λ place. place ≤ 2 ^ 30) two.now }
-    ensures { IfOk result (λ column. column.items ≡ map (replaced_code one.now) first.now ++ map (replaced_code two.now) second.now) }
+    ensures { IfOk result (λ column. column.items
+        ≡ map (replaced_code one.now) first.now ++ map (replaced_code two.now) second.now) }
 {
     let mut column = Vec::with_capacity(alloc, first.len().saturating_add(second.len()))?;
     push_codes(&mut column, first, one)?;
@@ -204,7 +277,8 @@ fn joined_codes(
 fn push_codes(column: &mut Vec<u32>, codes: &[u32], places: &[u32]) -> Result<(), AllocError>
     requires codes { All (λ code. code ≤ length places.now) codes.now }
     requires places { All (λ place. place ≤ 2 ^ 30) places.now }
-    ensures { OnOk result (column.new.items ≡ column.old.items ++ map (replaced_code places.now) codes.now) }
+    ensures { OnOk result (column.new.items
+        ≡ column.old.items ++ map (replaced_code places.now) codes.now) }
 {
     for code in codes {
         column.push(replaced_code(places, *code))?;

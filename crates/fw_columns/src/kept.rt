@@ -2,7 +2,7 @@
 ghost use Rattle.std.specs.Prelude.{◌≡◌, ◌<◌, ◌≤◌, ◌^◌, ◌/◌, Some, length, map, is_some, slice_get, All};
 ghost use Rattle.fw_charge.specs.Tags.{longest_tag_text, most_tags};
 ghost use Rattle.fw_row_table.specs.Codes.{text_code};
-ghost use Rattle.fw_row_table.specs.Lists.{lists_of};
+ghost use Rattle.fw_row_table.specs.Lists.{lists_of, tag_lists};
 ghost use Rattle.fw_row_table.specs.Table.{id_kept, kind_kept, quantity_kept, status_kept};
 ghost use Rattle.fw_row_table.specs.Texts.{names_of};
 
@@ -90,5 +90,15 @@ impl Columns {
     {
         let kept = self.table();
         kept.lists.list(kept.tags[place])
+    }
+
+    /// The code of the tags of the row at a place, counted from 0: the number of their list among the lists that the tags of the rows are kept as, each once
+    /// and in the order in which it is first seen. Rows with one code have the same tags.
+    pub fn tag_list_code(&self, place: usize) -> u32
+        requires { place < length self.now }
+        ensures { slice_get (tag_lists self.now) result
+            ≡ slice_get (lists_of (names_of self.now) self.now) place }
+    {
+        self.table().tags[place]
     }
 }

@@ -12,6 +12,7 @@ mod checking;
 mod codes;
 mod columns;
 mod grouping;
+mod hour_lists;
 mod joining;
 mod kept;
 mod laws;

@@ -67,7 +67,8 @@ impl RowLists {
 fn add_list(lists: &mut Lists, places: &mut Vec<u32>, list: &[u32]) -> Result<(), AllocError>
     requires { length lists.old < 2 ^ 30 }
     ensures lists { OnOk result (lists.new ≡ with_text lists.old list.now) }
-    ensures places { OnOk result (places.new.items ≡ places.old.items ++ place_of lists.new list.now ∷ []) }
+    ensures places { OnOk result (places.new.items
+        ≡ places.old.items ++ place_of lists.new list.now ∷ []) }
     ensures few { OnOk result (length lists.new ≤ length lists.old + 1) }
 {
     let place = lists.code(list)?;

@@ -1,5 +1,6 @@
 //! `focusd export`: the lines behind the costs of a range of time, as rows for other tools.
 use crate::options::{command_with, folder_option, format_option};
+use crate::past::as_of_option;
 use crate::ranges::{from_option, last_option, month_option, to_option};
 use clap::Command;
 use std::alloc::{AllocError, Global};
@@ -9,7 +10,8 @@ const EXAMPLE: &str =
 stands for the hour at which it begins. The range has the hours from --from up to, not including, --to, at
 most 26,304 of them: --month 2024-01 is --from 2024-01 --to 2024-02. Without these options it has all hours from
 the first row to the last one, and --last 3 months is the last three months of these; no clock is read. Rows of
-posts that were withdrawn don't count. Where the range comes from the rows, it is said on standard error.
+posts that were withdrawn don't count. Where the range comes from the rows, it is said on standard error. With --as-of N
+the rows are those of the warehouse as of its first N entries, as focusd status numbered them: a closed month stays closed.
 
 Each line behind a report becomes a row in the columns of FOCUS 1.0 that the warehouse keeps. Its costs are those
 that a report sums. Its period, class and unit are those of the row that it is of; a purchase, and what a commitment left
@@ -37,6 +39,7 @@ pub(crate) fn command<'a>(alloc: Global) -> Result<Command<'a>, AllocError> {
         to_option(),
         month_option(),
         last_option(),
+        as_of_option(),
         format_option(FORMATS.as_slice(), "csv", "How the rows are written"),
     ];
     command_with(

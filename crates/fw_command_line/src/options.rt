@@ -1,10 +1,11 @@
 //! The options that several commands have.
 ghost use Rattle.std.specs.Prelude.{◌≡◌, true, false, codes};
 ghost use Rattle.clap.specs.declared.builder.action.ArgAction.TheVariants.{SetTrue};
+ghost use Rattle.fw_command_line.specs.declared.parameter.Value.TheVariants.{Number};
 
 use crate::ids::{
     BY, CREATE, CURRENCY, DIR, DRY_RUN, FILES, FORMAT, FROM, ORIGIN, QUIET, STRICT, SUMMARY, TAG,
-    TO, TOP, YES,
+    TO, TOP, WORKERS, YES,
 };
 use crate::parameter::{Parameter, Takes};
 use clap::Command;
@@ -23,6 +24,14 @@ pub(crate) fn folder_option() -> Parameter
     ensures { result.is_needed ≡ true }
 {
     dir_option().needed()
+}
+
+/// The option that says how many workers there are, from 1 to 64.
+pub(crate) fn workers_option(help: &'static str) -> Parameter
+    ensures id { result.id.now ≡ codes "workers" }
+    ensures value { result.value ≡ Number 64 }
+{
+    Parameter::option(WORKERS, "N", help).or("1").up_to(64)
 }
 
 /// The option that names the format of an answer, one of these words.

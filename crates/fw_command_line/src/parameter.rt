@@ -222,7 +222,8 @@ impl Parameter {
 
 // An argument that has a name, if it is an option.
 fn named<'a>(argument: Arg<'a>, name: &'a str, is_option: bool) -> Arg<'a>
-    ensures { result ≡ record argument.entry { long = name_of is_option name.entry argument.entry.long } }
+    ensures { result ≡ record argument.entry
+        { long = name_of is_option name.entry argument.entry.long } }
 {
     if is_option {
         argument.long(name)
@@ -233,7 +234,8 @@ fn named<'a>(argument: Arg<'a>, name: &'a str, is_option: bool) -> Arg<'a>
 
 // An argument that takes these values.
 fn taking<'a>(argument: Arg<'a>, takes: Takes) -> Arg<'a>
-    ensures others { result ≡ record argument.entry { val_names = result.val_names; num_vals = result.num_vals } }
+    ensures others { result ≡ record argument.entry
+        { val_names = result.val_names; num_vals = result.num_vals } }
     ensures names { result.val_names ≡ names_of takes argument.entry.val_names }
 {
     match takes {
@@ -257,7 +259,8 @@ fn judged<'a>(argument: Arg<'a>, value: Value) -> Arg<'a>
 
 // An argument with a value where none is given.
 fn with_default<'a>(argument: Arg<'a>, default: Option<&'a str>) -> Arg<'a>
-    ensures { result ≡ record argument.entry { default_vals = defaults_of default.entry argument.entry.default_vals } }
+    ensures { result ≡ record argument.entry
+        { default_vals = defaults_of default.entry argument.entry.default_vals } }
 {
     match default {
         Some(value) => argument.default_value(value),

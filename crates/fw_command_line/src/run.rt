@@ -1,10 +1,7 @@
 //! `focusd run`: a script is read from standard input and answered.
-ghost use Rattle.std.specs.Prelude.{◌≡◌};
-ghost use Rattle.fw_command_line.specs.declared.parameter.Value.TheVariants.{Number};
-
-use crate::ids::WORKERS;
-use crate::options::{command_with, create_option, currency_option, dir_option, strict_option};
-use crate::parameter::Parameter;
+use crate::options::{
+    command_with, create_option, currency_option, dir_option, strict_option, workers_option,
+};
 use clap::Command;
 use std::alloc::{AllocError, Global};
 
@@ -48,19 +45,6 @@ NAME` on standard error), 2 where the command line is wrong, 3 with --strict whe
 Example: what a script has is kept in a folder, and the answers in a file
   focusd run --dir costs --create < october.script > october.answers";
 
-// The option that says how many workers there are.
-fn workers_option() -> Parameter
-    ensures { result.value ≡ Number 64 }
-{
-    Parameter::option(
-        WORKERS,
-        "N",
-        "How many workers read posts ahead and share the rows of a report: 1 to 64; each answer stays the same",
-    )
-    .or("1")
-    .up_to(64)
-}
-
 /// The command's part of the command line.
 pub(crate) fn command<'a>(alloc: Global) -> Result<Command<'a>, AllocError> {
     let parameters = [
@@ -69,7 +53,9 @@ pub(crate) fn command<'a>(alloc: Global) -> Result<Command<'a>, AllocError> {
             "The folder of the warehouse, which has to be there; without it the warehouse is in memory",
         ),
         create_option("Creates the warehouse in the folder; without --dir it changes nothing"),
-        workers_option(),
+        workers_option(
+            "How many workers read posts ahead and share the rows of a report: 1 to 64; each answer stays the same",
+        ),
         strict_option(),
     ];
     command_with(

@@ -2,13 +2,14 @@
 use crate::ask::ask_hours;
 use crate::hours_question::HoursQuestion;
 use crate::range::{read_hours, wrong_hours};
+use crate::silence::{say_if_missing, say_missing};
 use crate::wanted::{WantedKey, read_some_keys};
 use clap::ArgMatches;
 use fw_calendar::{Period, Step};
 use fw_command_line::{BY, FORMAT, PRICE_TAG};
 use fw_console::{Fault, letters, step_of};
 use fw_figures::{Sheet, SheetFormat, commitments_of, written};
-use fw_snapshot::Snapshot;
+use fw_snapshot::{Snapshot, State};
 use std::alloc::{AllocError, Global};
 use std::process::ExitCode;
 
@@ -30,6 +31,15 @@ impl Figured {
             names.push(key.name())?;
         }
         Ok(names)
+    }
+
+    // Says where no row and no commitment of the hours has one of the tags.
+    fn say(&self, rt: &HostRuntime, state: &State, hours: Period) -> Result<(), AllocError> {
+        say_missing(rt, state, hours, self.keys.as_slice())?;
+        match self.price_tag() {
+            Some(tag) => say_if_missing(rt, state, hours, tag),
+            None => Ok(()),
+        }
     }
 
     // The tag that has prices, where one has.
@@ -81,7 +91,9 @@ impl HoursQuestion for Figured {
         snapshot: &Snapshot,
         hours: Period,
     ) -> Result<Vec<u8>, Fault> {
-        figures_text(rt.alloc(), snapshot, hours, self)
+        let text = figures_text(rt.alloc(), snapshot, hours, self)?;
+        self.say(rt, snapshot.state(), hours)?;
+        Ok(text)
     }
 }
 

@@ -1,5 +1,6 @@
 //! `focusd export`: the lines behind the costs of a range of time, as rows for other tools.
 use crate::ask::{no_rows, say_part};
+use crate::past::{has_entries, past_of, read_as_of, too_few, wrong_as_of};
 use crate::range::{read_hours, say_hours, wrong_hours};
 use clap::ArgMatches;
 use fw_allocated::{ExportFormat, head_text, hour_text};
@@ -7,7 +8,7 @@ use fw_calendar::Period;
 use fw_command_line::{DIR, FORMAT};
 use fw_console::{Fault, advised, let_go, letters, open_to_ask, printed, warn_unfinished};
 use fw_query::{MOST_HOURS, Shown};
-use fw_snapshot::State;
+use fw_snapshot::{Snapshot, State};
 use fw_views::{AskedHours, row_hours};
 use std::io::{self, Write};
 use std::process::ExitCode;
@@ -23,8 +24,12 @@ pub fn print_export(rt: &HostRuntime, options: &ArgMatches<'_>) -> Result<ExitCo
 // Opens the warehouse of the folder that the options name, and prints the rows of the hours that are asked for, of which its rows give what is left open.
 fn export_hours(rt: &HostRuntime, options: &ArgMatches<'_>, hours: AskedHours) -> ExitCode {
     let folder = options.get_str(DIR).unwrap_or("");
+    let as_of = match read_as_of(options) {
+        Ok(as_of) => as_of,
+        Err(text) => return wrong_as_of(rt, text),
+    };
     let format = format_of(options.get_str(FORMAT));
-    let exported = export_folder(rt, folder, hours, format);
+    let exported = export_folder(rt, folder, as_of, hours, format);
     let is_range = matches!(exported, Err(Fault::Range));
     let status = advised(rt, folder, exported);
     if is_range {
@@ -41,16 +46,34 @@ fn format_of(word: Option<&str>) -> ExportFormat {
     }
 }
 
-// Prints the rows of the warehouse of a folder.
+// Prints the rows of the warehouse of a folder, as of so many entries where a number is given.
 fn export_folder(
     rt: &HostRuntime,
     folder: &str,
+    as_of: Option<usize>,
     hours: AskedHours,
     format: ExportFormat,
 ) -> Result<ExitCode, Fault> {
     let store = open_to_ask(rt, folder)?;
-    let exported = export_state(rt, folder, store.state().state(), hours, format);
+    let exported = export_as_of(rt, folder, store.state(), as_of, hours, format);
     let_go(store, exported)
+}
+
+// Prints the rows of a warehouse, as of so many entries where a number is given.
+fn export_as_of(
+    rt: &HostRuntime,
+    folder: &str,
+    snapshot: &Snapshot,
+    as_of: Option<usize>,
+    hours: AskedHours,
+    format: ExportFormat,
+) -> Result<ExitCode, Fault> {
+    warn_unfinished(rt, folder)?;
+    if !has_entries(snapshot.state(), as_of) {
+        return Ok(too_few(rt, folder, snapshot.state().entries())?);
+    }
+    let past = past_of(rt.alloc(), snapshot, as_of)?;
+    export_state(rt, folder, past.state(), hours, format)
 }
 
 // Prints the rows of a state; says so where its rows are to give the range and there are none.
@@ -61,7 +84,6 @@ fn export_state(
     hours: AskedHours,
     format: ExportFormat,
 ) -> Result<ExitCode, Fault> {
-    warn_unfinished(rt, folder)?;
     let rows = match hours {
         AskedHours::Given(_) => None,
         _ => row_hours(rt.alloc(), state)?,

@@ -18,7 +18,7 @@ pub(crate) fn selected_page(
     about: &str,
 ) -> Result<Vec<u8>, Fault> {
     let series = series_of(alloc, selections, sheet)?;
-    let title = title_of(alloc, sheet.keys)?;
+    let title = title_of(alloc, sheet)?;
     let view = View {
         tag: title.as_str(),
         currency: sheet.currency,
@@ -30,17 +30,21 @@ pub(crate) fn selected_page(
     Ok(page_without_charges(alloc, &series, &view, about)?)
 }
 
-// The names of keys, as a title has them.
-fn title_of(alloc: Global, keys: &[KeyName<'_>]) -> Result<String, AllocError> {
+// What the costs are by, as a title has it: the names of the keys; where there are none, the period.
+fn title_of(alloc: Global, sheet: &Sheet<'_, '_, '_>) -> Result<String, AllocError> {
     let mut title = String::new(alloc);
-    for key in keys {
+    for key in sheet.keys {
         if !title.is_empty() {
             title.push_str(" and ")?;
         }
         title.push_str(key.name)?;
     }
     if title.is_empty() {
-        title.push_str("period")?;
+        title.push_str(if sheet.step.is_some() {
+            "period"
+        } else {
+            "range"
+        })?;
     }
     Ok(title)
 }
@@ -97,7 +101,10 @@ fn report_of(
 ) -> Result<DirectReport, AllocError> {
     let mut entries = Vec::new(alloc);
     for group in selection.groups() {
-        let name = shown_group(alloc, keys, group.texts())?;
+        let name = match keys {
+            [] => String::from_str(alloc, "(all)")?,
+            _ => shown_group(alloc, keys, group.texts())?,
+        };
         entries.push(Direct::of_fields(name, group.billed(), group.effective()))?;
     }
     Ok(DirectReport::of_entries(entries))

@@ -31,9 +31,7 @@ pub fn say_selected(
     hours: Period,
     wanted: &Wanted,
 ) -> Result<(), AllocError> {
-    for key in &wanted.keys {
-        say_key(rt, state, hours, key)?;
-    }
+    say_missing(rt, state, hours, wanted.keys.as_slice())?;
     for condition in &wanted.conditions {
         say_key(rt, state, hours, &condition.key)?;
         say_condition(rt, condition)?;
@@ -41,6 +39,19 @@ pub fn say_selected(
     let _ = eprintln!(rt;
         "ChargedCost is left out: a policy shares the costs of all lines, by one tag"
     );
+    Ok(())
+}
+
+/// Says of each of these keys where no row and no commitment of the hours has the tag that it is.
+pub(crate) fn say_missing(
+    rt: &HostRuntime,
+    state: &State,
+    hours: Period,
+    keys: &[WantedKey],
+) -> Result<(), AllocError> {
+    for key in keys {
+        say_key(rt, state, hours, key)?;
+    }
     Ok(())
 }
 
@@ -57,8 +68,8 @@ fn say_key(
     Ok(())
 }
 
-// Says where no row and no commitment of the hours has a tag of this key.
-fn say_if_missing(
+/// Says where no row and no commitment of the hours has a tag of this key.
+pub(crate) fn say_if_missing(
     rt: &HostRuntime,
     state: &State,
     hours: Period,

@@ -15,6 +15,7 @@ use fw_disk::FileVolume;
 use fw_recover::Store;
 use fw_table::shown_text;
 use fw_views::{Question, answer};
+use std::io::IsTerminal;
 use std::process::ExitCode;
 
 /// What is asked of a warehouse.
@@ -111,8 +112,18 @@ fn print_sound(
         let entries = Member::new("entries", store.state().state().entries() as u64);
         return tell(rt, "verify", &[entries], ExitCode::SUCCESS);
     }
+    if rt.stderr().is_terminal() && job.expected.is_none() {
+        say_unseen(rt);
+    }
     let text = answer(rt.alloc(), store, &Question::Verify)?;
     print_answer(rt, text.as_slice())
+}
+
+// Says what can't be seen without a digest.
+fn say_unseen(rt: &HostRuntime) {
+    let _ = eprintln!(rt;
+        "Not seen: a changed byte of an amount. Write down what --digest prints, and compare with it by --expect"
+    );
 }
 
 // Tells how many entries a warehouse has, and its digest.

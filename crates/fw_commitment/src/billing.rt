@@ -23,8 +23,9 @@ pub(crate) struct Billing {
 }
 
 fn sub_account(alloc: Global, table: &Table) -> Result<Option<String>, CommitmentFault>
-    ensures { let ms = stated table.now in
-        Finds (sub_account_rules ms) (λ name. HasAccount ms (option_map string_bytes name) × IsAccount (option_map string_bytes name)) result }
+    ensures { let ms = stated table.now in Finds (sub_account_rules ms)
+        (λ name. HasAccount ms (option_map string_bytes name)
+        × IsAccount (option_map string_bytes name)) result }
 {
     let Some(value) = member(table, CommitmentField::SubAccount.name()) else {
         return Ok(None);

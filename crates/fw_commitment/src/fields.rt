@@ -15,8 +15,9 @@ use fw_toml::{Table, text};
 
 /// The text of a field, of 1 to 256 bytes.
 pub(crate) fn short_text(table: &Table, field: CommitmentField) -> Result<&str, CommitmentFault>
-    ensures { let Has = HasText (stated table.now) (name_of field) in
-        Finds (field_rules field Has IsShortText) (λ text. Has text.now × IsShortText text.now) result }
+    ensures { let Has = HasText (stated table.now) (name_of field)
+        in Finds (field_rules field Has IsShortText)
+        (λ text. Has text.now × IsShortText text.now) result }
 {
     let Some(text) = text(table, field.name()) else {
         return Err(CommitmentFault::Field(field));
@@ -29,7 +30,8 @@ pub(crate) fn short_text(table: &Table, field: CommitmentField) -> Result<&str, 
 
 /// The amount that the text under a name reads as, in nanos.
 pub(crate) fn amount(table: &Table, name: &str) -> Option<Nanos>
-    ensures { MatchOption result ((n : ℤ) → ¬ HasAmount (stated table.now) name.now n) (λ n. HasAmount (stated table.now) name.now n) }
+    ensures { MatchOption result ((n : ℤ) → ¬ HasAmount (stated table.now) name.now n)
+        (λ n. HasAmount (stated table.now) name.now n) }
 {
     match text(table, name) {
         Some(text) => fw_money::parse(text.as_bytes()).ok(),
@@ -39,7 +41,8 @@ pub(crate) fn amount(table: &Table, name: &str) -> Option<Nanos>
 
 /// The second since 1970 at which the instant of the text under a name begins.
 pub(crate) fn second(table: &Table, name: &str) -> Option<u64>
-    ensures value { MatchOption result ((s : ℕ) → ¬ HasSecond (stated table.now) name.now s) (λ s. HasSecond (stated table.now) name.now s) }
+    ensures value { MatchOption result ((s : ℕ) → ¬ HasSecond (stated table.now) name.now s)
+        (λ s. HasSecond (stated table.now) name.now s) }
     ensures in_range { IfSome result (λ s. s ≤ last_second) }
 {
     match text(table, name) {

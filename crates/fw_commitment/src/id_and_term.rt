@@ -52,8 +52,9 @@ fn start(table: &Table) -> Result<u32, CommitmentFault>
 }
 
 fn hours(table: &Table) -> Result<u32, CommitmentFault>
-    ensures { let ms = stated table.now in
-        Finds (hours_rules ms) (λ hours. HasInteger ms (codes "hours") (pos hours) × (0 < hours) × (hours ≤ most_hours)) result }
+    ensures { let ms = stated table.now in Finds (hours_rules ms)
+        (λ hours. HasInteger ms (codes "hours") (pos hours) × (0 < hours) × (hours ≤ most_hours))
+        result }
 {
     let Some(hours) = integer(table, CommitmentField::Hours.name()) else {
         return Err(CommitmentFault::Field(CommitmentField::Hours));
@@ -82,7 +83,8 @@ impl IdAndTerm {
 
     /// What a table says of them.
     pub(crate) fn of_table(alloc: Global, table: &Table) -> Result<IdAndTerm, CommitmentFault>
-        ensures { Finds (id_and_term_rules (stated table.now)) (IsIdAndTerm (stated table.now)) result }
+        ensures { Finds (id_and_term_rules (stated table.now))
+            (IsIdAndTerm (stated table.now)) result }
     {
         let id = short_text(table, CommitmentField::Id)?;
         let kind = kind(table)?;

@@ -17,7 +17,8 @@ use std::alloc::{AllocError, Global};
 
 /// The second and the nanos of a purchase's table.
 fn payment(table: &Table) -> Option<(u64, Nanos)>
-    ensures value { MatchOption result ((p : ℕ × ℤ) → ¬ IsPayment (stated table.now) p) (λ p. IsPayment (stated table.now) p) }
+    ensures value { MatchOption result ((p : ℕ × ℤ) → ¬ IsPayment (stated table.now) p)
+        (λ p. IsPayment (stated table.now) p) }
     ensures in_range { IfSome result (λ p. p.0 ≤ last_second) }
 {
     if !has_only(table, &["at", "billed"]) {
@@ -30,8 +31,10 @@ fn payment(table: &Table) -> Option<(u64, Nanos)>
 
 /// The payments of tables; `None` where one of them is not a purchase's.
 fn payments(alloc: Global, tables: &[&Table]) -> Result<Option<Vec<(u64, Nanos)>>, AllocError>
-    ensures { let found = map (λ t. stated t.now) tables.now in
-        IfOk result (λ payments. MatchOption payments ((ps : List (ℕ × ℤ)) → ¬ AllZip IsPayment found ps) (λ v. AllZip IsPayment found v.items × All (λ p. p.0 ≤ last_second) v.items)) }
+    ensures { let found = map (λ t. stated t.now) tables.now
+        in IfOk result (λ payments. MatchOption payments
+        ((ps : List (ℕ × ℤ)) → ¬ AllZip IsPayment found ps)
+        (λ v. AllZip IsPayment found v.items × All (λ p. p.0 ≤ last_second) v.items)) }
 {
     let mut payments = Vec::new(alloc);
     for table in tables {
@@ -49,7 +52,8 @@ fn purchases_of(
     payments: &[(u64, Nanos)],
 ) -> Result<Option<Vec<Purchase>>, AllocError>
     requires { All (λ p. p.0 ≤ last_second) payments.now }
-    ensures { IfOk result (λ purchases. MatchOption purchases (¬ ArePurchasesStated payments.now) (λ v. (payments.now ≡ purchases_stated v.items) × ArePurchases v.items)) }
+    ensures { IfOk result (λ purchases. MatchOption purchases (¬ ArePurchasesStated payments.now)
+        (λ v. (payments.now ≡ purchases_stated v.items) × ArePurchases v.items)) }
 {
     if payments.is_empty() || payments.len() > Commitment::MOST_PURCHASES {
         return Ok(None);
@@ -69,8 +73,8 @@ fn purchases_of(
 
 /// The purchases of a table.
 pub(crate) fn purchases(alloc: Global, table: &Table) -> Result<Vec<Purchase>, CommitmentFault>
-    ensures { let ms = stated table.now in
-        Finds (purchase_rules ms) (λ v. HasPurchases ms (purchases_stated v.items) × ArePurchases v.items) result }
+    ensures { let ms = stated table.now in Finds (purchase_rules ms)
+        (λ v. HasPurchases ms (purchases_stated v.items) × ArePurchases v.items) result }
 {
     let Some(value) = member(table, CommitmentField::Purchase.name()) else {
         return Err(CommitmentFault::Field(CommitmentField::Purchase));

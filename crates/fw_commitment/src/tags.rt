@@ -14,8 +14,9 @@ use std::alloc::{AllocError, Global};
 
 /// The tag of a key with its text; `None` where one of the two is too long.
 fn tag_of(alloc: Global, key: &str, value: &str) -> Result<Option<Tag>, AllocError>
-    ensures { let found = tag_text key.now value.now in
-        IfOk result (λ tag. MatchOption tag (¬ IsTagSized found) (λ t. (t ≡ found) × IsTagSized t)) }
+    ensures { let found = tag_text key.now value.now
+        in IfOk result (λ tag. MatchOption tag (¬ IsTagSized found)
+        (λ t. (t ≡ found) × IsTagSized t)) }
 {
     if key.len() > Tag::LONGEST || value.len() > Tag::LONGEST {
         return Ok(None);

@@ -23,8 +23,10 @@ use std::collections::BTreeSet;
 
 /// The texts in rising order of their bytes; `None` where one stands twice.
 fn in_order<'a>(alloc: Global, texts: &[&'a str]) -> Result<Option<Vec<&'a str>>, AllocError>
-    ensures { let found = map (λ t. t.now) texts.now in
-        IfOk result (λ ordered. MatchOption ordered (HasTwice found) (λ v. (¬ HasTwice found) × (map (λ t. t.now) v.items ≡ in_byte_order found) × IsRising (map (λ t. t.now) v.items))) }
+    ensures { let found = map (λ t. t.now) texts.now
+        in IfOk result (λ ordered. MatchOption ordered (HasTwice found)
+        (λ v. (¬ HasTwice found) × (map (λ t. t.now) v.items ≡ in_byte_order found)
+        × IsRising (map (λ t. t.now) v.items))) }
 {
     let mut set = BTreeSet::new(alloc);
     for text in texts {
@@ -42,8 +44,9 @@ fn in_order<'a>(alloc: Global, texts: &[&'a str]) -> Result<Option<Vec<&'a str>>
 /// Copies of texts that are to be SKUs; `None` where there are none or too many, or where one is empty or too long.
 fn skus_of(alloc: Global, texts: &[&str]) -> Result<Option<Vec<String>>, AllocError>
     requires { IsRising (map (λ t. t.now) texts.now) }
-    ensures { let found = map (λ t. t.now) texts.now in
-        IfOk result (λ skus. MatchOption skus (¬ AreSkus found) (λ v. (map string_bytes v.items ≡ found) × AreSkus found)) }
+    ensures { let found = map (λ t. t.now) texts.now
+        in IfOk result (λ skus. MatchOption skus (¬ AreSkus found)
+        (λ v. (map string_bytes v.items ≡ found) × AreSkus found)) }
 {
     if texts.is_empty() || texts.len() > Terms::MOST_SKUS {
         return Ok(None);
@@ -59,8 +62,8 @@ fn skus_of(alloc: Global, texts: &[&str]) -> Result<Option<Vec<String>>, AllocEr
 }
 
 fn skus(alloc: Global, table: &Table) -> Result<Vec<String>, CommitmentFault>
-    ensures { let ms = stated table.now in
-        Finds (skus_rules ms) (λ v. HasSkus ms (map string_bytes v.items) × AreSkus (map string_bytes v.items)) result }
+    ensures { let ms = stated table.now in Finds (skus_rules ms)
+        (λ v. HasSkus ms (map string_bytes v.items) × AreSkus (map string_bytes v.items)) result }
 {
     let Some(value) = member(table, CommitmentField::Skus.name()) else {
         return Err(CommitmentFault::Field(CommitmentField::Skus));
@@ -79,7 +82,8 @@ fn skus(alloc: Global, table: &Table) -> Result<Vec<String>, CommitmentFault>
 
 /// The rate of a SKU with its integer; `None` where one of the two is out of its limits.
 fn rate_of(alloc: Global, sku: &str, ppm: i64) -> Result<Option<Rate>, AllocError>
-    ensures { IfOk result (λ rate. MatchOption rate (¬ IsRateStated (sku.now, ppm)) (λ r. (rate_stated r ≡ (sku.now, ppm)) × IsRate r)) }
+    ensures { IfOk result (λ rate. MatchOption rate (¬ IsRateStated (sku.now, ppm))
+        (λ r. (rate_stated r ≡ (sku.now, ppm)) × IsRate r)) }
 {
     if !is_short_text(sku) || ppm < 1 || ppm > Rate::MOST_PPM as i64 {
         return Ok(None);
@@ -91,8 +95,9 @@ fn rate_of(alloc: Global, sku: &str, ppm: i64) -> Result<Option<Rate>, AllocErro
 /// The rates of SKUs with their integers; `None` where one of them is out of its limits, or where there are none or too many.
 fn rates_of(alloc: Global, stated: &[(&str, i64)]) -> Result<Option<Vec<Rate>>, AllocError>
     requires { IsRising (map (λ e. e.0.now) stated.now) }
-    ensures { let found = map (λ e. (e.0.now, e.1)) stated.now in
-        IfOk result (λ rates. MatchOption rates (¬ AreRatesStated found) (λ v. (found ≡ rates_stated v.items) × AreRates v.items)) }
+    ensures { let found = map (λ e. (e.0.now, e.1)) stated.now
+        in IfOk result (λ rates. MatchOption rates (¬ AreRatesStated found)
+        (λ v. (found ≡ rates_stated v.items) × AreRates v.items)) }
 {
     if stated.is_empty() || stated.len() > Terms::MOST_SKUS {
         return Ok(None);
@@ -130,7 +135,9 @@ pub(crate) fn terms(
     kind: DiscountKind,
 ) -> Result<Terms, CommitmentFault>
     requires { HasKind (stated table.now) kind }
-    ensures { Finds (terms_rules (stated table.now)) (λ t. TermsStand (stated table.now) (terms_view t) × IsTerms (terms_view t) × (kind_of (terms_view t) ≡ kind)) result }
+    ensures { Finds (terms_rules (stated table.now))
+        (λ t. TermsStand (stated table.now) (terms_view t) × IsTerms (terms_view t)
+        × (kind_of (terms_view t) ≡ kind)) result }
 {
     match kind {
         DiscountKind::Usage => {

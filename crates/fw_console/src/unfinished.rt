@@ -31,8 +31,13 @@ pub fn warn_unfinished(rt: &HostRuntime, folder: &str) -> Result<(), Fault> {
     Ok(())
 }
 
-/// Writes down that a replacement of an origin's rows begins. It is on the disk, by the word of the system, before this returns.
+/// Writes down that a replacement of an origin's rows begins. It is on the disk, by the word of the system, before this returns. Where it stands
+/// there already, the file stays as it is: one that is written anew is empty for a moment, and a stop within it would lose the word.
 pub fn begin_replacement(rt: &HostRuntime, folder: &str, origin: &str) -> Result<(), Fault> {
+    match unfinished_origin(rt, folder)? {
+        Some(begun) if begun.as_str() == origin => return Ok(()),
+        _ => {}
+    }
     let path = path_of(rt.alloc(), folder)?;
     match write_origin(rt, folder, path.as_str(), origin) {
         Ok(()) => Ok(()),

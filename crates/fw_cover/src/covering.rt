@@ -49,7 +49,8 @@ pub(crate) fn cover_pairs(
 ) -> Result<HourCover, AllocError>
     requires one_each { length billed.now ≡ length quantities.now }
     requires pairs { All (IsPairWithin billed.now quantities.now capacities.now) pairs.now }
-    ensures { IfOk result (IsCover (cover_of billed.now quantities.now capacities.now pairs.now) quantities.now capacities.now) }
+    ensures { IfOk result (IsCover (cover_of billed.now quantities.now capacities.now pairs.now)
+        quantities.now capacities.now) }
 {
     let mut row_left = quantities.to_vec(alloc)?;
     let mut capacity_left = capacities.to_vec(alloc)?;

@@ -81,7 +81,10 @@ fn push_pair(list: &mut Vec<Pair>, pair: Pair) -> Result<(), AllocError>
 /// Adds a pair to the list of its commitment.
 fn push_at(lists: &mut Vec<Vec<Pair>>, rank: usize, pair: Pair) -> Result<(), AllocError>
     requires { rank < vec_len lists.old }
-    ensures pairs { OnOk result ((all : List RankedPair) → map (λ l. l.items) lists.old.items ≡ by_rank (vec_len lists.old) all → map (λ l. l.items) lists.new.items ≡ by_rank (vec_len lists.old) (all ++ record { rank = rank; pair = pair } ∷ [])) }
+    ensures pairs { OnOk result ((all : List RankedPair)
+        → map (λ l. l.items) lists.old.items ≡ by_rank (vec_len lists.old) all
+        → map (λ l. l.items) lists.new.items
+        ≡ by_rank (vec_len lists.old) (all ++ record { rank = rank; pair = pair } ∷ [])) }
     ensures many { vec_len lists.new ≡ vec_len lists.old }
 {
     push_pair(&mut lists[rank], pair)?;
@@ -97,7 +100,11 @@ fn add_pair(
     row: &LentRow<'_>,
 ) -> Result<(), AllocError>
     requires { offer.now.rank < vec_len lists.old }
-    ensures pairs { OnOk result ((all : List RankedPair) → map (λ l. l.items) lists.old.items ≡ by_rank (vec_len lists.old) all → map (λ l. l.items) lists.new.items ≡ by_rank (vec_len lists.old) (all ++ cons_option (pair_by hour (at, row.now) (offer_of offer.now)) [])) }
+    ensures pairs { OnOk result ((all : List RankedPair)
+        → map (λ l. l.items) lists.old.items ≡ by_rank (vec_len lists.old) all
+        → map (λ l. l.items) lists.new.items
+        ≡ by_rank (vec_len lists.old)
+        (all ++ cons_option (pair_by hour (at, row.now) (offer_of offer.now)) [])) }
     ensures many { vec_len lists.new ≡ vec_len lists.old }
 {
     if fits(offer.placed.commitment, hour, row) {
@@ -128,7 +135,11 @@ fn add_pairs(
     row: &LentRow<'_>,
 ) -> Result<(), AllocError>
     requires { All (λ o. o.standing.0 < vec_len lists.old) (map offer_of offers.now) }
-    ensures pairs { OnOk result ((all : List RankedPair) → map (λ l. l.items) lists.old.items ≡ by_rank (vec_len lists.old) all → map (λ l. l.items) lists.new.items ≡ by_rank (vec_len lists.old) (all ++ filter_map (pair_by hour (at, row.now)) (map offer_of offers.now))) }
+    ensures pairs { OnOk result ((all : List RankedPair)
+        → map (λ l. l.items) lists.old.items ≡ by_rank (vec_len lists.old) all
+        → map (λ l. l.items) lists.new.items
+        ≡ by_rank (vec_len lists.old)
+        (all ++ filter_map (pair_by hour (at, row.now)) (map offer_of offers.now))) }
     ensures many { vec_len lists.new ≡ vec_len lists.old }
 {
     for offer in offers {
@@ -146,7 +157,11 @@ fn add_row(
     row: &LentRow<'_>,
 ) -> Result<(), AllocError>
     requires { All (λ o. o.standing.0 < vec_len lists.old) (sku_offers offers.now) }
-    ensures pairs { OnOk result ((table : List (List OfferValue)) → sku_offers offers.now ≡ row_offers table row.now → (all : List RankedPair) → map (λ l. l.items) lists.old.items ≡ by_rank (vec_len lists.old) all → map (λ l. l.items) lists.new.items ≡ by_rank (vec_len lists.old) (all ++ pairs_with hour table (at, row.now))) }
+    ensures pairs { OnOk result ((table : List (List OfferValue))
+        → sku_offers offers.now ≡ row_offers table row.now → (all : List RankedPair)
+        → map (λ l. l.items) lists.old.items ≡ by_rank (vec_len lists.old) all
+        → map (λ l. l.items) lists.new.items
+        ≡ by_rank (vec_len lists.old) (all ++ pairs_with hour table (at, row.now))) }
     ensures many { vec_len lists.new ≡ vec_len lists.old }
 {
     if !is_open(row, hour) {
@@ -166,7 +181,11 @@ fn pairs_by_rank(
 ) -> Result<Vec<Vec<Pair>>, AllocError>
     requires one_each { length offers.now ≡ length rows.now }
     requires ranks { All (All (λ o. o.standing.0 < ranks)) (map sku_offers offers.now) }
-    ensures { IfOk result (λ v. (table : List (List OfferValue)) → map sku_offers offers.now ≡ map (row_offers table) (map (λ r. r.now) rows.now) → map (λ l. l.items) v.items ≡ by_rank ranks (flat_map (pairs_with hour table) (enumerate_from 0 (map (λ r. r.now) rows.now)))) }
+    ensures { IfOk result (λ v. (table : List (List OfferValue))
+        → map sku_offers offers.now ≡ map (row_offers table) (map (λ r. r.now) rows.now)
+        → map (λ l. l.items) v.items
+        ≡ by_rank ranks (flat_map (pairs_with hour table)
+        (enumerate_from 0 (map (λ r. r.now) rows.now)))) }
 {
     let mut lists = no_pairs(alloc, ranks)?;
     for (at, row) in rows.iter().enumerate() {
@@ -195,7 +214,8 @@ fn by_rate(alloc: Global, pairs: &[Pair]) -> Result<Vec<Pair>, AllocError>
 
 /// The pairs of each commitment in turn, each commitment's in the order of their rates; `expected` is about how many there are.
 fn joined(alloc: Global, lists: &[Vec<Pair>], expected: usize) -> Result<Vec<Pair>, AllocError>
-    ensures { IfOk result (λ v. v.items ≡ flat_map (in_order has_lower_rate) (map (λ l. l.items) lists.now)) }
+    ensures { IfOk result (λ v. v.items ≡ flat_map (in_order has_lower_rate)
+        (map (λ l. l.items) lists.now)) }
 {
     let mut pairs = Vec::with_capacity(alloc, expected)?;
     for list in lists {
@@ -216,7 +236,12 @@ pub(crate) fn pairs_in_order(
 ) -> Result<Vec<Pair>, AllocError>
     requires one_each { length offers.now ≡ length rows.now }
     requires ranks { All (All (λ o. o.standing.0 < ranks)) (map sku_offers offers.now) }
-    ensures { IfOk result (λ v. (table : List (List OfferValue)) → map sku_offers offers.now ≡ map (row_offers table) (map (λ r. r.now) rows.now) → All (All (λ o. o.standing.0 < ranks)) table → v.items ≡ map (λ q. q.pair) (in_order ranked_before (flat_map (pairs_with hour table) (enumerate_from 0 (map (λ r. r.now) rows.now))))) }
+    ensures { IfOk result (λ v. (table : List (List OfferValue))
+        → map sku_offers offers.now ≡ map (row_offers table) (map (λ r. r.now) rows.now)
+        → All (All (λ o. o.standing.0 < ranks)) table
+        → v.items ≡ map (λ q. q.pair)
+        (in_order ranked_before (flat_map (pairs_with hour table)
+        (enumerate_from 0 (map (λ r. r.now) rows.now))))) }
 {
     let lists = pairs_by_rank(alloc, ranks, rows, offers, hour)?;
     let pairs = joined(alloc, &lists, rows.len())?;

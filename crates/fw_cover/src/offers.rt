@@ -52,7 +52,10 @@ fn add_skus<'a>(
     placed: Placed<'a>,
     skus: &'a [String],
 ) -> Result<(), AllocError>
-    ensures { OnOk result (map offer_of offers.new.items ≡ map offer_of offers.old.items ++ map (λ s. offer_for (rank, placed_of placed.entry) (record { sku = string_bytes s; rate = None })) skus.now) }
+    ensures { OnOk result (map offer_of offers.new.items
+        ≡ map offer_of offers.old.items
+        ++ map (λ s. offer_for (rank, placed_of placed.entry)
+        (record { sku = string_bytes s; rate = None })) skus.now) }
 {
     for sku in skus {
         offers.push(Offer {
@@ -72,7 +75,10 @@ fn add_rates<'a>(
     placed: Placed<'a>,
     rates: &'a [Rate],
 ) -> Result<(), AllocError>
-    ensures { OnOk result (map offer_of offers.new.items ≡ map offer_of offers.old.items ++ map (λ r. offer_for (rank, placed_of placed.entry) (record { sku = r.sku; rate = Some r.ppm })) rates.now) }
+    ensures { OnOk result (map offer_of offers.new.items
+        ≡ map offer_of offers.old.items
+        ++ map (λ r. offer_for (rank, placed_of placed.entry)
+        (record { sku = r.sku; rate = Some r.ppm })) rates.now) }
 {
     for rate in rates {
         offers.push(Offer {
@@ -91,7 +97,8 @@ fn add_offers<'a>(
     rank: usize,
     placed: Placed<'a>,
 ) -> Result<(), AllocError>
-    ensures { OnOk result (map offer_of offers.new.items ≡ map offer_of offers.old.items ++ offers_by (rank, placed_of placed.entry)) }
+    ensures { OnOk result (map offer_of offers.new.items
+        ≡ map offer_of offers.old.items ++ offers_by (rank, placed_of placed.entry)) }
 {
     match placed.commitment.terms() {
         Terms::Usage { skus, .. } => add_skus(offers, rank, placed, skus),
@@ -113,7 +120,8 @@ fn all_offers<'a>(alloc: Global, ordered: &[Placed<'a>]) -> Result<Vec<Offer<'a>
 /// What the commitments of an order list, by the bytes of the SKUs; offers of one SKU stand in the order of their commitments.
 fn index<'a>(alloc: Global, ordered: &[Placed<'a>]) -> Result<Vec<Offer<'a>>, AllocError>
     ensures value { IfOk result (λ v. map offer_of v.items ≡ index_of (map placed_of ordered.now)) }
-    ensures sorted { IfOk result (λ v. IsSortedBy (λ a b. offer_before (offer_of a) (offer_of b)) v.items) }
+    ensures sorted { IfOk result (λ v. IsSortedBy
+        (λ a b. offer_before (offer_of a) (offer_of b)) v.items) }
 {
     let mut offers = all_offers(alloc, ordered)?;
     offers.sort_by(|a, b| a.sku.cmp(b.sku))?;
@@ -147,7 +155,10 @@ fn no_offers<'a>(alloc: Global, lists: usize) -> Result<Vec<Vec<Offer<'a>>>, All
 /// Adds an offer to the list of its SKU.
 fn push_offer<'a>(table: &mut Vec<Vec<Offer<'a>>>, offer: Offer<'a>) -> Result<(), AllocError>
     requires { 0 < vec_len table.old }
-    ensures value { OnOk result ((index : List OfferValue) → table_view table.old.items ≡ table_of (vec_len table.old) index → table_view table.new.items ≡ table_of (vec_len table.old) (index ++ offer_of offer.entry ∷ [])) }
+    ensures value { OnOk result ((index : List OfferValue)
+        → table_view table.old.items ≡ table_of (vec_len table.old) index
+        → table_view table.new.items
+        ≡ table_of (vec_len table.old) (index ++ offer_of offer.entry ∷ [])) }
     ensures many { vec_len table.new ≡ vec_len table.old }
 {
     let list = list_for(offer.sku, table.len());
@@ -170,7 +181,8 @@ pub(crate) fn table<'a>(
     alloc: Global,
     ordered: &[Placed<'a>],
 ) -> Result<Vec<Vec<Offer<'a>>>, AllocError>
-    ensures value { IfOk result (λ v. table_view v.items ≡ table_of (length v.items) (index_of (map placed_of ordered.now))) }
+    ensures value { IfOk result (λ v. table_view v.items
+        ≡ table_of (length v.items) (index_of (map placed_of ordered.now))) }
     ensures sorted { IfOk result (λ v. All (IsSortedBy offer_before) (table_view v.items)) }
     ensures some { IfOk result (λ v. 0 < length v.items) }
 {

@@ -68,7 +68,8 @@ fn running<'a>(
     from: u64,
     to: u64,
 ) -> Result<Vec<Placed<'a>>, AllocError>
-    ensures { IfOk result (λ v. map placed_of v.items ≡ roster_order (record { commitments = commitments.now; from = from; to = to })) }
+    ensures { IfOk result (λ v. map placed_of v.items
+        ≡ roster_order (record { commitments = commitments.now; from = from; to = to })) }
 {
     let mut placed = ordered(alloc, commitments)?;
     placed.retain(|placed| runs_between(placed.commitment, from, to));
@@ -84,7 +85,8 @@ impl<'a> Roster<'a> {
         from: u64,
         to: u64,
     ) -> Result<Roster<'a>, AllocError>
-        ensures { IfOk result (λ roster. roster ≡ record { commitments = commitments.now; from = from; to = to }) }
+        ensures { IfOk result (λ roster. roster
+            ≡ record { commitments = commitments.now; from = from; to = to }) }
     {
         let running = running(alloc, commitments, from, to)?;
         let order = places(alloc, &running)?;
@@ -149,7 +151,8 @@ impl<'a> Roster<'a> {
         alloc: Global,
         rows: &[&LentRow<'_>],
     ) -> Result<Vec<SkuOffers<'_, 'a>>, AllocError>
-        ensures { IfOk result (λ v. map sku_offers v.items ≡ map (offers_of_row self.now) (map (λ r. r.now) rows.now)) }
+        ensures { IfOk result (λ v. map sku_offers v.items
+            ≡ map (offers_of_row self.now) (map (λ r. r.now) rows.now)) }
     {
         let mut offers = Vec::with_capacity(alloc, rows.len())?;
         for row in rows {
@@ -182,7 +185,8 @@ impl<'a> Roster<'a> {
         hour: u32,
     ) -> Result<HourCover, AllocError>
         requires hour { HasHour self.now hour }
-        requires offers { map sku_offers offers.now ≡ map (offers_of_row self.now) (map (λ r. r.now) rows.now) }
+        requires offers { map sku_offers offers.now
+            ≡ map (offers_of_row self.now) (map (λ r. r.now) rows.now) }
         ensures { IfOk result (IsHourCover self.now.commitments (map (λ r. r.now) rows.now) hour) }
     {
         let pairs = pairs_in_order(alloc, self.order.len(), rows, offers, hour)?;

@@ -36,7 +36,8 @@ pub fn coverage(
     to: u64,
 ) -> Result<Vec<Coverage<'_>>, QueryFault>
     ensures range { IfOk result (λ _. IsRange from to) }
-    ensures coverage { IfOk result (λ found. IsCoverage (commitments_of snapshot.now.entries) (rows_of snapshot.now.entries) from to found.items) }
+    ensures coverage { IfOk result (λ found. IsCoverage (commitments_of snapshot.now.entries)
+        (rows_of snapshot.now.entries) from to found.items) }
     ensures fault { IfErr result (AreRefused from to) }
 {
     if from >= to || to - from > MOST_HOURS {
@@ -61,7 +62,8 @@ fn coverage_on<'a>(
 ) -> Result<Vec<Coverage<'a>>, AllocError>
     requires fits { from + hours < 2 ^ 64 }
     requires same { commitments.now ≡ commitments_of shown.now.entries }
-    ensures { IfOk result (λ found. IsCoverage (commitments_of shown.now.entries) (rows_of shown.now.entries) from (from + hours) found.items) }
+    ensures { IfOk result (λ found. IsCoverage (commitments_of shown.now.entries)
+        (rows_of shown.now.entries) from (from + hours) found.items) }
 {
     // each entry was accepted, so no row has the id of a commitment
     let _entries = shown.state().entries();
@@ -89,7 +91,8 @@ fn coverage_of<'a, 'r>(
     requires fits { from + hours < 2 ^ 64 }
     requires same { commitments.now ≡ listed.now }
     requires apart { AreApart listed.now (all_rows (lent segments.now)) }
-    ensures { IfOk result (λ found. IsCoverage listed.now (all_rows (lent segments.now)) from (from + hours) found.items) }
+    ensures { IfOk result (λ found. IsCoverage listed.now (all_rows (lent segments.now)) from
+        (from + hours) found.items) }
 {
     let touched = touched_hours(alloc, listed, from, hours)?;
     let by_hour = rows_by_hour(alloc, segments, from, touched.as_slice())?;
@@ -121,9 +124,12 @@ fn tallies_of<'a, 'r>(
     requires roster { HasHours roster.now from (length by_hour.now) }
     requires many { length touched.now ≡ length by_hour.now }
     requires touched { AreTouched roster.now.commitments from (length by_hour.now) touched.now }
-    requires by_hour { AreByHour (lent segments.now) (rows_marked touched.now from (all_rows (lent segments.now))) from (length by_hour.now) by_hour.now }
+    requires by_hour { AreByHour (lent segments.now)
+        (rows_marked touched.now from (all_rows (lent segments.now))) from
+        (length by_hour.now) by_hour.now }
     requires apart { AreApart roster.now.commitments (all_rows (lent segments.now)) }
-    ensures { IfOk result (λ tallies. AreTallies roster.now.commitments (all_rows (lent segments.now)) from (length by_hour.now) tallies.items) }
+    ensures { IfOk result (λ tallies. AreTallies roster.now.commitments
+        (all_rows (lent segments.now)) from (length by_hour.now) tallies.items) }
 {
     let mut tallies = no_tallies(alloc, commitments)?;
     let mut hour = from;
@@ -158,7 +164,10 @@ fn with_places<'a, 'r>(
     requires there { All (IsThere (lent segments.now)) places.now }
     requires of_hour { All (λ r. hour_of r.start ≡ hour) (rows_at (lent segments.now) places.now) }
     requires early { OnTrue is_touched (hour < 2 ^ 32) }
-    ensures { IfOk result (λ after. MatchBool is_touched (AreAfter roster.now.commitments (rows_at (lent segments.now) places.now) hour tallies.entry.items after.items) (after.items ≡ tallies.entry.items)) }
+    ensures { IfOk result (λ after. MatchBool is_touched
+        (AreAfter roster.now.commitments
+        (rows_at (lent segments.now) places.now) hour tallies.entry.items after.items)
+        (after.items ≡ tallies.entry.items)) }
 {
     if !is_touched {
         return Ok(tallies);
@@ -175,7 +184,8 @@ fn with_places<'a, 'r>(
 
 // The coverage that tallies come to: of those whose commitment has a line.
 fn coverage_from<'a>(alloc: Global, tallies: &[Tally<'a>]) -> Result<Vec<Coverage<'a>>, AllocError>
-    ensures { IfOk result (λ found. found.items ≡ map coverage_from (filter (λ t. t.sums.shown) tallies.now)) }
+    ensures { IfOk result (λ found. found.items
+        ≡ map coverage_from (filter (λ t. t.sums.shown) tallies.now)) }
 {
     let mut found = Vec::new(alloc);
     for tally in tallies {

@@ -16,9 +16,25 @@ ghost use Rattle.fw_terms.specs.Commitment.{CommitmentValue, cost_of};
 /// the range cost. Purchases that were added to it later are among its purchases: they are spread over every hour of the term, and so
 /// change the amounts of past hours too. And the accepted entries and the hours determine the coverage.
 pub fn coverage_adds_up()
-    ensures capacity { (cs : List CommitmentValue) (rows : List Charge) (lines : List LineValue) (from to place : ℕ) (c : CommitmentValue) → slice_get cs place ≡ Some c → (coverage_of cs rows lines from to (place, c)).used + (coverage_of cs rows lines from to (place, c)).unused ≡ (coverage_of cs rows lines from to (place, c)).capacity }
-    ensures hours { (history : List entry.EntryValue) (from to : ℕ) (lines : List LineValue) (place : ℕ) (c : CommitmentValue) → IsLegal history → AreLinesOf history from to lines → slice_get (commitments_of history) place ≡ Some c → used_cost c.id lines +ℤ unused_cost c.id lines ≡ pos (amount_between c from to) }
-    ensures term { (history : List entry.EntryValue) (from to : ℕ) (lines : List LineValue) (place : ℕ) (c : CommitmentValue) → IsLegal history → All IsEntry history → AreLinesOf history from to lines → slice_get (commitments_of history) place ≡ Some c → from ≤ c.start → c.start + c.hours ≤ to → used_cost c.id lines +ℤ unused_cost c.id lines ≡ pos (cost_of c.purchases) }
-    ensures paid { (history : List entry.EntryValue) (from to : ℕ) (lines : List LineValue) (place : ℕ) (c : CommitmentValue) → IsLegal history → All IsEntry history → from ≤ to → AreLinesOf history from to lines → slice_get (commitments_of history) place ≡ Some c → paid_cost c.id lines ≡ pos (cost_between c from to) }
-    ensures one { (history : List entry.EntryValue) (from to : ℕ) (a b : List CoverageValue) → IsCoverage (commitments_of history) (rows_of history) from to a → IsCoverage (commitments_of history) (rows_of history) from to b → a ≡ b }
+    ensures capacity { (cs : List CommitmentValue) (rows : List Charge) (lines : List LineValue)
+        (from to place : ℕ) (c : CommitmentValue) → slice_get cs place ≡ Some c
+        → (coverage_of cs rows lines from to (place, c)).used
+        + (coverage_of cs rows lines from to (place, c)).unused
+        ≡ (coverage_of cs rows lines from to (place, c)).capacity }
+    ensures hours { (history : List entry.EntryValue) (from to : ℕ) (lines : List LineValue)
+        (place : ℕ) (c : CommitmentValue) → IsLegal history → AreLinesOf history from to lines
+        → slice_get (commitments_of history) place ≡ Some c
+        → used_cost c.id lines +ℤ unused_cost c.id lines ≡ pos (amount_between c from to) }
+    ensures term { (history : List entry.EntryValue) (from to : ℕ) (lines : List LineValue)
+        (place : ℕ) (c : CommitmentValue) → IsLegal history → All IsEntry history
+        → AreLinesOf history from to lines → slice_get (commitments_of history) place ≡ Some c
+        → from ≤ c.start → c.start + c.hours ≤ to
+        → used_cost c.id lines +ℤ unused_cost c.id lines ≡ pos (cost_of c.purchases) }
+    ensures paid { (history : List entry.EntryValue) (from to : ℕ) (lines : List LineValue)
+        (place : ℕ) (c : CommitmentValue) → IsLegal history → All IsEntry history → from ≤ to
+        → AreLinesOf history from to lines → slice_get (commitments_of history) place ≡ Some c
+        → paid_cost c.id lines ≡ pos (cost_between c from to) }
+    ensures one { (history : List entry.EntryValue) (from to : ℕ) (a b : List CoverageValue)
+        → IsCoverage (commitments_of history) (rows_of history) from to a
+        → IsCoverage (commitments_of history) (rows_of history) from to b → a ≡ b }
 {}

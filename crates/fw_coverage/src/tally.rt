@@ -55,7 +55,8 @@ impl<'a> Tally<'a> {
         hour: u32,
     ) -> Result<Tally<'a>, AllocError>
         requires { self.now.place < length unused.now }
-        ensures { IfOk result (λ tally. tally ≡ after_hour hour (slice_index unused.now) lines.now self.now) }
+        ensures { IfOk result (λ tally. tally
+            ≡ after_hour hour (slice_index unused.now) lines.now self.now) }
     {
         let commitment = self.commitment;
         let capacity = in_term(commitment, hour, capacity_of(commitment));
@@ -105,7 +106,8 @@ pub(crate) fn no_tallies<'a>(
     alloc: Global,
     commitments: &'a [Commitment],
 ) -> Result<Vec<Tally<'a>>, AllocError>
-    ensures { IfOk result (λ tallies. tallies.items ≡ map no_tally (enumerate_from 0 commitments.now)) }
+    ensures { IfOk result (λ tallies. tallies.items
+        ≡ map no_tally (enumerate_from 0 commitments.now)) }
 {
     let mut tallies = Vec::with_capacity(alloc, commitments.len())?;
     for (place, commitment) in commitments.iter().enumerate() {
@@ -123,7 +125,8 @@ fn with_lines<'a>(
     hour: u32,
 ) -> Result<Vec<Tally<'a>>, AllocError>
     requires { ArePlaced (length unused.now) tallies.now }
-    ensures { IfOk result (λ after. after.items ≡ map (after_hour hour (slice_index unused.now) lines.now) tallies.now) }
+    ensures { IfOk result (λ after. after.items
+        ≡ map (after_hour hour (slice_index unused.now) lines.now) tallies.now) }
 {
     let mut after = Vec::with_capacity(alloc, tallies.len())?;
     for tally in tallies {
@@ -143,7 +146,8 @@ pub(crate) fn with_hour<'a, 'r>(
     requires hour { HasHour roster.now hour }
     requires rows { All (λ r. hour_of r.start ≡ hour) rows.now }
     requires places { ArePlaced (length roster.now.commitments) tallies.now }
-    ensures { IfOk result (λ after. AreAfter roster.now.commitments rows.now hour tallies.now after.items) }
+    ensures { IfOk result (λ after. AreAfter roster.now.commitments rows.now hour tallies.now
+        after.items) }
 {
     let rows = references(alloc, rows)?;
     let cover = roster.cover(alloc, rows.as_slice(), hour)?;

@@ -133,7 +133,8 @@ impl<R: Read + Drop> Cutter<R> {
     /// `NoRecord` where the text ends before a line feed or carriage return ends the header, `LongHeader` for a header of more than 2 MiB,
     /// `Read` where a read failed, `NoMemory`.
     pub fn open(alloc: Global, reader: R) -> Result<Cutter<R>, CutFault>
-        ensures { IfOk result (λ c. BeginsWith (R.remaining reader) c.header (left_of R.remaining c)) }
+        ensures { IfOk result (λ c. BeginsWith (R.remaining reader) c.header
+            (left_of R.remaining c)) }
     {
         let mut reader = reader;
         let mut buffer = Vec::new(alloc);
@@ -186,7 +187,8 @@ impl<R: Read> Cutter<R> {
     /// # Errors
     /// `TooLong` for a record of more than 4 MiB, `Read` where a read failed, `NoMemory`. After an error the cutter is of no further use.
     pub fn next_part(&mut self, alloc: Global) -> Result<Part, CutFault>
-        ensures part { IfOk result (λ part. IsPart self.old.header (left_of R.remaining self.old) (left_of R.remaining self.new) part) }
+        ensures part { IfOk result (λ part. IsPart self.old.header (left_of R.remaining self.old)
+            (left_of R.remaining self.new) part) }
         ensures header { OnOk result (self.new.header ≡ self.old.header) }
     {
         let skipped = self.pass_header(alloc)?;
@@ -196,7 +198,8 @@ impl<R: Read> Cutter<R> {
 
     // Skips the header where it stands again next. The answer is what was skipped.
     fn pass_header(&mut self, alloc: Global) -> Result<Vec<u8>, CutFault>
-        ensures skips { IfOk result (λ skipped. Skips (head_of self.old.header) (left_of R.remaining self.old) (left_of R.remaining self.new) skipped.items) }
+        ensures skips { IfOk result (λ skipped. Skips (head_of self.old.header)
+            (left_of R.remaining self.old) (left_of R.remaining self.new) skipped.items) }
         ensures header { OnOk result (self.new.header ≡ self.old.header) }
     {
         self.read_on(PART_BYTES)?;
@@ -215,7 +218,8 @@ impl<R: Read> Cutter<R> {
     // Skips the header, which has so many bytes. The answer is what was skipped.
     fn skip(&mut self, alloc: Global, end: usize) -> Result<Vec<u8>, CutFault>
         requires { Passes (head_of self.old.header) self.old.buffer self.old.at_end end }
-        ensures skips { IfOk result (λ skipped. Skips (head_of self.old.header) (left_of R.remaining self.old) (left_of R.remaining self.new) skipped.items) }
+        ensures skips { IfOk result (λ skipped. Skips (head_of self.old.header)
+            (left_of R.remaining self.old) (left_of R.remaining self.new) skipped.items) }
         ensures header { OnOk result (self.new.header ≡ self.old.header) }
     {
         let mut skipped = Vec::new(alloc);
@@ -229,7 +233,8 @@ impl<R: Read> Cutter<R> {
 
     // The part of the records that are next.
     fn next_records(&mut self, alloc: Global) -> Result<Part, CutFault>
-        ensures part { IfOk result (λ part. IsPart self.old.header (left_of R.remaining self.old) (left_of R.remaining self.new) part) }
+        ensures part { IfOk result (λ part. IsPart self.old.header (left_of R.remaining self.old)
+            (left_of R.remaining self.new) part) }
         ensures none { IfOk result (λ part. part.skipped.items ≡ []) }
         ensures header { OnOk result (self.new.header ≡ self.old.header) }
     {
@@ -251,7 +256,8 @@ impl<R: Read> Cutter<R> {
     /// # Errors
     /// Those of [`Cutter::next_part`]; `TooLong` also where there are more records than 64 bits count.
     pub fn count_left(&mut self, alloc: Global) -> Result<u64, CutFault>
-        ensures { IfOk result (λ count. Counted (head_of self.old.header) (left_of R.remaining self.old) count) }
+        ensures { IfOk result (λ count. Counted (head_of self.old.header)
+            (left_of R.remaining self.old) count) }
     {
         let mut count: u64 = 0;
         for _ in 0..u64::MAX {
@@ -270,7 +276,8 @@ impl<R: Read> Cutter<R> {
     // Reads on until there are at least `enough` bytes, or all.
     fn read_on(&mut self, enough: usize) -> Result<(), CutFault>
         requires { enough ≤ 2 ^ 30 }
-        ensures keeps { OnOk result (Keeps (left_of R.remaining self.old) (left_of R.remaining self.new)) }
+        ensures keeps { OnOk result (Keeps (left_of R.remaining self.old)
+            (left_of R.remaining self.new)) }
         ensures header { OnOk result (self.new.header ≡ self.old.header) }
     {
         if self.at_end {
@@ -301,7 +308,8 @@ impl<R: Read> Cutter<R> {
     // The part that ends at a place of what was read.
     fn taken(&mut self, alloc: Global, end: usize) -> Result<Part, CutFault>
         requires { CanEnd self.old end (take end self.old.buffer) }
-        ensures part { IfOk result (λ part. IsPart self.old.header (left_of R.remaining self.old) (left_of R.remaining self.new) part) }
+        ensures part { IfOk result (λ part. IsPart self.old.header (left_of R.remaining self.old)
+            (left_of R.remaining self.new) part) }
         ensures none { IfOk result (λ part. part.skipped.items ≡ []) }
         ensures header { OnOk result (self.new.header ≡ self.old.header) }
     {

@@ -15,8 +15,10 @@ pub(crate) fn fill<R: Read>(
     enough: usize,
 ) -> Result<bool, CutFault>
     requires { enough ≤ 2 ^ 30 }
-    ensures { IfOk result (λ at_end. (more : List ℕ) × (text.new.items ≡ text.old.items ++ more) × Consumes (R.remaining reader.old) (R.remaining reader.new) more
-        × ((enough ≤ length text.new.items) ⊎ (at_end ≡ true)) × (at_end ≡ true → IsAtEnd (R.remaining reader.new))) }
+    ensures { IfOk result (λ at_end. (more : List ℕ) × (text.new.items ≡ text.old.items ++ more)
+        × Consumes (R.remaining reader.old) (R.remaining reader.new) more
+        × ((enough ≤ length text.new.items) ⊎ (at_end ≡ true))
+        × (at_end ≡ true → IsAtEnd (R.remaining reader.new))) }
 {
     while text.len() < enough {
         if read_piece(reader, text)? == 0 {
@@ -29,8 +31,9 @@ pub(crate) fn fill<R: Read>(
 // One read, whose bytes go to the end of the text. It gives none only at the end of the reader.
 fn read_piece<R: Read>(reader: &mut R, text: &mut Vec<u8>) -> Result<usize, CutFault>
     requires { length text.old.items ≤ 2 ^ 30 }
-    ensures { IfOk result (λ count. (piece : List ℕ) × (text.new.items ≡ text.old.items ++ piece) × (length piece ≡ count)
-        × Consumes (R.remaining reader.old) (R.remaining reader.new) piece × (count ≡ 0 → IsAtEnd (R.remaining reader.new))) }
+    ensures { IfOk result (λ count. (piece : List ℕ) × (text.new.items ≡ text.old.items ++ piece)
+        × (length piece ≡ count) × Consumes (R.remaining reader.old) (R.remaining reader.new) piece
+        × (count ≡ 0 → IsAtEnd (R.remaining reader.new))) }
 {
     let filled = text.len();
     text.resize(filled + PIECE, 0)?;

@@ -1,3 +1,4 @@
+pub mod BackFacts
 pub mod ListFacts
 pub mod Names
 pub mod ReadFacts

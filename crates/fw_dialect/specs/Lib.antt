@@ -1,4 +1,5 @@
 pub mod Fields
 pub mod Reading
+pub mod Records
 pub mod Tags
 pub mod Texts

@@ -111,7 +111,8 @@ pub(crate) fn put_field(
     bytes: &[u8],
     text: &[u8],
 ) -> Result<(), AllocError>
-    ensures { OnOk result (out.new.items ≡ out.old.items ++ bytes_for bytes.now (meaning role text.now)) }
+    ensures { OnOk result (out.new.items
+        ≡ out.old.items ++ bytes_for bytes.now (meaning role text.now)) }
 {
     match meaning(alloc, role, text)? {
         Some(found) => put_in_quotes(out, &found),

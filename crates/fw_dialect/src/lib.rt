@@ -6,6 +6,7 @@
 
 mod dialect;
 mod fields;
+mod laws;
 mod pairs;
 mod proposing;
 mod rewriting;
@@ -13,5 +14,6 @@ mod role;
 mod times;
 
 pub use dialect::Dialect;
+pub use laws::rewritten_records_read_back;
 pub use proposing::proposed;
 pub use rewriting::rewrite;

@@ -11,7 +11,8 @@ use std::alloc::{AllocError, Global};
 
 // What the value of a tag is as a text; none where it is a number, an array or an object.
 fn value_text(alloc: Global, value: &Value) -> Result<Option<String>, AllocError>
-    ensures { IfOk result (λ text. option_map (λ s. string_bytes s) text ≡ tag_text (view value.now)) }
+    ensures { IfOk result (λ text. option_map (λ s. string_bytes s) text
+        ≡ tag_text (view value.now)) }
 {
     match value {
         Value::String(text) => Ok(Some(String::from_str(alloc, text.as_str())?)),
@@ -54,7 +55,8 @@ fn pair_in(alloc: Global, item: &Value) -> Result<Option<Tag>, AllocError>
 
 // The tags that the items of a list are, where each is one.
 fn pairs_in(alloc: Global, items: &[Value]) -> Result<Option<Vec<Tag>>, AllocError>
-    ensures { IfOk result (λ tags. option_map (λ t. t.items) tags ≡ pairs_in (items_view items.now)) }
+    ensures { IfOk result (λ tags. option_map (λ t. t.items) tags
+        ≡ pairs_in (items_view items.now)) }
 {
     let mut tags = Vec::new(alloc);
     for item in items {
@@ -68,7 +70,8 @@ fn pairs_in(alloc: Global, items: &[Value]) -> Result<Option<Vec<Tag>>, AllocErr
 
 // The members of an object that has each tag under its key; none where a key stands twice.
 fn members_of(alloc: Global, tags: &[Tag]) -> Result<Option<Map<String, Value>>, AllocError>
-    ensures { IfOk result (λ members. option_map (λ m. members_view m.entries) members ≡ with_members tags.now no_members) }
+    ensures { IfOk result (λ members. option_map (λ m. members_view m.entries) members
+        ≡ with_members tags.now no_members) }
 {
     let mut members = Map::new(alloc);
     for tag in tags {
@@ -83,7 +86,8 @@ fn members_of(alloc: Global, tags: &[Tag]) -> Result<Option<Map<String, Value>>,
 
 // The members of the object that a list of tags stands for.
 fn members_in(alloc: Global, list: &Value) -> Result<Option<Map<String, Value>>, AllocError>
-    ensures { IfOk result (λ members. option_map (λ m. members_view m.entries) members ≡ members_of (view list.now)) }
+    ensures { IfOk result (λ members. option_map (λ m. members_view m.entries) members
+        ≡ members_of (view list.now)) }
 {
     let Some(items) = list.as_array() else {
         return Ok(None);

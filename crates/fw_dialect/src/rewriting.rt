@@ -2,6 +2,7 @@
 ghost use Rattle.std.specs.Prelude.{◌≡◌, ◌<◌, ◌≤◌, ◌+◌, ◌-◌, ◌++◌, List, ℕ, [], length, take, drop, get_or, IfOk, OnOk};
 ghost use Rattle.fw_dialect.specs.Fields.{meaning};
 ghost use Rattle.fw_dialect.specs.Reading.{left_at};
+ghost use Rattle.fw_dialect.specs.Records.{IsEndedHeader, records_of, records_rewritten, records_with_header};
 ghost use Rattle.fw_dialect.specs.Texts.{field_for, rewritten, rewritten_under};
 ghost use Rattle.fw_dialect.specs.declared.role.Role.TheVariants as role;
 
@@ -143,6 +144,8 @@ fn put_records(
 /// FOCUS that have times and tags, are what they stand for, within quotes. All other bytes stay as they are, so records and fields are as many and in
 /// the same order. A list that isn't of the dialect's form stays too, as one in which a key stands twice. A line end within a field stays in it.
 ///
+/// Where the header is whole, so that a record begins behind it, the text reads as the records of the header, and then those of the body, each rewritten.
+///
 /// # Errors
 /// Where memory runs out.
 pub fn rewrite(
@@ -151,7 +154,11 @@ pub fn rewrite(
     header: &[u8],
     body: &[u8],
 ) -> Result<Vec<u8>, AllocError>
-    ensures { IfOk result (λ text. text.items ≡ rewritten dialect header.now body.now) }
+    ensures bytes { IfOk result (λ text. text.items ≡ rewritten dialect header.now body.now) }
+    ensures records { IsEndedHeader header.now → IfOk result (λ text.
+        records_with_header text.items
+        ≡ records_with_header header.now
+        ++ records_rewritten dialect header.now (records_of body.now)) }
 {
     let roles = roles_in(alloc, dialect, header)?;
     let mut text = Vec::with_capacity(alloc, header.len().saturating_add(body.len()))?;

@@ -34,8 +34,11 @@ pub(crate) fn write(
 ) -> Result<(), AllocError>
     requires fits { at ≤ length file.old.items }
     ensures written { OnOk result (Holds at bytes.now file.old.items file.new.items) }
-    ensures noted { OnOk result ((saved : _) × (reverse calls.new.items ≡ Write (record { side = side; at = at; len = length bytes.now; saved = saved }) ∷ reverse calls.old.items)
-        × (saved.items ≡ take (min (length bytes.now) (length file.old.items - at)) (drop at file.old.items))) }
+    ensures noted { OnOk result ((saved : _)
+        × (reverse calls.new.items ≡ Write
+        (record { side = side; at = at; len = length bytes.now; saved = saved })
+        ∷ reverse calls.old.items) × (saved.items
+        ≡ take (min (length bytes.now) (length file.old.items - at)) (drop at file.old.items))) }
     ensures room { OnOk result (length calls.new.items + 2 ≤ vec_capacity calls.new) }
     ensures file_err { OnErr result (file.new.items ≡ file.old.items) }
     ensures calls_err { OnErr result (calls.new.items ≡ calls.old.items) }
@@ -58,7 +61,8 @@ pub(crate) fn write(
 /// The newest write of a side since its last sync, and the calls before it.
 pub(crate) fn last_write(calls: &[Call], side: Side) -> Option<(&Overwrite, &[Call])>
     ensures none { IfNone result (pending side (reverse calls.now) ≡ []) }
-    ensures found { IfSome result (λ p. pending side (reverse calls.now) ≡ span p.0.now ∷ pending side (reverse p.1.now)) }
+    ensures found { IfSome result (λ p. pending side (reverse calls.now)
+        ≡ span p.0.now ∷ pending side (reverse p.1.now)) }
     ensures shorter { IfSome result (λ p. length p.1.now < length calls.now) }
 {
     let mut rest = calls;
@@ -87,7 +91,8 @@ pub(crate) fn take_back(file: &mut Vec<u8>, calls: &[Call], side: Side)
 /// Fills the ranges that a side's writes since its last sync cover with a byte.
 pub(crate) fn fill(file: &mut Vec<u8>, calls: &[Call], side: Side, byte: u8)
     requires fit { AllFit (length file.old.items) (pending side (reverse calls.now)) }
-    ensures filled { Filled byte (map range (pending side (reverse calls.now))) file.old.items file.new.items }
+    ensures filled { Filled byte (map range (pending side (reverse calls.now))) file.old.items
+        file.new.items }
 {
     let mut rest = calls;
     while let Some((write, before)) = last_write(rest, side) {
@@ -99,7 +104,8 @@ pub(crate) fn fill(file: &mut Vec<u8>, calls: &[Call], side: Side, byte: u8)
 /// Fills the range of a write.
 fn wipe(file: &mut Vec<u8>, write: &Overwrite, byte: u8)
     requires within { write.now.at + write.now.len ≤ length file.old.items }
-    ensures wiped { Holds write.now.at (replicate write.now.len byte) file.old.items file.new.items }
+    ensures wiped { Holds write.now.at (replicate write.now.len byte) file.old.items
+        file.new.items }
 {
     file[write.at..write.at + write.len].fill(byte);
 }

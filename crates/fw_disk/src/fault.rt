@@ -62,7 +62,8 @@ impl Plan {
 
     /// What a stop leaves of the plan: a series goes on, and by any other nothing fails any more.
     fn after_stop(self) -> Plan
-        ensures schedule { (k : ℕ) → schedule result k ≡ stopped (is_series self) (schedule self) k }
+        ensures schedule { (k : ℕ) → schedule result k
+            ≡ stopped (is_series self) (schedule self) k }
         ensures kind { is_series result ≡ is_series self }
     {
         match self {
@@ -152,9 +153,12 @@ impl<V: Volume> Volume for FaultVolume<V> {
 
     fn read(&mut self, side: Side, at: u64, into: &mut [u8]) -> Result<(), VolumeFault>
         requires { at + length into.old ≤ (view_over V.view self.old).size side }
-        ensures bytes { OnOk result (IsTrue V.tells → Returns at ((view_over V.view self.old).seen side) into.new) }
-        ensures told { IsTrue V.tells → Quiet (view_over V.view self.old) (view_over V.view self.new) }
-        ensures pending { IsTrue V.tells → StaysPending (view_over V.view self.old) (view_over V.view self.new) }
+        ensures bytes { OnOk result (IsTrue V.tells
+            → Returns at ((view_over V.view self.old).seen side) into.new) }
+        ensures told { IsTrue V.tells → Quiet (view_over V.view self.old)
+            (view_over V.view self.new) }
+        ensures pending { IsTrue V.tells → StaysPending (view_over V.view self.old)
+            (view_over V.view self.new) }
         ensures sizes { SameSizes (view_over V.view self.old) (view_over V.view self.new) }
         ensures cause { HasCause (view_over V.view self.old) (view_over V.view self.new) result }
         ensures fits { IsErrOf result TooLarge → ⊥ }
@@ -162,10 +166,12 @@ impl<V: Volume> Volume for FaultVolume<V> {
         // The plan says whether the call fails; where it doesn't, the answer is that of the volume below.
         ensures fails { IsTrue (schedule_of self.old 0) → IsErrOf result Io }
         ensures keeps { IsTrue (schedule_of self.old 0) → inner_of self.new ≡ inner_of self.old }
-        ensures passes { IsFalse (schedule_of self.old 0) → HasCause (V.view (inner_of self.old)) (V.view (inner_of self.new)) result }
+        ensures passes { IsFalse (schedule_of self.old 0)
+            → HasCause (V.view (inner_of self.old)) (V.view (inner_of self.new)) result }
         ensures schedule { (k : ℕ) → schedule_of self.new k ≡ schedule_of self.old (k + 1) }
         ensures kind { is_series_of self.new ≡ is_series_of self.old }
-        ensures failures { failed_of self.new ≡ failed_more (schedule_of self.old 0) (failed_of self.old) }
+        ensures failures { failed_of self.new ≡ failed_more (schedule_of self.old 0)
+            (failed_of self.old) }
     {
         if self.plan.next_fails() {
             return Err(count_failure(&mut self.failures));
@@ -175,22 +181,35 @@ impl<V: Volume> Volume for FaultVolume<V> {
 
     fn write_at(&mut self, side: Side, at: u64, bytes: &[u8]) -> Result<(), VolumeFault>
         requires { at ≤ (view_over V.view self.old).size side }
-        ensures written { OnOk result (IsTrue V.tells → Holds at bytes.now ((view_over V.view self.old).seen side) ((view_over V.view self.new).seen side)) }
-        ensures told { IsTrue V.tells → Writes side at (length bytes.now) (view_over V.view self.old) (view_over V.view self.new) }
-        ensures pending { IsTrue V.tells → StaysPending (view_over V.view self.old) (view_over V.view self.new) }
-        ensures every_tear { OnOk result (IsTrue V.tells → Allows (TornSide side at (length bytes.now)) (view_over V.view self.old).may_leave (view_over V.view self.new).may_leave) }
-        ensures sizes { Grows side at (length bytes.now) (view_over V.view self.old) (view_over V.view self.new) result }
+        ensures written { OnOk result (IsTrue V.tells
+            → Holds at bytes.now ((view_over V.view self.old).seen side)
+            ((view_over V.view self.new).seen side)) }
+        ensures told { IsTrue V.tells → Writes side at (length bytes.now)
+            (view_over V.view self.old) (view_over V.view self.new) }
+        ensures pending { IsTrue V.tells → StaysPending (view_over V.view self.old)
+            (view_over V.view self.new) }
+        ensures every_tear { OnOk result (IsTrue V.tells
+            → Allows (TornSide side at (length bytes.now)) (view_over V.view self.old).may_leave
+            (view_over V.view self.new).may_leave) }
+        ensures sizes { Grows side at (length bytes.now) (view_over V.view self.old)
+            (view_over V.view self.new) result }
         ensures cause { HasCause (view_over V.view self.old) (view_over V.view self.new) result }
-        ensures too_large { IsErrOf result TooLarge ↔ ((view_over V.view self.old).limit < at + length bytes.now) }
+        ensures too_large { IsErrOf result TooLarge
+            ↔ ((view_over V.view self.old).limit < at + length bytes.now) }
         ensures unchanged { IsErrOf result TooLarge → self.new ≡ self.old }
 
         // The plan says whether the call fails; where it doesn't, the answer is that of the volume below.
         ensures fails { IsTrue (schedule_of self.old 0) → IsErr result }
-        ensures reaches { at + length bytes.now ≤ (view_over V.view self.old).limit → Reaches V.tells side at bytes.now (V.view (inner_of self.old)) (V.view (inner_of self.new)) }
-        ensures passes { IsFalse (schedule_of self.old 0) → HasCause (V.view (inner_of self.old)) (V.view (inner_of self.new)) result }
-        ensures schedule { at + length bytes.now ≤ (view_over V.view self.old).limit → (k : ℕ) → schedule_of self.new k ≡ schedule_of self.old (k + 1) }
+        ensures reaches { at + length bytes.now ≤ (view_over V.view self.old).limit
+            → Reaches V.tells side at bytes.now (V.view (inner_of self.old))
+            (V.view (inner_of self.new)) }
+        ensures passes { IsFalse (schedule_of self.old 0)
+            → HasCause (V.view (inner_of self.old)) (V.view (inner_of self.new)) result }
+        ensures schedule { at + length bytes.now ≤ (view_over V.view self.old).limit → (k : ℕ)
+            → schedule_of self.new k ≡ schedule_of self.old (k + 1) }
         ensures kind { is_series_of self.new ≡ is_series_of self.old }
-        ensures failures { at + length bytes.now ≤ (view_over V.view self.old).limit → failed_of self.new ≡ failed_more (schedule_of self.old 0) (failed_of self.old) }
+        ensures failures { at + length bytes.now ≤ (view_over V.view self.old).limit
+            → failed_of self.new ≡ failed_more (schedule_of self.old 0) (failed_of self.old) }
     {
         if bytes.len() as u64 > self.inner.limit() - at {
             return Err(VolumeFault::TooLarge);
@@ -204,8 +223,10 @@ impl<V: Volume> Volume for FaultVolume<V> {
 
     fn sync(&mut self, side: Side) -> Result<(), VolumeFault>
         ensures durable { OnOk result (IsTrue V.tells → Settled side (view_over V.view self.new)) }
-        ensures told { IsTrue V.tells → Quiet (view_over V.view self.old) (view_over V.view self.new) }
-        ensures pending { IsTrue V.tells → SettlesOnly side (view_over V.view self.old) (view_over V.view self.new) }
+        ensures told { IsTrue V.tells → Quiet (view_over V.view self.old)
+            (view_over V.view self.new) }
+        ensures pending { IsTrue V.tells → SettlesOnly side (view_over V.view self.old)
+            (view_over V.view self.new) }
         ensures sizes { SameSizes (view_over V.view self.old) (view_over V.view self.new) }
         ensures cause { HasCause (view_over V.view self.old) (view_over V.view self.new) result }
         ensures fits { IsErrOf result TooLarge → ⊥ }
@@ -213,10 +234,12 @@ impl<V: Volume> Volume for FaultVolume<V> {
         // The plan says whether the call fails; where it doesn't, the answer is that of the volume below.
         ensures fails { IsTrue (schedule_of self.old 0) → IsErrOf result Io }
         ensures keeps { IsTrue (schedule_of self.old 0) → inner_of self.new ≡ inner_of self.old }
-        ensures passes { IsFalse (schedule_of self.old 0) → HasCause (V.view (inner_of self.old)) (V.view (inner_of self.new)) result }
+        ensures passes { IsFalse (schedule_of self.old 0)
+            → HasCause (V.view (inner_of self.old)) (V.view (inner_of self.new)) result }
         ensures schedule { (k : ℕ) → schedule_of self.new k ≡ schedule_of self.old (k + 1) }
         ensures kind { is_series_of self.new ≡ is_series_of self.old }
-        ensures failures { failed_of self.new ≡ failed_more (schedule_of self.old 0) (failed_of self.old) }
+        ensures failures { failed_of self.new ≡ failed_more (schedule_of self.old 0)
+            (failed_of self.old) }
     {
         if self.plan.next_fails() {
             // The volume below isn't synced.
@@ -232,11 +255,13 @@ impl<V: Stoppable> Stoppable for FaultVolume<V> {
     /// The volume below is stopped, and leaves what it leaves of itself. A series goes on, so that calls after the stop
     /// fail too; by any other plan none fails any more.
     fn stop(self) -> Self
-        ensures image { IsTrue V.tells → (view_over V.view self).may_leave (view_over V.view result).seen }
+        ensures image { IsTrue V.tells → (view_over V.view self).may_leave
+            (view_over V.view result).seen }
         ensures left { IsTrue V.tells → V.leaves (inner_of self) (view_over V.view result).seen }
         ensures settled { IsTrue V.tells → (s : Side) → Settled s (view_over V.view result) }
         ensures limit { (view_over V.view result).limit ≡ (view_over V.view self).limit }
-        ensures schedule { (k : ℕ) → schedule_of result k ≡ stopped (is_series_of self) (schedule_of self) k }
+        ensures schedule { (k : ℕ) → schedule_of result k
+            ≡ stopped (is_series_of self) (schedule_of self) k }
         ensures kind { is_series_of result ≡ is_series_of self }
         ensures failures { failed_of result ≡ failed_of self }
     {

@@ -145,7 +145,8 @@ impl DataFile {
         ensures done { IsTrue result → self.new.failure ≡ self.old.failure }
         ensures same { IsFalse result → self.new.len ≡ self.old.len }
         ensures marked { IsFalse result → IsSome self.new.failure }
-        ensures refused { IsSome self.old.failure → IsFalse result × (self.new.failure ≡ self.old.failure) }
+        ensures refused { IsSome self.old.failure
+            → IsFalse result × (self.new.failure ≡ self.old.failure) }
         ensures denied { self.old.reads_only ≡ true → IsFalse result }
         ensures access { self.new.reads_only ≡ self.old.reads_only }
     {
@@ -173,7 +174,8 @@ impl DataFile {
         ensures same { self.new.len ≡ self.old.len }
         ensures done { IsTrue result → self.new.failure ≡ self.old.failure }
         ensures marked { IsFalse result → IsSome self.new.failure }
-        ensures refused { IsSome self.old.failure → IsFalse result × (self.new.failure ≡ self.old.failure) }
+        ensures refused { IsSome self.old.failure
+            → IsFalse result × (self.new.failure ≡ self.old.failure) }
         ensures access { self.new.reads_only ≡ self.old.reads_only }
     {
         if self.failure.is_none() {
@@ -339,11 +341,14 @@ impl Volume for FileVolume {
     /// `Io` comes where the system writes fewer bytes, too, and where the folder was opened to be read.
     fn write_at(&mut self, side: Side, at: u64, bytes: &[u8]) -> Result<(), VolumeFault>
         requires { at ≤ (view_of self.old).size side }
-        ensures sizes { Grows side at (length bytes.now) (view_of self.old) (view_of self.new) result }
+        ensures sizes { Grows side at (length bytes.now) (view_of self.old)
+            (view_of self.new) result }
         ensures cause { HasCause (view_of self.old) (view_of self.new) result }
-        ensures too_large { IsErrOf result TooLarge ↔ ((view_of self.old).limit < at + length bytes.now) }
+        ensures too_large { IsErrOf result TooLarge
+            ↔ ((view_of self.old).limit < at + length bytes.now) }
         ensures unchanged { IsErrOf result TooLarge → self.new ≡ self.old }
-        ensures marks { at + length bytes.now ≤ (view_of self.old).limit → Marks side self.old self.new result }
+        ensures marks { at + length bytes.now ≤ (view_of self.old).limit
+            → Marks side self.old self.new result }
         ensures denied { reads_only self.old side ≡ true
             → at + length bytes.now ≤ (view_of self.old).limit → IsErrOf result Io }
         ensures access { (s : Side) → reads_only self.new s ≡ reads_only self.old s }

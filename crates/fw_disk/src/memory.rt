@@ -54,7 +54,8 @@ impl MemVolume {
         ensures empty { (s : Side) → (⟦<MemVolume as Volume>⟧.view result).seen s ≡ [] }
         ensures settled { (s : Side) → Settled s (⟦<MemVolume as Volume>⟧.view result) }
         ensures limit { (⟦<MemVolume as Volume>⟧.view result).limit ≡ limit }
-        ensures start { ((⟦<MemVolume as Volume>⟧.view result).moment ≡ 0) × ((⟦<MemVolume as Volume>⟧.view result).failures ≡ 0) }
+        ensures start { ((⟦<MemVolume as Volume>⟧.view result).moment ≡ 0)
+            × ((⟦<MemVolume as Volume>⟧.view result).failures ≡ 0) }
         ensures choice { choice_of result ≡ choice }
         ensures files { (s : Side) → file_of result s ≡ all_synced [] }
     {
@@ -126,19 +127,24 @@ impl Volume for MemVolume {
     /// `Io` means out of memory, and nothing else; it counts as a failure and changes nothing else.
     fn write_at(&mut self, side: Side, at: u64, bytes: &[u8]) -> Result<(), VolumeFault>
         requires { at ≤ (view_of self.old).size side }
-        ensures written { OnOk result (Holds at bytes.now ((view_of self.old).seen side) ((view_of self.new).seen side)) }
+        ensures written { OnOk result (Holds at bytes.now ((view_of self.old).seen side)
+            ((view_of self.new).seen side)) }
         ensures told { Writes side at (length bytes.now) (view_of self.old) (view_of self.new) }
         ensures pending { StaysPending (view_of self.old) (view_of self.new) }
 
         // A write that was done may be torn in every way.
-        ensures every_tear { OnOk result (Allows (TornSide side at (length bytes.now)) (view_of self.old).may_leave (view_of self.new).may_leave) }
-        ensures sizes { Grows side at (length bytes.now) (view_of self.old) (view_of self.new) result }
+        ensures every_tear { OnOk result (Allows (TornSide side at (length bytes.now))
+            (view_of self.old).may_leave (view_of self.new).may_leave) }
+        ensures sizes { Grows side at (length bytes.now) (view_of self.old)
+            (view_of self.new) result }
         ensures cause { HasCause (view_of self.old) (view_of self.new) result }
-        ensures too_large { IsErrOf result TooLarge ↔ ((view_of self.old).limit < at + length bytes.now) }
+        ensures too_large { IsErrOf result TooLarge
+            ↔ ((view_of self.old).limit < at + length bytes.now) }
         ensures unchanged { IsErrOf result TooLarge → self.new ≡ self.old }
 
         // The range of a write that was done is unsynced from then on.
-        ensures adds { OnOk result (AddsRange side at (length bytes.now) (file_of self.old) (file_of self.new)) }
+        ensures adds { OnOk result (AddsRange side at (length bytes.now) (file_of self.old)
+            (file_of self.new)) }
 
         // A write that wasn't done changes no file and no image.
         ensures refused { OnErr result (Shows (view_of self.old) (view_of self.new)) }
@@ -213,7 +219,8 @@ impl Stoppable for MemVolume {
         ensures limit { (view_of result).limit ≡ (view_of self).limit }
 
         // What a crash may leave is the disk model's, no less and no more.
-        ensures images { (c : Image) → (view_of self).may_leave c ↔ ((s : Side) → Outcome (file_of self s) (c s)) }
+        ensures images { (c : Image) → (view_of self).may_leave c
+            ↔ ((s : Side) → Outcome (file_of self s) (c s)) }
 
         // Which of these a stop leaves.
         ensures left { leaves_of self (view_of result).seen }
@@ -249,7 +256,8 @@ impl Stoppable for MemVolume {
 /// Leaves of a side's file what the choice says.
 fn leave(file: &mut Vec<u8>, calls: &[Call], side: Side, choice: Choice)
     requires fit { AllFit (length file.old.items) (pending side (reverse calls.now)) }
-    ensures left { LeftBy choice (file_state file.old.items (pending side (reverse calls.now))) file.new.items }
+    ensures left { LeftBy choice (file_state file.old.items (pending side (reverse calls.now)))
+        file.new.items }
 {
     match choice {
         Choice::Old => take_back(file, calls, side),

@@ -95,9 +95,11 @@ impl Volume for NullVolume {
     /// `Io` comes never.
     fn write_at(&mut self, side: Side, at: u64, bytes: &[u8]) -> Result<(), VolumeFault>
         requires { at ≤ (view_of self.old).size side }
-        ensures sizes { Grows side at (length bytes.now) (view_of self.old) (view_of self.new) result }
+        ensures sizes { Grows side at (length bytes.now) (view_of self.old)
+            (view_of self.new) result }
         ensures cause { HasCause (view_of self.old) (view_of self.new) result }
-        ensures too_large { IsErrOf result TooLarge ↔ ((view_of self.old).limit < at + length bytes.now) }
+        ensures too_large { IsErrOf result TooLarge
+            ↔ ((view_of self.old).limit < at + length bytes.now) }
         ensures unchanged { IsErrOf result TooLarge → self.new ≡ self.old }
         ensures works { IsErrOf result Io → ⊥ }
     {
@@ -109,8 +111,10 @@ impl Volume for NullVolume {
         requires { at ≤ (view_of self.old).size side }
         ensures sizes { IfSome result (Grows side at len (view_of self.old) (view_of self.new)) }
         ensures cause { IfSome result (HasCause (view_of self.old) (view_of self.new)) }
-        ensures too_large { IfSome result (λ written. IsErrOf written TooLarge ↔ ((view_of self.old).limit < at + len)) }
-        ensures unchanged { IfSome result (λ written. IsErrOf written TooLarge → self.new ≡ self.old) }
+        ensures too_large { IfSome result (λ written. IsErrOf written TooLarge
+            ↔ ((view_of self.old).limit < at + len)) }
+        ensures unchanged { IfSome result (λ written. IsErrOf written TooLarge
+            → self.new ≡ self.old) }
         ensures works { IfSome result (λ written. IsErrOf written Io → ⊥) }
         ensures taken { IsSome result }
     {

@@ -18,12 +18,16 @@ pub fn write_synced<V: Volume>(
     requires fits { at + length bytes.now ≤ (V.view volume.old).limit }
 
     // At each moment a crash leaves an image from before, with this write torn or whole.
-    ensures any_moment { IsTrue V.tells → LeavesOnly (V.view volume.old) (V.view volume.new) (TornFrom side at (length bytes.now) (V.view volume.old)) }
-    ensures done { OnOk result (IsTrue V.tells → Synced side at bytes.now (V.view volume.old) (V.view volume.new)) }
+    ensures any_moment { IsTrue V.tells → LeavesOnly (V.view volume.old) (V.view volume.new)
+        (TornFrom side at (length bytes.now) (V.view volume.old)) }
+    ensures done { OnOk result (IsTrue V.tells
+        → Synced side at bytes.now (V.view volume.old) (V.view volume.new)) }
     ensures kept_other { IsTrue V.tells → Settled side (V.view volume.old)
         → KeepsOther side (V.view volume.old) (V.view volume.new) }
-    ensures other_stays { IsTrue V.tells → (V.view volume.new).seen (other side) ≡ (V.view volume.old).seen (other side) }
-    ensures sizes { Grows side at (length bytes.now) (V.view volume.old) (V.view volume.new) result }
+    ensures other_stays { IsTrue V.tells → (V.view volume.new).seen (other side)
+        ≡ (V.view volume.old).seen (other side) }
+    ensures sizes { Grows side at (length bytes.now) (V.view volume.old)
+        (V.view volume.new) result }
     ensures later { (V.view volume.old).failures ≤ (V.view volume.new).failures }
     ensures cause { OnErr result (Rose (V.view volume.old).failures (V.view volume.new).failures) }
     ensures fits { IsErrOf result TooLarge → ⊥ }

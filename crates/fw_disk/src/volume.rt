@@ -60,7 +60,8 @@ pub trait Volume {
     /// then the slice may hold anything. It settles nothing: what was pending still is.
     fn read(&mut self, side: Side, at: u64, into: &mut [u8]) -> Result<(), VolumeFault>
         requires { at + length into.old ≤ (view self.old).size side }
-        ensures bytes { OnOk result (IsTrue tells → Returns at ((view self.old).seen side) into.new) }
+        ensures bytes { OnOk result (IsTrue tells
+            → Returns at ((view self.old).seen side) into.new) }
         ensures told { IsTrue tells → Quiet (view self.old) (view self.new) }
         ensures pending { IsTrue tells → StaysPending (view self.old) (view self.new) }
         ensures sizes { SameSizes (view self.old) (view self.new) }
@@ -73,13 +74,18 @@ pub trait Volume {
     /// and after `Ok` a crash may tear the write in every way.
     fn write_at(&mut self, side: Side, at: u64, bytes: &[u8]) -> Result<(), VolumeFault>
         requires { at ≤ (view self.old).size side }
-        ensures written { OnOk result (IsTrue tells → Holds at bytes.now ((view self.old).seen side) ((view self.new).seen side)) }
-        ensures told { IsTrue tells → Writes side at (length bytes.now) (view self.old) (view self.new) }
+        ensures written { OnOk result (IsTrue tells
+            → Holds at bytes.now ((view self.old).seen side) ((view self.new).seen side)) }
+        ensures told { IsTrue tells → Writes side at (length bytes.now) (view self.old)
+            (view self.new) }
         ensures pending { IsTrue tells → StaysPending (view self.old) (view self.new) }
-        ensures every_tear { OnOk result (IsTrue tells → Allows (TornSide side at (length bytes.now)) (view self.old).may_leave (view self.new).may_leave) }
+        ensures every_tear { OnOk result (IsTrue tells
+            → Allows (TornSide side at (length bytes.now)) (view self.old).may_leave
+            (view self.new).may_leave) }
         ensures sizes { Grows side at (length bytes.now) (view self.old) (view self.new) result }
         ensures cause { HasCause (view self.old) (view self.new) result }
-        ensures too_large { IsErrOf result TooLarge ↔ ((view self.old).limit < at + length bytes.now) }
+        ensures too_large { IsErrOf result TooLarge
+            ↔ ((view self.old).limit < at + length bytes.now) }
         ensures unchanged { IsErrOf result TooLarge → self.new ≡ self.old };
 
     /// Writes so many bytes that nobody gives, where what is written can't be read again: lengths change as by [`Volume::write_at`], and `TooLarge`
@@ -90,8 +96,10 @@ pub trait Volume {
         ensures declined { IfNone result (self.new ≡ self.old) }
         ensures sizes { IfSome result (Grows side at len (view self.old) (view self.new)) }
         ensures cause { IfSome result (HasCause (view self.old) (view self.new)) }
-        ensures too_large { IfSome result (λ written. IsErrOf written TooLarge ↔ ((view self.old).limit < at + len)) }
-        ensures unchanged { IfSome result (λ written. IsErrOf written TooLarge → self.new ≡ self.old) }
+        ensures too_large { IfSome result (λ written. IsErrOf written TooLarge
+            ↔ ((view self.old).limit < at + len)) }
+        ensures unchanged { IfSome result (λ written. IsErrOf written TooLarge
+            → self.new ≡ self.old) }
     {
         None
     }

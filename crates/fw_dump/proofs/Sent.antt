@@ -1,5 +1,6 @@
 -- Texts of entries, one by one and one behind the other.
-use Rattle.std.proofs.Common.{◌≡◌, ◌∙◌, ℕ, List, [], ◌∷◌, ◌++◌, Ok, refl, sym, ap, subst, append_assoc, append-nil}
+use Rattle.std.proofs.Common.{◌≡◌, ◌∙◌, ℕ, List, [], ◌∷◌, ◌++◌, Ok, None, map, refl, sym, ap, subst, append_assoc, append-nil}
+use Rattle.std.specs.Prelude.{slice_get}
 use Rattle.fw_entry.specs.Entry.{CommandValue, EntryValue}
 use Rattle.fw_entry.specs.Spelling.{IsEntry}
 use Rattle.fw_script.specs.Commands.{FirstCommand}
@@ -46,3 +47,8 @@ dump_more currency (x ∷ entries) e text last dumped one =
 pub dump_none : (currency : List ℕ) → IsDumpOf currency [] []
 unfolding IsDumpOf
 dump_none currency = refl
+
+-- nothing is left where there is no first head
+pub none_first : {A B : Type 0} (f : A → B) (entries : List A) → None ≡ slice_get (map f entries) 0 → entries ≡ []
+none_first f [] none = refl
+none_first f (e ∷ entries) none = absurd (cc)

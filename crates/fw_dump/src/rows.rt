@@ -1,9 +1,11 @@
 //! The rows of a post, as CSV.
+use crate::spelled::SpelledTags;
 use crate::values::{
-    QUOTE, QUOTE_IN_FIELD, push_amount, push_byte, push_comma, push_second, push_tags, push_text,
+    QUOTE, QUOTE_IN_FIELD, push_amount, push_byte, push_comma, push_second, push_text,
 };
 use fw_charge::Currency;
-use fw_columns::{Columns, LentDiscount, LentRow, LentTags};
+use fw_columns::{Columns, LentDiscount, LentRow};
+use fw_entries::{Run, Runs};
 use fw_money::Nanos;
 use fw_rows::Column;
 use std::alloc::{AllocError, Global};
@@ -14,12 +16,45 @@ pub(crate) fn rows_csv(
     currency: Currency,
     rows: &Columns,
 ) -> Result<Vec<u8>, AllocError> {
+    let mut tags = SpelledTags::new(alloc);
     let mut out = Vec::new(alloc);
     push_header(&mut out)?;
-    for place in 0..rows.len() {
-        push_record(&mut out, currency, &rows.lent(place))?;
+    push_rows(&mut out, currency, rows, 0, rows.len(), &mut tags)?;
+    Ok(out)
+}
+
+/// The CSV of rows that stand in segments, whose tags are spelled as far as they were met.
+pub(crate) fn runs_csv(
+    alloc: Global,
+    currency: Currency,
+    runs: Runs<'_>,
+    tags: &mut SpelledTags,
+) -> Result<Vec<u8>, AllocError> {
+    let mut runs = runs;
+    let mut out = Vec::new(alloc);
+    push_header(&mut out)?;
+    while let Some(run) = runs.next() {
+        tags.of_segment(run.segment);
+        push_rows(&mut out, currency, run.columns, run.first, run.end, tags)?;
     }
     Ok(out)
+}
+
+// Appends the records of rows of columns: from one on, and before another one.
+fn push_rows(
+    out: &mut Vec<u8>,
+    currency: Currency,
+    columns: &Columns,
+    first: usize,
+    end: usize,
+    tags: &mut SpelledTags,
+) -> Result<(), AllocError> {
+    for place in first..end.min(columns.len()) {
+        let row = columns.lent(place);
+        let spelled = tags.text_of(columns.tag_list_code(place), row.tags())?;
+        push_record(out, currency, &row, spelled)?;
+    }
+    Ok(())
 }
 
 // Appends the names of the columns.
@@ -33,18 +68,26 @@ fn push_header(out: &mut Vec<u8>) -> Result<(), AllocError> {
     push_byte(out, b'\n')
 }
 
-// Appends the record of a row.
-fn push_record(out: &mut Vec<u8>, currency: Currency, row: &LentRow<'_>) -> Result<(), AllocError> {
+// Appends the record of a row, whose tags are written as this.
+fn push_record(
+    out: &mut Vec<u8>,
+    currency: Currency,
+    row: &LentRow<'_>,
+    tags: &[u8],
+) -> Result<(), AllocError> {
     let mut is_first = true;
     for column in Column::ALL {
         push_comma(out, is_first)?;
         is_first = false;
-        push_cell(out, currency, row, column)?;
+        match column {
+            Column::Tags => out.extend_from_slice(tags)?,
+            _ => push_cell(out, currency, row, column)?,
+        }
     }
     push_byte(out, b'\n')
 }
 
-// Appends what a row has in a column; nothing where it is null.
+// Appends what a row has in a column, tags aside; nothing where it is null.
 fn push_cell(
     out: &mut Vec<u8>,
     currency: Currency,
@@ -66,7 +109,8 @@ fn push_cell(
         Column::ConsumedUnit => push_field(out, row.unit().unwrap_or("")),
         Column::SkuId => push_field(out, row.sku().unwrap_or("")),
         Column::SubAccountId => push_field(out, row.sub_account().unwrap_or("")),
-        Column::Tags => push_row_tags(out, row.tags()),
+        // They are spelled once for all rows that have them.
+        Column::Tags => Ok(()),
     }
 }
 
@@ -129,14 +173,4 @@ fn push_quantity(out: &mut Vec<u8>, quantity: Option<Nanos>) -> Result<(), Alloc
         Some(amount) => push_amount(out, amount),
         None => Ok(()),
     }
-}
-
-// Appends tags as a JSON object in quotes; nothing where there is none.
-fn push_row_tags(out: &mut Vec<u8>, tags: LentTags<'_>) -> Result<(), AllocError> {
-    if tags.len() == 0 {
-        return Ok(());
-    }
-    push_text(out, QUOTE)?;
-    push_tags(out, tags, b':', QUOTE_IN_FIELD)?;
-    push_text(out, QUOTE)
 }

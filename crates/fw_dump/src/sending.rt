@@ -1,5 +1,5 @@
-//! Whether a text is one command that sends an entry: it is read as a script is that is served.
-ghost use Rattle.std.specs.Prelude.{◌≡◌, true, IfOk, IfSome, Ok};
+//! What entry a text sends that is one command: it is read as a script is that is served.
+ghost use Rattle.std.specs.Prelude.{IfOk, IfSome, Ok};
 ghost use Rattle.fw_dump.specs.Dumps.{IsTextOf};
 ghost use Rattle.fw_entry.specs.Spelling.{HasRowCount};
 ghost use Rattle.fw_entry.specs.View.{command_view};
@@ -12,48 +12,46 @@ use fw_charge::Currency;
 use fw_column_rows::{KnownTexts, read_columns_after};
 use fw_commitment::{CommitmentFault, read_commitment, read_purchase};
 use fw_entry::{Command as EntryCommand, Entry, EntryFault};
-use fw_import::same_entry;
 use fw_policy::{PolicyFault, read_policy};
 use fw_rows::RowFault;
 use fw_script::{Command, EntryKind, Script, sequence_number};
 use std::alloc::{AllocError, Global};
 
-/// Whether a text is one command that sends this entry to a warehouse of this currency, and ends with a line feed.
-pub(crate) fn is_text_of(
+/// The entry that a text sends to a warehouse of this currency; `None` where it isn't one command that sends one, or doesn't end with a line
+/// feed.
+pub(crate) fn entry_sent(
     alloc: Global,
     currency: Currency,
     text: &[u8],
-    entry: &Entry,
     known: &mut KnownTexts,
-) -> Result<bool, AllocError>
-    ensures { IfOk result (λ is. is ≡ true → IsTextOf currency text.now entry.now) }
+) -> Result<Option<Entry>, AllocError>
+    ensures { IfOk result (λ sent. IfSome sent (λ entry. IsTextOf currency text.now entry)) }
 {
     let Some((last, _)) = text.split_last() else {
-        return Ok(false);
+        return Ok(None);
     };
     if *last != b'\n' {
-        return Ok(false);
+        return Ok(None);
     }
     let mut script = Script::new(text);
     let Some(command) = script.next_command() else {
-        return Ok(false);
+        return Ok(None);
     };
     match script.next_command() {
-        None => sends(alloc, currency, command, entry, known),
-        Some(_) => Ok(false),
+        None => sent_by(alloc, currency, command, known),
+        Some(_) => Ok(None),
     }
 }
 
-// Whether a command sends this entry.
-fn sends(
+// The entry that a command sends.
+fn sent_by(
     alloc: Global,
     currency: Currency,
     command: Command<'_>,
-    entry: &Entry,
     known: &mut KnownTexts,
-) -> Result<bool, AllocError>
-    ensures { IfOk result (λ sends. sends ≡ true
-        → Sends currency (plain_command command.entry) entry.now) }
+) -> Result<Option<Entry>, AllocError>
+    ensures { IfOk result (λ sent. IfSome sent (λ entry.
+        Sends currency (plain_command command.entry) entry)) }
 {
     match command {
         Command::Entry {
@@ -61,38 +59,38 @@ fn sends(
             origin,
             sequence,
             content,
-        } => sends_as(
-            alloc, currency, kind, origin, sequence, content, entry, known,
-        ),
-        _ => Ok(false),
+        } => sent_as(alloc, currency, kind, origin, sequence, content, known),
+        _ => Ok(None),
     }
 }
 
-// Whether the command of an entry's kind, with this origin, sequence number and content, sends this entry.
-fn sends_as(
+// The entry that the command of an entry's kind sends, with this origin, sequence number and content.
+fn sent_as(
     alloc: Global,
     currency: Currency,
     kind: EntryKind,
     origin: &[u8],
     sequence: &[u8],
     content: &[u8],
-    entry: &Entry,
     known: &mut KnownTexts,
-) -> Result<bool, AllocError>
-    ensures { IfOk result (λ sends. sends ≡ true
-        → Sends currency (plain.entry kind origin.now sequence.now content.now) entry.now) }
+) -> Result<Option<Entry>, AllocError>
+    ensures { IfOk result (λ sent. IfSome sent (λ entry.
+        Sends currency (plain.entry kind origin.now sequence.now content.now) entry)) }
 {
-    let _seq = entry.seq();
     let Some(number) = sequence_number(sequence) else {
-        return Ok(false);
+        return Ok(None);
     };
     let Some(command) = read_content(alloc, currency, kind, content, known)? else {
-        return Ok(false);
+        return Ok(None);
     };
     match Entry::new(alloc, origin, number, command) {
-        Ok(read) => same_entry(alloc, entry, &read),
+        Ok(read) => {
+            // Proves that it keeps its limits.
+            let _seq = read.seq();
+            Ok(Some(read))
+        }
         Err(EntryFault::NoMemory) => Err(AllocError),
-        Err(_) => Ok(false),
+        Err(_) => Ok(None),
     }
 }
 

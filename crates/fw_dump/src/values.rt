@@ -48,18 +48,18 @@ pub(crate) fn push_amount(out: &mut Vec<u8>, amount: Nanos) -> Result<(), AllocE
     let magnitude = count.unsigned_abs();
     push_number(out, magnitude / NANOS)?;
     push_byte(out, b'.')?;
-    push_digits(out, magnitude % NANOS, 9)
+    push_fraction(out, magnitude % NANOS)
 }
 
-// Appends the last digits of a number, so many of them: at most nine.
-fn push_digits(out: &mut Vec<u8>, number: u64, count: usize) -> Result<(), AllocError> {
+// Appends the last nine digits of a number.
+fn push_fraction(out: &mut Vec<u8>, number: u64) -> Result<(), AllocError> {
     let mut digits = [b'0'; 9];
     let mut rest = number;
     for place in 0..9 {
         digits[8 - place] = b'0' + (rest % 10) as u8;
         rest /= 10;
     }
-    out.extend_from_slice(&digits[9 - count.min(9)..])
+    out.extend_from_slice(&digits)
 }
 
 /// Appends the instant of a second since 1970, as `2024-01-31T14:00:00Z`. A second past the year 9999 is its number, which no
@@ -73,18 +73,41 @@ pub(crate) fn push_second(out: &mut Vec<u8>, second: u64) -> Result<(), AllocErr
 
 // Appends the instant of a second of a day.
 fn push_instant(out: &mut Vec<u8>, date: Date, time: u64) -> Result<(), AllocError> {
-    push_digits(out, u64::from(date.year.unsigned_abs()), 4)?;
-    push_byte(out, b'-')?;
-    push_digits(out, u64::from(date.month), 2)?;
-    push_byte(out, b'-')?;
-    push_digits(out, u64::from(date.day), 2)?;
-    push_byte(out, b'T')?;
-    push_digits(out, time / HOUR, 2)?;
-    push_byte(out, b':')?;
-    push_digits(out, time % HOUR / MINUTE, 2)?;
-    push_byte(out, b':')?;
-    push_digits(out, time % MINUTE, 2)?;
-    push_byte(out, b'Z')
+    let year = u64::from(date.year.unsigned_abs());
+    let (century, of_century) = (two_digits(year / 100), two_digits(year));
+    let (month, day) = (
+        two_digits(u64::from(date.month)),
+        two_digits(u64::from(date.day)),
+    );
+    let (hour, minute) = (two_digits(time / HOUR), two_digits(time % HOUR / MINUTE));
+    let second = two_digits(time % MINUTE);
+    out.extend_from_slice(&[
+        century.0,
+        century.1,
+        of_century.0,
+        of_century.1,
+        b'-',
+        month.0,
+        month.1,
+        b'-',
+        day.0,
+        day.1,
+        b'T',
+        hour.0,
+        hour.1,
+        b':',
+        minute.0,
+        minute.1,
+        b':',
+        second.0,
+        second.1,
+        b'Z',
+    ])
+}
+
+// The last two digits of a number.
+fn two_digits(number: u64) -> (u8, u8) {
+    (b'0' + (number / 10 % 10) as u8, b'0' + (number % 10) as u8)
 }
 
 /// Appends a text in double quotes, with the escapes that JSON and TOML both read. A double quote is written as this text.

@@ -1,16 +1,18 @@
 -- Rows that are taken from the front of segments, and entries that take theirs.
 use Rattle.std.proofs.Common.{◌≡◌, ◌∙◌, ◌+◌, ◌-◌, ◌≤◌, ◌<◌, ℕ, suc, List, [], ◌∷◌, ◌++◌, length, length-append, length-drop, take, drop, map, min, refl, sym, ap, subst, add-one, append-nil, append_assoc, arith}
-use Rattle.std.specs.Prelude.{All, Some, slice_get}
-use Rattle.std.proofs.Math.Seq.{drop-cons, drop-nil, drop-append-add}
-use Rattle.std.proofs.lemmas.List.{length-take, take_all, drop_all, drop-append-le, drop-drop}
+use Rattle.std.specs.Prelude.{All, Some, slice_get, slice_range}
+use Rattle.std.proofs.Math.Seq.{drop-cons, drop-nil, drop-append-add, take-append-add}
+use Rattle.std.proofs.lemmas.List.{length-take, take_all, drop_all, drop-append-le, drop-drop, take-append-drop}
 use Rattle.std.proofs.lemmas.Option.{slice_get_within, get_or_from_slice_get}
 use Rattle.std.proofs.lemmas.List.Elements.{All-head, All-tail}
 use Rattle.fw_charge.specs.Charge.{Charge}
 use Rattle.fw_entry.specs.Entry.{EntryValue}
+use Rattle.fw_entry.specs.Entry.CommandValue.{post}
 use Rattle.fw_entry.specs.Spelling.{IsEntry}
 use Rattle.fw_posted.specs.Rows.{segment_rows}
-use Rattle.fw_snapshot.specs.Heads.{HeadValue, entries_of, entry_of, head_of, row_count}
-use Rattle.fw_snapshot.specs.History.{rows_posted}
+use Rattle.fw_snapshot.specs.Heads.{ContentValue, HeadValue, command_of, entries_of, entry_of, head_of, row_count}
+use Rattle.fw_snapshot.specs.Heads.ContentValue.{posted_rows, committed_to, policy_set, post_withdrawn, purchase_added}
+use Rattle.fw_snapshot.specs.History.{posted, rows_posted}
 use Rattle.fw_snapshot.proofs.HeadFacts.{entries_back}
 use Rattle.fw_entries.specs.RowsLeft.{rows_behind}
 
@@ -47,6 +49,37 @@ unfolding rows_behind
 segment_taken taken n segments segment there past =
     let split = from_place segments n segment there in
     rw split (ap (λ (rows : List Charge). rows ++ segment_rows (drop (n + 1) segments)) (drop_all taken segment past) ∙ sym (all_left (drop (n + 1) segments)))
+
+-- rows of the first segment are taken, up to one
+pub run_taken : (taken end n : ℕ) (segments : List (List Charge)) (segment : List Charge) → slice_get segments n ≡ Some segment → taken ≤ end
+    → rows_behind taken (drop n segments) ≡ slice_range segment taken end ++ rows_behind end (drop n segments)
+unfolding rows_behind
+run_taken taken end n segments segment there order =
+    let split = from_place segments n segment there in
+    let count = end - taken in
+    let at : taken + count ≡ end = omega (arith, order) in
+    let behind : drop count (drop taken segment) ≡ drop end segment = drop-drop count taken segment ∙ ap (λ (k : ℕ). drop k segment) at in
+    let cut : drop taken segment ≡ take count (drop taken segment) ++ drop end segment =
+    sym (take-append-drop count (drop taken segment)) ∙ ap (λ (rows : List Charge). take count (drop taken segment) ++ rows) behind in
+    rw split (
+    ap (λ (rows : List Charge). rows ++ segment_rows (drop (n + 1) segments)) cut
+    ∙ append_assoc (take count (drop taken segment)) (drop end segment) (segment_rows (drop (n + 1) segments))
+    )
+
+-- the next rows of an entry are taken
+pub run_of_entry : (all run later : List Charge) (left : ℕ) → all ≡ run ++ later → length run ≤ left → take left all ≡ run ++ take (left - length run) later
+run_of_entry all run later left is few =
+    let parts : left ≡ length run + (left - length run) = omega (arith, few) in
+    ap (take left) is
+    ∙ ap (λ (k : ℕ). take k (run ++ later)) parts
+    ∙ take-append-add run later (left - length run)
+
+-- a run has as many rows as stand between its ends
+pub length_of_run : (rows : List Charge) (first end : ℕ) → first ≤ end → end ≤ length rows → length (slice_range rows first end) ≡ end - first
+length_of_run rows first end order within =
+    let size = length-take (end - first) (drop first rows) in
+    let rest = length-drop first rows in
+    omega (arith, size, rest, order, within)
 
 -- a row goes behind those that were taken
 pub one_more : (all front rest later : List Charge) (row : Charge) → all ≡ front ++ rest → rest ≡ row ∷ later → all ≡ (front ++ row ∷ []) ++ later
@@ -163,3 +196,44 @@ pub first_and_rest : (heads : List HeadValue) (rows next : List Charge) (taken :
     → entries_of (drop taken heads) rows ≡ entries → entries ≡ entry_of h (take (row_count h.content) rows) ∷ entries_of (drop (taken + 1) heads) next
 first_and_rest heads rows next taken h entries split is all =
     sym all ∙ split.split ∙ ap (λ (rs : List Charge). entry_of h (take (row_count h.content) rows) ∷ entries_of (drop (taken + 1) heads) rs) (sym is)
+
+-- ---- the rows of the first entry that is left
+
+posted_of : (content : ContentValue) (rows : List Charge) → posted (command_of content (take (row_count content) rows)) ≡ take (row_count content) rows
+posted_of (posted_rows n) rows = refl
+posted_of (committed_to c) rows = refl
+posted_of (policy_set p) rows = refl
+posted_of (post_withdrawn n) rows = refl
+posted_of (purchase_added a) rows = refl
+
+-- they are as many as its head says
+pub next_rows : (heads : List HeadValue) (rows : List Charge) (taken : ℕ) (h : HeadValue) (entries : List EntryValue) → IsSplit heads rows taken h
+    → entries_of (drop taken heads) rows ≡ entries → rows_posted (take 1 entries) ≡ take (row_count h.content) rows
+unfolding rows_posted
+next_rows heads rows taken h entries split all =
+    let front = take (row_count h.content) rows in
+    let rest = entries_of (drop (taken + 1) heads) (drop (row_count h.content) rows) in
+    let is : entries ≡ entry_of h front ∷ rest = sym all ∙ split.split in
+    ap (λ (es : List EntryValue). rows_posted (take 1 es)) is
+    ∙ append-nil (posted (command_of h.content front))
+    ∙ posted_of h.content rows
+
+-- none are left where no head is
+pub no_rows : (heads : List HeadValue) (rows : List Charge) (taken : ℕ) (entries : List EntryValue) → length heads ≤ taken → entries_of (drop taken heads) rows ≡ entries
+    → rows_posted (take 1 entries) ≡ []
+unfolding rows_posted
+no_rows heads rows taken entries past all = ap (λ (es : List EntryValue). rows_posted (take 1 es)) (sym all ∙ none_split heads rows taken past)
+
+-- the first entry is its head's, with its rows
+pub first_is : (heads : List HeadValue) (rows : List Charge) (taken : ℕ) (h : HeadValue) (entries : List EntryValue) → IsSplit heads rows taken h
+    → entries_of (drop taken heads) rows ≡ entries → slice_get entries 0 ≡ Some (entry_of h (take (row_count h.content) rows))
+first_is heads rows taken h entries split all = ap (λ (es : List EntryValue). slice_get es 0) (sym all ∙ split.split)
+
+-- the first entry is a post that has its origin, its number and its rows
+pub first_is_post : (heads : List HeadValue) (rows part : List Charge) (taken : ℕ) (h : HeadValue) (entries : List EntryValue) (e : EntryValue) → IsSplit heads rows taken h
+    → entries_of (drop taken heads) rows ≡ entries → h ≡ record { origin = e.origin; seq = e.seq; content = posted_rows (length part) } → rows_posted (take 1 entries) ≡ part
+    → e.command ≡ post part → slice_get entries 0 ≡ Some e
+first_is_post heads rows part taken h entries e split all is has command =
+    let own : take (row_count h.content) rows ≡ part = sym (next_rows heads rows taken h entries split all) ∙ has in
+    let made : entry_of h part ≡ e = ap (λ (x : HeadValue). entry_of x part) is ∙ (λ j. record { origin = e.origin; seq = e.seq; command = sym command j }) in
+    first_is heads rows taken h entries split all ∙ ap (λ (rs : List Charge). Some (entry_of h rs)) own ∙ ap Some made

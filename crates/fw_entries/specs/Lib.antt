@@ -1,3 +1,4 @@
 pub mod RowsLeft
 pub mod EntriesLeft
 pub mod Taking
+pub mod Runs

@@ -1,9 +1,11 @@
 //! The rows of a warehouse, taken from the front.
-ghost use Rattle.std.specs.Prelude.{◌≡◌, ◌≤◌, IfOk, length, take, drop};
+ghost use Rattle.std.specs.Prelude.{◌≡◌, ◌<◌, ◌≤◌, ◌-◌, ◌++◌, IfOk, IfSome, None, [], length, take, drop};
 ghost use Rattle.fw_posted.specs.Rows.{segment_rows};
 ghost use Rattle.fw_entries.specs.RowsLeft.{rows_left};
+ghost use Rattle.fw_entries.specs.Runs.{run_rows};
 ghost use Rattle.fw_row_table.specs.Table.{most_column_rows};
 
+use crate::runs::Run;
 use fw_columns::{Columns, ColumnsBuilder};
 use fw_persistent::Sequence;
 use std::alloc::{AllocError, Global};
@@ -55,6 +57,36 @@ impl<'a> RowsLeft<'a> {
             }
         }
         Ok(front)
+    }
+
+    /// Takes rows from the front that stand in one segment, one at least and so many at most; `None` where none are left. None is made.
+    pub(crate) fn next_run(&mut self, most: usize) -> Option<Run<'a>>
+        requires { 0 < most }
+        ensures taken { IfSome result (λ run.
+            rows_left self.old ≡ run_rows run ++ rows_left self.new) }
+        ensures some { IfSome result (λ run. run.first < run.end) }
+        ensures within { IfSome result (λ run. run.end ≤ length run.columns.now) }
+        ensures few { IfSome result (λ run. run.end - run.first ≤ most) }
+        ensures none { result ≡ None → rows_left self.old ≡ [] }
+    {
+        while self.segment < self.segments.len() {
+            let columns = self.segments.get(self.segment);
+            let len = columns.len();
+            if self.taken < len {
+                let (segment, first) = (self.segment, self.taken);
+                let end = first + most.min(len - first);
+                self.taken = end;
+                return Some(Run {
+                    segment,
+                    columns,
+                    first,
+                    end,
+                });
+            }
+            self.segment += 1;
+            self.taken = 0;
+        }
+        None
     }
 
     /// Passes over so many rows from the front, or all where there are fewer. None is made.

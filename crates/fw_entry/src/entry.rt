@@ -152,8 +152,14 @@ fn checked<'a>(
 ) -> Result<(&'a str, usize), EntryFault>
     requires { HasRowCount (command_view command.now) }
     ensures name { IfOk result (λ found. found.0.now ≡ origin.now) }
-    ensures length { IfOk result (λ found. found.1 ≡ length (entry (record { origin = origin.now; seq = seq; command = command_view command.now }))) }
-    ensures entry { IfOk result (λ _. IsEntry (record { origin = origin.now; seq = seq; command = command_view command.now })) }
+    ensures length { IfOk result (λ found. found.1
+        ≡ length (entry (record {
+          origin = origin.now;
+          seq = seq;
+          command = command_view command.now;
+        }))) }
+    ensures entry { IfOk result (λ _. IsEntry
+        (record { origin = origin.now; seq = seq; command = command_view command.now })) }
     ensures fault { IfErr result (IsRefused origin.now seq (command_view command.now)) }
 {
     if !is_origin(origin) {
@@ -226,7 +232,8 @@ impl Entry {
         command: Command,
     ) -> Result<Entry, EntryFault>
         requires { HasRowCount (command_view command) }
-        ensures entry { IfOk result (λ e. e ≡ record { origin = origin.now; seq = seq; command = command_view command }) }
+        ensures entry { IfOk result (λ e. e ≡ record
+            { origin = origin.now; seq = seq; command = command_view command }) }
         ensures fault { IfErr result (IsRefused origin.now seq (command_view command)) }
     {
         let (name, len) = checked(origin, seq, &command)?;
@@ -241,8 +248,18 @@ impl Entry {
     /// The entry of a name, a number and a command that keep the limits of an entry.
     #[tactic(auto, unfolding(crate::specs::Spelling::entry))]
     pub fn of_fields(origin: String, seq: u64, command: Command) -> Entry
-        requires { IsEntry (record { origin = string_bytes origin; seq = seq; command = command_view command }) }
-        ensures { result ≡ record { origin = string_bytes origin; seq = seq; command = command_view command } }
+        requires { IsEntry (record {
+          origin = string_bytes origin;
+          seq = seq;
+          command = command_view
+              command;
+        }) }
+        ensures { result ≡ record {
+          origin = string_bytes origin;
+          seq = seq;
+          command = command_view
+              command;
+        } }
     {
         let len = 12 + origin.len() + command.encoded_len();
         Entry::of_measured(origin, seq, command, len)
@@ -250,9 +267,19 @@ impl Entry {
 
     /// The entry of a name, a number and a command that keep the limits of an entry and are written in so many bytes.
     pub fn of_measured(origin: String, seq: u64, command: Command, len: usize) -> Entry
-        requires kept { IsEntry (record { origin = string_bytes origin; seq = seq; command = command_view command }) }
-        requires length { len ≡ length (entry (record { origin = string_bytes origin; seq = seq; command = command_view command })) }
-        ensures { result ≡ record { origin = string_bytes origin; seq = seq; command = command_view command } }
+        requires kept { IsEntry (record {
+          origin = string_bytes origin;
+          seq = seq;
+          command = command_view command;
+        }) }
+        requires length { len ≡ length (entry (record
+            { origin = string_bytes origin; seq = seq; command = command_view command })) }
+        ensures { result ≡ record {
+          origin = string_bytes origin;
+          seq = seq;
+          command = command_view
+              command;
+        } }
     {
         Entry {
             origin,

@@ -62,7 +62,8 @@ struct Fields {
 /// The fields of an entry, in order.
 #[tactic(auto, unfolding(crate::specs::Reading::fields_at, fw_bytes::specs::Reading::both))]
 fn fields_of(alloc: Global, form: Form, bytes: &[u8]) -> Result<(Fields, &[u8]), ReadError>
-    ensures { Gives (λ x. ((string_bytes x.0.origin, (x.0.seq, command_view x.0.command)), x.1.now)) result (fields_at form bytes.now) }
+    ensures { Gives (λ x. ((string_bytes x.0.origin, (x.0.seq, command_view x.0.command)), x.1.now))
+        result (fields_at form bytes.now) }
 {
     let (origin, rest) = origin_of(alloc, bytes)?;
     let (seq, rest) = seq_of(rest)?;

@@ -1,10 +1,11 @@
 //! `focusd import`: CSV exports of any length are taken into a warehouse.
+use crate::ahead::Ahead;
 use crate::fitting::do_fit;
 use crate::importing::{Import, Imported};
 use crate::messages::{warn_of_posts_behind, wrong_currency};
 use clap::ArgMatches;
 use clap::parser::ValueSource;
-use fw_command_line::{CREATE, CURRENCY, DIALECT, DIR, FILES, KEEP, ORIGIN, QUIET};
+use fw_command_line::{CREATE, CURRENCY, DIALECT, DIR, FILES, KEEP, ORIGIN, QUIET, WORKERS};
 use fw_console::{
     Creates, Fault, advised, open_folder, print_answer, read_currency, tell, tells_json,
     wrong_origin, wrong_use,
@@ -15,9 +16,14 @@ use fw_export_files::{Walk, keeper_of, read_keeps, walk_files};
 use fw_rows::{Currency, Keep};
 use std::alloc::{AllocError, Global};
 use std::process::ExitCode;
+use std::thread::Threads;
 
-/// Imports the files that the options name.
-pub fn import_files(rt: &HostRuntime, options: &ArgMatches<'_>) -> Result<ExitCode, Fault> {
+/// Imports the files that the options name. Where these name several workers, they read parts in threads ahead of the one that is stored.
+pub fn import_files(
+    rt: &HostRuntime,
+    threads: &impl Threads,
+    options: &ArgMatches<'_>,
+) -> Result<ExitCode, Fault> {
     let Some(currency) = read_currency(options) else {
         return Ok(wrong_use(rt, "--currency: it must be three capital letters, e.g. USD"));
     };
@@ -30,7 +36,7 @@ pub fn import_files(rt: &HostRuntime, options: &ArgMatches<'_>) -> Result<ExitCo
         Err(why) => return Ok(wrong_use(rt, why.as_str())),
     };
     let folder = options.get_str(DIR).unwrap_or("");
-    let (imported, done) = import_into(rt, folder, currency, origin, keeps, options);
+    let (imported, done) = import_into(rt, threads, folder, currency, origin, keeps, options);
     let status = advised(rt, folder, done);
     if tells_json(options) {
         return tell(rt, "import", &imported.members(), status);
@@ -41,6 +47,7 @@ pub fn import_files(rt: &HostRuntime, options: &ArgMatches<'_>) -> Result<ExitCo
 // Imports the files into the warehouse of a folder. Also where that fails, what was imported before is counted.
 fn import_into(
     rt: &HostRuntime,
+    threads: &impl Threads,
     folder: &str,
     currency: Currency,
     origin: &str,
@@ -56,7 +63,7 @@ fn import_into(
         Ok(house) => {
             let keeper = keeper_of(rt.alloc(), keeps);
             let mut import = Import::new(rt.alloc(), house, origin, keeper);
-            let done = import_named(rt, &mut import, folder, currency, options);
+            let done = import_named(rt, threads, &mut import, folder, currency, options);
             (import.imported(), import.close(done))
         }
         Err(fault) => (Imported::default(), Err(fault)),
@@ -66,6 +73,7 @@ fn import_into(
 // Imports the files, if the warehouse has the currency that was named.
 fn import_named(
     rt: &HostRuntime,
+    threads: &impl Threads,
     import: &mut Import<'_>,
     folder: &str,
     currency: Currency,
@@ -78,7 +86,20 @@ fn import_named(
     let files = options.get_strs(FILES).unwrap_or(&[]);
     let mut walk = Walk::new(rt, options.get_flag(QUIET), files);
     walk.dialect = options.get_str(DIALECT).and_then(Dialect::of_name);
-    import_all(rt, import, files, walk, tells_json(options))
+    if !do_fit(rt, import, files)? {
+        return Ok(ExitCode::FAILURE);
+    }
+    import.watch_others(rt.alloc())?;
+    let workers = options.get_one(WORKERS).unwrap_or(1);
+    if !import_all(rt, threads, import, files, walk, workers)? {
+        return Ok(ExitCode::FAILURE);
+    }
+    look_behind(rt, import)?;
+    if tells_json(options) {
+        return Ok(ExitCode::SUCCESS);
+    }
+    let answer = imported_text(rt.alloc(), import.imported())?;
+    print_answer(rt, answer.as_bytes())
 }
 
 // Whether the command line names a currency.
@@ -89,30 +110,22 @@ fn is_named(options: &ArgMatches<'_>) -> bool {
     }
 }
 
-// Imports files, if their rows fit.
-fn import_all<'a>(
+// Imports files; false where one was refused, which was said.
+fn import_all<'f>(
     rt: &HostRuntime,
+    threads: &impl Threads,
     import: &mut Import<'_>,
-    files: &[&'a str],
-    walk: Walk<'a>,
-    is_silent: bool,
-) -> Result<ExitCode, Fault> {
-    if !do_fit(rt, import, files)? {
-        return Ok(ExitCode::FAILURE);
-    }
-    import.watch_others(rt.alloc())?;
+    files: &[&'f str],
+    walk: Walk<'f>,
+    workers: u32,
+) -> Result<bool, Fault> {
     let mut walk = walk;
-    let is_whole = walk_files(rt, files, &mut walk, import);
+    let mut ahead = Ahead::new(rt.alloc(), import, threads, workers);
+    let is_whole = walk_files(rt, files, &mut walk, &mut ahead);
+    ahead.stop();
+    drop(ahead);
     import.repeated = walk.repeated;
-    if !is_whole? {
-        return Ok(ExitCode::FAILURE);
-    }
-    look_behind(rt, import)?;
-    if is_silent {
-        return Ok(ExitCode::SUCCESS);
-    }
-    let answer = imported_text(rt.alloc(), import.imported())?;
-    print_answer(rt, answer.as_bytes())
+    is_whole
 }
 
 // Warns where the origin has posts that count behind those of the files.

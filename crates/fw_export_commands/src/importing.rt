@@ -1,4 +1,5 @@
 //! The parts of exports as posts of a warehouse.
+use crate::ahead::Rewritten;
 use crate::messages::{Seen, explain, warn_of_shared};
 use crate::others::Others;
 use fw_columns::Columns;
@@ -6,8 +7,8 @@ use fw_console::{Fault, House, Member};
 use fw_cut::Part;
 use fw_export_files::{Taker, Walk, header_fault, say_header};
 use fw_import::{
-    ImportFault, Importer, Outcome, Sent, Taken, import_part, import_part_keeping, posts_of,
-    read_part, read_part_keeping,
+    ImportFault, Importer, Outcome, ReadPart, Reader, Sent, Taken, import_part,
+    import_part_keeping, posts_of, read_part, read_part_keeping,
 };
 use fw_recover::StoreFault;
 use fw_rows::{Keeper, RowFault};
@@ -57,6 +58,8 @@ pub(crate) struct Import<'a> {
     pub(crate) keeper: Option<Keeper>,
     // the rows of other origins, until rows were found that one of these has too
     others: Option<Others>,
+    // what the next part stands for, where a worker rewrote it
+    rewritten: Option<Rewritten>,
 }
 
 impl<'a> Import<'a> {
@@ -77,6 +80,41 @@ impl<'a> Import<'a> {
             importer: Importer::new(alloc, origin),
             keeper,
             others: None,
+            rewritten: None,
+        }
+    }
+
+    /// One who reads parts before their turn, as this import reads them.
+    pub(crate) fn new_reader(&self, alloc: Global) -> Result<Reader, AllocError> {
+        match &self.keeper {
+            Some(keeper) => Reader::keeping(alloc, keeper.keeps()),
+            None => Ok(Reader::new(alloc)),
+        }
+    }
+
+    /// Takes what the next part stands for and reads as.
+    pub(crate) fn give(&mut self, rewritten: Option<Rewritten>, read: ReadPart) {
+        self.rewritten = rewritten;
+        self.importer.give(read);
+    }
+
+    /// The one who read the part that was taken last, where it was read before its turn.
+    pub(crate) fn take_reader(&mut self) -> Option<Reader> {
+        self.importer.take_reader()
+    }
+
+    // The part that a part stands for; none where that is the part itself.
+    fn meant(
+        &mut self,
+        alloc: Global,
+        walk: &Walk<'_>,
+        part: &Part,
+    ) -> Result<Option<Part>, AllocError> {
+        match self.rewritten.take() {
+            Some(given) if given.part.text == part.text && given.part.header == part.header => {
+                Ok(Some(given.meant))
+            }
+            _ => walk.meant(alloc, part),
         }
     }
 
@@ -102,6 +140,7 @@ impl<'a> Import<'a> {
             importer: _importer,
             keeper: _keeper,
             others: _others,
+            rewritten: _rewritten,
         } = self;
         house.close(done)
     }
@@ -224,7 +263,7 @@ impl Taker for Import<'_> {
                 return Ok(say_header(rt, walk, &fault));
             }
         }
-        let meant = walk.meant(rt.alloc(), part)?;
+        let meant = self.meant(rt.alloc(), walk, part)?;
         let read = meant.as_ref().unwrap_or(part);
         match self.post(rt, read)? {
             Ok(taken) => self.count(rt, walk, part, taken),

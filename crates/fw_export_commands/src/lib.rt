@@ -3,6 +3,7 @@
 //! Each takes what the command line took of its options, and prints.
 #![tactic(auto)]
 
+mod ahead;
 mod check;
 mod fitting;
 mod import;

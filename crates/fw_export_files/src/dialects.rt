@@ -4,8 +4,8 @@ use fw_cut::Part;
 use fw_dialect::{Dialect, proposed, rewrite};
 use std::alloc::{AllocError, Global};
 
-/// The part that a part in a dialect stands for.
-fn rewritten(alloc: Global, dialect: Dialect, part: &Part) -> Result<Part, AllocError> {
+/// The part that a part in a dialect stands for. Records, fields and lines are as many.
+pub fn rewritten(alloc: Global, dialect: Dialect, part: &Part) -> Result<Part, AllocError> {
     let text = part.text.as_slice();
     let (header, body) = text.split_at(part.header.min(text.len()));
     Ok(Part {

@@ -12,6 +12,7 @@ mod taker;
 mod walk;
 mod walking;
 
+pub use dialects::rewritten;
 pub use faults::code_of;
 pub use files::{all_exports, texts_of};
 pub use keeps::{keeper_of, read_keeps};

@@ -20,6 +20,16 @@ pub trait Taker {
         Ok(true)
     }
 
+    /// How many parts are cut before the one that stands before them is taken.
+    fn parts_ahead(&self) -> usize {
+        0
+    }
+
+    /// A part was cut, and is taken once those before it were: what can be done with it before may begin.
+    fn see(&mut self, _rt: &HostRuntime, _walk: &Walk<'_>, _part: &Part) -> Result<(), Fault> {
+        Ok(())
+    }
+
     /// Takes the part at which the walk stands; false where it was refused, which was said.
     fn take(&mut self, rt: &HostRuntime, walk: &mut Walk<'_>, part: &Part) -> Result<bool, Fault>;
 

@@ -5,7 +5,9 @@ use crate::taker::Taker;
 use crate::walk::Walk;
 use fw_console::Fault;
 use fw_cut::{CutFault, Cutter, Part};
+use std::alloc::Global;
 use std::borrow::CowStr;
+use std::collections::VecDeque;
 
 /// What is said of a folder that stands for no export.
 const NO_EXPORT: &str = "it is a folder that has no file whose name ends in .csv";
@@ -120,6 +122,63 @@ enum Taken {
     Refused,
 }
 
+// Parts that were cut and not taken yet, the first one first.
+struct CutParts {
+    parts: VecDeque<Part>,
+    // why the part behind them can't be cut
+    fault: Option<CutFault>,
+    // whether nothing is cut behind them any more
+    is_end: bool,
+}
+
+impl Drop for CutParts {
+    fn drop(self) {
+        let Self {
+            parts: _,
+            fault: _,
+            is_end: _,
+        } = self;
+    }
+}
+
+impl CutParts {
+    // Nothing was cut yet.
+    fn new(alloc: Global) -> CutParts {
+        CutParts {
+            parts: VecDeque::new(alloc),
+            fault: None,
+            is_end: false,
+        }
+    }
+
+    // Cuts parts until there is one to take, and as many behind it as are wanted ahead of their turn.
+    fn fill<T: Taker>(
+        &mut self,
+        rt: &HostRuntime,
+        cutter: &mut Cutter<Source>,
+        walk: &Walk<'_>,
+        taker: &mut T,
+    ) -> Result<(), Fault> {
+        for _ in self.parts.len()..taker.parts_ahead().saturating_add(1) {
+            if self.is_end {
+                break;
+            }
+            match cutter.next_part(rt.alloc()) {
+                Ok(part) => {
+                    self.is_end = part.is_last;
+                    taker.see(rt, walk, &part)?;
+                    self.parts.push_back(part)?;
+                }
+                Err(fault) => {
+                    self.is_end = true;
+                    self.fault = Some(fault);
+                }
+            }
+        }
+        Ok(())
+    }
+}
+
 // Walks over the parts of an export in order; false where one was refused, which was said.
 fn walk_parts<T: Taker>(
     rt: &HostRuntime,
@@ -127,48 +186,19 @@ fn walk_parts<T: Taker>(
     walk: &mut Walk<'_>,
     taker: &mut T,
 ) -> Result<bool, Fault> {
+    let mut cut = CutParts::new(rt.alloc());
     for _ in 0..u64::MAX {
-        match take_next(rt, cutter, walk, taker)? {
-            Taken::Part => {}
-            Taken::Last => return Ok(true),
-            Taken::Refused => return Ok(false),
+        cut.fill(rt, cutter, walk, taker)?;
+        let Some(part) = cut.parts.pop_front() else {
+            break;
+        };
+        walk.pass_repeated(rt, &part);
+        if !taker.take(rt, walk, &part)? {
+            return Ok(false);
         }
     }
-    Ok(true)
-}
-
-// Has the next part taken.
-fn take_next<T: Taker>(
-    rt: &HostRuntime,
-    cutter: &mut Cutter<Source>,
-    walk: &mut Walk<'_>,
-    taker: &mut T,
-) -> Result<Taken, Fault> {
-    match cutter.next_part(rt.alloc()) {
-        Ok(part) => {
-            walk.pass_repeated(rt, &part);
-            take_part(rt, &part, walk, taker)
-        }
-        Err(fault) => {
-            walk.not_cut(rt, fault)?;
-            Ok(Taken::Refused)
-        }
+    match cut.fault.take() {
+        Some(fault) => walk.not_cut(rt, fault),
+        None => Ok(true),
     }
-}
-
-// Has a part taken.
-fn take_part<T: Taker>(
-    rt: &HostRuntime,
-    part: &Part,
-    walk: &mut Walk<'_>,
-    taker: &mut T,
-) -> Result<Taken, Fault> {
-    if !taker.take(rt, walk, part)? {
-        return Ok(Taken::Refused);
-    }
-    Ok(if part.is_last {
-        Taken::Last
-    } else {
-        Taken::Part
-    })
 }

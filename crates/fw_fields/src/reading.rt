@@ -83,7 +83,8 @@ pub fn tag_text_of(alloc: Global, bytes: &[u8]) -> Result<(String, &[u8]), ReadE
 /// the text isn't one of 1 to 256 bytes; [`ReadError::NoMemory`] where there is no memory for it.
 #[tactic(auto, unfolding(fw_bytes::specs::Reading::optional_at))]
 pub fn optional_text_of(alloc: Global, bytes: &[u8]) -> Result<(Option<String>, &[u8]), ReadError>
-    ensures { Gives (λ x. (option_map string_bytes x.0, x.1.now)) result (optional_at short_text_at bytes.now) }
+    ensures { Gives (λ x. (option_map string_bytes x.0, x.1.now)) result
+        (optional_at short_text_at bytes.now) }
 {
     match bytes {
         [] => Err(ReadError::Corrupt(0)),

@@ -36,7 +36,8 @@ pub fn put_optional_nanos(out: &mut Vec<u8>, amount: Option<Nanos>) -> Result<()
 /// Writes a text of 1 to 256 bytes that may be null.
 pub fn put_optional_text(out: &mut Vec<u8>, words: Option<&str>) -> Result<(), AllocError>
     requires { IfSome (option_copied words) IsShortText }
-    ensures { OnOk result (out.new.items ≡ out.old.items ++ optional text (option_copied words.entry)) }
+    ensures { OnOk result (out.new.items
+        ≡ out.old.items ++ optional text (option_copied words.entry)) }
 {
     match words {
         None => put_byte(out, 0),
@@ -51,7 +52,8 @@ pub fn put_optional_text(out: &mut Vec<u8>, words: Option<&str>) -> Result<(), A
 pub fn put_tag(out: &mut Vec<u8>, key: &str, value: &str) -> Result<(), AllocError>
     requires key { length key.now ≤ longest_tag_text }
     requires value { length value.now ≤ longest_tag_text }
-    ensures { OnOk result (out.new.items ≡ out.old.items ++ tag (record { key = key.now; value = value.now })) }
+    ensures { OnOk result (out.new.items
+        ≡ out.old.items ++ tag (record { key = key.now; value = value.now })) }
 {
     put_text(out, key)?;
     put_text(out, value)

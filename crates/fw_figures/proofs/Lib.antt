@@ -1,1 +1,2 @@
 pub mod PriceFacts
+mod UnitFacts

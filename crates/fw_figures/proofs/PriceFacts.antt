@@ -1,7 +1,7 @@
 -- Lemmas on lines at prices, hour by hour.
-use Rattle.std.proofs.Common.{◌≡◌, ◌∙◌, ℕ, zero, suc, ◌+◌, List, [], ◌∷◌, ◌++◌, None, Some, ap, append-nil, append_assoc, arith, filter, length, map, refl, subst, sym}
+use Rattle.std.proofs.Common.{◌≡◌, ◌∙◌, ℕ, ◌+◌, List, [], ◌∷◌, ◌++◌, None, Some, ap, append-nil, append_assoc, arith, filter, length, map, refl, subst, sym}
 use Rattle.std.specs.Prelude.{Option}
-use Rattle.std.specs.List.{flat_map, range_with_len}
+use Rattle.std.specs.List.{flat_map}
 use Rattle.std.proofs.lemmas.List.{map-append}
 use Rattle.std.proofs.lemmas.List.Elements.{filter-append}
 use Rattle.fw_charge.specs.Charge.{Charge}

@@ -1,2 +1,3 @@
 pub mod Prices
 pub mod Sums
+pub mod Units

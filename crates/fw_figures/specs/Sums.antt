@@ -11,6 +11,7 @@ with_amount f amount.Unused x = record f { unused = f.unused +ℤ x }
 with_amount f amount.Paid x = record f { paid = f.paid +ℤ x }
 with_amount f amount.Covered x = record f { covered = f.covered +ℤ x }
 with_amount f amount.Eligible x = record f { eligible = f.eligible +ℤ x }
+with_amount f amount.Usable x = record f { usable = f.usable +ℤ x }
 with_amount f amount.Unpriced x = record f { unpriced = f.unpriced +ℤ x }
 
 -- what the hours carry of the purchases: of what was used and of what was left unused

@@ -162,14 +162,19 @@ impl Book {
         }
     }
 
-    // Adds what could have been covered: beside a commitment to the figures of the commitment, and by itself to those of the keys and of all.
+    // Adds what could have been covered: beside a commitment to the figures of the commitment, and by itself to those of the keys and of all. Beside a
+    // commitment BilledCost of the lines is what of its capacity they could have used.
     fn add_eligible(&mut self, group: &Group, parts: Parts<'_>) -> Result<(), AllocError> {
         let cost = group.effective();
         if parts.id.is_empty() {
             self.own_total = self.own_total.with(Amount::Eligible, cost)?;
         }
-        if parts.id.is_empty() != self.is_by_commitment() {
-            self.add_named(Keeper::Own, group, parts, Amount::Eligible, cost)?;
+        if parts.id.is_empty() == self.is_by_commitment() {
+            return Ok(());
+        }
+        self.add_named(Keeper::Own, group, parts, Amount::Eligible, cost)?;
+        if self.is_by_commitment() {
+            self.add_named(Keeper::Own, group, parts, Amount::Usable, group.billed())?;
         }
         Ok(())
     }

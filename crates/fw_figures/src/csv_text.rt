@@ -66,6 +66,7 @@ fn push_names<'n>(names: &mut Vec<&'n [u8]>, keys: &[&'n str]) -> Result<(), All
         names.push(b"Unit")?;
         names.push(b"Capacity")?;
         names.push(b"UsedCapacity")?;
+        names.push(b"EligibleCapacity")?;
     }
     for key in keys {
         names.push(key.as_bytes())?;
@@ -129,7 +130,7 @@ fn push_units(
     units: Option<Units<'_>>,
 ) -> Result<(), AllocError> {
     let Some(units) = units else {
-        for _cell in 0..3 {
+        for _cell in 0..4 {
             cells.push(String::new(alloc))?;
         }
         return Ok(());
@@ -137,6 +138,7 @@ fn push_units(
     cells.push(String::from_str(alloc, units.unit)?)?;
     cells.push(quantity_text(alloc, units.capacity)?)?;
     cells.push(quantity_text(alloc, units.used)?)?;
+    cells.push(fw_money::text(alloc, units.usable)?)?;
     Ok(())
 }
 

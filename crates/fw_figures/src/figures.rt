@@ -17,11 +17,14 @@ pub enum Amount {
     Covered,
     /// What could have been covered, at the rows' own prices.
     Eligible,
+    /// What of the capacity rows could have used, in nanos of the commitment's unit.
+    Usable,
     /// How many rows that were covered have no price.
     Unpriced,
 }
 
-/// What is summed of commitments, in nanos; and a count of rows.
+/// What is summed of commitments, in nanos of the currency; what of the capacity of one commitment rows could have used, in nanos of its unit; and a
+/// count of rows.
 #[derive(Clone, Copy, Debug, Drop, PartialEq, Eq)]
 pub struct Figures {
     /// EffectiveCost of what was used.
@@ -34,6 +37,8 @@ pub struct Figures {
     pub covered: i128,
     /// What could have been covered, at the rows' own prices.
     pub eligible: i128,
+    /// What of the capacity rows could have used. It is summed beside a commitment alone, since commitments have units of their own.
+    pub usable: i128,
     /// How many rows that were covered have no price. Nothing of them is in what was covered.
     pub unpriced: i128,
 }
@@ -47,6 +52,7 @@ impl Figures {
           paid = pos 0;
           covered = pos 0;
           eligible = pos 0;
+          usable = pos 0;
           unpriced = pos 0;
         } }
     {
@@ -56,6 +62,7 @@ impl Figures {
             paid: 0,
             covered: 0,
             eligible: 0,
+            usable: 0,
             unpriced: 0,
         }
     }
@@ -71,6 +78,7 @@ impl Figures {
             Amount::Paid => figures.paid = sum(self.paid, nanos)?,
             Amount::Covered => figures.covered = sum(self.covered, nanos)?,
             Amount::Eligible => figures.eligible = sum(self.eligible, nanos)?,
+            Amount::Usable => figures.usable = sum(self.usable, nanos)?,
             Amount::Unpriced => figures.unpriced = sum(self.unpriced, nanos)?,
         }
         Ok(figures)

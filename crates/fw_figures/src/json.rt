@@ -132,9 +132,10 @@ fn push_units(alloc: Global, text: &mut String, record: &Record<'_>) -> Result<(
     let unit = json_string(alloc, units.unit)?;
     let used = quantity_text(alloc, units.used)?;
     let capacity = quantity_text(alloc, units.capacity)?;
+    let usable = fw_money::text(alloc, units.usable)?;
     write!(
         text,
-        ",\"unit\":{unit},\"usedCapacity\":\"{used}\",\"capacity\":\"{capacity}\""
+        ",\"unit\":{unit},\"usedCapacity\":\"{used}\",\"capacity\":\"{capacity}\",\"eligibleCapacity\":\"{usable}\""
     )?;
     Ok(())
 }

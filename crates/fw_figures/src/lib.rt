@@ -9,6 +9,7 @@ mod book;
 mod csv_text;
 mod figures;
 mod json;
+mod laws;
 mod page;
 mod parts;
 mod prices;
@@ -17,6 +18,7 @@ mod sheet;
 mod table;
 
 pub use figures::{Amount, Figures};
+pub use laws::used_capacity_is_eligible;
 pub use parts::{Commitments, Part, commitments_of};
 pub use prices::priced;
 pub use sheet::{Sheet, SheetFormat, written};

@@ -186,7 +186,7 @@ fn push_columns(
     has_periods: bool,
 ) -> Result<(), AllocError> {
     let front = format!(in alloc;
-        "<h2>{heading}</h2>\n<div class=\"wide\"><table aria-label=\"{heading}\">\n<thead><tr>"
+        "<h2>{heading}</h2>\n<div class=\"wide\" tabindex=\"0\"><table aria-label=\"{heading}\">\n<thead><tr>"
     )?;
     push_markup(page, front.as_str())?;
     if has_periods {

@@ -42,16 +42,17 @@ impl<'b> Record<'b> {
     }
 }
 
-/// How much of its capacity rows used of a commitment, in nanos of its unit.
+/// How much of its capacity rows used of a commitment, and could have used, in nanos of its unit.
 #[derive(Clone, Copy, Drop)]
 pub(crate) struct Units<'b> {
     pub(crate) unit: &'b str,
     pub(crate) capacity: u128,
     pub(crate) used: u128,
+    pub(crate) usable: i128,
 }
 
-// The figures in its units of the commitment with an id, where they are there.
-fn units_of<'b>(units: &'b [Coverage<'b>], texts: &[String]) -> Option<Units<'b>> {
+// The figures in its units of the commitment with an id, where they are there; rows could have used so much of its capacity.
+fn units_of<'b>(units: &'b [Coverage<'b>], texts: &[String], usable: i128) -> Option<Units<'b>> {
     let id = texts.first()?;
     let found = units
         .iter()
@@ -63,6 +64,7 @@ fn units_of<'b>(units: &'b [Coverage<'b>], texts: &[String]) -> Option<Units<'b>
         },
         capacity: found.capacity(),
         used: found.used(),
+        usable,
     })
 }
 
@@ -93,7 +95,7 @@ fn push_named<'b>(
             texts: Some(texts.as_slice()),
             figures: *figures,
             is_priced: part.book.is_priced(keeper),
-            units: units_of(part.units.as_slice(), texts.as_slice()),
+            units: units_of(part.units.as_slice(), texts.as_slice(), figures.usable),
         })?;
     }
     Ok(())

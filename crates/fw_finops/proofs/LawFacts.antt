@@ -36,15 +36,15 @@ cost_append xs ys =
     ∙ fold-append ◌+ℤ◌ (pos 0) (map (λ (line : LineValue). line.effective) xs) (map (λ (line : LineValue). line.effective) ys)
     ∙ fold_from (fold ◌+ℤ◌ (pos 0) (map (λ (line : LineValue). line.effective) xs)) (map (λ (line : LineValue). line.effective) ys)
 
-cost_one : (line : LineValue) → cost_of_all (line ∷ []) ≡ line.effective
+pub cost_one : (line : LineValue) → cost_of_all (line ∷ []) ≡ line.effective
 unfolding cost_of_all
 cost_one line = omega (arith, ints)
 
-cost_none : cost_of_all [] ≡ pos 0
+pub cost_none : cost_of_all [] ≡ pos 0
 unfolding cost_of_all
 cost_none = refl
 
-cost_cons : (line : LineValue) (lines : List LineValue) → cost_of_all (line ∷ lines) ≡ line.effective +ℤ cost_of_all lines
+pub cost_cons : (line : LineValue) (lines : List LineValue) → cost_of_all (line ∷ lines) ≡ line.effective +ℤ cost_of_all lines
 cost_cons line lines = cost_append (line ∷ []) lines ∙ ap (λ x. x +ℤ cost_of_all lines) (cost_one line)
 
 -- ---- takes
@@ -53,7 +53,7 @@ unfolding covered_line
 covered_cost hour c row t before = refl
 
 -- what takes cost, and what they leave of the rows, costs what was left before them
-takes_cost : (cs : List CommitmentValue) (rows : List Charge) (hour : ℕ) (done ts : List Taken) → All (λ t. Meets cs rows hour t.commitment t.row) ts
+pub takes_cost : (cs : List CommitmentValue) (rows : List Charge) (hour : ℕ) (done ts : List Taken) → All (λ t. Meets cs rows hour t.commitment t.row) ts
     → cost_of_all (covered_after cs rows hour done ts) +ℤ pos (left_cost rows (done ++ ts)) ≡ pos (left_cost rows done)
 takes_cost cs rows hour done [] meets = rw (append-nil done, cost_none) (omega (arith, ints))
 takes_cost cs rows hour done (t ∷ ts) meets =
@@ -80,7 +80,7 @@ nothing_costs row = zero_part (unsigned_abs row.effective) (quantity_of row)
     zero_part : (a q : ℕ) → a * 0 / q ≡ 0
     zero_part a q = grind arith
 
-rest_costs : (hour : ℕ) (row : Charge) (u : ℕ) → cost_of_all (rest_of hour row u) ≡ pos (open_cost row u)
+pub rest_costs : (hour : ℕ) (row : Charge) (u : ℕ) → cost_of_all (rest_of hour row u) ≡ pos (open_cost row u)
 unfolding rest_of open_cost rest_line cost_of_left
 rest_costs hour row u = two_ways (is_eligible row)
     (λ yes. two_ways (nat_lt 0 u)
@@ -102,11 +102,11 @@ unfolding rest_lines left_cost
 rests_cost_what_is_left rows taken hour = rests_cost hour (left_of rows taken) 0 rows
 
 -- ---- the whole
-whole_cost : (hour : ℕ) (row : Charge) → is_eligible row ≡ true → pos (cost_of_left row.effective row (quantity_of row)) ≡ row.effective
+pub whole_cost : (hour : ℕ) (row : Charge) → is_eligible row ≡ true → pos (cost_of_left row.effective row (quantity_of row)) ≡ row.effective
 unfolding rest_line cost_of_left given_line
 whole_cost hour row eligible = ap (λ (line : LineValue). line.effective) (whole_rest hour row eligible)
 
-first_left : (rows : List Charge) (k : ℕ) (row : Charge) → slice_get rows k ≡ Some row → left_of rows [] k ≡ quantity_of row
+pub first_left : (rows : List Charge) (k : ℕ) (row : Charge) → slice_get rows k ≡ Some row → left_of rows [] k ≡ quantity_of row
 unfolding left_of taken_of_row
 first_left rows k row at = let here = number_at quantity_of rows k row at in omega (arith, here)
 

@@ -4,3 +4,7 @@ pub mod LawFacts
 pub mod ListedFacts
 pub mod OpenFacts
 pub mod PricedFacts
+pub mod UsableFacts
+pub mod PartFacts
+pub mod SavingFacts
+pub mod BesideFacts

@@ -59,7 +59,7 @@ cost_cons : (line : LineValue) (lines : List LineValue) → cost_of_all (line �
 unfolding cost_of_all
 cost_cons line lines = int_cons line.effective (map (λ (l : LineValue). l.effective) lines)
 
-billed_cons : (line : LineValue) (lines : List LineValue) → billed_of_all (line ∷ lines) ≡ line.billed +ℤ billed_of_all lines
+pub billed_cons : (line : LineValue) (lines : List LineValue) → billed_of_all (line ∷ lines) ≡ line.billed +ℤ billed_of_all lines
 unfolding billed_of_all
 billed_cons line lines = int_cons line.billed (map (λ (l : LineValue). l.billed) lines)
 

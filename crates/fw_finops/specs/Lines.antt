@@ -1,6 +1,8 @@
 -- Lines at the rows' own prices: what commitments took of an hour's rows, and what they could have taken.
-use Rattle.std.specs.Prelude.{ℕ, ◌-◌, Bool, List, [], ◌∷◌, ◌++◌, map, filter, Option, Some, None, is_some, pos, slice_get, if◌then◌else◌}
+use Rattle.std.specs.Prelude.{ℕ, ◌-◌, ◌&&◌, Bool, false, is_none, List, [], ◌∷◌, ◌++◌, map, filter, Option, Some, None, is_some, pos, slice_get, if◌then◌else◌}
 use Rattle.std.specs.List.{flat_map, list_any}
+use Rattle.std.specs.Option.{option_map_or}
+use Rattle.std.specs.Str.{bytes_eq}
 use Rattle.fw_charge.specs.Charge.{Charge}
 use Rattle.fw_charge.specs.declared.category.Category.TheVariants as category
 use Rattle.fw_charge.specs.declared.discount.DiscountStatus.TheVariants as status
@@ -12,6 +14,7 @@ use Rattle.fw_amortise.specs.LineValue.{LineValue}
 use Rattle.fw_amortise.specs.Lines.{discount_by, given_line}
 use Rattle.fw_amortise.specs.declared.line.LineKind.TheVariants as kind
 use Rattle.fw_finops.specs.Prices.{taken_cost}
+use Rattle.fw_finops.specs.Usable.{usable}
 
 -- ---- what was taken
 
@@ -52,10 +55,17 @@ covered_lines cs rows hour = covered_after cs rows hour [] (hour_cover cs rows h
 unfoldable pub applies : ℕ → Charge → CommitmentValue → Bool
 applies hour row c = is_some (applied c hour row)
 
--- a row that a commitment could have taken, beside the commitment; and a row that some commitment could have taken
+-- a row that a commitment could have taken, beside the commitment. A line has no capacity: what the row could have used of the commitment's stands as
+-- BilledCost, so that sums of it say how much that is
 unfoldable pub eligible_line : ℕ → Charge → CommitmentValue → LineValue
-eligible_line hour row c = record (given_line hour row) { kind = kind.Rest; commitment = Some (discount_by c None) }
+eligible_line hour row c =
+    record (given_line hour row) { kind = kind.Rest; commitment = Some (discount_by c None); billed = pos (usable hour row c) }
 
+-- whether a line is of a row beside the commitment with an id
+abbrev pub is_beside : List ℕ → LineValue → Bool
+is_beside id line = option_map_or (λ d. bytes_eq d.id id && is_none d.status) line.commitment false
+
+-- a row that some commitment could have taken
 unfoldable pub coverable_line : ℕ → Charge → LineValue
 coverable_line hour row = record (given_line hour row) { kind = kind.Rest }
 

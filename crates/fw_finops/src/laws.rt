@@ -1,13 +1,17 @@
 //! What holds of the lines at the rows' own prices: laws, each the contract of a function that does nothing.
-ghost use Rattle.std.specs.Prelude.{◌≡◌, ◌+ℤ◌, ℕ, List, pos};
+ghost use Rattle.std.specs.Prelude.{◌≡◌, ◌≤◌, ◌+ℤ◌, ◌-ℤ◌, ℕ, List, [], Some, filter, pos, slice_get, sum_by};
+ghost use Rattle.std.specs.List.{AllZip, flat_map};
+ghost use Rattle.std.specs.Str.{bytes_eq};
 ghost use Rattle.fw_amortise.specs.Carrying.{cost_of_all};
 ghost use Rattle.fw_amortise.specs.LineValue.{LineValue};
-ghost use Rattle.fw_amortise.specs.Lines.{rest_lines};
+ghost use Rattle.fw_amortise.specs.Lines.{AreLines, rest_lines, rows_in};
 ghost use Rattle.fw_charge.specs.Charge.{Charge};
+ghost use Rattle.fw_cover.specs.Cover.{used_of};
 ghost use Rattle.fw_cover.specs.Hour.{hour_cover};
-ghost use Rattle.fw_finops.specs.Costs.{whole_lines};
-ghost use Rattle.fw_finops.specs.Lines.{covered_lines};
-ghost use Rattle.fw_finops.specs.Listed.{AreListed, ArePrices};
+ghost use Rattle.fw_finops.specs.Costs.{coverable_in, covered_in, is_amortised, uncovered_in, whole_lines};
+ghost use Rattle.fw_finops.specs.Lines.{covered_lines, is_beside, price_lines};
+ghost use Rattle.fw_finops.specs.Listed.{AreListed, ArePrices, billed_of_all};
+ghost use Rattle.fw_finops.specs.Usable.{usable_of};
 ghost use Rattle.fw_terms.specs.Commitment.{CommitmentValue};
 
 /// What commitments took of the rows of an hour, at the rows' own prices, and what is left of the rows that commitments may cover, cost together what
@@ -17,6 +21,25 @@ pub fn covered_and_uncovered_cost_what_the_rows_do()
         → cost_of_all (covered_lines cs rows hour)
         +ℤ cost_of_all (rest_lines rows (hour_cover cs rows hour) hour)
         ≡ cost_of_all (whole_lines rows hour) }
+{}
+
+/// The parts of coverage, in any hours: what commitments took of the rows, at the rows' own prices, and what is left of the rows that they could have
+/// taken, cost together what these rows do, to the last nano.
+pub fn covered_and_uncovered_cost_what_is_eligible()
+    ensures { (cs : List CommitmentValue) (rows : List Charge) (hours : List ℕ)
+        → cost_of_all (covered_in cs rows hours) +ℤ cost_of_all (uncovered_in cs rows hours)
+        ≡ cost_of_all (coverable_in cs rows hours) }
+{}
+
+/// Savings, in any hours: what commitments took of the rows, at the rows' own prices, less what the commitments cost, used and unused, is what the
+/// lines of these hours would cost without commitments, less what they do, to the last nano.
+pub fn savings_are_what_lines_cost_less()
+    ensures { (cs : List CommitmentValue) (rows : List Charge) (hours : List ℕ)
+        (lines plain : List (List LineValue)) → AllZip (AreLines cs rows) hours lines
+        → AllZip (AreLines [] rows) hours plain
+        → cost_of_all (covered_in cs rows hours)
+        -ℤ cost_of_all (filter is_amortised (flat_map (λ of. of) lines))
+        ≡ cost_of_all (flat_map (λ of. of) plain) -ℤ cost_of_all (flat_map (λ of. of) lines) }
 {}
 
 /// The lines of rows that providers' commitments cover, at their prices by a tag, cost together what these prices do, to the last nano, and count the
@@ -30,4 +53,23 @@ pub fn listed_lines_cost_what_their_prices_do()
 pub fn listed_lines_are_one()
     ensures { (tag : List ℕ) (hour : ℕ) (rows : List Charge) (xs ys : List LineValue)
         → AreListed tag hour rows xs → AreListed tag hour rows ys → xs ≡ ys }
+{}
+
+/// The lines beside a commitment say together, as BilledCost, what the rows of an hour could have used of it: of the commitments with an id, of which
+/// a warehouse has one.
+pub fn lines_beside_a_commitment_say_what_rows_could_have_used()
+    ensures { (cs : List CommitmentValue) (rows : List Charge) (hour : ℕ) (id : List ℕ)
+        → billed_of_all (filter (is_beside id) (price_lines cs rows hour))
+        ≡ pos (sum_by (usable_of hour rows) (filter (λ c. bytes_eq c.id id) cs)) }
+{}
+
+/// What rows use of a commitment they could have used, in an hour and in any hours.
+pub fn what_rows_use_they_could_have_used()
+    ensures hour { (cs : List CommitmentValue) (rows : List Charge) (hour place : ℕ)
+        (c : CommitmentValue) → slice_get cs place ≡ Some c
+        → used_of place (hour_cover cs rows hour) ≤ usable_of hour rows c }
+    ensures hours { (cs : List CommitmentValue) (rows : List Charge) (place : ℕ)
+        (c : CommitmentValue) (hours : List ℕ) → slice_get cs place ≡ Some c
+        → sum_by (λ h. used_of place (hour_cover cs (rows_in h rows) h)) hours
+        ≤ sum_by (λ h. usable_of h (rows_in h rows) c) hours }
 {}

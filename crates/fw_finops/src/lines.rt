@@ -37,7 +37,9 @@ fn price_lines<'a>(
 ///
 /// First comes what the commitments took, in the order in which they took it. Each of these lines is a Used line whose costs are the parts of the
 /// row's costs that were taken: what was left of the row before costs more by that than what is left of it after, each rounded down. Then for
-/// each row comes the row beside each commitment that applies to it, and, where one does, the row by itself.
+/// each row comes the row beside each commitment that applies to it, and, where one does, the row by itself. Beside a commitment BilledCost is what
+/// the row could have used of it, in nanos of its unit: its whole quantity; or, of a commitment to a cost, its whole BilledCost at the rate,
+/// rounded up.
 ///
 /// Then comes each row whose CommitmentDiscountStatus is Used. The price is the amount that its tag's text reads as, and stands as EffectiveCost.
 /// Where the row has no such tag, or its text is no amount, EffectiveCost is 0 and BilledCost is one nano, so that sums of it count such rows;

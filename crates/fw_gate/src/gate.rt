@@ -75,7 +75,8 @@ impl<V: Volume, G: Gate> Volume for GateVolume<V, G> {
         ensures pending { IsTrue V.tells → StaysPending (view_behind V.view self.old)
             (view_behind V.view self.new) }
         ensures sizes { SameSizes (view_behind V.view self.old) (view_behind V.view self.new) }
-        ensures cause { HasCause (view_behind V.view self.old) (view_behind V.view self.new) result }
+        ensures cause { HasCause (view_behind V.view self.old)
+            (view_behind V.view self.new) result }
         ensures fits { IsErrOf result TooLarge → ⊥ }
 
         // Only a sync passes the gate.
@@ -98,7 +99,8 @@ impl<V: Volume, G: Gate> Volume for GateVolume<V, G> {
             (view_behind V.view self.new).may_leave) }
         ensures sizes { Grows side at (length bytes.now) (view_behind V.view self.old)
             (view_behind V.view self.new) result }
-        ensures cause { HasCause (view_behind V.view self.old) (view_behind V.view self.new) result }
+        ensures cause { HasCause (view_behind V.view self.old)
+            (view_behind V.view self.new) result }
         ensures too_large { IsErrOf result TooLarge
             ↔ ((view_behind V.view self.old).limit < at + length bytes.now) }
         ensures unchanged { IsErrOf result TooLarge → self.new ≡ self.old }
@@ -110,13 +112,15 @@ impl<V: Volume, G: Gate> Volume for GateVolume<V, G> {
     }
 
     fn sync(&mut self, side: Side) -> Result<(), VolumeFault>
-        ensures durable { OnOk result (IsTrue V.tells → Settled side (view_behind V.view self.new)) }
+        ensures durable { OnOk result (IsTrue V.tells
+            → Settled side (view_behind V.view self.new)) }
         ensures told { IsTrue V.tells → Quiet (view_behind V.view self.old)
             (view_behind V.view self.new) }
         ensures pending { IsTrue V.tells → SettlesOnly side (view_behind V.view self.old)
             (view_behind V.view self.new) }
         ensures sizes { SameSizes (view_behind V.view self.old) (view_behind V.view self.new) }
-        ensures cause { HasCause (view_behind V.view self.old) (view_behind V.view self.new) result }
+        ensures cause { HasCause (view_behind V.view self.old)
+            (view_behind V.view self.new) result }
         ensures fits { IsErrOf result TooLarge → ⊥ }
 
         // Whatever it answers, the gate was passed once.

@@ -89,7 +89,8 @@ impl<E> Beginning<E> {
     /// Of two beginnings of one list the shorter begins the longer. It does nothing.
     pub fn meet(&self, other: &Beginning<E>)
         requires { other.now.of ≡ self.now.of }
-        ensures { length self.now.list ≤ length other.now.list → IsPrefix self.now.list other.now.list }
+        ensures { length self.now.list ≤ length other.now.list
+            → IsPrefix self.now.list other.now.list }
     {
         let _count = other.count;
         let mut both = self.seen.again();
@@ -100,8 +101,10 @@ impl<E> Beginning<E> {
     /// beginning, or 2^64 - 1.
     pub fn add(&mut self, growing: &Growing<E>, element: &E) -> bool
         requires { growing.now ≡ self.old.of }
-        ensures added { MatchBool result (self.new.list ≡ self.old.list ++ element.now ∷ []) (IsPrefix self.old.list self.new.list) }
-        ensures refused { MatchBool result (Unit {0}) ((length self.old.list < length self.new.list) ⊎ (length self.old.list ≡ 2 ^ 64 - 1)) }
+        ensures added { MatchBool result (self.new.list ≡ self.old.list ++ element.now ∷ [])
+            (IsPrefix self.old.list self.new.list) }
+        ensures refused { MatchBool result (Unit {0})
+            ((length self.old.list < length self.new.list) ⊎ (length self.old.list ≡ 2 ^ 64 - 1)) }
         ensures same { self.new.of ≡ self.old.of }
     {
         let count = self.count;

@@ -1,3 +1,4 @@
+pub mod Ahead
 pub mod Importer
 pub mod ImporterView
 pub mod Importing

@@ -7,7 +7,6 @@ ghost use Rattle.fw_import.specs.Importing.{MayStop};
 
 use crate::fault::ImportFault;
 use crate::importer::Importer;
-use fw_column_rows::read_columns_after;
 use fw_disk::Volume;
 use fw_entry::{Command, Entry, EntryFault};
 use fw_recover::Store;
@@ -82,7 +81,8 @@ pub(crate) fn row_count(entry: &Entry) -> u64
     }
 }
 
-/// The rows of a CSV text as the post of the importer's origin under a number. A text of tags that the importer read before isn't read again.
+/// The rows of a CSV text as the post of the importer's origin under a number. A text of tags that the importer read before isn't read again, and
+/// neither is a part that was read [before its turn](Importer::give).
 ///
 /// # Errors
 /// `Rows` where the text has a fault, the first one; `Entry` where the name of the origin, the number or the size is out of range;
@@ -97,7 +97,7 @@ pub fn read_part(
     ensures post { IfOk result (IsPostOf currency importer.old.origin number text.now) }
     ensures same { importer.new ≡ importer.old }
 {
-    let read = read_columns_after(alloc, text, currency, &mut importer.texts);
+    let read = importer.rows_of(alloc, text, currency);
     let origin = importer.origin().as_bytes();
     match read {
         Ok(rows) => match Entry::new(alloc, origin, number, Command::Post(rows)) {

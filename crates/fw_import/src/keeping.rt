@@ -7,7 +7,6 @@ ghost use Rattle.fw_import.specs.Keeping.{IsKeptTaken, IsKeptThere, IsPostKept};
 use crate::fault::ImportFault;
 use crate::importer::Importer;
 use crate::importing::{Taken, row_count, submit};
-use fw_column_rows::read_columns_keeping;
 use fw_disk::Volume;
 use fw_entry::{Command, Entry, EntryFault};
 use fw_recover::Store;
@@ -65,7 +64,7 @@ pub fn read_part_keeping(
     ensures same { importer.new ≡ importer.old }
     ensures keeps { keeper.new.keeps ≡ keeper.old.keeps }
 {
-    let read = read_columns_keeping(alloc, text, currency, &mut importer.texts, keeper);
+    let read = importer.rows_keeping(alloc, text, currency, keeper);
     let origin = importer.origin().as_bytes();
     match read {
         Ok(rows) => match Entry::new(alloc, origin, number, Command::Post(rows)) {

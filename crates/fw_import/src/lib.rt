@@ -7,10 +7,14 @@
 //!
 //! [`import_part_keeping`] does the same with columns that are kept as tags.
 //!
+//! A [`Reader`] reads a part before its turn, as a thread does beside the import; the importer is [given](Importer::give) what it read, and takes
+//! that where the part is the same.
+//!
 //! What an import has to know before its first post is here too: which posts an origin has ([`posts_of`]), and whether rows fit ([`fits`],
 //! [`surely_fits`]).
 #![tactic(auto)]
 
+mod ahead;
 mod comparing;
 mod fault;
 mod fitting;
@@ -19,6 +23,7 @@ mod importing;
 mod keeping;
 mod sent;
 
+pub use ahead::{ReadPart, Reader};
 pub use comparing::same_entry;
 pub use fault::ImportFault;
 pub use fitting::{FEWEST_ROW_BYTES, fits, surely_fits};

@@ -22,7 +22,8 @@ struct Known {
 impl Known {
     /// A text of at most [`MOST_KEPT`] bytes with its second; `None` for a longer one.
     fn new(text: &str, second: u64) -> Option<Known>
-        ensures { IfSome result (λ known. (take known.len known.bytes ≡ text.now) × (known.second ≡ second)) }
+        ensures { IfSome result (λ known. (take known.len known.bytes ≡ text.now)
+            × (known.second ≡ second)) }
     {
         let mut bytes = [0; MOST_KEPT];
         let len = text.len();
@@ -68,7 +69,8 @@ impl InstantReader {
 
     /// The second since 1970 of an instant's text, as [`second_of`] answers it.
     pub fn second_of(&mut self, text: &str) -> Option<u64>
-        ensures value { MatchOption result ((s : ℕ) → ¬ IsSecond text.now s) (λ s. IsSecond text.now s) }
+        ensures value { MatchOption result ((s : ℕ) → ¬ IsSecond text.now s)
+            (λ s. IsSecond text.now s) }
         ensures in_range { IfSome result (λ s. s ≤ last_second) }
     {
         if let Some(known) = self.known {

@@ -11,7 +11,8 @@ const NANOS_PER_SECOND: u128 = 1_000_000_000;
 /// The second since 1970 of an instant's text. It is `None` where the text isn't read as an instant, where the instant has a fraction
 /// of a second that isn't zero, and where it lies before 1970.
 pub fn second_of(text: &str) -> Option<u64>
-    ensures value { MatchOption result ((s : ℕ) → ¬ IsSecond text.now s) (λ s. IsSecond text.now s) }
+    ensures value { MatchOption result ((s : ℕ) → ¬ IsSecond text.now s)
+        (λ s. IsSecond text.now s) }
     ensures in_range { IfSome result (λ s. s ≤ last_second) }
 {
     let Ok(instant) = text.parse::<Timestamp>() else {
@@ -23,7 +24,8 @@ pub fn second_of(text: &str) -> Option<u64>
 /// The seconds of a count of nanoseconds, if it is whole and not negative.
 fn whole_second(nanos: i128) -> Option<u64>
     requires { nanos <ℤ pos ((last_second + 1) * nanos_per_second) }
-    ensures value { MatchOption result ((s : ℕ) → ¬ (nanos ≡ pos (s * nanos_per_second))) (λ s. nanos ≡ pos (s * nanos_per_second)) }
+    ensures value { MatchOption result ((s : ℕ) → ¬ (nanos ≡ pos (s * nanos_per_second)))
+        (λ s. nanos ≡ pos (s * nanos_per_second)) }
     ensures in_range { IfSome result (λ s. s ≤ last_second) }
 {
     if nanos < 0 {

@@ -24,8 +24,10 @@ pub(crate) fn framed(alloc: Global, payload: &[u8]) -> Result<Vec<u8>, AllocErro
 
 /// The length that four bytes spell, where a payload can have it and it is within `room`.
 pub(crate) fn fit_len(bytes: [u8; 4], room: u64) -> Option<u64>
-    ensures found { IfSome result (λ n. (1 ≤ n) × (n ≤ 8388608) × (n ≤ room) × (bytes ≡ to_le_bytes w32 n)) }
-    ensures none { IfNone result ((n : ℕ) → 1 ≤ n → n ≤ 8388608 → n ≤ room → bytes ≡ to_le_bytes w32 n → ⊥) }
+    ensures found { IfSome result (λ n. (1 ≤ n) × (n ≤ 8388608) × (n ≤ room)
+        × (bytes ≡ to_le_bytes w32 n)) }
+    ensures none { IfNone result ((n : ℕ) → 1 ≤ n → n ≤ 8388608 → n ≤ room
+        → bytes ≡ to_le_bytes w32 n → ⊥) }
 {
     let len = u64::from(u32::from_le_bytes(bytes));
     if len == 0 || len > LONGEST || len > room {
@@ -36,8 +38,10 @@ pub(crate) fn fit_len(bytes: [u8; 4], room: u64) -> Option<u64>
 
 /// The payload of the open frame that stands first, and the bytes behind it.
 pub(crate) fn first_frame(bytes: &[u8]) -> Option<(&[u8], &[u8])>
-    ensures found { IfSome result (λ parts. IsFit parts.0.now × (bytes.now ≡ open_frame parts.0.now ++ parts.1.now)) }
-    ensures none { IfNone result ((payload rest : List ℕ) → IsFit payload → bytes.now ≡ open_frame payload ++ rest → ⊥) }
+    ensures found { IfSome result (λ parts. IsFit parts.0.now
+        × (bytes.now ≡ open_frame parts.0.now ++ parts.1.now)) }
+    ensures none { IfNone result ((payload rest : List ℕ) → IsFit payload
+        → bytes.now ≡ open_frame payload ++ rest → ⊥) }
 {
     let (header, rest) = bytes.split_first_chunk::<5>()?;
     if header[0] != 1 {

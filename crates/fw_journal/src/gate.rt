@@ -24,15 +24,19 @@ pub fn frame_at<V: Volume>(
     side: Side,
     gate: u64,
 ) -> Result<Option<(Vec<u8>, u64)>, LogFault>
-    ensures found { IfOk result (λ frame. IsTrue V.tells → IsFrameAt gate (drop gate ((V.view volume.old).seen side)) frame) }
+    ensures found { IfOk result (λ frame. IsTrue V.tells
+        → IsFrameAt gate (drop gate ((V.view volume.old).seen side)) frame) }
     ensures within { IfOk result (λ frame. gate < (V.view volume.old).size side) }
-    ensures ahead { IfOk result (λ frame. ForSome frame (λ f. (gate + 5 < f.1) × (f.1 ≤ (V.view volume.old).size side))) }
-    ensures corrupt { (at : ℕ) → IsErrOf result (Corrupt at) → (at ≡ gate) × (IsTrue V.tells → IsBroken (drop gate ((V.view volume.old).seen side))) }
+    ensures ahead { IfOk result (λ frame. ForSome frame
+        (λ f. (gate + 5 < f.1) × (f.1 ≤ (V.view volume.old).size side))) }
+    ensures corrupt { (at : ℕ) → IsErrOf result (Corrupt at)
+        → (at ≡ gate) × (IsTrue V.tells → IsBroken (drop gate ((V.view volume.old).seen side))) }
 
     ensures calm { IsTrue V.tells → Calm (V.view volume.old) (V.view volume.new) }
     ensures sizes { SameSizes (V.view volume.old) (V.view volume.new) }
     ensures later { (V.view volume.old).failures ≤ (V.view volume.new).failures }
-    ensures device { IsErrOf result Device → Rose (V.view volume.old).failures (V.view volume.new).failures }
+    ensures device { IsErrOf result Device → Rose (V.view volume.old).failures
+        (V.view volume.new).failures }
     ensures not_failed { IsErrOf result Failed → ⊥ }
     ensures not_too_large { IsErrOf result TooLarge → ⊥ }
 {
@@ -52,15 +56,19 @@ pub(crate) fn next_gate<V: Volume>(
     side: Side,
     gate: u64,
 ) -> Result<Option<u64>, LogFault>
-    ensures found { IfOk result (λ next. IsTrue V.tells → LeadsTo gate (drop gate ((V.view volume.old).seen side)) next) }
+    ensures found { IfOk result (λ next. IsTrue V.tells
+        → LeadsTo gate (drop gate ((V.view volume.old).seen side)) next) }
     ensures within { IfOk result (λ next. gate < (V.view volume.old).size side) }
-    ensures ahead { IfOk result (λ next. ForSome next (λ next. (gate + 5 < next) × (next ≤ (V.view volume.old).size side))) }
-    ensures corrupt { (at : ℕ) → IsErrOf result (Corrupt at) → (at ≡ gate) × (IsTrue V.tells → IsBroken (drop gate ((V.view volume.old).seen side))) }
+    ensures ahead { IfOk result (λ next. ForSome next
+        (λ next. (gate + 5 < next) × (next ≤ (V.view volume.old).size side))) }
+    ensures corrupt { (at : ℕ) → IsErrOf result (Corrupt at)
+        → (at ≡ gate) × (IsTrue V.tells → IsBroken (drop gate ((V.view volume.old).seen side))) }
 
     ensures calm { IsTrue V.tells → Calm (V.view volume.old) (V.view volume.new) }
     ensures sizes { SameSizes (V.view volume.old) (V.view volume.new) }
     ensures later { (V.view volume.old).failures ≤ (V.view volume.new).failures }
-    ensures device { IsErrOf result Device → Rose (V.view volume.old).failures (V.view volume.new).failures }
+    ensures device { IsErrOf result Device → Rose (V.view volume.old).failures
+        (V.view volume.new).failures }
     ensures not_failed { IsErrOf result Failed → ⊥ }
     ensures not_too_large { IsErrOf result TooLarge → ⊥ }
     ensures not_no_memory { IsErrOf result NoMemory → ⊥ }

@@ -39,14 +39,17 @@ impl Log {
     pub fn open<V: Volume>(volume: &mut V, side: Side, start: u64) -> Result<Log, LogFault>
         requires { IsTrue V.tells → Settled side (V.view volume.old) }
 
-        ensures place { IfOk result (λ log. (log.side ≡ side) × (log.start ≡ start) × (log.failed ≡ false)) }
+        ensures place { IfOk result (λ log. (log.side ≡ side) × (log.start ≡ start)
+            × (log.failed ≡ false)) }
         ensures ready { IfOk result (λ log. IsReady V.tells log (V.view volume.new)) }
-        ensures corrupt { (at : ℕ) → IsErrOf result (Corrupt at) → IsTrue V.tells → BreaksAt start at ((V.view volume.old).seen side) }
+        ensures corrupt { (at : ℕ) → IsErrOf result (Corrupt at) → IsTrue V.tells
+            → BreaksAt start at ((V.view volume.old).seen side) }
 
         ensures calm { IsTrue V.tells → Calm (V.view volume.old) (V.view volume.new) }
         ensures sizes { SameSizes (V.view volume.old) (V.view volume.new) }
         ensures later { (V.view volume.old).failures ≤ (V.view volume.new).failures }
-        ensures device { IsErrOf result Device → Rose (V.view volume.old).failures (V.view volume.new).failures }
+        ensures device { IsErrOf result Device → Rose (V.view volume.old).failures
+            (V.view volume.new).failures }
         ensures not_failed { IsErrOf result Failed → ⊥ }
         ensures not_too_large { IsErrOf result TooLarge → ⊥ }
         ensures not_no_memory { IsErrOf result NoMemory → ⊥ }
@@ -90,25 +93,37 @@ impl Log {
         requires ready { IsReady V.tells self.old (V.view volume.old) }
 
         // Each image within stands for the old payloads, or for these and the new one; after `Ok` only for the latter.
-        ensures any_moment { IsTrue V.tells → self.old.failed ≡ false → (payloads : List (List ℕ)) → Stands self.old payloads (V.view volume.old)
-            → LeavesOnly (V.view volume.old) (V.view volume.new) (Appends self.old payloads payload.now (V.view volume.old)) }
-        ensures acknowledged { OnOk result (IsTrue V.tells → (payloads : List (List ℕ)) → Stands self.old payloads (V.view volume.old)
+        ensures any_moment { IsTrue V.tells → self.old.failed ≡ false → (payloads : List (List ℕ))
+            → Stands self.old payloads (V.view volume.old)
+            → LeavesOnly (V.view volume.old) (V.view volume.new)
+            (Appends self.old payloads payload.now (V.view volume.old)) }
+        ensures acknowledged { OnOk result (IsTrue V.tells → (payloads : List (List ℕ))
+            → Stands self.old payloads (V.view volume.old)
             → Stands self.new (payloads ++ payload.now ∷ []) (V.view volume.new)) }
         // What a crash could leave of the other side, it still can.
         ensures kept_other { IsTrue V.tells
             → KeepsOther self.old.side (V.view volume.old) (V.view volume.new) }
-        ensures other_stays { IsTrue V.tells → (V.view volume.new).seen (other self.old.side) ≡ (V.view volume.old).seen (other self.old.side) }
+        ensures other_stays { IsTrue V.tells → (V.view volume.new).seen (other self.old.side)
+            ≡ (V.view volume.old).seen (other self.old.side) }
 
         ensures ready { IsReady V.tells self.new (V.view volume.new) }
         ensures place { (self.new.side ≡ self.old.side) × (self.new.start ≡ self.old.start) }
-        ensures moved { OnOk result (self.new ≡ record self.old { end = self.old.end + 5 + length payload.now; failed = false }) }
-        ensures sizes { Lengthens self.old.side (self.old.end + 6 + length payload.now) (V.view volume.old) (V.view volume.new) }
-        ensures whole { OnOk result ((V.view volume.new).size self.old.side ≡ max ((V.view volume.old).size self.old.side) (self.old.end + 6 + length payload.now)) }
+        ensures moved { OnOk result (self.new ≡ record self.old
+            { end = self.old.end + 5 + length payload.now; failed = false }) }
+        ensures sizes { Lengthens self.old.side (self.old.end + 6 + length payload.now)
+            (V.view volume.old) (V.view volume.new) }
+        ensures whole { OnOk result ((V.view volume.new).size self.old.side
+            ≡ max ((V.view volume.old).size self.old.side)
+            (self.old.end + 6 + length payload.now)) }
 
         ensures failed { IsErrOf result Failed ↔ (self.old.failed ≡ true) }
-        ensures too_large { IsErrOf result TooLarge ↔ ((self.old.failed ≡ false) × ((V.view volume.old).limit < self.old.end + 6 + length payload.now)) }
-        ensures device { IsErrOf result Device → (self.new ≡ record self.old { failed = true }) × Rose (V.view volume.old).failures (V.view volume.new).failures }
-        ensures unchanged { OnErr result (IsErrOf result Device ⊎ ((volume.new ≡ volume.old) × (self.new ≡ self.old))) }
+        ensures too_large { IsErrOf result TooLarge
+            ↔ ((self.old.failed ≡ false)
+            × ((V.view volume.old).limit < self.old.end + 6 + length payload.now)) }
+        ensures device { IsErrOf result Device → (self.new ≡ record self.old { failed = true })
+            × Rose (V.view volume.old).failures (V.view volume.new).failures }
+        ensures unchanged { OnErr result (IsErrOf result Device
+            ⊎ ((volume.new ≡ volume.old) × (self.new ≡ self.old))) }
         ensures not_corrupt { (at : ℕ) → IsErrOf result (Corrupt at) → ⊥ }
         ensures later { (V.view volume.old).failures ≤ (V.view volume.new).failures }
     {
@@ -152,10 +167,16 @@ impl Log {
 
         ensures ready { IsReady V.tells self.new (V.view volume.new) }
         ensures place { (self.new.side ≡ self.old.side) × (self.new.start ≡ self.old.start) }
-        ensures moved { IfSome result (λ added. OnOk added (self.new ≡ record self.old { end = self.old.end + 5 + len; failed = false })) }
-        ensures sizes { Lengthens self.old.side (self.old.end + 6 + len) (V.view volume.old) (V.view volume.new) }
-        ensures whole { IfSome result (λ added. OnOk added ((V.view volume.new).size self.old.side ≡ max ((V.view volume.old).size self.old.side) (self.old.end + 6 + len))) }
-        ensures device { IfSome result (λ added. IfErr added (λ why. (why ≡ Device) × (self.new ≡ record self.old { failed = true }) × Rose (V.view volume.old).failures (V.view volume.new).failures)) }
+        ensures moved { IfSome result (λ added. OnOk added
+            (self.new ≡ record self.old { end = self.old.end + 5 + len; failed = false })) }
+        ensures sizes { Lengthens self.old.side (self.old.end + 6 + len) (V.view volume.old)
+            (V.view volume.new) }
+        ensures whole { IfSome result (λ added. OnOk added
+            ((V.view volume.new).size self.old.side
+            ≡ max ((V.view volume.old).size self.old.side) (self.old.end + 6 + len))) }
+        ensures device { IfSome result (λ added. IfErr added
+            (λ why. (why ≡ Device) × (self.new ≡ record self.old { failed = true })
+            × Rose (V.view volume.old).failures (V.view volume.new).failures)) }
         ensures later { (V.view volume.old).failures ≤ (V.view volume.new).failures }
     {
         if self.failed || len + 6 > volume.limit() - self.end {

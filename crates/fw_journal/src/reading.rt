@@ -21,13 +21,16 @@ pub fn replay<V: Volume>(
     start: u64,
 ) -> Result<Vec<Vec<u8>>, LogFault>
     // These payloads exactly, and the fault at the first place that is no log's.
-    ensures payloads { IfOk result (λ payloads. IsTrue V.tells → Tells (payloads_of payloads.items) (drop start ((V.view volume.old).seen side))) }
-    ensures corrupt { (at : ℕ) → IsErrOf result (Corrupt at) → IsTrue V.tells → BreaksAt start at ((V.view volume.old).seen side) }
+    ensures payloads { IfOk result (λ payloads. IsTrue V.tells
+        → Tells (payloads_of payloads.items) (drop start ((V.view volume.old).seen side))) }
+    ensures corrupt { (at : ℕ) → IsErrOf result (Corrupt at) → IsTrue V.tells
+        → BreaksAt start at ((V.view volume.old).seen side) }
 
     ensures calm { IsTrue V.tells → Calm (V.view volume.old) (V.view volume.new) }
     ensures sizes { SameSizes (V.view volume.old) (V.view volume.new) }
     ensures later { (V.view volume.old).failures ≤ (V.view volume.new).failures }
-    ensures device { IsErrOf result Device → Rose (V.view volume.old).failures (V.view volume.new).failures }
+    ensures device { IsErrOf result Device → Rose (V.view volume.old).failures
+        (V.view volume.new).failures }
     ensures not_failed { IsErrOf result Failed → ⊥ }
     ensures not_too_large { IsErrOf result TooLarge → ⊥ }
 {
@@ -42,12 +45,14 @@ fn read_from<V: Volume>(
     side: Side,
     start: u64,
 ) -> Result<Vec<u8>, LogFault>
-    ensures bytes { IfOk result (λ bytes. IsTrue V.tells → bytes.items ≡ drop start ((V.view volume.old).seen side)) }
+    ensures bytes { IfOk result (λ bytes. IsTrue V.tells
+        → bytes.items ≡ drop start ((V.view volume.old).seen side)) }
     ensures fits { IfOk result (λ bytes. start + length bytes.items < 2 ^ 64) }
     ensures calm { IsTrue V.tells → Calm (V.view volume.old) (V.view volume.new) }
     ensures sizes { SameSizes (V.view volume.old) (V.view volume.new) }
     ensures later { (V.view volume.old).failures ≤ (V.view volume.new).failures }
-    ensures device { IsErrOf result Device → Rose (V.view volume.old).failures (V.view volume.new).failures }
+    ensures device { IsErrOf result Device → Rose (V.view volume.old).failures
+        (V.view volume.new).failures }
     ensures not_corrupt { (at : ℕ) → IsErrOf result (Corrupt at) → ⊥ }
     ensures not_failed { IsErrOf result Failed → ⊥ }
     ensures not_too_large { IsErrOf result TooLarge → ⊥ }
@@ -66,7 +71,8 @@ fn read_from<V: Volume>(
 fn payloads_in(alloc: Global, bytes: &[u8], start: u64) -> Result<Vec<Vec<u8>>, LogFault>
     requires { start + length bytes.now < 2 ^ 64 }
     ensures payloads { IfOk result (λ payloads. Tells (payloads_of payloads.items) bytes.now) }
-    ensures corrupt { (at : ℕ) → IsErrOf result (Corrupt at) → (file : List ℕ) → bytes.now ≡ drop start file → BreaksAt start at file }
+    ensures corrupt { (at : ℕ) → IsErrOf result (Corrupt at) → (file : List ℕ)
+        → bytes.now ≡ drop start file → BreaksAt start at file }
     ensures not_device { IsErrOf result Device → ⊥ }
     ensures not_failed { IsErrOf result Failed → ⊥ }
     ensures not_too_large { IsErrOf result TooLarge → ⊥ }

@@ -16,13 +16,18 @@ pub(crate) fn write_frame<V: Volume>(
     requires fits { gate + 1 + length frame.now ≤ (V.view volume.old).limit }
 
     ensures any_moment { IsTrue V.tells → Settled side (V.view volume.old)
-        → LeavesOnly (V.view volume.old) (V.view volume.new) (WhileFraming side gate frame.now (V.view volume.old)) }
-    ensures done { OnOk result (IsTrue V.tells → Settled side (V.view volume.old) → Framed side gate frame.now (V.view volume.old) (V.view volume.new)) }
+        → LeavesOnly (V.view volume.old) (V.view volume.new)
+        (WhileFraming side gate frame.now (V.view volume.old)) }
+    ensures done { OnOk result (IsTrue V.tells → Settled side (V.view volume.old)
+        → Framed side gate frame.now (V.view volume.old) (V.view volume.new)) }
     ensures kept_other { IsTrue V.tells → Settled side (V.view volume.old)
         → KeepsOther side (V.view volume.old) (V.view volume.new) }
-    ensures other_stays { IsTrue V.tells → (V.view volume.new).seen (other side) ≡ (V.view volume.old).seen (other side) }
-    ensures sizes { Lengthens side (gate + 1 + length frame.now) (V.view volume.old) (V.view volume.new) }
-    ensures whole { OnOk result ((V.view volume.new).size side ≡ max ((V.view volume.old).size side) (gate + 1 + length frame.now)) }
+    ensures other_stays { IsTrue V.tells → (V.view volume.new).seen (other side)
+        ≡ (V.view volume.old).seen (other side) }
+    ensures sizes { Lengthens side (gate + 1 + length frame.now) (V.view volume.old)
+        (V.view volume.new) }
+    ensures whole { OnOk result ((V.view volume.new).size side
+        ≡ max ((V.view volume.old).size side) (gate + 1 + length frame.now)) }
     ensures later { (V.view volume.old).failures ≤ (V.view volume.new).failures }
     ensures cause { OnErr result (Rose (V.view volume.old).failures (V.view volume.new).failures) }
 {

@@ -51,8 +51,12 @@ pub fn add_by_code(
     requires within { All (λ code. code < length sums.old) codes.now }
     requires room { All HasRoom sums.old }
     ensures sums { AddsRows billed.now effective.now codes.now mask.now sums.old sums.new }
-    ensures near_billed { (code : ℕ) → code < length sums.old → nat_abs (slice_index_or (billed_of sums.new) code (pos 0)) ≤ nat_abs (slice_index_or (billed_of sums.old) code (pos 0)) + 2 ^ 79 }
-    ensures near_effective { (code : ℕ) → code < length sums.old → nat_abs (slice_index_or (effective_of sums.new) code (pos 0)) ≤ nat_abs (slice_index_or (effective_of sums.old) code (pos 0)) + 2 ^ 79 }
+    ensures near_billed { (code : ℕ) → code < length sums.old
+        → nat_abs (slice_index_or (billed_of sums.new) code (pos 0))
+        ≤ nat_abs (slice_index_or (billed_of sums.old) code (pos 0)) + 2 ^ 79 }
+    ensures near_effective { (code : ℕ) → code < length sums.old
+        → nat_abs (slice_index_or (effective_of sums.new) code (pos 0))
+        ≤ nat_abs (slice_index_or (effective_of sums.old) code (pos 0)) + 2 ^ 79 }
 {
     let mask = mask.as_slice();
     for at in 0..codes.len() {
@@ -81,9 +85,12 @@ pub fn sums_by_code(
     requires effective { length effective.now ≡ length mask.now }
     requires codes { length codes.now ≡ length mask.now }
     requires within { All (λ code. code < count) codes.now }
-    ensures sums { IfOk result (λ sums. AreRowSums billed.now effective.now codes.now mask.now count sums.items) }
-    ensures small_billed { IfOk result (λ sums. All (λ sum. nat_abs sum ≤ 2 ^ 79) (billed_of sums.items)) }
-    ensures small_effective { IfOk result (λ sums. All (λ sum. nat_abs sum ≤ 2 ^ 79) (effective_of sums.items)) }
+    ensures sums { IfOk result (λ sums. AreRowSums billed.now effective.now codes.now mask.now count
+        sums.items) }
+    ensures small_billed { IfOk result (λ sums. All (λ sum. nat_abs sum ≤ 2 ^ 79)
+        (billed_of sums.items)) }
+    ensures small_effective { IfOk result (λ sums. All (λ sum. nat_abs sum ≤ 2 ^ 79)
+        (effective_of sums.items)) }
 {
     let mut sums = vec![in alloc; CodeSum::NONE; count]?;
     add_by_code(billed, effective, codes, mask, &mut sums);

@@ -32,7 +32,8 @@ fn load(values: &[i64], mask: &[bool], at: usize) -> u64x8
     requires mask { at + 8 ≤ length mask.now }
     ensures eight { length result ≡ 8 }
     ensures fits { Each1 (λ n. n < 2 ^ 64) result }
-    ensures sum { (masked_sum_of (take at values.now) (take at mask.now) +ℤ pos (sum_l result)) ≡ (masked_sum_of (take (at + 8) values.now) (take (at + 8) mask.now) +ℤ pos (8 * 2 ^ 63)) }
+    ensures sum { (masked_sum_of (take at values.now) (take at mask.now) +ℤ pos (sum_l result))
+        ≡ (masked_sum_of (take (at + 8) values.now) (take (at + 8) mask.now) +ℤ pos (8 * 2 ^ 63)) }
 {
     u64x8::from_array([
         lane(values[at], mask[at]),
@@ -90,7 +91,8 @@ fn block_halves(values: &[i64], mask: &[bool], blocks: usize) -> (u64, u64)
     requires values { 8 * blocks ≤ length values.now }
     requires mask { 8 * blocks ≤ length mask.now }
     requires few { length values.now ≤ 65536 }
-    ensures { AreHalvesOf (take (8 * blocks) values.now) (take (8 * blocks) mask.now) (8 * blocks) result.0 result.1 }
+    ensures { AreHalvesOf (take (8 * blocks) values.now) (take (8 * blocks) mask.now)
+        (8 * blocks) result.0 result.1 }
 {
     let mut low = u64x8::splat(0);
     let mut high = u64x8::splat(0);

@@ -60,7 +60,8 @@ fn mark_len(text: &[u8]) -> usize
 impl<'a> NumberParts<'a> {
     /// The parts of a number text, or `None` where the text isn't one.
     pub(crate) fn of_text(text: &'a [u8]) -> Option<Self>
-        ensures { MatchOption result ((p : Parts) → ¬ Spells p text.now) (λ r. Spells (parts_shown r) text.now) }
+        ensures { MatchOption result ((p : Parts) → ¬ Spells p text.now)
+            (λ r. Spells (parts_shown r) text.now) }
     {
         let parts = Self::scan(text);
         if parts.is_number() { Some(parts) } else { None }

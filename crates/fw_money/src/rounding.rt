@@ -43,7 +43,8 @@ impl Rounding {
     /// One more digit at the end.
     fn push(self, digit: u8) -> Rounding
         requires { digit < 10 }
-        ensures { (keep v t : ℕ) → Holds keep self v t → Holds keep result (v * 10 + digit) (t + 1) }
+        ensures { (keep v t : ℕ) → Holds keep self v t
+            → Holds keep result (v * 10 + digit) (t + 1) }
     {
         if self.keep > 0 {
             let kept = if self.kept < KEPT_LIMIT {
@@ -77,7 +78,8 @@ impl Rounding {
     /// These digits at the end.
     fn push_digits(self, digits: &[u8]) -> Rounding
         requires { AllDigits 10 digits.now }
-        ensures { (keep v t : ℕ) → Holds keep self v t → Holds keep result (digits_value_after 10 v digits.now) (t + length digits.now) }
+        ensures { (keep v t : ℕ) → Holds keep self v t
+            → Holds keep result (digits_value_after 10 v digits.now) (t + length digits.now) }
     {
         let mut rounding = self;
         for b in digits {
@@ -88,7 +90,8 @@ impl Rounding {
 
     /// So many zeros at the end.
     fn push_zeros(self, count: usize) -> Rounding
-        ensures { (keep v t : ℕ) → Holds keep self v t → Holds keep result (v * 10 ^ count) (t + count) }
+        ensures { (keep v t : ℕ) → Holds keep self v t
+            → Holds keep result (v * 10 ^ count) (t + count) }
     {
         let mut rounding = self;
         for _ in 0..count {
@@ -109,7 +112,9 @@ impl Rounding {
 
     /// The number that is nearest, unless it is past the greatest amount.
     fn rounded(self) -> Option<u64>
-        ensures { (keep v t : ℕ) → Holds keep self v t → (m : ℕ) × IsNearest m v (10 ^ (t - keep)) × MatchOption result (most_nanos < m) (λ r. (r ≡ m) × (m ≤ most_nanos)) }
+        ensures { (keep v t : ℕ) → Holds keep self v t
+            → (m : ℕ) × IsNearest m v (10 ^ (t - keep))
+            × MatchOption result (most_nanos < m) (λ r. (r ≡ m) × (m ≤ most_nanos)) }
     {
         if self.kept > MOST {
             return None;
@@ -131,7 +136,8 @@ pub(crate) fn nearest(whole: &[u8], fraction: &[u8], up: usize, down: usize) -> 
     requires sized { length whole.now + length fraction.now ≤ 64 }
     requires up { up ≤ 64 }
     requires down { down ≤ 128 }
-    ensures { (m : ℕ) × IsNearest m (digits_value 10 (whole.now ++ fraction.now) * 10 ^ up) (10 ^ down) × MatchOption result (most_nanos < m) (λ r. (r ≡ m) × (m ≤ most_nanos)) }
+    ensures { (m : ℕ) × IsNearest m (digits_value 10 (whole.now ++ fraction.now) * 10 ^ up)
+        (10 ^ down) × MatchOption result (most_nanos < m) (λ r. (r ≡ m) × (m ≤ most_nanos)) }
 {
     let zeros = up.saturating_sub(down);
     let dropped = down.saturating_sub(up);

@@ -104,7 +104,7 @@ fn push_table(
     push_markup(page, "<h2>Costs beside the hours before</h2>\n")?;
     push_markup(
         page,
-        "<div class=\"wide\"><table>\n<thead><tr><th scope=\"col\">",
+        "<div class=\"wide\" tabindex=\"0\"><table aria-label=\"Costs\">\n<thead><tr><th scope=\"col\">",
     )?;
     push_markup(page, first_name(view))?;
     push_markup(page, "</th>")?;

@@ -36,7 +36,8 @@ impl<V: Share> Entry<V> {
 impl<V: Drop> Entry<V> {
     /// The entry with another value, which shares its text.
     fn with(&self, value: V) -> Result<Entry<V>, AllocError>
-        ensures { IfOk result (λ entry. entry_pair entry ≡ (string_bytes self.now.text.value, value)) }
+        ensures { IfOk result (λ entry. entry_pair entry
+            ≡ (string_bytes self.now.text.value, value)) }
     {
         Ok(Entry {
             text: Arc::try_clone(&self.text)?,
@@ -85,7 +86,8 @@ impl<V> Branch<V> {
     /// The entry of a text, if there is one.
     pub(crate) fn entry(&self, text: &str) -> Option<&Entry<V>>
         requires rising { IsRising (branch_values self.now) }
-        ensures { MatchOption result (value_at text.now (branch_values self.now) ≡ None) (λ entry. IsEntry text.now (branch_values self.now) entry.now) }
+        ensures { MatchOption result (value_at text.now (branch_values self.now) ≡ None)
+            (λ entry. IsEntry text.now (branch_values self.now) entry.now) }
     {
         let Branch::Fork(node) = self else {
             return None;
@@ -119,7 +121,8 @@ impl<V: Share> Branch<V> {
         value: V,
     ) -> Result<Branch<V>, AllocError>
         requires rising { IsRising (branch_values self.now) }
-        ensures { IfOk result (λ branch. branch_values branch ≡ with_value (string_bytes text.now.value) value (branch_values self.now)) }
+        ensures { IfOk result (λ branch. branch_values branch
+            ≡ with_value (string_bytes text.now.value) value (branch_values self.now)) }
     {
         let Branch::Fork(node) = self else {
             let entry = Entry {
@@ -152,7 +155,8 @@ fn joined<V: Drop>(
     entry: Entry<V>,
     after: Branch<V>,
 ) -> Result<Branch<V>, AllocError>
-    ensures { IfOk result (λ branch. branch_values branch ≡ branch_values before ++ entry_pair entry ∷ branch_values after) }
+    ensures { IfOk result (λ branch. branch_values branch
+        ≡ branch_values before ++ entry_pair entry ∷ branch_values after) }
 {
     let height = before.height().max(after.height()).saturating_add(1);
     let node = Node {
@@ -171,7 +175,8 @@ fn balanced<V: Share>(
     entry: Entry<V>,
     after: Branch<V>,
 ) -> Result<Branch<V>, AllocError>
-    ensures { IfOk result (λ branch. branch_values branch ≡ branch_values before ++ entry_pair entry ∷ branch_values after) }
+    ensures { IfOk result (λ branch. branch_values branch
+        ≡ branch_values before ++ entry_pair entry ∷ branch_values after) }
 {
     if let Branch::Fork(high) = &before {
         if high.height > after.height().saturating_add(1) {
@@ -193,7 +198,8 @@ fn leaned_after<V: Share>(
     entry: Entry<V>,
     after: Branch<V>,
 ) -> Result<Branch<V>, AllocError>
-    ensures { IfOk result (λ branch. branch_values branch ≡ node_values high.now ++ entry_pair entry ∷ branch_values after) }
+    ensures { IfOk result (λ branch. branch_values branch
+        ≡ node_values high.now ++ entry_pair entry ∷ branch_values after) }
 {
     if let Branch::Fork(middle) = &high.after {
         if middle.height > high.before.height() {
@@ -218,7 +224,8 @@ fn leaned_before<V: Share>(
     entry: Entry<V>,
     high: &Node<V>,
 ) -> Result<Branch<V>, AllocError>
-    ensures { IfOk result (λ branch. branch_values branch ≡ branch_values before ++ entry_pair entry ∷ node_values high.now) }
+    ensures { IfOk result (λ branch. branch_values branch
+        ≡ branch_values before ++ entry_pair entry ∷ node_values high.now) }
 {
     if let Branch::Fork(middle) = &high.before {
         if middle.height > high.after.height() {

@@ -56,7 +56,8 @@ impl Counters {
     /// The stored text that equals a text, for callers to share: there is one exactly where the text was counted.
     #[tactic(auto, using(crate::proofs::Middle::found_counted))]
     pub fn key(&self, text: &str) -> Option<&Arc<String>>
-        ensures { MatchOption result (count_of text.now self.now ≡ 0) (λ key. (string_bytes key.now.value ≡ text.now) × (0 < count_of text.now self.now)) }
+        ensures { MatchOption result (count_of text.now self.now ≡ 0)
+            (λ key. (string_bytes key.now.value ≡ text.now) × (0 < count_of text.now self.now)) }
     {
         match self.root.entry(text) {
             None => None,
@@ -69,8 +70,11 @@ impl Counters {
     /// text was counted `u64::MAX` times. The old counters stay as they were in any case.
     #[tactic(auto, using(crate::proofs::Middle::count_raised, crate::proofs::Middle::rising_with, crate::proofs::Middle::counted_raised))]
     pub fn raised(&self, alloc: Global, text: &Arc<String>) -> Result<Counters, AllocError>
-        ensures exact { IfOk result (λ counters. counters ≡ counted_once_more (string_bytes text.now.value) self.now) }
-        ensures counts { IfOk result (λ counters. (other : List ℕ) → count_of other counters ≡ count_of other self.now + (if bytes_eq other (string_bytes text.now.value) then 1 else 0)) }
+        ensures exact { IfOk result (λ counters. counters
+            ≡ counted_once_more (string_bytes text.now.value) self.now) }
+        ensures counts { IfOk result (λ counters. (other : List ℕ)
+            → count_of other counters ≡ count_of other self.now
+            + (if bytes_eq other (string_bytes text.now.value) then 1 else 0)) }
     {
         let Some(count) = self.count(text.as_str()).checked_add(1) else {
             return Err(AllocError);

@@ -59,7 +59,8 @@ impl<T: Share> Tree<T> {
         requires even { IsEven self.now }
         requires size { size ≡ length (tree_items self.now) }
         requires inside { place < size }
-        ensures { IfOk result (λ tree. (tree_items tree ≡ set (tree_items self.now) place item) × IsEven tree) }
+        ensures { IfOk result (λ tree. (tree_items tree ≡ set (tree_items self.now) place item)
+            × IsEven tree) }
     {
         match self {
             Tree::Leaf(_) => Ok(Tree::Leaf(item)),
@@ -168,7 +169,8 @@ impl<T: Drop> Row<T> {
     pub(crate) fn with(&self, alloc: Global, item: T) -> Result<Row<T>, AllocError>
         requires row { IsRow self.now }
         requires fits { length (row_items self.now) + 1 < 2 ^ 64 }
-        ensures { IfOk result (λ row. (row_items row ≡ row_items self.now ++ item ∷ []) × IsRow row) }
+        ensures { IfOk result (λ row. (row_items row ≡ row_items self.now ++ item ∷ [])
+            × IsRow row) }
     {
         if let Row::More {
             older: next,
@@ -216,7 +218,8 @@ impl<T: Share> Row<T> {
         requires row { IsRow self.now }
         requires len { len ≡ length (row_items self.now) }
         requires inside { place < len }
-        ensures { IfOk result (λ row. (row_items row ≡ set (row_items self.now) place item) × IsRow row) }
+        ensures { IfOk result (λ row. (row_items row ≡ set (row_items self.now) place item)
+            × IsRow row) }
     {
         match self {
             Row::Empty => unreachable!(),

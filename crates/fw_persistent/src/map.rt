@@ -46,7 +46,8 @@ impl<V> Map<V> {
 
     /// The value at a text, if there is one.
     pub fn get(&self, text: &str) -> Option<&V>
-        ensures { MatchOption result (value_at text.now self.now ≡ None) (λ value. value_at text.now self.now ≡ Some value.now) }
+        ensures { MatchOption result (value_at text.now self.now ≡ None)
+            (λ value. value_at text.now self.now ≡ Some value.now) }
     {
         match self.root.entry(text) {
             None => None,
@@ -56,7 +57,8 @@ impl<V> Map<V> {
 
     /// The stored text that equals a text, for callers to share: there is one exactly where the text has a value.
     pub fn key(&self, text: &str) -> Option<&Arc<String>>
-        ensures { MatchOption result (value_at text.now self.now ≡ None) (λ key. (string_bytes key.now.value ≡ text.now) × IsSome (value_at text.now self.now)) }
+        ensures { MatchOption result (value_at text.now self.now ≡ None)
+            (λ key. (string_bytes key.now.value ≡ text.now) × IsSome (value_at text.now self.now)) }
     {
         match self.root.entry(text) {
             None => None,
@@ -84,8 +86,11 @@ impl<V: Share> Map<V> {
     /// the value is dropped. The old map stays as it was in any case.
     #[tactic(auto, using(crate::proofs::Middle::value_with, crate::proofs::Middle::rising_with))]
     pub fn put(&self, alloc: Global, text: &Arc<String>, value: V) -> Result<Map<V>, AllocError>
-        ensures exact { IfOk result (λ map. map ≡ with_value (string_bytes text.now.value) value self.now) }
-        ensures values { IfOk result (λ map. (other : List ℕ) → value_at other map ≡ (if bytes_eq other (string_bytes text.now.value) then Some value else value_at other self.now)) }
+        ensures exact { IfOk result (λ map. map
+            ≡ with_value (string_bytes text.now.value) value self.now) }
+        ensures values { IfOk result (λ map. (other : List ℕ)
+            → value_at other map ≡ (if bytes_eq other (string_bytes text.now.value) then Some value
+            else value_at other self.now)) }
     {
         Ok(Map {
             root: self.root.put(alloc, text, value)?,

@@ -7,5 +7,6 @@ ghost use Rattle.fw_policy.specs.declared.fault.PolicyFault.TheVariants.{NoMemor
 
 /// A text reads as one policy or has one first fault, failed allocations aside.
 pub fn policy_reads_as_one(text: &[u8])
-    ensures { (r s : Result PolicyValue PolicyFault) → r ≢ Err NoMemory → s ≢ Err NoMemory → PolicyReads text.now r → PolicyReads text.now s → r ≡ s }
+    ensures { (r s : Result PolicyValue PolicyFault) → r ≢ Err NoMemory → s ≢ Err NoMemory
+        → PolicyReads text.now r → PolicyReads text.now s → r ≡ s }
 {}

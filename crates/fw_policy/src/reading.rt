@@ -13,7 +13,8 @@ use std::alloc::Global;
 
 /// The tag key.
 fn key_of(table: &Table) -> Result<&str, PolicyFault>
-    ensures { MatchResult result (λ key. IsKey (stated table.now) key.now) (λ f. FirstBroken (key_checks (stated table.now)) f) }
+    ensures { MatchResult result (λ key. IsKey (stated table.now) key.now)
+        (λ f. FirstBroken (key_checks (stated table.now)) f) }
 {
     let Some(key) = text(table, "key") else {
         return Err(PolicyFault::Field(PolicyField::Key));
@@ -26,7 +27,8 @@ fn key_of(table: &Table) -> Result<&str, PolicyFault>
 
 /// The tables of the rules.
 fn rule_tables(alloc: Global, table: &Table) -> Result<Vec<&Table>, PolicyFault>
-    ensures { MatchResult result (λ rules. AreRuleTables (stated table.now) (map (λ t. stated t.now) rules.items)) (λ f. IsFault (array_checks (stated table.now)) f) }
+    ensures { MatchResult result (λ rules. AreRuleTables (stated table.now)
+        (map (λ t. stated t.now) rules.items)) (λ f. IsFault (array_checks (stated table.now)) f) }
 {
     let Some(array) = member(table, "rule") else {
         return Ok(Vec::new(alloc));
@@ -50,7 +52,8 @@ fn has_policy_fields(table: &Table) -> bool
 
 /// Whether neither a table nor those of its rules have a field that is unknown.
 fn has_only_known(table: &Table, rules: &[&Table]) -> bool
-    ensures { IsTrue result ↔ (HasOnly policy_fields (stated table.now) × All (HasOnly rule_fields) (map (λ t. stated t.now) rules.now)) }
+    ensures { IsTrue result ↔ (HasOnly policy_fields (stated table.now)
+        × All (HasOnly rule_fields) (map (λ t. stated t.now) rules.now)) }
 {
     has_policy_fields(table) && have_rule_fields(rules)
 }

@@ -15,7 +15,8 @@ use std::alloc::Global;
 
 /// The group that gives away.
 fn from_of(table: &Table) -> Result<&str, PolicyFault>
-    ensures { MatchResult result (λ from. IsFrom (stated table.now) from.now) (λ f. FirstBroken (from_checks (stated table.now)) f) }
+    ensures { MatchResult result (λ from. IsFrom (stated table.now) from.now)
+        (λ f. FirstBroken (from_checks (stated table.now)) f) }
 {
     let Some(from) = text(table, "from") else {
         return Err(PolicyFault::Field(PolicyField::From));
@@ -28,7 +29,8 @@ fn from_of(table: &Table) -> Result<&str, PolicyFault>
 
 /// To whom a group's cost is given.
 fn give_of(alloc: Global, table: &Table) -> Result<Give, PolicyFault>
-    ensures { MatchResult result (λ give. IsGiven (stated table.now) (give_view give)) (λ f. IsFault (give_checks (stated table.now)) f) }
+    ensures { MatchResult result (λ give. IsGiven (stated table.now) (give_view give))
+        (λ f. IsFault (give_checks (stated table.now)) f) }
 {
     match (member(table, "to"), member(table, "proportional")) {
         (Some(to), None) => Ok(Give::Fixed(targets_of(alloc, to)?)),
@@ -45,7 +47,8 @@ fn give_of(alloc: Global, table: &Table) -> Result<Give, PolicyFault>
 
 /// The rule of a table, but for its unknown fields.
 fn rule_of(alloc: Global, table: &Table) -> Result<Rule, PolicyFault>
-    ensures { MatchResult result (λ rule. IsRuleOf (stated table.now) rule) (λ f. IsFault (rule_checks (stated table.now)) f) }
+    ensures { MatchResult result (λ rule. IsRuleOf (stated table.now) rule)
+        (λ f. IsFault (rule_checks (stated table.now)) f) }
 {
     let from = from_of(table)?;
     let give = give_of(alloc, table)?;
@@ -54,7 +57,9 @@ fn rule_of(alloc: Global, table: &Table) -> Result<Rule, PolicyFault>
 
 /// The rules of tables, one for one.
 pub(crate) fn rules_of(alloc: Global, tables: &[&Table]) -> Result<Vec<Rule>, PolicyFault>
-    ensures { MatchResult result (λ rules. AreRulesOf (map (λ t. stated t.now) tables.now) rules.items) (λ f. IsFault (rules_checks (map (λ t. stated t.now) tables.now)) f) }
+    ensures { MatchResult result (λ rules. AreRulesOf
+        (map (λ t. stated t.now) tables.now) rules.items)
+        (λ f. IsFault (rules_checks (map (λ t. stated t.now) tables.now)) f) }
 {
     let mut rules = Vec::new(alloc);
     for table in tables {

@@ -12,7 +12,8 @@ use std::alloc::Global;
 
 /// A number as a weight, if it is one.
 fn weight_of(number: i64) -> Option<u64>
-    ensures { MatchOption result (¬ IsWeight number) (λ weight. (number ≡ pos weight) × (weight ≤ most_weight)) }
+    ensures { MatchOption result (¬ IsWeight number)
+        (λ weight. (number ≡ pos weight) × (weight ≤ most_weight)) }
 {
     match u64::try_from(number) {
         Ok(weight) if weight <= Target::MOST_WEIGHT => Some(weight),
@@ -22,8 +23,9 @@ fn weight_of(number: i64) -> Option<u64>
 
 /// The target of a group and a number.
 fn target_of(alloc: Global, named: &(&str, i64)) -> Result<Target, PolicyFault>
-    ensures { MatchResult result (λ t. (t.group ≡ named.now.0.now) × (named.now.1 ≡ pos t.weight) × IsTarget t)
-        (λ f. (f ≡ PolicyFault.NoMemory) ⊎ ((f ≡ PolicyFault.Limit PolicyField.To) × (¬ IsSized (named.now.0.now, named.now.1)))) }
+    ensures { MatchResult result (λ t. (t.group ≡ named.now.0.now) × (named.now.1 ≡ pos t.weight)
+        × IsTarget t) (λ f. (f ≡ PolicyFault.NoMemory)
+        ⊎ ((f ≡ PolicyFault.Limit PolicyField.To) × (¬ IsSized (named.now.0.now, named.now.1)))) }
 {
     let (group, number) = *named;
     if group.len() > Policy::LONGEST_TEXT {
@@ -37,8 +39,12 @@ fn target_of(alloc: Global, named: &(&str, i64)) -> Result<Target, PolicyFault>
 
 /// The targets of groups and numbers.
 fn all_targets(alloc: Global, weights: &[(&str, i64)]) -> Result<Vec<Target>, PolicyFault>
-    ensures { MatchResult result (λ targets. (map (λ w. (w.0.now, w.1)) weights.now ≡ weights_of targets.items) × All IsTarget targets.items)
-        (λ f. (f ≡ PolicyFault.NoMemory) ⊎ ((f ≡ PolicyFault.Limit PolicyField.To) × (¬ All IsSized (map (λ w. (w.0.now, w.1)) weights.now)))) }
+    ensures { MatchResult result (λ targets.
+        (map (λ w. (w.0.now, w.1)) weights.now ≡ weights_of targets.items)
+        × All IsTarget targets.items)
+        (λ f. (f ≡ PolicyFault.NoMemory)
+        ⊎ ((f ≡ PolicyFault.Limit PolicyField.To)
+        × (¬ All IsSized (map (λ w. (w.0.now, w.1)) weights.now)))) }
 {
     let mut targets = Vec::new(alloc);
     for named in weights {
@@ -49,7 +55,8 @@ fn all_targets(alloc: Global, weights: &[(&str, i64)]) -> Result<Vec<Target>, Po
 
 /// The targets under `to`.
 pub(crate) fn targets_of(alloc: Global, to: &Value) -> Result<Vec<Target>, PolicyFault>
-    ensures { MatchResult result (λ targets. AreTargetsOf (view to.now) targets.items) (λ f. IsFault (to_checks (view to.now)) f) }
+    ensures { MatchResult result (λ targets. AreTargetsOf (view to.now) targets.items)
+        (λ f. IsFault (to_checks (view to.now)) f) }
 {
     let Some(weights) = integers(alloc, to)? else {
         return Err(PolicyFault::Field(PolicyField::To));

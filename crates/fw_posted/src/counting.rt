@@ -65,7 +65,8 @@ fn with_more<'a>(
     references: Vec<&'a Columns>,
     more: &'a [Columns],
 ) -> Result<Vec<&'a Columns>, AllocError>
-    ensures { IfOk result (λ all. map (λ r. r.now) all.items ≡ map (λ r. r.now) references.entry.items ++ more.now) }
+    ensures { IfOk result (λ all. map (λ r. r.now) all.items
+        ≡ map (λ r. r.now) references.entry.items ++ more.now) }
 {
     let mut all = references;
     for segment in more {

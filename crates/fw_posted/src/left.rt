@@ -72,7 +72,8 @@ impl Made {
 
 /// The same, shared.
 pub(crate) fn share_left(left: &Option<Arc<Left>>) -> Result<Option<Arc<Left>>, AllocError>
-    ensures marks { IfOk result (λ same. (all : List Bool) → kept_marks all same ≡ kept_marks all left.now) }
+    ensures marks { IfOk result (λ same. (all : List Bool)
+        → kept_marks all same ≡ kept_marks all left.now) }
     ensures rows { IfOk result (λ same. kept_rows same ≡ kept_rows left.now) }
 {
     match left {

@@ -14,7 +14,8 @@ pub(crate) fn whole_parts(
     segments: &Sequence<Columns>,
 ) -> Result<(Sequence<Part>, usize), AllocError>
     ensures parts { IfOk result (λ made. AreParts 0 made.0 segments.now) }
-    ensures marks { IfOk result (λ made. all_marks made.0 ≡ replicate (length (segment_rows segments.now)) true) }
+    ensures marks { IfOk result (λ made. all_marks made.0
+        ≡ replicate (length (segment_rows segments.now)) true) }
     ensures rows { IfOk result (λ made. made.1 ≡ length (segment_rows segments.now)) }
 {
     let mut parts = Sequence::new();

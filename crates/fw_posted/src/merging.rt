@@ -52,18 +52,12 @@ fn joined_to(rows: usize, segments: &[&Columns]) -> usize
     segments.len()
 }
 
-/// The rows of segments in one. Halves are joined, so that no row is copied more often than the number of segments can be halved.
+/// The rows of segments in one.
 fn joined(alloc: Global, segments: &[&Columns]) -> Result<Columns, AllocError>
     requires some { 0 < length segments.now }
     requires few { length (segment_rows (map (λ s. s.now) segments.now)) ≤ most_column_rows }
     ensures { IfOk result (λ one. one ≡ segment_rows (map (λ s. s.now) segments.now)) }
 {
-    let middle = segments.len() / 2;
-    if middle == 0 {
-        return segments[0].copy();
-    }
-    let (first, second) = segments.split_at(middle);
-    let first = joined(alloc, first)?;
-    let second = joined(alloc, second)?;
-    Columns::concat(alloc, &first, &second)
+    let one = Columns::concat_all(alloc, segments)?;
+    Ok(one)
 }

@@ -142,7 +142,8 @@ impl Part {
         rows: &Columns,
     ) -> Result<Option<Columns>, AllocError>
         requires { IsPartOf self.now rows.now }
-        ensures { IfOk result (λ counting. unwrap_or counting [] ≡ selected self.now.marks rows.now) }
+        ensures { IfOk result (λ counting. unwrap_or counting []
+            ≡ selected self.now.marks rows.now) }
     {
         match self.kept() {
             Kept::All => Ok(Some(rows.copy()?)),

@@ -75,7 +75,12 @@ impl PostedRows {
 
     /// The rows of these segments, all of which count.
     pub fn all_of(alloc: Global, segments: Sequence<Columns>) -> Result<PostedRows, AllocError>
-        ensures { IfOk result (λ posted. posted ≡ record { segments = segments; counts = replicate (length (segment_rows segments)) true }) }
+        ensures { IfOk result (λ posted. posted
+            ≡ record {
+              segments = segments;
+              counts = replicate
+                  (length (segment_rows segments)) true;
+            }) }
     {
         let (parts, rows) = whole_parts(alloc, &segments)?;
         Ok(PostedRows {
@@ -94,7 +99,8 @@ impl PostedRows {
         counts: &[bool],
     ) -> Result<PostedRows, AllocError>
         requires { length counts.now ≡ length (segment_rows segments) }
-        ensures { IfOk result (λ posted. posted ≡ record { segments = segments; counts = counts.now }) }
+        ensures { IfOk result (λ posted. posted
+            ≡ record { segments = segments; counts = counts.now }) }
     {
         let parts = marked_parts(alloc, &segments, counts)?;
         Ok(PostedRows {
@@ -108,7 +114,12 @@ impl PostedRows {
 
     /// One segment more behind the others, all of whose rows count. Its columns are shared.
     pub fn push(&self, alloc: Global, rows: &Columns) -> Result<PostedRows, AllocError>
-        ensures { IfOk result (λ posted. posted ≡ record { segments = self.now.segments ++ rows.now ∷ []; counts = self.now.counts ++ replicate (length rows.now) true }) }
+        ensures { IfOk result (λ posted. posted
+            ≡ record {
+              segments = self.now.segments ++ rows.now ∷ [];
+              counts = self.now.counts
+                  ++ replicate (length rows.now) true;
+            }) }
     {
         let len = rows.len();
         let Some(all) = self.rows.checked_add(len) else {
@@ -136,7 +147,11 @@ impl PostedRows {
         requires some { 0 < count }
         requires inside { start + count ≤ length self.now.counts }
         requires counted { take count (drop start self.now.counts) ≡ replicate count true }
-        ensures { IfOk result (λ posted. posted ≡ record { segments = self.now.segments; counts = without start count self.now.counts }) }
+        ensures { IfOk result (λ posted. posted
+            ≡ record {
+              segments = self.now.segments;
+              counts = without start count self.now.counts;
+            }) }
     {
         let rows = self.len();
         let parts = parts_without(alloc, &self.segments, &self.parts, start, count)?;
@@ -153,7 +168,8 @@ impl PostedRows {
     /// The same rows, whose segments are joined from the front: each with the next one as long as they have at most 65,536 rows together. It costs
     /// what the rows of the segments cost that are joined; the others are shared. Where rows were withdrawn, it costs what all rows cost.
     pub fn merged(&self, alloc: Global) -> Result<PostedRows, AllocError>
-        ensures { IfOk result (λ posted. posted ≡ record { segments = merged self.now.segments; counts = self.now.counts }) }
+        ensures { IfOk result (λ posted. posted
+            ≡ record { segments = merged self.now.segments; counts = self.now.counts }) }
     {
         let segments = merged_segments(alloc, &self.segments)?;
         if self.counting == self.rows {
@@ -216,7 +232,8 @@ impl PostedRows {
 
     /// How many rows count.
     pub fn counting_len(&self) -> usize
-        ensures count { result ≡ length (selected self.now.counts (segment_rows self.now.segments)) }
+        ensures count { result ≡ length (selected self.now.counts
+            (segment_rows self.now.segments)) }
         ensures few { result ≤ length (segment_rows self.now.segments) }
     {
         self.counting
@@ -245,7 +262,8 @@ impl PostedRows {
         requires { row < length (segment_rows self.now.segments) }
         ensures segment { result.0 < length self.now.segments }
         ensures row { rows_before_segment self.now.segments result.0 + result.1 ≡ row }
-        ensures inside { (rows : List Charge) → slice_get self.now.segments result.0 ≡ Some rows → result.1 < length rows }
+        ensures inside { (rows : List Charge) → slice_get self.now.segments result.0 ≡ Some rows
+            → result.1 < length rows }
     {
         let segment = segment_of(&self.segments, &self.parts, row);
         (segment, row - self.parts.get(segment).start())
@@ -254,7 +272,8 @@ impl PostedRows {
     /// The rows that count, in order: the columns of each segment that has some. Where all rows of a segment count, they are the segment's own. What
     /// was withdrawn since the rows were settled costs the rows of its segments, each time.
     pub fn counting(&self, alloc: Global) -> Result<CountingSegments, AllocError>
-        ensures rows { IfOk result (λ counting. segment_rows counting ≡ selected self.now.counts (segment_rows self.now.segments)) }
+        ensures rows { IfOk result (λ counting. segment_rows counting
+            ≡ selected self.now.counts (segment_rows self.now.segments)) }
         ensures few { IfOk result (λ counting. length counting ≤ length self.now.segments) }
     {
         if self.counting == self.rows {

@@ -28,7 +28,8 @@ pub(crate) fn counting_rows(
     parts: &Sequence<Part>,
 ) -> Result<Vec<Columns>, AllocError>
     requires { AreParts 0 parts.now segments.now }
-    ensures rows { IfOk result (λ counting. segment_rows counting.items ≡ selected (all_marks parts.now) (segment_rows segments.now)) }
+    ensures rows { IfOk result (λ counting. segment_rows counting.items
+        ≡ selected (all_marks parts.now) (segment_rows segments.now)) }
     ensures few { IfOk result (λ counting. length counting.items ≤ length segments.now) }
 {
     let mut counting = Vec::new(alloc);

@@ -23,7 +23,8 @@ pub(crate) fn parts_without(
     requires some { 0 < count }
     requires fits { length (segment_rows segments.now) < 2 ^ 64 }
     ensures parts { IfOk result (λ after. AreParts 0 after segments.now) }
-    ensures marks { IfOk result (λ after. all_marks after ≡ without start count (all_marks parts.now)) }
+    ensures marks { IfOk result (λ after. all_marks after
+        ≡ without start count (all_marks parts.now)) }
 {
     let mut after = parts.copy()?;
     let mut segment = segment_of(segments, parts, start);

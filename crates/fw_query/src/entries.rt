@@ -72,7 +72,12 @@ impl Entry {
 
     /// The entry of a group that was billed and cost this directly, and is charged this, in nanos.
     pub fn of_charge(group: String, billed: i128, direct: i128, charged: i128) -> Entry
-        ensures { result ≡ record { group = string_bytes group; billed = billed; direct = direct; charged = charged } }
+        ensures { result ≡ record {
+          group = string_bytes group;
+          billed = billed;
+          direct = direct;
+          charged = charged;
+        } }
     {
         Entry {
             group,

@@ -16,7 +16,8 @@ use std::alloc::{AllocError, Global};
 // Writes the names of the columns.
 #[tactic(auto, unfolding(crate::specs::Texts::line_header))]
 pub(crate) fn write_names(writer: &mut Writer<Vec<u8>>) -> Result<(), AllocError>
-    ensures { OnOk result ((text : List ℕ) → HasWritten writer.old text → HasWritten writer.new (text ++ record_line line_header)) }
+    ensures { OnOk result ((text : List ℕ) → HasWritten writer.old text
+        → HasWritten writer.new (text ++ record_line line_header)) }
 {
     let names: [&[u8]; 10] = [
         b"Hour",
@@ -39,7 +40,8 @@ pub(crate) fn write_lines(
     writer: &mut Writer<Vec<u8>>,
     lines: &[Line<'_>],
 ) -> Result<(), AllocError>
-    ensures { OnOk result ((text : List ℕ) → HasWritten writer.old text → HasWritten writer.new (text ++ concat (map record_line (map line_fields lines.now)))) }
+    ensures { OnOk result ((text : List ℕ) → HasWritten writer.old text
+        → HasWritten writer.new (text ++ concat (map record_line (map line_fields lines.now)))) }
 {
     for line in lines {
         write_line(alloc, writer, line)?;
@@ -53,7 +55,8 @@ fn write_line(
     writer: &mut Writer<Vec<u8>>,
     line: &Line<'_>,
 ) -> Result<(), AllocError>
-    ensures { OnOk result ((text : List ℕ) → HasWritten writer.old text → HasWritten writer.new (text ++ record_line (line_fields line.now))) }
+    ensures { OnOk result ((text : List ℕ) → HasWritten writer.old text
+        → HasWritten writer.new (text ++ record_line (line_fields line.now))) }
 {
     let mut digits = itoa::Buffer::new();
     let commitment = line.commitment();
@@ -83,7 +86,8 @@ fn write_texts<'t>(
     charge: ChargeTexts<'t>,
     measure: MeasureTexts<'t>,
 ) -> Result<(), AllocError>
-    ensures { OnOk result ((text : List ℕ) → HasWritten writer.old text → HasWritten writer.new (text ++ record_line (texts_of charge.entry measure.entry))) }
+    ensures { OnOk result ((text : List ℕ) → HasWritten writer.old text
+        → HasWritten writer.new (text ++ record_line (texts_of charge.entry measure.entry))) }
 {
     let fields: [&'t [u8]; 10] = [
         charge.hour.as_bytes(),
@@ -148,7 +152,8 @@ impl<'t> MeasureTexts<'t> {
         sku: &'t str,
         sub_account: &'t str,
     ) -> MeasureTexts<'t>
-        ensures { AreMeasureTexts result billed.now effective.now quantity.now sku.now sub_account.now }
+        ensures { AreMeasureTexts result billed.now effective.now quantity.now sku.now
+            sub_account.now }
     {
         MeasureTexts {
             billed,

@@ -35,7 +35,9 @@ pub fn lines_csv(
     to: u64,
 ) -> Result<Vec<u8>, QueryFault>
     ensures range { IfOk result (λ _. IsRange from to) }
-    ensures text { IfOk result (λ text. (lines : List LineValue) × AreRangeLines (commitments_of snapshot.now.entries) (rows_of snapshot.now.entries) from to lines × (text.items ≡ lines_text lines)) }
+    ensures text { IfOk result (λ text. (lines : List LineValue)
+        × AreRangeLines (commitments_of snapshot.now.entries)
+        (rows_of snapshot.now.entries) from to lines × (text.items ≡ lines_text lines)) }
     ensures fault { IfErr result (AreRefused from to) }
 {
     if from >= to || to - from > MOST_HOURS {
@@ -56,7 +58,8 @@ fn lines_csv_on(
     hours: usize,
 ) -> Result<Vec<u8>, AllocError>
     requires { from + hours < 2 ^ 64 }
-    ensures { IfOk result (λ text. IsListing (commitments_of shown.now.entries) (rows_of shown.now.entries) from hours text.items) }
+    ensures { IfOk result (λ text. IsListing (commitments_of shown.now.entries)
+        (rows_of shown.now.entries) from hours text.items) }
 {
     let segments = shown.segments(alloc)?;
     lines_csv_of(
@@ -77,7 +80,8 @@ fn lines_csv_of<'a>(
     hours: usize,
 ) -> Result<Vec<u8>, AllocError>
     requires { from + hours < 2 ^ 64 }
-    ensures { IfOk result (λ text. IsListing commitments.now (all_rows (lent segments.now)) from hours text.items) }
+    ensures { IfOk result (λ text. IsListing commitments.now
+        (all_rows (lent segments.now)) from hours text.items) }
 {
     let every = every_hour(alloc, hours)?;
     let by_hour = rows_by_hour(alloc, segments, from, every.as_slice())?;
@@ -109,8 +113,11 @@ fn write_hours<'a>(
 ) -> Result<(), AllocError>
     requires fits { from + length by_hour.now < 2 ^ 64 }
     requires roster { HasHours roster.now from (length by_hour.now) }
-    requires by_hour { (rows : List Charge) × AreByHour (lent segments.now) rows from (length by_hour.now) by_hour.now }
-    ensures { OnOk result ((text : List ℕ) → HasWritten writer.old text → WritesHours writer.new text roster.now.commitments (map (rows_of_list (lent segments.now)) by_hour.now) from) }
+    requires by_hour { (rows : List Charge) × AreByHour (lent segments.now) rows from
+        (length by_hour.now) by_hour.now }
+    ensures { OnOk result ((text : List ℕ) → HasWritten writer.old text
+        → WritesHours writer.new text roster.now.commitments
+        (map (rows_of_list (lent segments.now)) by_hour.now) from) }
 {
     let mut hour = from;
     for places in by_hour {
@@ -131,7 +138,8 @@ fn write_hour<'a>(
 ) -> Result<(), AllocError>
     requires hour { HasHour roster.now hour }
     requires rows { All (λ r. hour_of r.start ≡ hour) rows.now }
-    ensures { OnOk result ((text : List ℕ) → HasWritten writer.old text → WritesHour writer.new text roster.now.commitments rows.now hour) }
+    ensures { OnOk result ((text : List ℕ) → HasWritten writer.old text
+        → WritesHour writer.new text roster.now.commitments rows.now hour) }
 {
     let Some(hour) = line_hour(roster.commitments(), rows, hour) else {
         return Ok(());
@@ -144,7 +152,8 @@ fn write_hour<'a>(
 // The hour, if it has rows or a commitment has a line in it; no later hour does.
 fn line_hour(commitments: &[Commitment], rows: &[LentRow<'_>], hour: u64) -> Option<u32>
     requires { All (λ r. hour_of r.start ≡ hour) rows.now }
-    ensures { MatchOption result ((rows.now ≡ []) × (is_touched commitments.now hour ≡ false)) (λ h. h ≡ hour) }
+    ensures { MatchOption result ((rows.now ≡ []) × (is_touched commitments.now hour ≡ false))
+        (λ h. h ≡ hour) }
 {
     if let Some(row) = rows.first() {
         return Some(row.hour());

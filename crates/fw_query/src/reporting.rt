@@ -35,8 +35,11 @@ pub fn report(
     requires some_workers { 1 ≤ workers }
     requires few_workers { workers ≤ 64 }
     ensures range { IfOk result (λ _. IsRange query.now.from_hour query.now.to_hour) }
-    ensures report { IfOk result (IsReport (commitments_of snapshot.now.entries) (rows_of snapshot.now.entries) (policy_of snapshot.now.entries) query.now.key.now query.now.from_hour query.now.to_hour) }
-    ensures fault { IfErr result (IsRefused (commitments_of snapshot.now.entries) (rows_of snapshot.now.entries) query.now.key.now query.now.from_hour query.now.to_hour) }
+    ensures report { IfOk result (IsReport (commitments_of snapshot.now.entries)
+        (rows_of snapshot.now.entries)
+        (policy_of snapshot.now.entries) query.now.key.now query.now.from_hour query.now.to_hour) }
+    ensures fault { IfErr result (IsRefused (commitments_of snapshot.now.entries)
+        (rows_of snapshot.now.entries) query.now.key.now query.now.from_hour query.now.to_hour) }
 {
     let mut covers = Covers::new(alloc);
     report_keeping(rt, alloc, snapshot, &mut covers, query, workers)
@@ -54,11 +57,16 @@ pub fn report_keeping(
 ) -> Result<Report, QueryFault>
     requires some_workers { 1 ≤ workers }
     requires few_workers { workers ≤ 64 }
-    requires kept { AreKept (commitments_of snapshot.now.entries) (rows_of snapshot.now.entries) covers.old }
-    ensures kept { AreKept (commitments_of snapshot.now.entries) (rows_of snapshot.now.entries) covers.new }
+    requires kept { AreKept (commitments_of snapshot.now.entries)
+        (rows_of snapshot.now.entries) covers.old }
+    ensures kept { AreKept (commitments_of snapshot.now.entries)
+        (rows_of snapshot.now.entries) covers.new }
     ensures range { IfOk result (λ _. IsRange query.now.from_hour query.now.to_hour) }
-    ensures report { IfOk result (IsReport (commitments_of snapshot.now.entries) (rows_of snapshot.now.entries) (policy_of snapshot.now.entries) query.now.key.now query.now.from_hour query.now.to_hour) }
-    ensures fault { IfErr result (IsRefused (commitments_of snapshot.now.entries) (rows_of snapshot.now.entries) query.now.key.now query.now.from_hour query.now.to_hour) }
+    ensures report { IfOk result (IsReport (commitments_of snapshot.now.entries)
+        (rows_of snapshot.now.entries)
+        (policy_of snapshot.now.entries) query.now.key.now query.now.from_hour query.now.to_hour) }
+    ensures fault { IfErr result (IsRefused (commitments_of snapshot.now.entries)
+        (rows_of snapshot.now.entries) query.now.key.now query.now.from_hour query.now.to_hour) }
 {
     if !query.is_range() {
         return Err(QueryFault::Range);
@@ -74,8 +82,11 @@ pub fn report_alone(
     query: &Query<'_>,
 ) -> Result<Report, QueryFault>
     ensures range { IfOk result (λ _. IsRange query.now.from_hour query.now.to_hour) }
-    ensures report { IfOk result (IsReport (commitments_of snapshot.now.entries) (rows_of snapshot.now.entries) (policy_of snapshot.now.entries) query.now.key.now query.now.from_hour query.now.to_hour) }
-    ensures fault { IfErr result (IsRefused (commitments_of snapshot.now.entries) (rows_of snapshot.now.entries) query.now.key.now query.now.from_hour query.now.to_hour) }
+    ensures report { IfOk result (IsReport (commitments_of snapshot.now.entries)
+        (rows_of snapshot.now.entries)
+        (policy_of snapshot.now.entries) query.now.key.now query.now.from_hour query.now.to_hour) }
+    ensures fault { IfErr result (IsRefused (commitments_of snapshot.now.entries)
+        (rows_of snapshot.now.entries) query.now.key.now query.now.from_hour query.now.to_hour) }
 {
     if !query.is_range() {
         return Err(QueryFault::Range);
@@ -95,10 +106,15 @@ fn report_on(
 ) -> Result<Report, QueryFault>
     requires range { IsRange query.now.from_hour query.now.to_hour }
     requires some_workers { 1 ≤ workers }
-    requires kept { AreKept (commitments_of shown.now.entries) (rows_of shown.now.entries) covers.old }
-    ensures kept { AreKept (commitments_of shown.now.entries) (rows_of shown.now.entries) covers.new }
-    ensures report { IfOk result (IsReport (commitments_of shown.now.entries) (rows_of shown.now.entries) (policy_of shown.now.entries) query.now.key.now query.now.from_hour query.now.to_hour) }
-    ensures fault { IfErr result (IsRefused (commitments_of shown.now.entries) (rows_of shown.now.entries) query.now.key.now query.now.from_hour query.now.to_hour) }
+    requires kept { AreKept (commitments_of shown.now.entries)
+        (rows_of shown.now.entries) covers.old }
+    ensures kept { AreKept (commitments_of shown.now.entries)
+        (rows_of shown.now.entries) covers.new }
+    ensures report { IfOk result (IsReport (commitments_of shown.now.entries)
+        (rows_of shown.now.entries) (policy_of shown.now.entries) query.now.key.now
+        query.now.from_hour query.now.to_hour) }
+    ensures fault { IfErr result (IsRefused (commitments_of shown.now.entries)
+        (rows_of shown.now.entries) query.now.key.now query.now.from_hour query.now.to_hour) }
 {
     let state = shown.state();
     let segments = shown.segments(alloc)?;
@@ -117,8 +133,11 @@ fn report_on(
 // The same by one worker.
 fn report_alone_on(alloc: Global, shown: &Shown, query: &Query<'_>) -> Result<Report, QueryFault>
     requires range { IsRange query.now.from_hour query.now.to_hour }
-    ensures report { IfOk result (IsReport (commitments_of shown.now.entries) (rows_of shown.now.entries) (policy_of shown.now.entries) query.now.key.now query.now.from_hour query.now.to_hour) }
-    ensures fault { IfErr result (IsRefused (commitments_of shown.now.entries) (rows_of shown.now.entries) query.now.key.now query.now.from_hour query.now.to_hour) }
+    ensures report { IfOk result (IsReport (commitments_of shown.now.entries)
+        (rows_of shown.now.entries) (policy_of shown.now.entries) query.now.key.now
+        query.now.from_hour query.now.to_hour) }
+    ensures fault { IfErr result (IsRefused (commitments_of shown.now.entries)
+        (rows_of shown.now.entries) query.now.key.now query.now.from_hour query.now.to_hour) }
 {
     let state = shown.state();
     let segments = shown.segments(alloc)?;
@@ -134,9 +153,14 @@ fn report_of(
     totals: Vec<Total>,
 ) -> Result<Report, QueryFault>
     requires range { IsRange query.now.from_hour query.now.to_hour }
-    requires totals { HasTotals (commitments_of state.now.entries) (rows_of state.now.entries) query.now.key.now query.now.from_hour query.now.to_hour totals.items }
-    ensures report { IfOk result (IsReport (commitments_of state.now.entries) (rows_of state.now.entries) (policy_of state.now.entries) query.now.key.now query.now.from_hour query.now.to_hour) }
-    ensures fault { IfErr result (IsRefused (commitments_of state.now.entries) (rows_of state.now.entries) query.now.key.now query.now.from_hour query.now.to_hour) }
+    requires totals { HasTotals (commitments_of state.now.entries)
+        (rows_of state.now.entries) query.now.key.now query.now.from_hour query.now.to_hour
+        totals.items }
+    ensures report { IfOk result (IsReport (commitments_of state.now.entries)
+        (rows_of state.now.entries) (policy_of state.now.entries) query.now.key.now
+        query.now.from_hour query.now.to_hour) }
+    ensures fault { IfErr result (IsRefused (commitments_of state.now.entries)
+        (rows_of state.now.entries) query.now.key.now query.now.from_hour query.now.to_hour) }
 {
     let mut entries = direct_entries(alloc, totals)?;
     if let Some(place) = first_past(entries.as_slice()) {

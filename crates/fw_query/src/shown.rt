@@ -48,7 +48,8 @@ impl Shown {
 
     /// The segments of the rows that count, in order. The error comes where memory ran out.
     pub fn segments(&self, alloc: Global) -> Result<Vec<&Columns>, AllocError>
-        ensures { IfOk result (λ segments. all_rows (lent segments.items) ≡ rows_of self.now.entries) }
+        ensures { IfOk result (λ segments. all_rows (lent segments.items)
+            ≡ rows_of self.now.entries) }
     {
         self.counting.references(alloc)
     }

@@ -25,7 +25,8 @@ pub fn report_csv(alloc: Global, report: &Report) -> Result<Vec<u8>, AllocError>
 // Writes the names of the columns.
 #[tactic(auto, unfolding(crate::specs::Texts::header))]
 fn write_header(writer: &mut Writer<Vec<u8>>) -> Result<(), AllocError>
-    ensures { OnOk result ((text : List ℕ) → HasWritten writer.old text → HasWritten writer.new (text ++ record_line header)) }
+    ensures { OnOk result ((text : List ℕ) → HasWritten writer.old text
+        → HasWritten writer.new (text ++ record_line header)) }
 {
     let names: [&[u8]; 4] = [b"Group", b"BilledCost", b"EffectiveCost", b"ChargedCost"];
     write_record(writer, &names)
@@ -37,7 +38,8 @@ fn write_entries(
     writer: &mut Writer<Vec<u8>>,
     entries: &[Entry],
 ) -> Result<(), AllocError>
-    ensures { OnOk result ((text : List ℕ) → HasWritten writer.old text → HasWritten writer.new (text ++ concat (map record_line (map fields_of entries.now)))) }
+    ensures { OnOk result ((text : List ℕ) → HasWritten writer.old text
+        → HasWritten writer.new (text ++ concat (map record_line (map fields_of entries.now)))) }
 {
     for entry in entries {
         write_entry(alloc, writer, entry)?;
@@ -47,7 +49,8 @@ fn write_entries(
 
 // Writes the record of an entry.
 fn write_entry(alloc: Global, writer: &mut Writer<Vec<u8>>, entry: &Entry) -> Result<(), AllocError>
-    ensures { OnOk result ((text : List ℕ) → HasWritten writer.old text → HasWritten writer.new (text ++ record_line (fields_of entry.now))) }
+    ensures { OnOk result ((text : List ℕ) → HasWritten writer.old text
+        → HasWritten writer.new (text ++ record_line (fields_of entry.now))) }
 {
     let billed = fw_money::text(alloc, entry.billed())?;
     let direct = fw_money::text(alloc, entry.direct())?;
@@ -63,7 +66,8 @@ fn write_entry(alloc: Global, writer: &mut Writer<Vec<u8>>, entry: &Entry) -> Re
 
 // Writes a record.
 pub(crate) fn write_record(writer: &mut Writer<Vec<u8>>, fields: &[&[u8]]) -> Result<(), AllocError>
-    ensures { OnOk result ((text : List ℕ) → HasWritten writer.old text → HasWritten writer.new (text ++ record_line (map (λ field. field.now) fields.now))) }
+    ensures { OnOk result ((text : List ℕ) → HasWritten writer.old text
+        → HasWritten writer.new (text ++ record_line (map (λ field. field.now) fields.now))) }
 {
     let Ok(()) = writer.write_fields(fields) else {
         return Err(AllocError);

@@ -10,7 +10,8 @@ const MOST_TOTAL: u128 = 10_000_000_000_000_000_000;
 
 // The place of the first entry at which the running sum of the absolute direct costs passes the most, if there is one.
 pub(crate) fn first_past(entries: &[Entry]) -> Option<usize>
-    ensures { MatchOption result (direct_size entries.now ≤ most_total) (PassesAtPlace entries.now) }
+    ensures { MatchOption result (direct_size entries.now ≤ most_total)
+        (PassesAtPlace entries.now) }
 {
     let mut total = 0u128;
     for (place, entry) in entries.iter().enumerate() {

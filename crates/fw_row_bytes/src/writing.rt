@@ -13,6 +13,7 @@ use fw_bytes::{put_byte, put_u32, put_u64};
 use fw_charge::class_code;
 use fw_columns::{Columns, LentRow, LentTags};
 use fw_fields::{put_nanos, put_optional_nanos, put_optional_text, put_tag};
+use fw_row_table::Packed;
 use std::alloc::AllocError;
 
 /// Writes each tag in turn.
@@ -97,6 +98,18 @@ fn put_consumed(out: &mut Vec<u8>, one: &LentRow<'_>) -> Result<(), AllocError>
     Ok(())
 }
 
+/// Writes a row but for its tags, which are to follow.
+#[tactic(auto, unfolding(fw_charge::specs::Spelling::row))]
+fn put_untagged(out: &mut Vec<u8>, one: &LentRow<'_>) -> Result<(), AllocError>
+    ensures { OnOk result (out.new.items ++ tags one.now.tags ≡ out.old.items ++ row one.now) }
+{
+    put_amounts(out, one)?;
+    put_period(out, one)?;
+    put_discount(out, one)?;
+    put_consumed(out, one)?;
+    Ok(())
+}
+
 /// Writes a row at the end of the buffer.
 ///
 /// # Errors
@@ -105,15 +118,13 @@ fn put_consumed(out: &mut Vec<u8>, one: &LentRow<'_>) -> Result<(), AllocError>
 pub fn put_row(out: &mut Vec<u8>, one: &LentRow<'_>) -> Result<(), AllocError>
     ensures { OnOk result (out.new.items ≡ out.old.items ++ row one.now) }
 {
-    put_amounts(out, one)?;
-    put_period(out, one)?;
-    put_discount(out, one)?;
-    put_consumed(out, one)?;
+    put_untagged(out, one)?;
     put_tags(out, one.tags())?;
     Ok(())
 }
 
-/// Writes rows at the end of the buffer: their number, and each in turn. Each row has a spelling.
+/// Writes rows at the end of the buffer: their number, and each in turn. Each row has a spelling. Rows with the same tags have the same bytes of tags, which
+/// are made once and then copied.
 ///
 /// # Errors
 /// [`AllocError`] where the buffer can't grow. Then nothing is promised of what the buffer holds.
@@ -123,11 +134,22 @@ pub fn put_rows(out: &mut Vec<u8>, rows: &Columns) -> Result<(), AllocError>
 {
     names_are_text(rows.names());
     let len = rows.len();
+    let mut spelled = Packed::new(*out.allocator());
     put_u32(out, len as u32)?;
     for place in 0..len {
         let one = rows.lent(place);
         one.has_spelling();
-        put_row(out, &one)?;
+        put_untagged(out, &one)?;
+        let code = rows.tag_list_code(place) as usize;
+        if code < spelled.len() {
+            out.extend_from_slice(spelled.list(code))?;
+        } else {
+            let start = out.len();
+            put_tags(out, one.tags())?;
+            if code == spelled.len() {
+                spelled = spelled.with(&out[start..])?;
+            }
+        }
     }
     Ok(())
 }

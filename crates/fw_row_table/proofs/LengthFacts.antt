@@ -1,9 +1,8 @@
 -- How many bytes rows have where they are written, by the codes of their texts and of their lists of tags; and that each has a spelling.
 use Rattle.std.proofs.Common.{◌≡◌, ◌∙◌, ◌+◌, ◌*◌, ◌<◌, ◌≤◌, ℕ, zero, suc, ℤ, pos, nat_abs, Bool, true, false, List, [], ◌∷◌, length, map, get_or, Option, Some, None, if◌then◌else◌, refl, sym, ap, subst, arith, length-append}
 use Rattle.std.specs.Prelude.{option_map, option_to_list, All, IfSome, IsUtf8}
-use Rattle.std.specs.List.{flat_map, range_with_len}
-use Rattle.std.proofs.lemmas.List.{flat_map_more, get_or-map}
-use Rattle.std.proofs.lemmas.List.FromFn.{map-range_with_len_more}
+use Rattle.std.specs.List.{flat_map}
+use Rattle.std.proofs.lemmas.List.{get_or-map}
 use Rattle.std.proofs.lemmas.List.Elements.{All-nil, All-cons, All-head, All-tail, All-append}
 use Rattle.fw_bytes.specs.Spelling.{optional, text, FitsOptional}
 use Rattle.fw_charge.proofs.Fitting.{fits_nanos, fits_short_text}
@@ -62,14 +61,6 @@ length_at t i =
     let id = discount_length (text_of t.names (get_or t.discounts.items i 0)) (get_or t.kinds.items i 0) (get_or t.statuses.items i 0) in
     let quantity = quantity_length (get_or t.has_quantity.items i false) (get_or t.quantities.items i (pos 0)) in
     omega (arith, all, id, quantity)
-
--- one row more
-pub one_row_more : (t : Table) (i : ℕ) → length (flat_map row (map (charge_at t) (range_with_len 0 (i + 1)))) ≡ length (flat_map row (map (charge_at t) (range_with_len 0 i))) + length (row (charge_at t i))
-one_row_more t i =
-    let rows = map (charge_at t) (range_with_len 0 i) in
-    ap (λ (rs : List Charge). length (flat_map row rs)) (map-range_with_len_more (charge_at t) 0 i i (omega arith))
-    ∙ ap length (sym (flat_map_more row [] rows (charge_at t i)))
-    ∙ length-append (flat_map row rows) (row (charge_at t i))
 
 -- ---- rows of columns are short
 

@@ -7,3 +7,4 @@ pub mod Codes
 pub mod Table
 pub mod Reading
 pub mod Lending
+pub mod Lengths

@@ -23,4 +23,4 @@ pub use naming::{joined_names, places_in, see_tags};
 pub use packed::Packed;
 pub use reading::{amount_at, category_at, class_at, fields_at};
 pub use table::Table;
-pub use table_lengths::table_len;
+pub use table_lengths::Lengths;

@@ -54,8 +54,10 @@ pub fn see_tags(
     list: &mut Vec<u32>,
 ) -> Result<(), AllocError>
     requires { length names.old + 2 * length (tags_lent tags) ≤ 2 ^ 30 }
-    ensures seen { OnOk result (names.new ≡ with_texts names.old (texts_of_tags (tags_lent tags.entry))) }
-    ensures few { OnOk result (length names.new ≤ length names.old + 2 * length (tags_lent tags.entry)) }
+    ensures seen { OnOk result (names.new ≡ with_texts names.old
+        (texts_of_tags (tags_lent tags.entry))) }
+    ensures few { OnOk result (length names.new
+        ≤ length names.old + 2 * length (tags_lent tags.entry)) }
     ensures list { OnOk result (list.new.items ≡ tag_places names.new (tags_lent tags.entry)) }
 {
     list.clear();
@@ -74,7 +76,8 @@ pub fn see_tags(
 #[tactic(auto, using(crate::proofs::TextFacts::with_text_adds_one), unfolding(crate::specs::Texts::with_texts))]
 fn see(names: &mut Names, text: Option<&str>) -> Result<(), AllocError>
     requires { length names.old + 1 ≤ 2 ^ 30 }
-    ensures seen { OnOk result (names.new ≡ with_texts names.old (option_to_list (option_copied text.entry))) }
+    ensures seen { OnOk result (names.new ≡ with_texts names.old
+        (option_to_list (option_copied text.entry))) }
     ensures few { OnOk result (length names.new ≤ length names.old + 1) }
 {
     if let Some(text) = text {

@@ -30,7 +30,8 @@ pub(crate) fn field_at<'r>(fields: &'r ByteRecord, place: Option<usize>) -> &'r 
 
 /// The field of a record at a place, if it is UTF-8.
 pub(crate) fn text_at<'r>(fields: &'r ByteRecord, place: Option<usize>) -> Option<&'r str>
-    ensures { let text = text_at (fields_of fields.now) place in MatchOption result (¬ IsUtf8 text) (λ r. (r.now ≡ text) × IsUtf8 text) }
+    ensures { let text = text_at (fields_of fields.now) place
+        in MatchOption result (¬ IsUtf8 text) (λ r. (r.now ≡ text) × IsUtf8 text) }
 {
     str::from_utf8(field_at(fields, place)).ok()
 }
@@ -47,7 +48,9 @@ fn known_text_at<'r>(fields: &'r ByteRecord, place: Option<usize>) -> &'r str
 impl<'a> Cells<'a> {
     /// The texts of a record, if all are UTF-8.
     pub(crate) fn of_record(fields: &'a ByteRecord, places: &Places) -> Option<Cells<'a>>
-        ensures { (header : Record) → ArePlaces header places.now → MatchOption result (HasNonText header (fields_of fields.now)) (λ cells. AreCells header (fields_of fields.now) cells) }
+        ensures { (header : Record) → ArePlaces header places.now
+            → MatchOption result (HasNonText header (fields_of fields.now))
+            (λ cells. AreCells header (fields_of fields.now) cells) }
     {
         let mut texts = [""; COUNT];
         for index in 0..COUNT {
@@ -59,7 +62,8 @@ impl<'a> Cells<'a> {
     /// The texts of a record of which every field is known to be UTF-8: no byte of them is looked at.
     pub(crate) fn of_text(fields: &'a ByteRecord, places: &Places) -> Cells<'a>
         requires { AllText (fields_of fields.now) }
-        ensures { (header : Record) → ArePlaces header places.now → AreCells header (fields_of fields.now) result }
+        ensures { (header : Record) → ArePlaces header places.now
+            → AreCells header (fields_of fields.now) result }
     {
         let mut texts = [""; COUNT];
         for index in 0..COUNT {

@@ -66,7 +66,8 @@ impl<'a> Cells<'a> {
         currency: Currency,
         periods: &mut PeriodReaders,
     ) -> Result<Charged, RecordFault>
-        ensures { let at = texts_of self.now in Judged (charged_rules currency at) (ChargedStands at) result }
+        ensures { let at = texts_of self.now
+            in Judged (charged_rules currency at) (ChargedStands at) result }
     {
         let words = self.words()?;
         let costs = self.costs(currency)?;
@@ -96,7 +97,8 @@ impl<'a> Cells<'a> {
 
     /// The costs, which are in this currency.
     pub(crate) fn costs(&self, currency: Currency) -> Result<Costs, RecordFault>
-        ensures { let at = texts_of self.now in Judged (cost_rules currency at) (CostsStand at) result }
+        ensures { let at = texts_of self.now
+            in Judged (cost_rules currency at) (CostsStand at) result }
     {
         let billed_text = self.text(Column::BilledCost);
         let Some(billed) = amount_of(billed_text) else {

@@ -43,7 +43,9 @@ impl<'a> Cells<'a> {
 
     /// The kind of the commitment discount, which is null exactly where its id is.
     fn kind(&self) -> Result<Option<DiscountKind>, RecordFault>
-        ensures { let at = texts_of self.now in Judged (kind_rules at) (KindReads (at column.CommitmentDiscountId) (at column.CommitmentDiscountCategory)) result }
+        ensures { let at = texts_of self.now
+            in Judged (kind_rules at) (KindReads (at column.CommitmentDiscountId)
+            (at column.CommitmentDiscountCategory)) result }
     {
         if self.is_null(Column::CommitmentDiscountId) {
             return if self.is_null(Column::CommitmentDiscountCategory) {
@@ -60,14 +62,18 @@ impl<'a> Cells<'a> {
 
     /// Whether it is a usage row.
     fn is_usage(&self) -> bool
-        ensures { IsTrue result ↔ (texts_of self.now column.ChargeCategory ≡ category_word Category.Usage) }
+        ensures { IsTrue result ↔ (texts_of self.now column.ChargeCategory
+            ≡ category_word Category.Usage) }
     {
         self.text(Column::ChargeCategory) == Category::Usage.word()
     }
 
     /// The status of the commitment discount, which stands beside its id alone, and must in a usage row with an id.
     fn status(&self) -> Result<Option<DiscountStatus>, RecordFault>
-        ensures { let at = texts_of self.now in Judged (status_rules at) (StatusReads (at column.ChargeCategory) (at column.CommitmentDiscountId) (at column.CommitmentDiscountStatus)) result }
+        ensures { let at = texts_of self.now
+            in Judged (status_rules at)
+            (StatusReads (at column.ChargeCategory) (at column.CommitmentDiscountId)
+            (at column.CommitmentDiscountStatus)) result }
     {
         if self.is_null(Column::CommitmentDiscountId) {
             return if self.is_null(Column::CommitmentDiscountStatus) {
@@ -107,7 +113,8 @@ impl<'a> Cells<'a> {
 
     /// The quantity.
     pub fn quantity(&self) -> Result<Option<Nanos>, RecordFault>
-        ensures { let at = texts_of self.now in Judged (quantity_rules at) (QuantityReads (at column.ConsumedQuantity)) result }
+        ensures { let at = texts_of self.now
+            in Judged (quantity_rules at) (QuantityReads (at column.ConsumedQuantity)) result }
     {
         match quantity_of(self.text(Column::ConsumedQuantity)) {
             Some(quantity) => Ok(quantity),
@@ -144,7 +151,10 @@ impl<'a> Cells<'a> {
 
     /// The tags, where all texts are short enough.
     pub fn short_tags(&self, alloc: Global) -> Result<Tags, Refusal>
-        ensures { let at = texts_of self.now in JudgedWithin (length_rules at) (λ tags. (tags_stated (at column.Tags) ≡ Some tags) × AreShort at × IsTags tags) result }
+        ensures { let at = texts_of self.now
+            in JudgedWithin (length_rules at)
+            (λ tags. (tags_stated (at column.Tags) ≡ Some tags) × AreShort at × IsTags tags)
+            result }
     {
         self.beside_short_texts(self.tags(alloc))
     }
@@ -152,7 +162,10 @@ impl<'a> Cells<'a> {
     // What reading the tags answered, where all texts are short enough.
     fn beside_short_texts(&self, tags: Result<Tags, TagFault>) -> Result<Tags, Refusal>
         requires { TagsAnswer (texts_of self.now column.Tags) tags }
-        ensures { let at = texts_of self.now in JudgedWithin (length_rules at) (λ tags. (tags_stated (at column.Tags) ≡ Some tags) × AreShort at × IsTags tags) result }
+        ensures { let at = texts_of self.now
+            in JudgedWithin (length_rules at)
+            (λ tags. (tags_stated (at column.Tags) ≡ Some tags) × AreShort at × IsTags tags)
+            result }
     {
         let tags = tags?;
         prove!(tags.as_slice().len() <= Tags::MOST);
@@ -168,7 +181,8 @@ impl<'a> Cells<'a> {
         alloc: Global,
         known: &mut KnownTags,
     ) -> Result<Details<'a>, Refusal>
-        ensures { let at = texts_of self.now in JudgedWithin (detail_rules at) (DetailsStand at) result }
+        ensures { let at = texts_of self.now
+            in JudgedWithin (detail_rules at) (DetailsStand at) result }
     {
         let discount = self.discount()?;
         let quantity = self.quantity()?;

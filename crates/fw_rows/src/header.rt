@@ -89,7 +89,10 @@ impl Places {
 
     /// The places of the columns, or the header's first fault.
     pub(crate) fn of_header(header: &ByteRecord) -> Result<Places, RowFault>
-        ensures { MatchResult result (λ places. ArePlaces (fields_of header.now) places × IsHeader (fields_of header.now)) (λ fault. (currency : List ℕ) (body : List Record) → RecordsRead currency (fields_of header.now) body (Err fault)) }
+        ensures { MatchResult result (λ places. ArePlaces (fields_of header.now) places
+            × IsHeader (fields_of header.now))
+            (λ fault. (currency : List ℕ) (body : List Record)
+            → RecordsRead currency (fields_of header.now) body (Err fault)) }
     {
         if let Some(column) = missing_column(header) {
             return Err(RowFault::MissingColumn(column));

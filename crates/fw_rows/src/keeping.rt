@@ -13,6 +13,7 @@ ghost use Rattle.fw_rows.specs.Rows.{most_rows};
 ghost use Rattle.fw_rows.specs.Rules.{HasNonText, Texts, text_rules};
 ghost use Rattle.fw_rows.specs.Sinks.{AddsRow, rows_in};
 
+use crate::ascii::is_ascii;
 use crate::cells::Cells;
 use crate::column::Column;
 use crate::fault::{RecordFault, Refusal, RowFault};
@@ -151,7 +152,7 @@ fn cells_of<'r>(fields: &'r ByteRecord, places: &Places) -> Option<Cells<'r>>
         → MatchOption result (HasNonText header (fields_of fields.now))
         (λ cells. AreCells header (fields_of fields.now) cells) }
 {
-    if fields.as_slice().is_ascii() {
+    if is_ascii(fields.as_slice()) {
         return Some(Cells::of_text(fields, places));
     }
     Cells::of_record(fields, places)

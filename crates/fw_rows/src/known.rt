@@ -66,7 +66,8 @@ impl KnownTags {
     /// Notes the tags that a text states, if it has at most 1,024 bytes. Where 16,384 texts are known, all are forgotten before.
     pub fn note(&mut self, text: &str, tags: Tags) -> Result<(), AllocError>
         requires { TagsAnswer text.now (Ok tags) }
-        ensures { OnOk result (length text.now ≤ longest_known → tags_known self.new text.now ≡ Some tags) }
+        ensures { OnOk result (length text.now ≤ longest_known
+            → tags_known self.new text.now ≡ Some tags) }
     {
         if text.len() > LONGEST_TEXT {
             return Ok(());

@@ -13,7 +13,8 @@ use fw_charge::Currency;
 
 /// Under a currency a text has one list of rows or one first fault, unless memory runs out.
 pub fn rows_read_as_one(text: &[u8], currency: Currency)
-    ensures { (r s : Result (List Charge) RowFault) → r ≢ Err NoMemory → s ≢ Err NoMemory → RowsRead currency text.now r → RowsRead currency text.now s → r ≡ s }
+    ensures { (r s : Result (List Charge) RowFault) → r ≢ Err NoMemory → s ≢ Err NoMemory
+        → RowsRead currency text.now r → RowsRead currency text.now s → r ≡ s }
 {}
 
 /// A row that a record reads as with kept columns is the row for which the record stands without them, with the tags

@@ -4,6 +4,7 @@
 //! passed over.
 #![tactic(auto)]
 
+mod ascii;
 mod cells;
 mod charged;
 mod column;

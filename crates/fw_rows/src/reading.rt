@@ -11,6 +11,7 @@ ghost use Rattle.fw_rows.specs.Rules.{rules_of};
 ghost use Rattle.fw_rows.specs.Shown.{rows_shown};
 ghost use Rattle.fw_rows.specs.Sinks.{AddsRow, rows_in};
 
+use crate::ascii::is_ascii;
 use crate::cells::Cells;
 use crate::column::Column;
 use crate::fault::{RecordFault, Refusal, RowFault};
@@ -132,13 +133,16 @@ fn add_record<S: RowSink>(
 ) -> Result<(), Refusal>
     requires ready { S.is_ready sink.old }
     requires room { length (S.rows sink.old) < most_rows }
-    ensures row { (header : Record) → ArePlaces header places.now → JudgedWithin (rules_of currency header (fields_of fields.now)) (λ _. AddsRow (text_in header (fields_of fields.now)) (S.rows sink.old) (S.rows sink.new)) result }
+    ensures row { (header : Record) → ArePlaces header places.now
+        → JudgedWithin (rules_of currency header (fields_of fields.now))
+        (λ _. AddsRow (text_in header (fields_of fields.now)) (S.rows sink.old) (S.rows sink.new))
+        result }
     ensures ready { OnOk result (S.is_ready sink.new) }
 {
     if fields.len() != places.fields {
         return Err(Refusal::Broken(RecordFault::Fields));
     }
-    if fields.as_slice().is_ascii() {
+    if is_ascii(fields.as_slice()) {
         return add_text(sink, fields, places, currency);
     }
     add_bytes(sink, fields, places, currency)
@@ -154,7 +158,10 @@ fn add_bytes<S: RowSink>(
     requires ready { S.is_ready sink.old }
     requires room { length (S.rows sink.old) < most_rows }
     requires as_long { length (fields_of fields.now) ≡ places.now.fields }
-    ensures row { (header : Record) → ArePlaces header places.now → JudgedWithin (rules_of currency header (fields_of fields.now)) (λ _. AddsRow (text_in header (fields_of fields.now)) (S.rows sink.old) (S.rows sink.new)) result }
+    ensures row { (header : Record) → ArePlaces header places.now
+        → JudgedWithin (rules_of currency header (fields_of fields.now))
+        (λ _. AddsRow (text_in header (fields_of fields.now)) (S.rows sink.old) (S.rows sink.new))
+        result }
     ensures ready { OnOk result (S.is_ready sink.new) }
 {
     match Cells::of_record(fields, places) {
@@ -174,7 +181,10 @@ fn add_text<S: RowSink>(
     requires room { length (S.rows sink.old) < most_rows }
     requires as_long { length (fields_of fields.now) ≡ places.now.fields }
     requires text { AllText (fields_of fields.now) }
-    ensures row { (header : Record) → ArePlaces header places.now → JudgedWithin (rules_of currency header (fields_of fields.now)) (λ _. AddsRow (text_in header (fields_of fields.now)) (S.rows sink.old) (S.rows sink.new)) result }
+    ensures row { (header : Record) → ArePlaces header places.now
+        → JudgedWithin (rules_of currency header (fields_of fields.now))
+        (λ _. AddsRow (text_in header (fields_of fields.now)) (S.rows sink.old) (S.rows sink.new))
+        result }
     ensures ready { OnOk result (S.is_ready sink.new) }
 {
     sink.add(&Cells::of_text(fields, places), currency)

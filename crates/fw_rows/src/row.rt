@@ -63,7 +63,8 @@ impl<'a> Cells<'a> {
         periods: &mut PeriodReaders,
         currency: Currency,
     ) -> Result<Row, Refusal>
-        ensures { let at = texts_of self.now in JudgedWithin (text_rules currency at) (Stands at) result }
+        ensures { let at = texts_of self.now
+            in JudgedWithin (text_rules currency at) (Stands at) result }
     {
         let charged = self.charged(currency, periods)?;
         let details = self.details(alloc, known)?;

@@ -26,7 +26,9 @@ pub trait RowSink {
     fn add(&mut self, cells: &Cells<'_>, currency: Currency) -> Result<(), Refusal>
         requires ready { is_ready self.old }
         requires room { length (rows self.old) < most_rows }
-        ensures row { let at = texts_of cells.now in JudgedWithin (text_rules currency at) (λ _. AddsRow at (rows self.old) (rows self.new)) result }
+        ensures row { let at = texts_of cells.now
+            in JudgedWithin (text_rules currency at)
+            (λ _. AddsRow at (rows self.old) (rows self.new)) result }
         ensures ready { OnOk result (is_ready self.new) };
 }
 

@@ -27,7 +27,8 @@ pub(crate) fn amount_beside(text: &str, other: &str, amount: Nanos) -> Option<Na
 /// The quantity that a text reads as: null where the text is null, and where it is a number past the greatest amount.
 #[tactic(auto, unfolding(crate::specs::Rules::QuantityReads))]
 pub(crate) fn quantity_of(text: &str) -> Option<Option<Nanos>>
-    ensures { MatchOption result ((q : Option ℤ) → ¬ QuantityReads text.now q) (λ q. QuantityReads text.now q) }
+    ensures { MatchOption result ((q : Option ℤ) → ¬ QuantityReads text.now q)
+        (λ q. QuantityReads text.now q) }
 {
     if text.is_empty() {
         return Some(None);

@@ -12,10 +12,12 @@ pub trait Ruled {
 
 /// At most one fault is that of the first broken rule, whatever the table says.
 pub fn first_is_one<T: Ruled>(value: &T)
-    ensures { (f g : T.Fault) → FirstBroken (T.rules value.now) f → FirstBroken (T.rules value.now) g → f ≡ g }
+    ensures { (f g : T.Fault) → FirstBroken (T.rules value.now) f
+        → FirstBroken (T.rules value.now) g → f ≡ g }
 {}
 
 /// Where some rule is the first that is broken, it is not so that none is broken.
 pub fn first_or_none<T: Ruled>(value: &T)
-    ensures { (f : T.Fault) → FirstBroken (T.rules value.now) f → NoneBroken (T.rules value.now) → ⊥ }
+    ensures { (f : T.Fault) → FirstBroken (T.rules value.now) f → NoneBroken (T.rules value.now)
+        → ⊥ }
 {}

@@ -6,7 +6,8 @@ use crate::words::split_at_first;
 
 /// The first line of a text, without the line feed that ends it, and what follows it, or `None` where the text is empty.
 pub fn next_line(text: &[u8]) -> Option<(&[u8], &[u8])>
-    ensures { MatchOption result (text.now ≡ []) (λ parts. StartsWithLine text.now parts.0.now parts.1.now) }
+    ensures { MatchOption result (text.now ≡ [])
+        (λ parts. StartsWithLine text.now parts.0.now parts.1.now) }
 {
     if text.is_empty() {
         return None;

@@ -143,7 +143,8 @@ fn next_part<'a>(
     last: &'a [u8],
 ) -> (&'a [u8], &'a [Arc<Vec<u8>>], &'a [u8])
     requires { All IsPiece (texts_of pieces.now) }
-    ensures same { concat (texts_of pieces.now) ++ last.now ≡ result.0.now ++ (concat (texts_of result.1.now) ++ result.2.now) }
+    ensures same { concat (texts_of pieces.now) ++ last.now
+        ≡ result.0.now ++ (concat (texts_of result.1.now) ++ result.2.now) }
     ensures in_turn { ComeInTurn result.0.now (texts_of result.1.now) result.2.now }
     ensures some { result.0.now ≡ [] → concat (texts_of result.1.now) ++ result.2.now ≡ [] }
 {

@@ -68,7 +68,8 @@ fn read_entry<'a>(
     entry: EntryLine<'a>,
     following: &'a [u8],
 ) -> (Command<'a>, &'a [u8])
-    requires { IsEntryLine entry.kind line.now entry.origin.now entry.sequence.now entry.last.now entry.count }
+    requires { IsEntryLine entry.kind line.now entry.origin.now entry.sequence.now entry.last.now
+        entry.count }
     ensures { IsCommand line.now following.now (plain_command result.0) result.1.now }
 {
     match split_lines(entry.count, following) {
@@ -97,7 +98,8 @@ fn content_of<'a>(kind: EntryKind, last: &'a [u8], taken: &'a [u8]) -> &'a [u8]
 
 /// The command of a line that is no entry's.
 fn read_question(line: &[u8]) -> Command<'_>
-    requires { (k : EntryKind) (origin sequence last : List ℕ) (count : ℕ) → ¬ IsEntryLine k line.now origin sequence last count }
+    requires { (k : EntryKind) (origin sequence last : List ℕ) (count : ℕ)
+        → ¬ IsEntryLine k line.now origin sequence last count }
     ensures { (following : List ℕ) → IsCommand line.now following (plain_command result) following }
 {
     if let Some(report) = report_line(line) {
@@ -142,8 +144,8 @@ struct EntryLine<'a> {
 
 /// The arguments of an entry's line, or `None` where the line isn't of this form.
 fn entry_line(line: &[u8]) -> Option<EntryLine<'_>>
-    ensures { MatchOption result
-        ((k : EntryKind) (origin sequence last : List ℕ) (count : ℕ) → ¬ IsEntryLine k line.now origin sequence last count)
+    ensures { MatchOption result ((k : EntryKind) (origin sequence last : List ℕ) (count : ℕ)
+        → ¬ IsEntryLine k line.now origin sequence last count)
         (λ e. IsEntryLine e.kind line.now e.origin.now e.sequence.now e.last.now e.count) }
 {
     if let Some(entry) = entry_of_kind(EntryKind::Post, line) {
@@ -166,8 +168,8 @@ fn entry_line(line: &[u8]) -> Option<EntryLine<'_>>
 
 /// The arguments of the line of an entry of a kind, `WORD ORIGIN SEQUENCE LAST`, or `None` where the line isn't of this form.
 fn entry_of_kind<'a>(kind: EntryKind, line: &'a [u8]) -> Option<EntryLine<'a>>
-    ensures { MatchOption result
-        ((origin sequence last : List ℕ) (count : ℕ) → ¬ IsEntryLine kind line.now origin sequence last count)
+    ensures { MatchOption result ((origin sequence last : List ℕ) (count : ℕ)
+        → ¬ IsEntryLine kind line.now origin sequence last count)
         (λ e. IsEntryLine e.kind line.now e.origin.now e.sequence.now e.last.now e.count) }
 {
     let arguments = arguments_of(kind.word().as_bytes(), line)?;
@@ -185,7 +187,8 @@ fn entry_of_kind<'a>(kind: EntryKind, line: &'a [u8]) -> Option<EntryLine<'a>>
 
 /// How many lines an entry of a kind takes, by the last word of its line, or `None` where no such line ends with this word.
 fn lines_taken(kind: EntryKind, last: &[u8]) -> Option<u32>
-    ensures { MatchOption result ((count : ℕ) → ¬ TakesLines kind last.now count) (TakesLines kind last.now) }
+    ensures { MatchOption result ((count : ℕ) → ¬ TakesLines kind last.now count)
+        (TakesLines kind last.now) }
 {
     match kind {
         EntryKind::Post | EntryKind::Commit | EntryKind::Policy | EntryKind::AddPurchase => {

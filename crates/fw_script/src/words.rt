@@ -10,7 +10,8 @@ const MOST_LINES: u32 = 1_000_000;
 
 /// The parts of a text before and after the first `byte`, or `None` where it has none.
 pub fn split_at_first<'a>(byte: u8, text: &'a [u8]) -> Option<(&'a [u8], &'a [u8])>
-    ensures { MatchOption result (¬ Contains text.now byte) (λ parts. FirstSplit byte text.now parts.0.now parts.1.now) }
+    ensures { MatchOption result (¬ Contains text.now byte)
+        (λ parts. FirstSplit byte text.now parts.0.now parts.1.now) }
 {
     let place = memchr(byte, text)?;
     Some((&text[..place], &text[place + 1..]))
@@ -18,7 +19,8 @@ pub fn split_at_first<'a>(byte: u8, text: &'a [u8]) -> Option<(&'a [u8], &'a [u8
 
 /// The parts of a text before and after the last `byte`, or `None` where it has none.
 pub fn split_at_last<'a>(byte: u8, text: &'a [u8]) -> Option<(&'a [u8], &'a [u8])>
-    ensures { MatchOption result (¬ Contains text.now byte) (λ parts. LastSplit byte text.now parts.0.now parts.1.now) }
+    ensures { MatchOption result (¬ Contains text.now byte)
+        (λ parts. LastSplit byte text.now parts.0.now parts.1.now) }
 {
     let place = memrchr(byte, text)?;
     Some((&text[..place], &text[place + 1..]))
@@ -36,7 +38,8 @@ pub fn arguments_of<'a>(word: &[u8], line: &'a [u8]) -> Option<&'a [u8]>
 /// The whole number that a word of decimal digits writes, at most 2^64 - 1, or `None`. Any number of zeros may stand first, and a
 /// sign is no digit.
 fn decimal(word: &[u8]) -> Option<u64>
-    ensures { MatchOption result ((number : ℕ) → number < 2 ^ 64 → ¬ IsDecimal word.now number) (IsDecimal word.now) }
+    ensures { MatchOption result ((number : ℕ) → number < 2 ^ 64 → ¬ IsDecimal word.now number)
+        (IsDecimal word.now) }
 {
     if word.first() == Some(&b'+') {
         return None;
@@ -48,7 +51,8 @@ fn decimal(word: &[u8]) -> Option<u64>
 /// The number of lines that a word of decimal digits gives, at most a million, or `None`. Zeros may stand first, and a sign is
 /// no digit.
 pub fn line_count(word: &[u8]) -> Option<u32>
-    ensures { MatchOption result ((count : ℕ) → ¬ IsLineCount word.now count) (IsLineCount word.now) }
+    ensures { MatchOption result ((count : ℕ) → ¬ IsLineCount word.now count)
+        (IsLineCount word.now) }
 {
     let count = u32::try_from(decimal(word)?).ok()?;
     (count <= MOST_LINES).then_some(count)
@@ -58,7 +62,8 @@ pub fn line_count(word: &[u8]) -> Option<u32>
 /// may stand. `None` for every other word: an empty one, 0, a larger number, and one that holds anything but digits, such as a sign
 /// or a blank.
 pub fn sequence_number(word: &[u8]) -> Option<u64>
-    ensures { MatchOption result ((number : ℕ) → ¬ IsSequence word.now number) (IsSequence word.now) }
+    ensures { MatchOption result ((number : ℕ) → ¬ IsSequence word.now number)
+        (IsSequence word.now) }
 {
     let number = decimal(word)?;
     (number > 0).then_some(number)

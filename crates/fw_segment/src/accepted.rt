@@ -32,7 +32,8 @@ pub fn append_accepted(
 ) -> Result<(), AllocError>
     requires each { length verdicts.now ≡ length entries.now }
     requires group { IsGroup (chosen entries.now verdicts.now) }
-    ensures { OnOk result (out.new.items ≡ out.old.items ++ group (chosen entries.now verdicts.now)) }
+    ensures { OnOk result (out.new.items
+        ≡ out.old.items ++ group (chosen entries.now verdicts.now)) }
 {
     put_u32(out, accepted_count(verdicts) as u32)?;
     for (entry, verdict) in entries.iter().zip(verdicts) {

@@ -72,8 +72,10 @@ fn whole_segment(alloc: Global, bytes: &[u8]) -> Result<Columns, ReadError>
 /// fault at the first of them. [`DecodeFault::NoMemory`] where there is no memory for what is kept, reported where it runs out: a later fault isn't
 /// looked for.
 pub fn decode_entry(alloc: Global, form: Form, bytes: &[u8]) -> Result<Entry, DecodeFault>
-    ensures found { IfOk result (λ e. IsEntry e × IsTrue (has_entry form e) × (bytes.now ≡ entry e)) }
-    ensures only { (e : EntryValue) → IsEntry e → IsTrue (has_entry form e) → bytes.now ≡ entry e → Decodes (λ v. v) (length bytes.now) result (Ok e) }
+    ensures found { IfOk result (λ e. IsEntry e × IsTrue (has_entry form e)
+        × (bytes.now ≡ entry e)) }
+    ensures only { (e : EntryValue) → IsEntry e → IsTrue (has_entry form e) → bytes.now ≡ entry e
+        → Decodes (λ v. v) (length bytes.now) result (Ok e) }
     ensures exact { Decodes (λ v. v) (length bytes.now) result (whole (entry_at form) bytes.now) }
 {
     match whole_entry(alloc, form, bytes) {
@@ -87,9 +89,12 @@ pub fn decode_entry(alloc: Global, form: Form, bytes: &[u8]) -> Result<Entry, De
 /// # Errors
 /// As those of [`decode_entry`]; a number of entries that is 0 or above 64 is a fault at offset 0, found before any entry is read.
 pub fn decode_group(alloc: Global, form: Form, bytes: &[u8]) -> Result<Vec<Entry>, DecodeFault>
-    ensures found { IfOk result (λ v. IsGroup v.items × IsOfForm form v.items × (bytes.now ≡ group v.items)) }
-    ensures only { (es : List EntryValue) → IsGroup es → IsOfForm form es → bytes.now ≡ group es → Decodes (λ v. v.items) (length bytes.now) result (Ok es) }
-    ensures exact { Decodes (λ v. v.items) (length bytes.now) result (whole (group_at form) bytes.now) }
+    ensures found { IfOk result (λ v. IsGroup v.items × IsOfForm form v.items
+        × (bytes.now ≡ group v.items)) }
+    ensures only { (es : List EntryValue) → IsGroup es → IsOfForm form es → bytes.now ≡ group es
+        → Decodes (λ v. v.items) (length bytes.now) result (Ok es) }
+    ensures exact { Decodes (λ v. v.items) (length bytes.now) result
+        (whole (group_at form) bytes.now) }
 {
     match whole_group(alloc, form, bytes) {
         Ok(entries) => Ok(entries),
@@ -104,8 +109,10 @@ pub fn decode_group(alloc: Global, form: Form, bytes: &[u8]) -> Result<Vec<Entry
 /// 1, found before any row is read. Of rows by column a fault of a field is at its place in its column, and the rules over several fields come behind
 /// all of them, as faults at offset 0, as does that the names are each text of the rows once, in the order in which it first occurs.
 pub fn decode_segment(alloc: Global, bytes: &[u8]) -> Result<Columns, DecodeFault>
-    ensures found { IfOk result (λ rows. IsSegment rows × (layout : SegmentLayout) × (bytes.now ≡ segment layout rows)) }
-    ensures only { (layout : SegmentLayout) (rows : List Charge) → IsSegment rows → bytes.now ≡ segment layout rows → Decodes (λ v. v) (length bytes.now) result (Ok rows) }
+    ensures found { IfOk result (λ rows. IsSegment rows × (layout : SegmentLayout)
+        × (bytes.now ≡ segment layout rows)) }
+    ensures only { (layout : SegmentLayout) (rows : List Charge) → IsSegment rows
+        → bytes.now ≡ segment layout rows → Decodes (λ v. v) (length bytes.now) result (Ok rows) }
     ensures exact { Decodes (λ v. v) (length bytes.now) result (whole segment_at bytes.now) }
 {
     match whole_segment(alloc, bytes) {
@@ -122,7 +129,8 @@ pub fn decode_segment(alloc: Global, bytes: &[u8]) -> Result<Columns, DecodeFaul
 /// before it, is a fault at the offset of this head.
 pub fn decode_state(alloc: Global, form: Form, bytes: &[u8]) -> Result<State, DecodeFault>
     ensures found { IfOk result (λ h. Spells bytes.now h × IsOfForm form h.entries) }
-    ensures only { (h : History) → Spells bytes.now h → IsOfForm form h.entries → Decodes (λ s. s) (length bytes.now) result (Ok h) }
+    ensures only { (h : History) → Spells bytes.now h → IsOfForm form h.entries
+        → Decodes (λ s. s) (length bytes.now) result (Ok h) }
     ensures exact { Decodes (λ s. s) (length bytes.now) result (state_at form bytes.now) }
 {
     match state_of(alloc, form, bytes) {

@@ -166,7 +166,8 @@ fn heads_after(
     count: u64,
     bytes: &[u8],
 ) -> Result<(Vec<ReadHead>, &[u8]), ReadError>
-    ensures { Gives (λ x. (map head_view x.0.items, x.1.now)) result (times (head_at form) count bytes.now) }
+    ensures { Gives (λ x. (map head_view x.0.items, x.1.now)) result
+        (times (head_at form) count bytes.now) }
 {
     let mut heads = Vec::new(alloc);
     let mut rest = bytes;

@@ -13,7 +13,8 @@ ghost use Rattle.fw_segment.specs.declared.layout.SegmentLayout.{SegmentLayout};
 pub fn spellings_are_one()
     ensures entries { (a b : EntryValue) → IsEntry a → IsEntry b → entry a ≡ entry b → a ≡ b }
     ensures groups { (a b : List EntryValue) → IsGroup a → IsGroup b → group a ≡ group b → a ≡ b }
-    ensures segments { (j k : SegmentLayout) (a b : List Charge) → IsSegment a → IsSegment b → segment j a ≡ segment k b → a ≡ b }
+    ensures segments { (j k : SegmentLayout) (a b : List Charge) → IsSegment a → IsSegment b
+        → segment j a ≡ segment k b → a ≡ b }
 {}
 
 /// Bytes spell one state at most, however its rows are cut and laid out.

@@ -133,7 +133,14 @@ fn segments_of(alloc: Global, bytes: &[u8]) -> Result<(Sequence<Columns>, &[u8])
 /// The parts of a state, in order, and the bytes after them.
 #[tactic(auto, unfolding(crate::specs::States::parts_at, fw_bytes::specs::Reading::both))]
 fn parts_of(alloc: Global, form: Form, bytes: &[u8]) -> Result<(Parts, &[u8]), ReadError>
-    ensures parts { Gives (λ x. ((x.0.currency, (map head_view x.0.heads.items, segment_rows x.0.segments)), x.1.now)) result (parts_at form bytes.now) }
+    ensures parts { Gives (λ x. (
+      (
+        x.0.currency,
+        (map head_view x.0.heads.items, segment_rows x.0.segments),
+      ),
+      x.1.now,
+    )) result
+        (parts_at form bytes.now) }
     ensures heads { IfOk result (λ x. All IsHead (map head_view x.0.heads.items)) }
 {
     match currency_of(bytes) {
@@ -182,8 +189,10 @@ fn rows_said(heads: &[ReadHead]) -> u128
 fn add(alloc: Global, builder: &mut StateBuilder, head: ReadHead) -> Result<bool, AllocError>
     requires head { IsHead (head_view head) }
     requires enough { row_count (content_view head.content) ≤ length (left_rows builder.old) }
-    ensures answer { IfOk result (λ added. added ≡ goes_behind builder.old.history.entries (next_entry builder.old (head_view head))) }
-    ensures added { IfOk result (λ added. added ≡ true → builder.new ≡ with_next builder.old (head_view head)) }
+    ensures answer { IfOk result (λ added. added
+        ≡ goes_behind builder.old.history.entries (next_entry builder.old (head_view head))) }
+    ensures added { IfOk result (λ added. added ≡ true
+        → builder.new ≡ with_next builder.old (head_view head)) }
 {
     let ReadHead {
         origin,
@@ -204,7 +213,8 @@ fn state_after(
 ) -> Result<State, ReadError>
     requires heads { All IsHead (map head_view heads.items) }
     requires count { length (left_rows builder) ≡ row_counts (map head_view heads.items) }
-    ensures { Gives (λ s. s) result (continued left builder.history (map head_view heads.items) (left_rows builder)) }
+    ensures { Gives (λ s. s) result (continued left builder.history (map head_view heads.items)
+        (left_rows builder)) }
 {
     let mut builder = builder;
     let mut left = left;
@@ -222,7 +232,8 @@ fn state_after(
 #[tactic(auto, unfolding(crate::specs::States::state_from, crate::specs::States::replayed_state))]
 fn state_of_parts(alloc: Global, parts: Parts, total: usize) -> Result<State, ReadError>
     requires { All IsHead (map head_view parts.heads.items) }
-    ensures { Gives (λ s. s) result (state_from total (parts.currency, (map head_view parts.heads.items, segment_rows parts.segments))) }
+    ensures { Gives (λ s. s) result (state_from total
+        (parts.currency, (map head_view parts.heads.items, segment_rows parts.segments))) }
 {
     let Parts {
         currency,
@@ -256,7 +267,8 @@ pub fn state_of(alloc: Global, form: Form, bytes: &[u8]) -> Result<State, ReadEr
 /// Writes the heads of a state: their number, and each in turn.
 #[tactic(auto, unfolding(crate::specs::Heads::heads))]
 fn put_heads(out: &mut Vec<u8>, state: &State) -> Result<(), AllocError>
-    ensures spelled { OnOk result (out.new.items ≡ out.old.items ++ heads (map head_of state.now.entries)) }
+    ensures spelled { OnOk result (out.new.items
+        ≡ out.old.items ++ heads (map head_of state.now.entries)) }
     ensures count { Fits64 (length state.now.entries) }
     ensures legal { IsLegal state.now.entries }
     ensures each { All IsEntry state.now.entries }
@@ -272,8 +284,10 @@ fn put_heads(out: &mut Vec<u8>, state: &State) -> Result<(), AllocError>
 /// Writes segments by column: their number, and each in turn.
 fn put_segments(out: &mut Vec<u8>, segments: &Sequence<Columns>) -> Result<(), AllocError>
     requires { length segments.now ≤ most_rows }
-    ensures spelled { OnOk result (out.new.items ≡ out.old.items ++ listed (segment layout.Columns) segments.now) }
-    ensures sized { OnOk result (All (λ rows. (0 < length rows) × (length rows ≤ most_column_rows)) segments.now) }
+    ensures spelled { OnOk result (out.new.items
+        ≡ out.old.items ++ listed (segment layout.Columns) segments.now) }
+    ensures sized { OnOk result (All (λ rows. (0 < length rows) × (length rows ≤ most_column_rows))
+        segments.now) }
 {
     let count = segments.len();
     put_u32(out, count as u32)?;

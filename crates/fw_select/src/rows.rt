@@ -13,6 +13,7 @@ use crate::selector::{Room, Selector};
 use crate::table::Table;
 use fw_amortise::{Line, LineDiscount, LineFields, LineKind};
 use fw_columns::{Columns, LentRow};
+use fw_row_table::amount_at;
 use std::alloc::{AllocError, Global};
 
 // Counts the rows of a segment at places as lines, of each of which commitments took nothing. What is known of the segment's rows is found first, where
@@ -112,11 +113,16 @@ fn add_row(
     ensures known { OnOk result (IsKnown selector.now table.new segment.now known.new) }
     ensures room { length room.new.group.items ≡ length selector.now.keys.now }
 {
-    let row = segment.lent(place);
     match known.at(place) {
         Found::Left => Ok(()),
-        Found::At(group) => table.add_at(group, row.billed(), row.effective()),
+        Found::At(group) => {
+            let billed = amount_at(segment.billed(), place);
+            let effective = amount_at(segment.effective(), place);
+            table.add_at(group, billed, effective)?;
+            Ok(())
+        }
         Found::Unknown => {
+            let row = segment.lent(place);
             let found = add_line(table, room, selector, &plain_line(&row))?;
             known.note(place, found);
             Ok(())

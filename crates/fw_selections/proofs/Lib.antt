@@ -1,1 +1,9 @@
+pub mod MapFacts
 pub mod ShownFacts
+pub mod RowFacts
+pub mod CsvFacts
+pub mod PlainFacts
+pub mod JsonFacts
+pub mod JsonWritten
+pub mod TableFacts
+pub mod NameFacts

@@ -1,3 +1,12 @@
+pub mod Maps
 pub mod Parts
 pub mod Shown
 pub mod Sources
+pub mod Written
+pub mod CsvText
+pub mod Writing
+pub mod JsonText
+pub mod JsonMembers
+pub mod TableText
+pub mod Lines
+pub mod Names

@@ -1,7 +1,15 @@
 //! Selections as CSV.
-use crate::parts::Selections;
-use crate::rows::{Costs, Row, Shown, all_costs, largest, rows_of};
-use crate::sheet::{OTHERS, Sheet};
+ghost use Rattle.std.specs.Prelude.{◌≡◌, ◌++◌, ◌∷◌, [], IfOk, List, OnOk, map, ℕ};
+ghost use Rattle.fw_query.specs.Texts.{record_line};
+ghost use Rattle.fw_query.specs.Writers.{HasWritten};
+ghost use Rattle.fw_selections.specs.CsvText.{IsCsvText, has_hours, header, in_front, placed, placed_rows};
+ghost use Rattle.fw_selections.specs.Shown.{is_chosen, row_value};
+ghost use Rattle.fw_selections.specs.Writing.{WritesRecords, WritesShown};
+ghost use Rattle.fw_selections.specs.Written.{kind_word, parts_by, rows_in, text_at, texts_under};
+
+use crate::parts::{SelectedPart, Selections};
+use crate::rows::{Row, Shown, largest, rows_under};
+use crate::sheet::{KeyName, OTHERS, Sheet};
 use csv::{Writer, WriterBuilder};
 use fw_calendar::{Period, hour_text};
 use fw_select::Selection;
@@ -13,22 +21,12 @@ pub(crate) fn csv_text(
     alloc: Global,
     selections: &Selections,
     sheet: &Sheet<'_, '_, '_>,
-) -> Result<Vec<u8>, AllocError> {
+) -> Result<Vec<u8>, AllocError>
+    ensures { IfOk result (λ text. IsCsvText selections.now sheet.now text.items) }
+{
     let mut writer = WriterBuilder::new().from_writer(Vec::new(alloc));
     write_header(alloc, &mut writer, sheet)?;
-    match sheet.top {
-        Some(count) => {
-            let chosen = largest(alloc, &selections.whole, count)?;
-            write_all(
-                alloc,
-                &mut writer,
-                selections,
-                sheet,
-                Shown::of(chosen.as_slice()),
-            )?;
-        }
-        None => write_all(alloc, &mut writer, selections, sheet, Shown::all())?,
-    }
+    write_shown(alloc, &mut writer, selections, sheet)?;
     match writer.into_inner() {
         Ok(text) => Ok(text),
         Err(_) => Err(AllocError),
@@ -36,7 +34,9 @@ pub(crate) fn csv_text(
 }
 
 // Whether the records have their hours in front.
-fn has_hours(sheet: &Sheet<'_, '_, '_>) -> bool {
+fn has_hours(sheet: &Sheet<'_, '_, '_>) -> bool
+    ensures { result ≡ has_hours sheet.now }
+{
     sheet.step.is_some() || sheet.top.is_some()
 }
 
@@ -45,19 +45,88 @@ fn write_header(
     alloc: Global,
     writer: &mut Writer<Vec<u8>>,
     sheet: &Sheet<'_, '_, '_>,
-) -> Result<(), AllocError> {
-    let mut names: Vec<&[u8]> = Vec::new(alloc);
-    if has_hours(sheet) {
-        names.push(b"From")?;
-        names.push(b"To")?;
-        names.push(b"Kind")?;
-    }
-    for key in sheet.keys {
+) -> Result<(), AllocError>
+    ensures { OnOk result ((text : List ℕ) → HasWritten writer.old text
+        → HasWritten writer.new (text ++ record_line (header sheet.now))) }
+{
+    let names = names_of(alloc, sheet)?;
+    write_record(writer, names.as_slice())
+}
+
+// The names of the columns.
+#[tactic(auto, unfolding(crate::specs::CsvText::header))]
+fn names_of<'n>(alloc: Global, sheet: &Sheet<'_, 'n, '_>) -> Result<Vec<&'n [u8]>, AllocError>
+    ensures { IfOk result (λ names. map (λ n. n.now) names.items ≡ header sheet.now) }
+{
+    let mut names = front(alloc, has_hours(sheet), "From", "To", "Kind")?;
+    push_names(&mut names, sheet.keys)?;
+    push_costs(&mut names, "BilledCost", "EffectiveCost")?;
+    Ok(names)
+}
+
+// Adds the names of keys.
+fn push_names<'n>(names: &mut Vec<&'n [u8]>, keys: &[KeyName<'n>]) -> Result<(), AllocError>
+    ensures { OnOk result (map (λ n. n.now) names.new.items
+        ≡ map (λ n. n.now) names.old.items ++ map (λ key. key.name.now) keys.now) }
+{
+    for key in keys {
         names.push(key.name.as_bytes())?;
     }
-    names.push(b"BilledCost")?;
-    names.push(b"EffectiveCost")?;
-    write_record(writer, names.as_slice())
+    Ok(())
+}
+
+// The fields of hours and of a kind, where there are such.
+fn front<'f>(
+    alloc: Global,
+    has: bool,
+    from: &'f str,
+    to: &'f str,
+    kind: &'f str,
+) -> Result<Vec<&'f [u8]>, AllocError>
+    ensures { IfOk result (λ fields.
+        map (λ f. f.now) fields.items ≡ in_front has from.now to.now kind.now) }
+{
+    let mut fields: Vec<&'f [u8]> = Vec::new(alloc);
+    if has {
+        fields.push(from.as_bytes())?;
+        fields.push(to.as_bytes())?;
+        fields.push(kind.as_bytes())?;
+    }
+    Ok(fields)
+}
+
+// Adds the fields of costs.
+fn push_costs<'f>(
+    fields: &mut Vec<&'f [u8]>,
+    billed: &'f str,
+    effective: &'f str,
+) -> Result<(), AllocError>
+    ensures { OnOk result (map (λ f. f.now) fields.new.items
+        ≡ map (λ f. f.now) fields.old.items ++ billed.now ∷ (effective.now ∷ [])) }
+{
+    fields.push(billed.as_bytes())?;
+    fields.push(effective.as_bytes())?;
+    Ok(())
+}
+
+// Writes the records of all groups, or of the largest.
+fn write_shown(
+    alloc: Global,
+    writer: &mut Writer<Vec<u8>>,
+    selections: &Selections,
+    sheet: &Sheet<'_, '_, '_>,
+) -> Result<(), AllocError>
+    ensures { OnOk result ((text : List ℕ) → HasWritten writer.old text
+        → WritesShown writer.new text selections.now sheet.now) }
+{
+    match sheet.top {
+        Some(count) => {
+            let chosen = largest(alloc, &selections.whole, count)?;
+            let shown = Shown::of(chosen.as_slice());
+            write_all(alloc, writer, selections, sheet, shown)
+        }
+        None => write_all(alloc, writer, selections, sheet, Shown::all()),
+    }
 }
 
 // Writes the records of the whole range, or of each period.
@@ -67,11 +136,30 @@ fn write_all(
     selections: &Selections,
     sheet: &Sheet<'_, '_, '_>,
     chosen: Shown<'_>,
-) -> Result<(), AllocError> {
-    if sheet.step.is_none() {
-        return write_selection(alloc, writer, &selections.whole, sheet, sheet.hours, chosen);
+) -> Result<(), AllocError>
+    ensures { OnOk result ((text : List ℕ) → HasWritten writer.old text
+        → WritesRecords writer.new text sheet.now (placed_rows sheet.now (is_chosen chosen.entry)
+        (parts_by sheet.now.step sheet.now.hours selections.now))) }
+{
+    match sheet.step {
+        Some(_) => write_parts(alloc, writer, selections.parts.as_slice(), sheet, chosen),
+        None => write_selection(alloc, writer, &selections.whole, sheet, sheet.hours, chosen),
     }
-    for part in &selections.parts {
+}
+
+// Writes the records of periods.
+fn write_parts(
+    alloc: Global,
+    writer: &mut Writer<Vec<u8>>,
+    parts: &[SelectedPart],
+    sheet: &Sheet<'_, '_, '_>,
+    chosen: Shown<'_>,
+) -> Result<(), AllocError>
+    ensures { OnOk result ((text : List ℕ) → HasWritten writer.old text
+        → WritesRecords writer.new text sheet.now
+        (placed_rows sheet.now (is_chosen chosen.entry) parts.now)) }
+{
+    for part in parts {
         write_selection(alloc, writer, &part.selection, sheet, part.period, chosen)?;
     }
     Ok(())
@@ -85,16 +173,27 @@ fn write_selection(
     sheet: &Sheet<'_, '_, '_>,
     hours: Period,
     chosen: Shown<'_>,
-) -> Result<(), AllocError> {
-    if sheet.keys.is_empty() {
-        let row = Row {
-            texts: Some(&[]),
-            costs: all_costs(selection)?,
-        };
-        return write_row(alloc, writer, sheet, hours, &row);
-    }
-    let rows = rows_of(alloc, selection, chosen)?;
-    for row in &rows {
+) -> Result<(), AllocError>
+    ensures { OnOk result ((text : List ℕ) → HasWritten writer.old text
+        → WritesRecords writer.new text sheet.now (placed hours
+        (rows_in sheet.now.keys.now (is_chosen chosen.entry) selection.now))) }
+{
+    let rows = rows_under(alloc, sheet.keys, selection, chosen)?;
+    write_rows(alloc, writer, sheet, hours, rows.as_slice())
+}
+
+// Writes the records of rows.
+fn write_rows(
+    alloc: Global,
+    writer: &mut Writer<Vec<u8>>,
+    sheet: &Sheet<'_, '_, '_>,
+    hours: Period,
+    rows: &[Row<'_>],
+) -> Result<(), AllocError>
+    ensures { OnOk result ((text : List ℕ) → HasWritten writer.old text
+        → WritesRecords writer.new text sheet.now (placed hours (map row_value rows.now))) }
+{
+    for row in rows {
         write_row(alloc, writer, sheet, hours, row)?;
     }
     Ok(())
@@ -107,28 +206,36 @@ fn write_row(
     sheet: &Sheet<'_, '_, '_>,
     hours: Period,
     row: &Row<'_>,
-) -> Result<(), AllocError> {
+) -> Result<(), AllocError>
+    ensures { OnOk result ((text : List ℕ) → HasWritten writer.old text
+        → WritesRecords writer.new text sheet.now (placed hours (row_value row.now ∷ []))) }
+{
     let from = hour_text(alloc, hours.from)?;
     let to = hour_text(alloc, hours.to)?;
-    let Costs { billed, effective } = row.costs;
-    let billed = fw_money::text(alloc, billed)?;
-    let effective = fw_money::text(alloc, effective)?;
-    let mut fields: Vec<&[u8]> = Vec::new(alloc);
-    if has_hours(sheet) {
-        fields.push(from.as_bytes())?;
-        fields.push(to.as_bytes())?;
-        fields.push(kind_of(row).as_bytes())?;
-    }
-    for place in 0..sheet.keys.len() {
-        fields.push(text_at(row, place).as_bytes())?;
-    }
-    fields.push(billed.as_bytes())?;
-    fields.push(effective.as_bytes())?;
+    let billed = fw_money::text(alloc, row.costs.billed)?;
+    let effective = fw_money::text(alloc, row.costs.effective)?;
+    let kind = kind_of(row);
+    let mut fields = front(alloc, has_hours(sheet), from.as_str(), to.as_str(), kind)?;
+    push_texts(&mut fields, sheet.keys.len(), row)?;
+    push_costs(&mut fields, billed.as_str(), effective.as_str())?;
     write_record(writer, fields.as_slice())
 }
 
+// Adds the texts of a row under so many keys.
+fn push_texts<'f>(fields: &mut Vec<&'f [u8]>, keys: usize, row: &Row<'f>) -> Result<(), AllocError>
+    ensures { OnOk result (map (λ f. f.now) fields.new.items
+        ≡ map (λ f. f.now) fields.old.items ++ texts_under keys (row_value row.now).texts) }
+{
+    for place in 0..keys {
+        fields.push(text_at(row, place).as_bytes())?;
+    }
+    Ok(())
+}
+
 /// Whether a row is of a group or of others, for programs.
-pub(crate) fn kind_of(row: &Row<'_>) -> &'static str {
+pub(crate) fn kind_of(row: &Row<'_>) -> &'static str
+    ensures { result.now ≡ kind_word (row_value row.now).texts }
+{
     match row.texts {
         Some(_) => "group",
         None => "others",
@@ -136,7 +243,9 @@ pub(crate) fn kind_of(row: &Row<'_>) -> &'static str {
 }
 
 /// The text of a row under a key, for programs.
-pub(crate) fn text_at<'g>(row: &Row<'g>, place: usize) -> &'g str {
+pub(crate) fn text_at<'g>(row: &Row<'g>, place: usize) -> &'g str
+    ensures { result.now ≡ text_at (row_value row.now).texts place }
+{
     match row.texts {
         Some(texts) => match texts.get(place) {
             Some(text) => text.as_str(),
@@ -147,7 +256,10 @@ pub(crate) fn text_at<'g>(row: &Row<'g>, place: usize) -> &'g str {
 }
 
 // Writes a record.
-fn write_record(writer: &mut Writer<Vec<u8>>, fields: &[&[u8]]) -> Result<(), AllocError> {
+fn write_record(writer: &mut Writer<Vec<u8>>, fields: &[&[u8]]) -> Result<(), AllocError>
+    ensures { OnOk result ((text : List ℕ) → HasWritten writer.old text
+        → HasWritten writer.new (text ++ record_line (map (λ field. field.now) fields.now))) }
+{
     let Ok(()) = writer.write_fields(fields) else {
         return Err(AllocError);
     };

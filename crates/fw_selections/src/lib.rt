@@ -6,11 +6,13 @@
 mod csv_text;
 mod json;
 mod map_file;
+mod names;
 mod parts;
 mod rows;
 mod sheet;
 mod table;
 
 pub use map_file::{MapFault, MapField, NamedMap, is_same_source, map_of, read_maps, source_named};
+pub use names::shown_group;
 pub use parts::{SelectedPart, Selections, selections_of};
-pub use sheet::{KeyName, Sheet, SheetFormat, shown_group, written};
+pub use sheet::{KeyName, Sheet, SheetFormat, written};

@@ -1,7 +1,9 @@
 //! What is shown of a selection: a row for each group, or for the largest and one for all others.
-ghost use Rattle.std.specs.Prelude.{◌≡◌, IfOk, false, map, true};
-ghost use Rattle.fw_selections.specs.Shown.{AreLargest, AreRows, IsRanking, cost_of, costs_of, is_chosen, with};
+ghost use Rattle.std.specs.Prelude.{◌≡◌, ◌∷◌, [], IfOk, false, map, true};
+ghost use Rattle.fw_selections.specs.Shown.{AreLargest, AreRows, IsRanking, cost_of, costs_of, is_chosen, row_value, with};
+ghost use Rattle.fw_selections.specs.Written.{rows_in, whole_row};
 
+use crate::sheet::KeyName;
 use fw_select::{Group, Selection};
 use std::alloc::{AllocError, Global};
 use std::cmp::Reverse;
@@ -169,5 +171,34 @@ pub(crate) fn rows_of<'g>(
             costs: others,
         })?;
     }
+    Ok(rows)
+}
+
+/// The rows of a selection under keys: without keys there is one, with all costs.
+pub(crate) fn rows_under<'g>(
+    alloc: Global,
+    keys: &[KeyName<'_>],
+    selection: &'g Selection,
+    chosen: Shown<'_>,
+) -> Result<Vec<Row<'g>>, AllocError>
+    ensures { IfOk result (λ rows. map row_value rows.items
+        ≡ rows_in keys.now (is_chosen chosen.entry) selection.now) }
+{
+    if keys.is_empty() {
+        return whole_rows(alloc, selection);
+    }
+    rows_of(alloc, selection, chosen)
+}
+
+// One row with all costs.
+fn whole_rows<'g>(alloc: Global, selection: &'g Selection) -> Result<Vec<Row<'g>>, AllocError>
+    ensures { IfOk result (λ rows. map row_value rows.items ≡ whole_row selection.now ∷ []) }
+{
+    let costs = all_costs(selection)?;
+    let mut rows = Vec::new(alloc);
+    rows.push(Row {
+        texts: Some(&[]),
+        costs,
+    })?;
     Ok(rows)
 }

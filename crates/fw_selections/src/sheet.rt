@@ -1,4 +1,11 @@
 //! How selections are written.
+ghost use Rattle.std.specs.Prelude.{◌≡◌, IfOk};
+ghost use Rattle.fw_selections.specs.CsvText.{IsCsvText};
+ghost use Rattle.fw_selections.specs.JsonText.{IsJsonText};
+ghost use Rattle.fw_selections.specs.TableText.{key_text};
+ghost use Rattle.fw_selections.specs.declared.sheet.SheetFormat.TheVariants.{Csv, Json, Table};
+ghost use Rattle.fw_table.specs.Shown.{AreShownLines};
+
 use crate::csv_text::csv_text;
 use crate::json::json_text;
 use crate::parts::Selections;
@@ -20,7 +27,9 @@ pub struct KeyName<'n> {
 
 impl<'n> KeyName<'n> {
     // What people see of a text of the key.
-    pub(crate) fn shown<'t>(&self, text: &'t str) -> &'t str {
+    pub(crate) fn shown<'t>(&self, text: &'t str) -> &'t str
+        ensures { result.now ≡ key_text self.now.is_tag text.now }
+    {
         if !text.is_empty() {
             text
         } else if self.is_tag {
@@ -29,28 +38,6 @@ impl<'n> KeyName<'n> {
             "(none)"
         }
     }
-}
-
-/// The name of a group as one text: what people see of each of its texts, with ` / ` between them. A text that has ` / ` in it, or begins with a
-/// quote or a parenthesis, stands in quotes, so that no two groups have one name. The one error is that memory ran out.
-pub fn shown_group(
-    alloc: Global,
-    keys: &[KeyName<'_>],
-    texts: &[String],
-) -> Result<String, AllocError> {
-    let mut name = String::new(alloc);
-    for (key, text) in keys.iter().zip(texts) {
-        if !name.is_empty() {
-            name.push_str(" / ")?;
-        }
-        let text = text.as_str();
-        if text.contains(" / ") || text.starts_with('"') || text.starts_with('(') {
-            write!(name, "{text:?}")?;
-        } else {
-            name.push_str(key.shown(text))?;
-        }
-    }
-    Ok(name)
 }
 
 /// How selections are written.
@@ -85,10 +72,22 @@ pub fn written(
     selections: &Selections,
     sheet: &Sheet<'_, '_, '_>,
     format: SheetFormat,
-) -> Result<Vec<u8>, AllocError> {
+) -> Result<Vec<u8>, AllocError>
+    ensures table { format ≡ Table → IfOk result (λ text. AreShownLines text.items) }
+    ensures csv { format ≡ Csv
+        → IfOk result (λ text. IsCsvText selections.now sheet.now text.items) }
+    ensures json { format ≡ Json
+        → IfOk result (λ text. IsJsonText selections.now sheet.now text.items) }
+{
     match format {
-        SheetFormat::Table => Ok(table_of(alloc, selections, sheet)?.into_bytes()),
+        SheetFormat::Table => {
+            let text = table_of(alloc, selections, sheet)?;
+            Ok(text.into_bytes())
+        }
         SheetFormat::Csv => csv_text(alloc, selections, sheet),
-        SheetFormat::Json => Ok(json_text(alloc, selections, sheet)?.into_bytes()),
+        SheetFormat::Json => {
+            let text = json_text(alloc, selections, sheet)?;
+            Ok(text.into_bytes())
+        }
     }
 }

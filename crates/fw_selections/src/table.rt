@@ -1,151 +1,283 @@
 //! Selections as tables.
-use crate::parts::Selections;
-use crate::rows::{Costs, Row, Shown, all_costs, largest, rows_of};
-use crate::sheet::{OTHERS, Sheet};
-use fw_calendar::Step;
+ghost use Rattle.std.specs.Prelude.{◌≡◌, ◌++◌, ◌∷◌, [], IfOk, OnOk, codes, if◌then◌else◌, map, replicate, string_bytes};
+ghost use Rattle.std.specs.Option.{is_some};
+ghost use Rattle.fw_selections.specs.Lines.{AddsCosts, AddsPart, AddsParts, AddsRows, AddsShown};
+ghost use Rattle.fw_selections.specs.Shown.{costs_of, is_chosen, row_value};
+ghost use Rattle.fw_selections.specs.TableText.{AreGroupLines, AreLines, ArePeriod, AreSums, IsRow, IsTotal, blanks, cells, heads, is_sums, line_value, shown_at, shown_under};
+ghost use Rattle.fw_selections.specs.Written.{parts_by};
+ghost use Rattle.fw_table.specs.Shown.{AreShownLines};
+
+use crate::parts::{SelectedPart, Selections};
+use crate::rows::{Costs, Row, Shown, all_costs, largest, rows_under};
+use crate::sheet::{KeyName, OTHERS, Sheet};
+use fw_calendar::{Period, Step};
 use fw_select::Selection;
 use fw_table::{Align, Line, cents_text, share_text, table_text};
 use std::alloc::{AllocError, Global};
 
 /// Selections as a table: a line for each group, of each period where there are periods, with its share of the EffectiveCost of the period, and a
-/// line with the sums of the whole range.
+/// line with the sums of the whole range. No text of it acts on a terminal.
 pub(crate) fn table_of(
     alloc: Global,
     selections: &Selections,
     sheet: &Sheet<'_, '_, '_>,
-) -> Result<String, AllocError> {
-    if sheet.keys.is_empty() && sheet.step.is_none() {
-        return sums_table(alloc, all_costs(&selections.whole)?);
-    }
-    let mut table = Vec::new(alloc);
-    table.push(head_line(alloc, sheet)?)?;
-    table.push(Line::Rule)?;
-    match sheet.top {
-        Some(count) => {
-            let chosen = largest(alloc, &selections.whole, count)?;
-            push_all(
-                alloc,
-                &mut table,
-                selections,
-                sheet,
-                Shown::of(chosen.as_slice()),
-            )?;
-        }
-        None => push_all(alloc, &mut table, selections, sheet, Shown::all())?,
-    }
-    table.push(Line::Rule)?;
-    table.push(total_line(alloc, sheet, &selections.whole)?)?;
-    table_text(alloc, aligns_of(alloc, sheet)?.as_slice(), table.as_slice())
+) -> Result<String, AllocError>
+    ensures { IfOk result (λ text. AreShownLines (string_bytes text)) }
+{
+    let lines = lines_of(alloc, selections, sheet)?;
+    let aligns = aligns_of(alloc, sheet)?;
+    table_text(alloc, aligns.as_slice(), lines.as_slice())
 }
 
-// The table of costs alone.
-fn sums_table(alloc: Global, all: Costs) -> Result<String, AllocError> {
-    let mut names = Vec::new(alloc);
-    names.push(String::from_str(alloc, "BilledCost")?)?;
-    names.push(String::from_str(alloc, "EffectiveCost")?)?;
-    let mut cells = Vec::new(alloc);
-    cells.push(cents_text(alloc, all.billed)?)?;
-    cells.push(cents_text(alloc, all.effective)?)?;
-    let mut table = Vec::new(alloc);
-    table.push(Line::Cells(names))?;
-    table.push(Line::Rule)?;
-    table.push(Line::Cells(cells))?;
-    table_text(alloc, &[Align::Right, Align::Right], table.as_slice())
+// Whether only sums are asked for.
+fn is_sums(sheet: &Sheet<'_, '_, '_>) -> bool
+    ensures { result ≡ is_sums sheet.now }
+{
+    sheet.keys.is_empty() && sheet.step.is_none()
 }
 
-// How many columns have texts: the period, and the keys.
-fn text_columns(sheet: &Sheet<'_, '_, '_>) -> usize {
-    let periods = if sheet.step.is_some() {
-        1_usize
-    } else {
-        0_usize
-    };
-    periods.saturating_add(sheet.keys.len())
+// Whether the range is cut.
+fn is_cut(sheet: &Sheet<'_, '_, '_>) -> bool
+    ensures { result ≡ is_some sheet.now.step }
+{
+    sheet.step.is_some()
 }
 
-// How the columns line up.
+// How the columns line up: those of texts, and those of amounts.
 fn aligns_of(alloc: Global, sheet: &Sheet<'_, '_, '_>) -> Result<Vec<Align>, AllocError> {
-    let mut aligns = vec![in alloc; Align::Left; text_columns(sheet)]?;
+    let mut aligns = Vec::new(alloc);
+    if is_cut(sheet) {
+        aligns.push(Align::Left)?;
+    }
+    for _key in sheet.keys {
+        aligns.push(Align::Left)?;
+    }
     aligns.push(Align::Right)?;
     aligns.push(Align::Right)?;
-    aligns.push(Align::Right)?;
+    if !is_sums(sheet) {
+        aligns.push(Align::Right)?;
+    }
     Ok(aligns)
 }
 
+// The lines of the table.
+fn lines_of(
+    alloc: Global,
+    selections: &Selections,
+    sheet: &Sheet<'_, '_, '_>,
+) -> Result<Vec<Line>, AllocError>
+    ensures { IfOk result (λ lines. AreLines (is_sums sheet.now) selections.now sheet.now
+        (map line_value lines.items)) }
+{
+    if is_sums(sheet) {
+        return sums_lines(alloc, &selections.whole);
+    }
+    group_lines(alloc, selections, sheet)
+}
+
+// The lines of costs alone.
+fn sums_lines(alloc: Global, selection: &Selection) -> Result<Vec<Line>, AllocError>
+    ensures { IfOk result (λ lines.
+        AreSums (costs_of selection.now) (map line_value lines.items)) }
+{
+    let all = all_costs(selection)?;
+    let billed = cents_text(alloc, all.billed)?;
+    let effective = cents_text(alloc, all.effective)?;
+    let mut lines = Vec::new(alloc);
+    lines.push(pair_line(alloc, "BilledCost", "EffectiveCost")?)?;
+    lines.push(Line::Rule)?;
+    lines.push(pair_line(alloc, billed.as_str(), effective.as_str())?)?;
+    Ok(lines)
+}
+
+// A line of two texts.
+fn pair_line(alloc: Global, first: &str, second: &str) -> Result<Line, AllocError>
+    ensures { IfOk result (λ line.
+        line_value line ≡ cells (first.now ∷ (second.now ∷ []))) }
+{
+    let mut texts = Vec::new(alloc);
+    push_text(alloc, &mut texts, first)?;
+    push_text(alloc, &mut texts, second)?;
+    Ok(Line::Cells(texts))
+}
+
+// The lines of groups.
+fn group_lines(
+    alloc: Global,
+    selections: &Selections,
+    sheet: &Sheet<'_, '_, '_>,
+) -> Result<Vec<Line>, AllocError>
+    ensures { IfOk result (λ lines.
+        AreGroupLines selections.now sheet.now (map line_value lines.items)) }
+{
+    let mut lines = Vec::new(alloc);
+    lines.push(head_line(alloc, sheet)?)?;
+    lines.push(Line::Rule)?;
+    push_shown(alloc, &mut lines, selections, sheet)?;
+    lines.push(Line::Rule)?;
+    lines.push(total_line(alloc, sheet, &selections.whole)?)?;
+    Ok(lines)
+}
+
 // The line of the names of the columns.
-fn head_line(alloc: Global, sheet: &Sheet<'_, '_, '_>) -> Result<Line, AllocError> {
-    let mut cells = Vec::new(alloc);
-    if sheet.step.is_some() {
-        cells.push(String::from_str(alloc, "Period")?)?;
+fn head_line(alloc: Global, sheet: &Sheet<'_, '_, '_>) -> Result<Line, AllocError>
+    ensures { IfOk result (λ line. line_value line ≡ cells (heads sheet.now)) }
+{
+    let mut texts = period_head(alloc, is_cut(sheet))?;
+    push_names(alloc, &mut texts, sheet.keys)?;
+    push_text(alloc, &mut texts, "BilledCost")?;
+    push_text(alloc, &mut texts, "EffectiveCost")?;
+    push_text(alloc, &mut texts, "Share")?;
+    Ok(Line::Cells(texts))
+}
+
+// The name of the column of periods, where there is one.
+fn period_head(alloc: Global, has: bool) -> Result<Vec<String>, AllocError>
+    ensures { IfOk result (λ texts. map string_bytes texts.items
+        ≡ (if has then codes "Period" ∷ [] else [])) }
+{
+    let mut texts = Vec::new(alloc);
+    if has {
+        push_text(alloc, &mut texts, "Period")?;
     }
-    for key in sheet.keys {
-        cells.push(String::from_str(alloc, key.name)?)?;
+    Ok(texts)
+}
+
+// Adds the names of keys.
+fn push_names(
+    alloc: Global,
+    texts: &mut Vec<String>,
+    keys: &[KeyName<'_>],
+) -> Result<(), AllocError>
+    ensures { OnOk result (map string_bytes texts.new.items
+        ≡ map string_bytes texts.old.items ++ map (λ key. key.name.now) keys.now) }
+{
+    for key in keys {
+        push_text(alloc, texts, key.name)?;
     }
-    for name in ["BilledCost", "EffectiveCost", "Share"].iter() {
-        cells.push(String::from_str(alloc, *name)?)?;
+    Ok(())
+}
+
+// Adds a text.
+fn push_text(alloc: Global, texts: &mut Vec<String>, text: &str) -> Result<(), AllocError>
+    ensures { OnOk result (map string_bytes texts.new.items
+        ≡ map string_bytes texts.old.items ++ text.now ∷ []) }
+{
+    texts.push(String::from_str(alloc, text)?)?;
+    Ok(())
+}
+
+// Adds the lines of all groups, or of the largest.
+fn push_shown(
+    alloc: Global,
+    lines: &mut Vec<Line>,
+    selections: &Selections,
+    sheet: &Sheet<'_, '_, '_>,
+) -> Result<(), AllocError>
+    ensures { OnOk result (AddsShown (map line_value lines.old.items)
+        (map line_value lines.new.items) selections.now sheet.now) }
+{
+    match sheet.top {
+        Some(count) => {
+            let chosen = largest(alloc, &selections.whole, count)?;
+            let shown = Shown::of(chosen.as_slice());
+            push_all(alloc, lines, selections, sheet, shown)
+        }
+        None => push_all(alloc, lines, selections, sheet, Shown::all()),
     }
-    Ok(Line::Cells(cells))
 }
 
 // Adds the lines of the whole range, or of each period.
 fn push_all(
     alloc: Global,
-    table: &mut Vec<Line>,
+    lines: &mut Vec<Line>,
     selections: &Selections,
     sheet: &Sheet<'_, '_, '_>,
     chosen: Shown<'_>,
-) -> Result<(), AllocError> {
-    let Some(step) = sheet.step else {
-        return push_lines(alloc, table, sheet, None, &selections.whole, chosen);
-    };
-    push_parts(alloc, table, selections, sheet, step, chosen)
+) -> Result<(), AllocError>
+    ensures { OnOk result (AddsParts (map line_value lines.old.items)
+        (map line_value lines.new.items) sheet.now (is_chosen chosen.entry)
+        (parts_by sheet.now.step sheet.now.hours selections.now)) }
+{
+    match sheet.step {
+        Some(_) => push_parts(alloc, lines, selections.parts.as_slice(), sheet, chosen),
+        None => {
+            push_part(alloc, lines, sheet.hours, &selections.whole, sheet, chosen)?;
+            Ok(())
+        }
+    }
 }
 
 // Adds the lines of each period.
 fn push_parts(
     alloc: Global,
-    table: &mut Vec<Line>,
-    selections: &Selections,
+    lines: &mut Vec<Line>,
+    parts: &[SelectedPart],
     sheet: &Sheet<'_, '_, '_>,
-    step: Step,
     chosen: Shown<'_>,
-) -> Result<(), AllocError> {
-    for part in &selections.parts {
-        let period = step.text(alloc, part.period.from)?;
-        push_lines(
-            alloc,
-            table,
-            sheet,
-            Some(period.as_str()),
-            &part.selection,
-            chosen,
-        )?;
+) -> Result<(), AllocError>
+    ensures { OnOk result (AddsParts (map line_value lines.old.items)
+        (map line_value lines.new.items) sheet.now (is_chosen chosen.entry) parts.now) }
+{
+    for part in parts {
+        push_part(alloc, lines, part.period, &part.selection, sheet, chosen)?;
     }
     Ok(())
 }
 
-// Adds the lines of a selection. Without keys there is one of each period, and none of the whole range, whose sums stand at the end.
-fn push_lines(
+// Adds the lines of a selection of these hours.
+fn push_part(
     alloc: Global,
-    table: &mut Vec<Line>,
-    sheet: &Sheet<'_, '_, '_>,
-    period: Option<&str>,
+    lines: &mut Vec<Line>,
+    hours: Period,
     selection: &Selection,
+    sheet: &Sheet<'_, '_, '_>,
     chosen: Shown<'_>,
-) -> Result<(), AllocError> {
+) -> Result<(), AllocError>
+    ensures { OnOk result (AddsPart (map line_value lines.old.items)
+        (map line_value lines.new.items) sheet.now (is_chosen chosen.entry)
+        (record { period = hours; selection = selection.now })) }
+{
     let all = all_costs(selection)?;
-    if sheet.keys.is_empty() {
-        if let Some(period) = period {
-            let mut cells = Vec::new(alloc);
-            cells.push(String::from_str(alloc, period)?)?;
-            push_costs(alloc, &mut cells, all, all)?;
-            table.push(Line::Cells(cells))?;
-        }
-        return Ok(());
+    let period = period_texts(alloc, sheet.step, hours)?;
+    let rows = rows_under(alloc, sheet.keys, selection, chosen)?;
+    push_rows(
+        alloc,
+        lines,
+        sheet.keys,
+        period.as_slice(),
+        all,
+        rows.as_slice(),
+    )?;
+    Ok(())
+}
+
+// The text of a period, where the range is cut.
+fn period_texts(alloc: Global, step: Option<Step>, hours: Period) -> Result<Vec<String>, AllocError>
+    ensures { IfOk result (λ texts. ArePeriod step hours (map string_bytes texts.items)) }
+{
+    let mut texts = Vec::new(alloc);
+    if let Some(step) = step {
+        texts.push(step.text(alloc, hours.from)?)?;
     }
-    let rows = rows_of(alloc, selection, chosen)?;
-    for row in &rows {
-        table.push(row_line(alloc, sheet, period, row, all)?)?;
+    Ok(texts)
+}
+
+// Adds the lines of rows.
+fn push_rows(
+    alloc: Global,
+    lines: &mut Vec<Line>,
+    keys: &[KeyName<'_>],
+    period: &[String],
+    all: Costs,
+    rows: &[Row<'_>],
+) -> Result<(), AllocError>
+    ensures { OnOk result (AddsRows (map line_value lines.old.items)
+        (map line_value lines.new.items) keys.now (map string_bytes period.now) all
+        (map row_value rows.now)) }
+{
+    for row in rows {
+        lines.push(row_line(alloc, keys, period, all, row)?)?;
     }
     Ok(())
 }
@@ -153,28 +285,56 @@ fn push_lines(
 // The line of a row.
 fn row_line(
     alloc: Global,
-    sheet: &Sheet<'_, '_, '_>,
-    period: Option<&str>,
-    row: &Row<'_>,
+    keys: &[KeyName<'_>],
+    period: &[String],
     all: Costs,
-) -> Result<Line, AllocError> {
-    let mut cells = Vec::new(alloc);
-    if let Some(period) = period {
-        cells.push(String::from_str(alloc, period)?)?;
-    }
-    for place in 0..sheet.keys.len() {
-        cells.push(String::from_str(alloc, shown_at(sheet, row, place))?)?;
-    }
-    push_costs(alloc, &mut cells, row.costs, all)?;
-    Ok(Line::Cells(cells))
+    row: &Row<'_>,
+) -> Result<Line, AllocError>
+    ensures { IfOk result (λ line. IsRow keys.now (map string_bytes period.now) all
+        (row_value row.now) (line_value line)) }
+{
+    let mut texts = copied(alloc, period)?;
+    push_shown_texts(alloc, &mut texts, keys, row)?;
+    push_costs(alloc, &mut texts, row.costs, all)?;
+    Ok(Line::Cells(texts))
 }
 
-// What people see of a row under a key.
-fn shown_at<'g>(sheet: &Sheet<'_, '_, '_>, row: &Row<'g>, place: usize) -> &'g str {
+// The same texts.
+fn copied(alloc: Global, texts: &[String]) -> Result<Vec<String>, AllocError>
+    ensures { IfOk result (λ copied.
+        map string_bytes copied.items ≡ map string_bytes texts.now) }
+{
+    let mut copied = Vec::new(alloc);
+    for text in texts {
+        push_text(alloc, &mut copied, text.as_str())?;
+    }
+    Ok(copied)
+}
+
+// Adds what people see of a row under keys.
+fn push_shown_texts(
+    alloc: Global,
+    texts: &mut Vec<String>,
+    keys: &[KeyName<'_>],
+    row: &Row<'_>,
+) -> Result<(), AllocError>
+    ensures { OnOk result (map string_bytes texts.new.items
+        ≡ map string_bytes texts.old.items ++ shown_under keys.now (row_value row.now).texts) }
+{
+    for place in 0..keys.len() {
+        push_text(alloc, texts, shown_at(keys, row, place))?;
+    }
+    Ok(())
+}
+
+// What people see of a row under the key at a place.
+fn shown_at<'g>(keys: &[KeyName<'_>], row: &Row<'g>, place: usize) -> &'g str
+    ensures { result.now ≡ shown_at keys.now (row_value row.now).texts place }
+{
     let Some(texts) = row.texts else {
         return if place == 0 { OTHERS } else { "" };
     };
-    match (texts.get(place), sheet.keys.get(place)) {
+    match (texts.get(place), keys.get(place)) {
         (Some(text), Some(key)) => key.shown(text.as_str()),
         _ => "",
     }
@@ -185,26 +345,54 @@ fn total_line(
     alloc: Global,
     sheet: &Sheet<'_, '_, '_>,
     selection: &Selection,
-) -> Result<Line, AllocError> {
+) -> Result<Line, AllocError>
+    ensures { IfOk result (λ line. IsTotal sheet.now selection.now (line_value line)) }
+{
     let all = all_costs(selection)?;
-    let mut cells = Vec::new(alloc);
-    cells.push(String::from_str(alloc, "Total")?)?;
-    for _column in 1..text_columns(sheet) {
-        cells.push(String::new(alloc))?;
+    let mut texts = Vec::new(alloc);
+    push_text(alloc, &mut texts, "Total")?;
+    push_blanks(alloc, &mut texts, blanks_of(sheet))?;
+    push_costs(alloc, &mut texts, all, all)?;
+    Ok(Line::Cells(texts))
+}
+
+// How many columns of texts stand behind the first.
+fn blanks_of(sheet: &Sheet<'_, '_, '_>) -> usize
+    ensures { result ≡ blanks sheet.now }
+{
+    if is_cut(sheet) {
+        sheet.keys.len()
+    } else {
+        sheet.keys.len().saturating_sub(1)
     }
-    push_costs(alloc, &mut cells, all, all)?;
-    Ok(Line::Cells(cells))
+}
+
+// Adds so many empty texts.
+fn push_blanks(alloc: Global, texts: &mut Vec<String>, count: usize) -> Result<(), AllocError>
+    ensures { OnOk result (map string_bytes texts.new.items
+        ≡ map string_bytes texts.old.items ++ replicate count []) }
+{
+    for _place in 0..count {
+        texts.push(String::new(alloc))?;
+    }
+    Ok(())
 }
 
 // Adds the texts of costs, and of their share of the EffectiveCost of all groups.
 fn push_costs(
     alloc: Global,
-    cells: &mut Vec<String>,
+    texts: &mut Vec<String>,
     costs: Costs,
     all: Costs,
-) -> Result<(), AllocError> {
-    cells.push(cents_text(alloc, costs.billed)?)?;
-    cells.push(cents_text(alloc, costs.effective)?)?;
-    cells.push(share_text(alloc, costs.effective, all.effective)?)?;
+) -> Result<(), AllocError>
+    ensures { OnOk result (AddsCosts (map string_bytes texts.old.items)
+        (map string_bytes texts.new.items) costs all) }
+{
+    let billed = cents_text(alloc, costs.billed)?;
+    let effective = cents_text(alloc, costs.effective)?;
+    let share = share_text(alloc, costs.effective, all.effective)?;
+    texts.push(billed)?;
+    texts.push(effective)?;
+    texts.push(share)?;
     Ok(())
 }

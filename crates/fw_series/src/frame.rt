@@ -29,7 +29,7 @@ p{margin:.25rem 0}
 .legend i{flex:none;width:.8rem;height:.8rem;border-radius:2px}
 svg{display:block;width:100%;height:16rem}
 .zero{fill:none;stroke:#8592a3;stroke-width:1;vector-effect:non-scaling-stroke}
-.bars{display:grid;grid-template-columns:minmax(4rem,auto) 1fr auto;gap:.35rem .8rem;align-items:center;margin-top:1rem}
+.bars{display:grid;grid-template-columns:fit-content(45%) minmax(4rem,1fr) auto;gap:.35rem .8rem;align-items:center;margin-top:1rem}
 .bars>span{min-width:0;overflow-wrap:anywhere}
 .bar i{display:block;height:1.1rem;min-width:1px;border-radius:2px}
 .number{text-align:right;font-variant-numeric:tabular-nums}
@@ -38,8 +38,8 @@ table{width:100%;border-collapse:collapse;font-variant-numeric:tabular-nums}
 th,td{padding:.3rem .6rem;border-bottom:1px solid #e3e8ee;text-align:right;white-space:nowrap}
 th{font-weight:600}
 tbody th{font-weight:400}
-th:first-child,td:first-child{padding-left:0;text-align:left}
-.text{text-align:left}
+th:first-child,td:first-child{padding-left:0}
+th:first-child,td:first-child,.text{min-width:8rem;text-align:left;white-space:normal;overflow-wrap:anywhere}
 tfoot th,tfoot td{border-top:2px solid #8592a3;border-bottom:0;font-weight:600}
 .c0{fill:#4e79a7;background:#4e79a7}
 .c1{fill:#f28e2b;background:#f28e2b}

@@ -142,14 +142,14 @@ fn push_periods(
     push_markup(page, cost)?;
     push_markup(
         page,
-        " by period</h2>\n<div class=\"wide\"><table>\n<thead><tr><th>Period</th>",
+        " by period</h2>\n<div class=\"wide\" tabindex=\"0\"><table aria-label=\"Costs by period\">\n<thead><tr><th scope=\"col\">Period</th>",
     )?;
     for line in drawn {
-        push_markup(page, "<th>")?;
+        push_markup(page, "<th scope=\"col\">")?;
         push_shown(alloc, page, name_of(line))?;
         push_markup(page, "</th>")?;
     }
-    push_markup(page, "<th>Total</th></tr></thead>\n<tbody>\n")?;
+    push_markup(page, "<th scope=\"col\">Total</th></tr></thead>\n<tbody>\n")?;
     for part in &series.parts {
         push_period(alloc, page, part, step, drawn, colours)?;
     }
@@ -167,9 +167,9 @@ fn push_period(
 ) -> Result<(), AllocError> {
     let own = lines_of(alloc, &part.report, Some(colours))?;
     let period = step.text(alloc, part.period.from)?;
-    push_markup(page, "<tr><td>")?;
+    push_markup(page, "<tr><th scope=\"row\">")?;
     push_markup(page, period.as_str())?;
-    push_markup(page, "</td>")?;
+    push_markup(page, "</th>")?;
     for line in drawn {
         match same_line(own.as_slice(), line) {
             Some(charged) => push_amount(alloc, page, charged)?,
@@ -209,21 +209,23 @@ fn push_groups(
     let sums = sums_in(report)?;
     push_markup(
         page,
-        "<h2>Costs of the whole range</h2>\n<div class=\"wide\"><table>\n<thead><tr><th>Group</th><th>BilledCost</th>",
+        "<h2>Costs of the whole range</h2>\n<div class=\"wide\" tabindex=\"0\"><table aria-label=\"Costs of the whole range\">\n",
     )?;
-    push_markup(page, "<th>EffectiveCost</th>")?;
+    push_markup(page, "<thead><tr><th scope=\"col\">Group</th>")?;
+    push_markup(page, "<th scope=\"col\">BilledCost</th>")?;
+    push_markup(page, "<th scope=\"col\">EffectiveCost</th>")?;
     if face.has_charges() {
-        push_markup(page, "<th>ChargedCost</th>")?;
+        push_markup(page, "<th scope=\"col\">ChargedCost</th>")?;
     }
-    push_markup(page, "<th>Share</th></tr></thead>\n<tbody>\n")?;
+    push_markup(page, "<th scope=\"col\">Share</th></tr></thead>\n<tbody>\n")?;
     let lines = lines_of(alloc, report, names)?;
     for line in &lines {
-        push_markup(page, "<tr><td>")?;
+        push_markup(page, "<tr><th scope=\"row\">")?;
         push_shown(alloc, page, name_of(line))?;
-        push_markup(page, "</td>")?;
+        push_markup(page, "</th>")?;
         push_costs(alloc, page, face, &line.costs, &sums)?;
     }
-    push_markup(page, "</tbody>\n<tfoot><tr><td>Total</td>")?;
+    push_markup(page, "</tbody>\n<tfoot><tr><th scope=\"row\">Total</th>")?;
     push_costs(alloc, page, face, &sums, &sums)?;
     push_markup(page, "</tfoot>\n</table></div>\n")
 }

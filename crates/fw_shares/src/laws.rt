@@ -9,5 +9,6 @@ pub fn counts_are_one()
 
 /// At most one list is the shares of a total over weights, so [`share`](crate::share) has one answer.
 pub fn shares_are_one()
-    ensures { (total : ℤ) (ws s t : List ℤ) → IsSharesOf total ws s → IsSharesOf total ws t → s ≡ t }
+    ensures { (total : ℤ) (ws s t : List ℤ) → IsSharesOf total ws s → IsSharesOf total ws t
+        → s ≡ t }
 {}

@@ -1,5 +1,5 @@
 -- What an accepted entry does to the commitments: one more stands behind them, or one has a purchase more.
-use Rattle.std.proofs.Common.{◌≡◌, ◌||◌, ◌∙◌, ◌++◌, ◌∷◌, List, [], Bool, true, false, ℕ, Option, Some, None, if◌then◌else◌, map, refl, sym, ap, subst}
+use Rattle.std.proofs.Common.{◌≡◌, ◌||◌, ◌∙◌, ◌++◌, ◌∷◌, List, [], Bool, true, false, ℕ, Some, None, if◌then◌else◌, map, refl, sym, ap, subst}
 use Rattle.std.specs.List.{list_any, All}
 use Rattle.std.specs.Str.{bytes_eq}
 use Rattle.std.specs.Prelude.{◌&&◌, not}

@@ -1,5 +1,5 @@
 -- Rows of segments, one after the other.
-use Rattle.std.proofs.Common.{◌≡◌, ◌∙◌, ◌+◌, ◌-◌, ◌<◌, ◌≤◌, ◌++◌, ◌∷◌, ◌||◌, [], ℕ, zero, suc, List, Bool, true, false, Some, None, IfSome, if◌then◌else◌, length, take, drop, replicate, map, slice_get, nat_lt, nat_le, refl, sym, ap, subst, arith}
+use Rattle.std.proofs.Common.{◌≡◌, ◌∙◌, ◌+◌, ◌-◌, ◌<◌, ◌≤◌, ◌++◌, ◌∷◌, ◌||◌, [], ℕ, zero, suc, List, Bool, true, false, Some, None, IfSome, if◌then◌else◌, length, take, drop, replicate, slice_get, nat_lt, nat_le, refl, sym, ap, arith}
 use Rattle.std.specs.List.{list_all, list_any}
 use Rattle.std.proofs.lemmas.Bool.{and_parts, leb-true, ltb-true, ltb-false}
 use Rattle.std.proofs.Math.Seq.{take-add, take-append-add, drop-append-add}
@@ -46,38 +46,7 @@ rows_of_singles (r ∷ rows) = ap (λ rest. r ∷ rest) (rows_of_singles rows)
 pub length_singles : (rows : List Charge) → length (singles rows) ≡ length rows
 length_singles rows = length-map rows (λ r. r ∷ [])
 
--- ---- the row at a place
-
-in_first : {X : Type 0} (xs ys : List X) (p : ℕ) (x : X) → slice_get xs p ≡ Some x → slice_get (xs ++ ys) p ≡ Some x
-in_first [] ys p x there = absurd cc
-in_first (y ∷ xs) ys zero x there = there
-in_first (y ∷ xs) ys (suc p) x there = in_first xs ys p x there
-
-in_second : {X : Type 0} (xs ys : List X) (p : ℕ) → slice_get (xs ++ ys) (length xs + p) ≡ slice_get ys p
-in_second [] ys p = ap (slice_get ys) (omega arith)
-in_second (x ∷ xs) ys p =
-    let next : length (x ∷ xs) + p ≡ suc (length xs + p) = omega arith in
-    ap (slice_get (x ∷ (xs ++ ys))) next ∙ in_second xs ys p
-
--- what is behind the first elements of a list
-pub get_behind : {X : Type 0} (n : ℕ) (xs : List X) (i : ℕ) → slice_get (drop n xs) i ≡ slice_get xs (n + i)
-get_behind zero xs i = ap (slice_get xs) (omega arith)
-get_behind (suc n) [] i = refl
-get_behind (suc n) (x ∷ xs) i =
-    let next : suc n + i ≡ suc (n + i) = omega arith in
-    get_behind n xs i ∙ sym (ap (slice_get (x ∷ xs)) next)
-
-pub row_there : (segments : List (List Charge)) (i p : ℕ) (s : List Charge) (r : Charge) → slice_get segments i ≡ Some s → slice_get s p ≡ Some r → slice_get (segment_rows segments) (length (segment_rows (take i segments)) + p) ≡ Some r
-row_there [] i p s r at there = absurd cc
-row_there (t ∷ ts) zero p s r at there =
-    let same : t ≡ s = cc in
-    let none : length (segment_rows (take zero (t ∷ ts))) + p ≡ p = omega arith in
-    ap (slice_get (t ++ segment_rows ts)) none ∙ in_first t (segment_rows ts) p r (rw same there)
-row_there (t ∷ ts) (suc i) p s r at there =
-    let before = length (segment_rows (take i ts)) in
-    let both = length-append t (segment_rows (take i ts)) in
-    let past : length (segment_rows (take (suc i) (t ∷ ts))) + p ≡ length t + (before + p) = omega (arith, both) in
-    ap (slice_get (t ++ segment_rows ts)) past ∙ in_second t (segment_rows ts) (before + p) ∙ row_there ts i p s r at there
+-- ---- the segment of a place
 
 -- the rows before a segment, and with it
 pub after_segment : (segments : List (List Charge)) (i : ℕ) (s : List Charge) → slice_get segments i ≡ Some s → length (segment_rows (take (i + 1) segments)) ≡ length (segment_rows (take i segments)) + length s

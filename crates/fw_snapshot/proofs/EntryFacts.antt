@@ -1,13 +1,12 @@
 -- What lists of entries come to with one more at their end.
-use Rattle.std.proofs.Common.{◌≡◌, ◌+◌, ◌≤◌, ◌||◌, ◌&&◌, ◌<◌, ℕ, zero, suc, List, [], ◌∷◌, ◌++◌, Option, Some, None, Bool, true, false, cond, if◌then◌else◌, length, filter, map, take, get_or, nat_lt, nat_le, refl, sym, ap, ◌∙◌, arith, Bor, IfOk}
+use Rattle.std.proofs.Common.{◌≡◌, ◌+◌, ◌≤◌, ◌||◌, ◌<◌, ℕ, zero, suc, List, [], ◌∷◌, ◌++◌, Option, Some, None, Bool, true, false, cond, if◌then◌else◌, length, filter, map, get_or, nat_lt, refl, sym, ap, ◌∙◌, arith, Bor, IfOk}
 use Rattle.std.specs.List.{list_any}
-use Rattle.std.specs.Option.{option_copied, option_map, option_map_or, option_to_list}
+use Rattle.std.specs.Option.{option_copied, option_map, option_to_list}
 use Rattle.std.specs.Str.{bytes_eq}
 use Rattle.std.specs.declared.result.Result.{Result}
-use Rattle.std.proofs.Math.Bool.{or-false}
 use Rattle.std.proofs.lemmas.Bool.Decides.{nat_tests}
 use Rattle.std.proofs.lemmas.Result.{IfOk-weaker}
-use Rattle.std.proofs.lemmas.List.{flat_map_more, get_or-map, length-append, length-map, take_more}
+use Rattle.std.proofs.lemmas.List.{flat_map_more, get_or-map, length-append, length-map}
 use Rattle.std.proofs.lemmas.List.Elements.{filter-append}
 use Rattle.std.proofs.lemmas.List.Folds.{list_any-append}
 use Rattle.std.proofs.lemmas.List.Sums.{fold-append}
@@ -88,36 +87,10 @@ pub posts_in_use : (id : List ℕ) (es : List EntryValue) → nat_lt 0 (posts_wi
 unfolding posts_with
 posts_in_use id es = some_pass (λ e. carries id (posted e.command)) es ∙ posts_carry id es
 
--- one row more carries its own id
-pub carries_more : (id : List ℕ) (rows : List Charge) (i : ℕ) (row : Charge) → i < length rows → get_or rows i row ≡ row → carries id (take (i + 1) rows) ≡ (carries id (take i rows) || has_id id row)
-unfolding carries
-carries_more id rows i row within read =
-    let step : take (i + 1) rows ≡ take i rows ++ row ∷ [] = take_more rows i row within ∙ ap (λ r. take i rows ++ r ∷ []) read in
-    ap (list_any (has_id id)) step
-    ∙ list_any-append (has_id id) (take i rows) (row ∷ [])
-    ∙ ap (λ b. list_any (has_id id) (take i rows) || b) (or-false (has_id id row))
-
--- how often ids are counted before the first row of a post, and after one row more
+-- how often ids are counted before the first row of a post
 pub counts_first : (start after : Counts) → after ≡ start → (id : List ℕ) → count_of id after ≡ count_of id start + (if carries id [] then 1 else 0)
 unfolding carries
 counts_first start after same id = ap (count_of id) same ∙ omega arith
-
-counted_once : (start before after : ℕ) (seen has : Bool) → before ≡ start + (if seen then 1 else 0) → after ≡ before + (if has && nat_le before start then 1 else 0) → after ≡ start + (if seen || has then 1 else 0)
-counted_once start before after true true so_far step = grind (arith, nat_tests)
-counted_once start before after true false so_far step = omega (arith, so_far, step)
-counted_once start before after false true so_far step = grind (arith, nat_tests)
-counted_once start before after false false so_far step = omega (arith, so_far, step)
-
-pub counts_next : (start before after : Counts) (rows : List Charge) (i : ℕ) (row : Charge) → i < length rows → row ≡ get_or rows i row → ((id : List ℕ) → count_of id before ≡ count_of id start + (if carries id (take i rows) then 1 else 0)) → ((id : List ℕ) → count_of id after ≡ count_of id before + (if has_id id row && nat_le (count_of id before) (count_of id start) then 1 else 0)) → (id : List ℕ) → count_of id after ≡ count_of id start + (if carries id (take (i + 1) rows) then 1 else 0)
-counts_next start before after rows i row within read so_far step id =
-    counted_once (count_of id start) (count_of id before) (count_of id after) (carries id (take i rows)) (has_id id row) (so_far id) (step id)
-    ∙ ap (λ b. count_of id start + (if b then 1 else 0)) (sym (carries_more id rows i row within (sym read)))
-
--- a row that has no id is counted for none
-pub counts_stay : (start before after : Counts) (rows : List Charge) (i : ℕ) (row : Charge) → i < length rows → row ≡ get_or rows i row → ((id : List ℕ) → count_of id before ≡ count_of id start + (if carries id (take i rows) then 1 else 0)) → after ≡ before → ((id : List ℕ) → has_id id row ≡ false) → (id : List ℕ) → count_of id after ≡ count_of id start + (if carries id (take (i + 1) rows) then 1 else 0)
-counts_stay start before after rows i row within read so_far same none =
-    counts_next start before after rows i row within read so_far
-    (λ id. let kept = ap (count_of id) same in let without = ap {B = ℕ} (λ b. if b && nat_le (count_of id before) (count_of id start) then 1 else 0) (none id) in omega (arith, kept, without))
 
 -- ---- rows that are passed over by the codes of their discounts
 
@@ -141,12 +114,6 @@ passed_over names rows codes i e are within none =
     let code : get_or codes i e ≡ text_code names (option_map (λ d. d.id) (get_or rows i found.0).discount) =
     ap (λ xs. get_or xs i e) are ∙ get_or-map (λ (c : Charge). text_code names (option_map (λ d. d.id) c.discount)) rows i found.0 e within in
     (found.0, (found.1, ap (λ (c : Charge). c.discount) (sym found.1) ∙ none_coded names (get_or rows i found.0).discount (sym code ∙ none)))
-
-pub counts_pass : (start before after : Counts) (names : List Text) (rows : List Charge) (codes : List ℕ) (i e : ℕ) → codes ≡ map (λ c. text_code names (option_map (λ d. d.id) c.discount)) rows → i < length rows → get_or codes i e ≡ 0 → ((id : List ℕ) → count_of id before ≡ count_of id start + (if carries id (take i rows) then 1 else 0)) → after ≡ before → (id : List ℕ) → count_of id after ≡ count_of id start + (if carries id (take (i + 1) rows) then 1 else 0)
-counts_pass start before after names rows codes i e are within none so_far same =
-    let over = passed_over names rows codes i e are within none in
-    counts_stay start before after rows i over.0 within (sym over.1.0) so_far same
-    (λ id. ap (λ (d : Option DiscountText). option_map_or (λ x. bytes_eq id x.id) d false) over.1.1)
 
 -- how many of one commitment, or of none, have an id
 pub commitments_with_option : (id : List ℕ) (more : Option (Bor CommitmentValue)) (c : Bor CommitmentValue) → more ≡ Some c → commitments_with id (option_to_list (option_copied more)) ≡ (if bytes_eq id c.now.id then 1 else 0)

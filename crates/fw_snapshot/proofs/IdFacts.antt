@@ -1,5 +1,5 @@
 -- The ids of a legal list: no two commitments have the same, and no row carries one of them.
-use Rattle.std.proofs.Common.{◌≡◌, ◌≢◌, ◌||◌, ◌∙◌, ℕ, zero, suc, List, [], ◌∷◌, ◌++◌, Option, Some, None, Bool, true, false, cond, filter, map, slice_get, refl, sym, ap}
+use Rattle.std.proofs.Common.{◌≡◌, ◌||◌, ◌∙◌, ℕ, zero, suc, List, [], ◌∷◌, ◌++◌, Option, Some, None, Bool, true, false, cond, filter, map, slice_get, refl, sym, ap}
 use Rattle.std.specs.Bool.{⊤}
 use Rattle.std.specs.Option.{option_map_or}
 use Rattle.std.specs.List.{list_any}
@@ -20,7 +20,7 @@ use Rattle.fw_snapshot.specs.Judging.{judged, IsLegal, has_id, carries, is_regis
 use Rattle.fw_snapshot.specs.declared.verdict.Verdict.TheVariants as verdict
 use Rattle.fw_snapshot.proofs.EntryFacts.{committed_of_more}
 use Rattle.fw_snapshot.proofs.CountingFacts.{none_more}
-use Rattle.fw_snapshot.proofs.AddedFacts.{registered_same, carries_same, same_ids}
+use Rattle.fw_snapshot.proofs.AddedFacts.{carries_same, same_ids}
 use Rattle.fw_snapshot.proofs.LegalFacts.{accepted_command, legal_kept, new_id, unused_id, no_registered_id}
 
 -- tests of texts and of lists

@@ -18,5 +18,6 @@ pub mod OnePostFacts
 pub mod MergedState
 pub mod JoinedFacts
 pub mod BuildingFacts
+pub mod RunFacts
 pub mod BuilderFacts
 pub mod AddingToBuilder

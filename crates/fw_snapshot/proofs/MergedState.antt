@@ -1,11 +1,8 @@
 -- A state keeps what it keeps when its rows are cut into segments in another way.
-use Rattle.std.proofs.Common.{◌≡◌, ◌∙◌, ◌≤◌, List, length, sym, ap, subst, All, arith}
-use Rattle.fw_charge.specs.Charge.{Charge}
+use Rattle.std.proofs.Common.{◌≡◌, ◌∙◌, length, sym, ap, subst, All}
 use Rattle.fw_entry.specs.Spelling.{IsEntry}
-use Rattle.fw_persistent.specs.Counts.{count_of}
 use Rattle.fw_posted.specs.Rows.{segment_rows}
-use Rattle.fw_snapshot.specs.Heads.{entries_of, row_counts}
-use Rattle.fw_snapshot.specs.Held.{held_commitments, held_policy}
+use Rattle.fw_snapshot.specs.Heads.{entries_of}
 use Rattle.fw_posted.specs.Posted.{PostedValue}
 use Rattle.fw_snapshot.specs.History.{committed_of, commitments_of, policy_of}
 use Rattle.fw_snapshot.specs.Posts.{counts_of, spans_from}

@@ -1,25 +1,22 @@
 -- The post that an entry withdraws, found by the spans of its sender.
-use Rattle.std.proofs.Common.{◌≡◌, ◌+◌, ◌-◌, ◌≤◌, ◌<◌, ◌++◌, ◌∷◌, ℕ, zero, suc, List, [], Option, Some, None, Bool, true, false, if◌then◌else◌, length, take, drop, nat_lt, slice_get, refl, sym, ap, subst, ◌∙◌, arith, All, IfSome}
-use Rattle.std.specs.Prelude.{not, replicate, is_some}
+use Rattle.std.proofs.Common.{◌≡◌, ◌+◌, ◌-◌, ◌≤◌, ◌<◌, ◌++◌, ◌∷◌, ℕ, zero, suc, List, [], Option, Some, None, true, false, if◌then◌else◌, length, take, drop, nat_lt, slice_get, refl, sym, ap, subst, ◌∙◌, arith, All, IfSome}
+use Rattle.std.specs.Prelude.{replicate, is_some}
 use Rattle.std.proofs.lemmas.Bool.{ltb-true, lt-ltb}
 use Rattle.std.proofs.lemmas.List.Elements.{All-get_or}
 use Rattle.std.proofs.lemmas.Option.{slice_get_within, get_or_from_slice_get}
-use Rattle.std.proofs.lemmas.List.{append-nil}
-use Rattle.fw_charge.specs.Charge.{Charge, most_post_rows}
+use Rattle.fw_charge.specs.Charge.{most_post_rows}
 use Rattle.fw_entry.specs.Entry.{CommandValue, EntryValue}
 use Rattle.fw_entry.specs.Entry.CommandValue.{post, commit, set_policy, withdraw, add_purchase}
 use Rattle.fw_entry.specs.Spelling.{IsEntry, IsCommand}
-use Rattle.fw_posted.specs.Marks.{without}
 use Rattle.fw_snapshot.specs.History.{posted, is_withdrawn, rows_posted, withdraws}
 use Rattle.fw_snapshot.specs.Judging.{judged, IsLegal, carries, has_post, command_conflict}
 use Rattle.fw_snapshot.specs.Posts.{posted_len, spans_from, with_rows, span_in, target_of, named_in, counts_after, times_named, counts_of, IsSpanOf, IsNamed}
 use Rattle.fw_snapshot.specs.Uses.{withdrawn_with}
 use Rattle.fw_snapshot.specs.declared.posts.Span.{Span}
-use Rattle.fw_snapshot.specs.declared.verdict.Conflict.{Conflict}
 use Rattle.fw_snapshot.specs.declared.verdict.Verdict.TheVariants as verdict
 use Rattle.fw_snapshot.proofs.LegalFacts.{accepted_command}
 use Rattle.fw_snapshot.proofs.SpanFacts.{span_given, span_rows, span_within, is_span, no_post_zero, post_there}
-use Rattle.fw_snapshot.proofs.WithdrawnFacts.{withdrawn_is_post, withdraws_post, counts_posted, counts_withdrawn, counts_whole, stays_at, withdrawn_with_more, withdrawn_with_one}
+use Rattle.fw_snapshot.proofs.WithdrawnFacts.{withdrawn_is_post, withdraws_post, counts_posted, counts_withdrawn, counts_whole, withdrawn_with_more, withdrawn_with_one}
 
 -- ---- the span of a post is the one that is found
 

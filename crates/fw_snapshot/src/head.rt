@@ -52,7 +52,8 @@ impl Content {
 
     /// The commitment, if it is one.
     pub(crate) fn commitment(&self) -> Option<&Commitment>
-        ensures { option_to_list (option_copied result) ≡ committed (command_of (content_view self.now) []) }
+        ensures { option_to_list (option_copied result)
+            ≡ committed (command_of (content_view self.now) []) }
     {
         match self {
             Content::Commit(commitment) => Some(commitment),
@@ -107,7 +108,11 @@ impl Model for Head {
 impl Head {
     /// The head of an entry of this origin and number.
     pub(crate) fn new(origin: Arc<String>, seq: u64, content: Content) -> Head
-        ensures { result ≡ record { origin = string_bytes origin.value; seq = seq; content = content_view content } }
+        ensures { result ≡ record {
+          origin = string_bytes origin.value;
+          seq = seq;
+          content = content_view content;
+        } }
     {
         Head {
             origin,

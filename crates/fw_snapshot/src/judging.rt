@@ -36,7 +36,8 @@ pub fn judge(state: &State, entry: &Entry) -> Verdict
 /// The verdict on an entry by its number alone, where so many of its origin were accepted: `None` where it is the next one.
 #[tactic(auto, using(std::proofs::lemmas::Bool::Decides::nat_tests))]
 pub(crate) fn out_of_turn(last: u64, seq: u64) -> Option<Verdict>
-    ensures { result ≡ (if nat_le seq last then Some (verdict.Already last) else (if nat_lt (last + 1) seq then Some (verdict.Gap (last + 1)) else None)) }
+    ensures { result ≡ (if nat_le seq last then Some (verdict.Already last) else
+        (if nat_lt (last + 1) seq then Some (verdict.Gap (last + 1)) else None)) }
 {
     if seq <= last {
         return Some(Verdict::Already { last });
@@ -81,7 +82,8 @@ fn command_conflict(state: &State, origin: &str, command: &Command) -> Option<Co
 #[tactic(auto, using(std::proofs::lemmas::Bool::Decides::nat_tests))]
 pub(crate) fn rows_conflict(posted: usize, more: usize, own: bool) -> Option<Conflict>
     requires { posted ≤ most_rows }
-    ensures { result ≡ (if nat_lt most_rows (posted + more) then Some conflict.Full else (if own then Some conflict.OwnCommitment else None)) }
+    ensures { result ≡ (if nat_lt most_rows (posted + more) then Some conflict.Full else
+        (if own then Some conflict.OwnCommitment else None)) }
 {
     if more > MOST_ROWS - posted {
         return Some(Conflict::Full);
@@ -99,7 +101,10 @@ pub(crate) fn commitment_conflict(
     carried: bool,
     commitments: usize,
 ) -> Option<Conflict>
-    ensures { result ≡ (if registered then Some conflict.DoubleId else (if carried then Some conflict.IdInUse else (if nat_le most_commitments commitments then Some conflict.TooManyCommitments else None))) }
+    ensures { result ≡ (if registered then Some conflict.DoubleId else
+        (if carried then Some conflict.IdInUse
+        else (if nat_le most_commitments commitments then Some conflict.TooManyCommitments
+        else None))) }
 {
     if registered {
         return Some(Conflict::DoubleId);
@@ -115,7 +120,9 @@ pub(crate) fn commitment_conflict(
 
 /// Why a post can't be withdrawn, if it can't: its sender has none of the number, or has withdrawn it.
 pub(crate) fn withdrawal_conflict(has_post: bool, withdrawn: bool) -> Option<Conflict>
-    ensures { result ≡ (if has_post then (if withdrawn then Some conflict.Withdrawn else None) else Some conflict.NoSuchPost) }
+    ensures { result
+        ≡ (if has_post
+        then (if withdrawn then Some conflict.Withdrawn else None) else Some conflict.NoSuchPost) }
 {
     if !has_post {
         return Some(Conflict::NoSuchPost);
@@ -128,7 +135,8 @@ pub(crate) fn withdrawal_conflict(has_post: bool, withdrawn: bool) -> Option<Con
 
 /// Why a purchase can't be added, if it can't: there is a commitment of its id or there is none, and this one can have it too or can't.
 pub(crate) fn purchase_conflict(registered: bool, refused: bool) -> Option<Conflict>
-    ensures { result ≡ (if registered then (if refused then Some conflict.PurchaseLimit else None) else Some conflict.NoSuchCommitment) }
+    ensures { result ≡ (if registered then (if refused then Some conflict.PurchaseLimit else None)
+        else Some conflict.NoSuchCommitment) }
 {
     if !registered {
         return Some(Conflict::NoSuchCommitment);

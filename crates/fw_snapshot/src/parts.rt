@@ -1,5 +1,5 @@
 //! The parts of a state, and what each of them is after a command.
-ghost use Rattle.std.specs.Prelude.{◌≡◌, ◌<◌, ◌≤◌, ◌+◌, ◌++◌, ◌∷◌, [], ◌&&◌, ℕ, List, false, length, map, nat_le, true, take, drop, replicate, option_map, string_bytes, IfOk, IfSome, if◌then◌else◌};
+ghost use Rattle.std.specs.Prelude.{◌≡◌, ◌<◌, ◌≤◌, ◌+◌, ◌++◌, ◌∷◌, [], ◌&&◌, ℕ, List, false, length, map, nat_le, true, take, drop, replicate, slice_range, option_map, string_bytes, IfOk, IfSome, if◌then◌else◌};
 ghost use Rattle.std.specs.List.{list_any};
 ghost use Rattle.std.specs.Str.{bytes_eq};
 ghost use Rattle.std.specs.Option.{option_copied, option_to_list};
@@ -20,7 +20,7 @@ ghost use Rattle.fw_snapshot.specs.Held.{held_commitments, held_policy, held_row
 ghost use Rattle.fw_row_table.specs.Table.{most_column_rows};
 
 use crate::head::Content;
-use crate::places::{Place, next_row};
+use crate::places::{Place, Run, next_run};
 use crate::posts::Span;
 use fw_columns::{Columns, LentRow};
 use fw_entry::Command;
@@ -67,7 +67,8 @@ pub(crate) fn committed(command: &Command) -> Option<&Commitment>
 /// What the head of a command keeps of it.
 pub(crate) fn content_of(alloc: Global, command: &Command) -> Result<Content, AllocError>
     requires { length (posted (command_view command.now)) ≤ most_column_rows }
-    ensures { IfOk result (λ content. content_view content ≡ content_of (command_view command.now)) }
+    ensures { IfOk result (λ content. content_view content
+        ≡ content_of (command_view command.now)) }
 {
     match command {
         Command::Post(rows) => Ok(Content::Post {
@@ -105,9 +106,12 @@ pub(crate) fn posted_after(
     requires no_rows { IfSome named (λ _. held_rows (option_copied rows) ≡ []) }
     requires within { IfSome named (λ span. span.start + span.rows ≤ length posted.now.counts) }
     requires some { IfSome named (λ span. 0 < span.rows) }
-    requires counting { IfSome named (λ span. take span.rows (drop span.start posted.now.counts) ≡ replicate span.rows true) }
-    ensures rows { IfOk result (λ after. segment_rows after.segments ≡ segment_rows posted.now.segments ++ held_rows (option_copied rows.entry)) }
-    ensures counts { IfOk result (λ after. after.counts ≡ counts_after named (length (held_rows (option_copied rows.entry))) posted.now.counts) }
+    requires counting { IfSome named (λ span. take span.rows (drop span.start posted.now.counts)
+        ≡ replicate span.rows true) }
+    ensures rows { IfOk result (λ after. segment_rows after.segments
+        ≡ segment_rows posted.now.segments ++ held_rows (option_copied rows.entry)) }
+    ensures counts { IfOk result (λ after. after.counts
+        ≡ counts_after named (length (held_rows (option_copied rows.entry))) posted.now.counts) }
 {
     match named {
         Some(span) => posted.without(alloc, span.start, span.rows),
@@ -121,8 +125,10 @@ fn posted_with(
     posted: &PostedRows,
     rows: Option<&Columns>,
 ) -> Result<PostedRows, AllocError>
-    ensures rows { IfOk result (λ after. segment_rows after.segments ≡ segment_rows posted.now.segments ++ held_rows (option_copied rows.entry)) }
-    ensures counts { IfOk result (λ after. after.counts ≡ posted.now.counts ++ replicate (length (held_rows (option_copied rows.entry))) true) }
+    ensures rows { IfOk result (λ after. segment_rows after.segments
+        ≡ segment_rows posted.now.segments ++ held_rows (option_copied rows.entry)) }
+    ensures counts { IfOk result (λ after. after.counts
+        ≡ posted.now.counts ++ replicate (length (held_rows (option_copied rows.entry))) true) }
 {
     match rows {
         Some(rows) => posted.push(alloc, rows),
@@ -137,10 +143,13 @@ pub(crate) fn withdrawn_after(
     posted: &PostedRows,
     named: Option<Span>,
 ) -> Result<Counters, AllocError>
-    requires within { IfSome named (λ span. span.start + span.rows ≤ length (segment_rows posted.now.segments)) }
+    requires within { IfSome named (λ span. span.start + span.rows
+        ≤ length (segment_rows posted.now.segments)) }
     requires some { IfSome named (λ span. 0 < span.rows) }
     requires few { IfSome named (λ span. span.rows ≤ most_post_rows) }
-    ensures { IfOk result (λ after. (id : List ℕ) → count_of id after ≡ count_of id withdrawn.now + times_named id named (segment_rows posted.now.segments)) }
+    ensures { IfOk result (λ after. (id : List ℕ)
+        → count_of id after ≡ count_of id withdrawn.now
+        + times_named id named (segment_rows posted.now.segments)) }
 {
     let Some(span) = named else {
         return withdrawn.copy();
@@ -160,14 +169,23 @@ fn carried_by(
 ) -> Result<Counters, AllocError>
     requires enough { rows_before segments.now start + count ≤ length (segment_rows segments.now) }
     requires inside { IsInside segments.now start }
-    ensures { IfOk result (λ after. (id : List ℕ) → count_of id after ≡ count_of id before.now + (if carries id (take count (drop (rows_before segments.now start) (segment_rows segments.now))) then 1 else 0)) }
+    ensures { IfOk result (λ after. (id : List ℕ)
+        → count_of id after ≡ count_of id before.now
+        + (if carries id (take count
+        (drop (rows_before segments.now start) (segment_rows segments.now))) then 1 else 0)) }
 {
     let mut after = before.copy()?;
     let mut place = start;
-    for _ in 0..count {
-        let (row, next) = next_row(segments, place);
-        after = carried_with(alloc, before, &after, &row)?;
-        place = next;
+    let mut done = 0;
+    while done < count {
+        let run = next_run(segments, place, count - done);
+        let columns = segments.get(run.segment);
+        after = carried_with_run(alloc, before, &after, columns, run)?;
+        place = Place {
+            segment: run.segment,
+            row: run.end,
+        };
+        done += run.end - run.first;
     }
     Ok(after)
 }
@@ -189,7 +207,9 @@ pub(crate) fn commitments_after(
     content: &Content,
 ) -> Result<Option<Arc<Vec<Commitment>>>, AllocError>
     requires { NoneRefuses (held_commitments list.now) (command_of (content_view content.now) []) }
-    ensures { IfOk result (λ after. held_commitments after ≡ commitments_after (held_commitments list.now) (command_of (content_view content.now) [])) }
+    ensures { IfOk result (λ after. held_commitments after
+        ≡ commitments_after (held_commitments list.now)
+        (command_of (content_view content.now) [])) }
 {
     match content {
         Content::Commit(more) => {
@@ -268,7 +288,8 @@ pub(crate) fn policy_after(
     policy: &Option<Arc<Policy>>,
     content: &Content,
 ) -> Result<Option<Arc<Policy>>, AllocError>
-    ensures { IfOk result (λ after. held_policy after ≡ policy_after (held_policy policy.now) (command_of (content_view content.now) [])) }
+    ensures { IfOk result (λ after. held_policy after
+        ≡ policy_after (held_policy policy.now) (command_of (content_view content.now) [])) }
 {
     match content {
         Content::SetPolicy(policy) => Ok(Some(Arc::try_clone(policy)?)),
@@ -295,7 +316,9 @@ pub(crate) fn registered_after(
     registered: &Counters,
     more: Option<&Commitment>,
 ) -> Result<Counters, AllocError>
-    ensures { IfOk result (λ after. (id : List ℕ) → count_of id after ≡ count_of id registered.now + commitments_with id (option_to_list (option_copied more.entry))) }
+    ensures { IfOk result (λ after. (id : List ℕ)
+        → count_of id after ≡ count_of id registered.now
+        + commitments_with id (option_to_list (option_copied more.entry))) }
 {
     match more {
         Some(more) => counted(alloc, registered, more.id()),
@@ -309,7 +332,9 @@ pub(crate) fn carried_after(
     carried: &Counters,
     rows: Option<&Columns>,
 ) -> Result<Counters, AllocError>
-    ensures { IfOk result (λ after. (id : List ℕ) → count_of id after ≡ count_of id carried.now + (if carries id (held_rows (option_copied rows.entry)) then 1 else 0)) }
+    ensures { IfOk result (λ after. (id : List ℕ)
+        → count_of id after ≡ count_of id carried.now
+        + (if carries id (held_rows (option_copied rows.entry)) then 1 else 0)) }
 {
     match rows {
         Some(rows) => carried_with_rows(alloc, carried, rows),
@@ -319,7 +344,8 @@ pub(crate) fn carried_after(
 
 /// The same counts: no row carries an id.
 fn carried_without_rows(carried: &Counters) -> Result<Counters, AllocError>
-    ensures { IfOk result (λ after. (id : List ℕ) → count_of id after ≡ count_of id carried.now + (if carries id [] then 1 else 0)) }
+    ensures { IfOk result (λ after. (id : List ℕ)
+        → count_of id after ≡ count_of id carried.now + (if carries id [] then 1 else 0)) }
 {
     let after = carried.copy()?;
     Ok(after)
@@ -331,28 +357,59 @@ fn carried_with_rows(
     carried: &Counters,
     rows: &Columns,
 ) -> Result<Counters, AllocError>
-    ensures { IfOk result (λ after. (id : List ℕ) → count_of id after ≡ count_of id carried.now + (if carries id rows.now then 1 else 0)) }
+    ensures { IfOk result (λ after. (id : List ℕ)
+        → count_of id after ≡ count_of id carried.now + (if carries id rows.now then 1 else 0)) }
 {
-    let mut after = carried.copy()?;
-    let discounts = rows.discount_codes();
-    for place in 0..discounts.len() {
+    let run = Run {
+        segment: 0,
+        first: 0,
+        end: rows.len(),
+    };
+    let after = carried_with_run(alloc, carried, carried, rows, run)?;
+    Ok(after)
+}
+
+/// The counts `after`, in which a post is counted for the ids of some of its rows, with the post counted for the ids of the
+/// rows of a run too, whose segment is given. Where a count is above the one `before` the post, an earlier row has counted
+/// the post for this id.
+pub(crate) fn carried_with_run(
+    alloc: Global,
+    before: &Counters,
+    after: &Counters,
+    columns: &Columns,
+    run: Run,
+) -> Result<Counters, AllocError>
+    requires order { run.first ≤ run.end }
+    requires within { run.end ≤ length columns.now }
+    requires above { (id : List ℕ) → count_of id before.now ≤ count_of id after.now }
+    ensures { IfOk result (λ next. (id : List ℕ)
+        → count_of id next ≡ count_of id after.now
+        + (if carries id (slice_range columns.now run.first run.end) && nat_le
+        (count_of id after.now) (count_of id before.now) then 1 else 0)) }
+{
+    let discounts = columns.discount_codes();
+    let mut next = after.copy()?;
+    for place in run.first..run.end {
         if discounts[place] != 0 {
-            let row = rows.lent(place);
-            after = carried_with(alloc, carried, &after, &row)?;
+            let row = columns.lent(place);
+            next = carried_with(alloc, before, &next, &row)?;
         }
     }
-    Ok(after)
+    Ok(next)
 }
 
 /// The counts `after`, in which a post is counted for the ids of some of its rows, with the post counted for the id of
 /// this row too. Where the count is above the one `before` the post, an earlier row has counted the post for this id.
-pub(crate) fn carried_with(
+fn carried_with(
     alloc: Global,
     before: &Counters,
     after: &Counters,
     row: &LentRow<'_>,
 ) -> Result<Counters, AllocError>
-    ensures { IfOk result (λ next. (id : List ℕ) → count_of id next ≡ count_of id after.now + (if has_id id row.now && nat_le (count_of id after.now) (count_of id before.now) then 1 else 0)) }
+    ensures { IfOk result (λ next. (id : List ℕ)
+        → count_of id next ≡ count_of id after.now
+        + (if has_id id row.now && nat_le (count_of id after.now) (count_of id before.now) then 1
+        else 0)) }
 {
     match row.discount() {
         Some(discount) => counted_unless_above(alloc, before, after, discount.id),
@@ -367,7 +424,10 @@ fn counted_unless_above(
     after: &Counters,
     id: &str,
 ) -> Result<Counters, AllocError>
-    ensures { IfOk result (λ next. (other : List ℕ) → count_of other next ≡ count_of other after.now + (if bytes_eq other id.now && nat_le (count_of other after.now) (count_of other before.now) then 1 else 0)) }
+    ensures { IfOk result (λ next. (other : List ℕ)
+        → count_of other next ≡ count_of other after.now
+        + (if bytes_eq other id.now && nat_le (count_of other after.now) (count_of other before.now)
+        then 1 else 0)) }
 {
     if after.count(id) > before.count(id) {
         return after.copy();
@@ -377,7 +437,9 @@ fn counted_unless_above(
 
 /// The counts with an id counted once more.
 fn counted(alloc: Global, counts: &Counters, id: &str) -> Result<Counters, AllocError>
-    ensures { IfOk result (λ after. (other : List ℕ) → count_of other after ≡ count_of other counts.now + (if bytes_eq other id.now then 1 else 0)) }
+    ensures { IfOk result (λ after. (other : List ℕ)
+        → count_of other after ≡ count_of other counts.now
+        + (if bytes_eq other id.now then 1 else 0)) }
 {
     let text = shared_text(alloc, counts.key(id), id)?;
     counts.raised(alloc, &text)

@@ -1,9 +1,9 @@
-//! Places among the rows of segments.
-ghost use Rattle.std.specs.Prelude.{◌≡◌, ◌<◌, ◌+◌, length, slice_get, Some};
+//! Places among the rows of segments, and the rows behind them.
+ghost use Rattle.std.specs.Prelude.{◌≡◌, ◌<◌, ◌≤◌, ◌+◌, ◌-◌, length};
 ghost use Rattle.fw_posted.specs.Rows.{segment_rows};
 ghost use Rattle.fw_snapshot.specs.Building.{rows_before, IsInside};
 
-use fw_columns::{Columns, LentRow};
+use fw_columns::Columns;
 use fw_persistent::Sequence;
 
 /// A place among the rows of segments: before a row of a segment, or behind its last one.
@@ -13,30 +13,42 @@ pub struct Place {
     pub row: usize,
 }
 
-/// The row behind a place, and the place behind this row.
-pub(crate) fn next_row(segments: &Sequence<Columns>, place: Place) -> (LentRow<'_>, Place)
+/// Rows of one segment: from the row `first` on, and before the row `end`.
+#[derive(Clone, Copy, Drop)]
+pub(crate) struct Run {
+    pub segment: usize,
+    pub first: usize,
+    pub end: usize,
+}
+
+/// The rows behind a place that are in one segment: one at least, and so many at most.
+pub(crate) fn next_run(segments: &Sequence<Columns>, place: Place, most: usize) -> Run
     requires some { rows_before segments.now place < length (segment_rows segments.now) }
     requires inside { IsInside segments.now place }
-    ensures row { slice_get (segment_rows segments.now) (rows_before segments.now place) ≡ Some result.0 }
-    ensures next { rows_before segments.now result.1 ≡ rows_before segments.now place + 1 }
-    ensures inside { IsInside segments.now result.1 }
+    requires wanted { 0 < most }
+    ensures order { result.first < result.end }
+    ensures few { result.end - result.first ≤ most }
+    ensures segment { result.segment < length segments.now }
+    ensures place { rows_before segments.now
+        (record { segment = result.segment; row = result.first })
+        ≡ rows_before segments.now place }
+    ensures inside { IsInside segments.now (record { segment = result.segment; row = result.end }) }
 {
     // Proves that the place of a segment is a number that fits.
     let _count = segments.len();
     let columns = segments.get(place.segment);
-    if place.row < columns.len() {
-        let next = Place {
+    let len = columns.len();
+    if place.row < len {
+        return Run {
             segment: place.segment,
-            row: place.row + 1,
+            first: place.row,
+            end: place.row + most.min(len - place.row),
         };
-        return (columns.lent(place.row), next);
     }
     let columns = segments.get(place.segment + 1);
-    // Proves that there is a row.
-    let _len = columns.len();
-    let next = Place {
+    Run {
         segment: place.segment + 1,
-        row: 1,
-    };
-    (columns.lent(0), next)
+        first: 0,
+        end: most.min(columns.len()),
+    }
 }

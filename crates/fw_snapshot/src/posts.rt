@@ -62,7 +62,9 @@ pub(crate) fn origins_after(
     origin: &Arc<String>,
     span: Span,
 ) -> Result<Map<Sequence<Span>>, AllocError>
-    ensures { IfOk result (λ after. (other : List ℕ) → spans_at other after ≡ spans_at other origins.now ++ (if bytes_eq other (string_bytes origin.now.value) then span ∷ [] else [])) }
+    ensures { IfOk result (λ after. (other : List ℕ)
+        → spans_at other after ≡ spans_at other origins.now
+        ++ (if bytes_eq other (string_bytes origin.now.value) then span ∷ [] else [])) }
 {
     let spans = match origins.get(origin.as_str()) {
         Some(spans) => spans.push(alloc, span)?,

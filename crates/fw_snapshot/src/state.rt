@@ -107,7 +107,12 @@ impl State {
     /// The error comes where memory ran out.
     pub fn apply(&self, entry: &Entry) -> Result<State, AllocError>
         requires { judged self.now.entries entry.now ≡ verdict.Accept }
-        ensures { IfOk result (λ state. state ≡ record { currency = self.now.currency; entries = self.now.entries ++ entry.now ∷ [] }) }
+        ensures { IfOk result (λ state. state
+            ≡ record {
+              currency = self.now.currency;
+              entries = self.now.entries ++ entry.now
+                  ∷ [];
+            }) }
     {
         let alloc = self.alloc;
         let command = entry.command();

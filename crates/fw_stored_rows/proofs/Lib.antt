@@ -1,2 +1,3 @@
 mod StartFacts
 mod RowFacts
+mod RunFacts

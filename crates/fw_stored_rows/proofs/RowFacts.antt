@@ -1,25 +1,26 @@
 -- Rows that agree in all their fields, and rows that are compared one by one.
-use Rattle.std.proofs.Common.{◌≡◌, ◌∙◌, ◌↔◌, ◌+◌, ◌-◌, ◌≤◌, ◌<◌, ◌∷◌, [], ℕ, List, Bool, true, false, IsTrue, length, get_or, take, drop, sym, ap, arith}
-use Rattle.std.specs.Prelude.{Some, slice_get}
-use Rattle.std.proofs.lemmas.List.{get_or-drop, get_or-take, length-drop, length-take, take_all, take_more_same}
-use Rattle.std.proofs.lemmas.Option.{get_or_from_slice_get, slice_get_within}
+use Rattle.std.proofs.Common.{◌≡◌, ◌∙◌, ◌↔◌, ◌+◌, ◌-◌, ◌≤◌, ◌<◌, ◌++◌, ◌∷◌, [], ℕ, zero, suc, List, Bool, true, false, IsTrue, length, take, drop, refl, sym, ap, arith}
+use Rattle.std.specs.Prelude.{Some, None, slice_get}
+use Rattle.std.proofs.Math.Seq.{drop-nil, take-add}
+use Rattle.std.proofs.lemmas.List.{drop-take, length-drop, length-take, take-append-drop, take-append-le, take_all}
+use Rattle.std.proofs.lemmas.Option.{same_Some}
 use Rattle.fw_charge.specs.Charge.{Charge}
-use Rattle.fw_stored_rows.specs.Comparing.{AgreeInNumbers, AgreeInTexts}
+use Rattle.fw_stored_rows.specs.Comparing.{AgreeBesideTags, AgreeInNumbers, AgreeInTexts}
 
 -- rows that agree in all fields are one
-pub same_row : (one other : Charge) → AgreeInNumbers one other → AgreeInTexts one other → one.discount ≡ other.discount → one.tags ≡ other.tags → one ≡ other
-same_row one other numbers texts discount tags = λ j. record {
-  billed = numbers.billed j;
-  effective = numbers.effective j;
-  category = numbers.category j;
-  is_correction = numbers.is_correction j;
-  start = numbers.start j;
-  end = numbers.end j;
-  discount = discount j;
-  quantity = numbers.quantity j;
-  unit = texts.unit j;
-  sku = texts.sku j;
-  sub_account = texts.sub_account j;
+pub same_row : (one other : Charge) → AgreeBesideTags one other → one.tags ≡ other.tags → one ≡ other
+same_row one other beside tags = λ j. record {
+  billed = beside.numbers.billed j;
+  effective = beside.numbers.effective j;
+  category = beside.numbers.category j;
+  is_correction = beside.numbers.is_correction j;
+  start = beside.numbers.start j;
+  end = beside.numbers.end j;
+  discount = beside.discount j;
+  quantity = beside.numbers.quantity j;
+  unit = beside.texts.unit j;
+  sku = beside.texts.sku j;
+  sub_account = beside.texts.sub_account j;
   tags = tags j;
 }
 
@@ -41,28 +42,83 @@ same_texts one other same = record {
   sub_account = ap (λ (c : Charge). c.sub_account) same;
 }
 
+pub same_beside : (one other : Charge) → one ≡ other → AgreeBesideTags one other
+same_beside one other same = record {
+  numbers = same_numbers one other same;
+  texts = same_texts one other same;
+  discount = ap (λ (c : Charge). c.discount) same;
+}
+
 -- ---- one row after the other
 
--- one row more that is the same
-pub one_more : (part all : List Charge) (first place : ℕ) (row own : Charge) → slice_get all (first + place) ≡ Some row → slice_get part place ≡ Some own → row ≡ own
-    → take place part ≡ take place (drop first all) → take (place + 1) part ≡ take (place + 1) (drop first all)
-one_more part all first place row own there here same before =
-    let within = slice_get_within all (first + place) row there in
-    let long = length-drop first all in
-    take_more_same part (drop first all) place own (slice_get_within part place own here) (omega arith) before
-    (get_or_from_slice_get part place own own here ∙ sym same ∙ sym (get_or-drop first all place own ∙ get_or_from_slice_get all (first + place) row own there))
+taken_get : {A : Type 0} (n : ℕ) (xs : List A) (i : ℕ) → i < n → slice_get (take n xs) i ≡ slice_get xs i
+taken_get zero xs i within = absurd (omega (arith, within))
+taken_get (suc n) [] i within = refl
+taken_get (suc n) (x ∷ xs) zero within = refl
+taken_get (suc n) (x ∷ xs) (suc i) within = taken_get n xs i (omega (arith, within))
 
--- rows that are the rows from a place on have the same one at each place
-pub same_at : (part all : List Charge) (first place : ℕ) (row own : Charge) → slice_get all (first + place) ≡ Some row → slice_get part place ≡ Some own
-    → take (length part) (drop first all) ≡ part → row ≡ own
-same_at part all first place row own there here is =
-    let inside : place < length part = slice_get_within part place own here in
-    let within : first + place < length all = slice_get_within all (first + place) row there in
-    let long = length-drop first all in
-    sym (get_or-drop first all place own ∙ get_or_from_slice_get all (first + place) row own there)
-    ∙ sym (get_or-take (length part) (drop first all) place own (omega arith))
-    ∙ ap (λ rows. get_or rows place own) is
-    ∙ get_or_from_slice_get part place own own here
+dropped_get : {A : Type 0} (n : ℕ) (xs : List A) (i k : ℕ) → n + i ≡ k → slice_get (drop n xs) i ≡ slice_get xs k
+dropped_get zero xs i k at = ap (slice_get xs) (let e : i ≡ k = omega (arith, at) in e)
+dropped_get (suc n) [] i k at = refl
+dropped_get (suc n) (x ∷ xs) i zero at = absurd (omega (arith, at))
+dropped_get (suc n) (x ∷ xs) i (suc k) at = dropped_get n xs i k (omega (arith, at))
+
+next_same : {A : Type 0} (n : ℕ) (xs ys : List A) → take n xs ≡ take n ys → slice_get xs n ≡ slice_get ys n → take (suc n) xs ≡ take (suc n) ys
+next_same zero [] [] before same = refl
+next_same zero [] (y ∷ ys) before same = absurd (let wrong : None ≡ Some y = same in cc)
+next_same zero (x ∷ xs) [] before same = absurd (let wrong : Some x ≡ None = same in cc)
+next_same zero (x ∷ xs) (y ∷ ys) before same = λ j. same_Some x y same j ∷ []
+next_same (suc n) [] [] before same = refl
+next_same (suc n) [] (y ∷ ys) before same = absurd (let wrong : [] ≡ y ∷ take n ys = before in cc)
+next_same (suc n) (x ∷ xs) [] before same = absurd (let wrong : x ∷ take n xs ≡ [] = before in cc)
+next_same (suc n) (x ∷ xs) (y ∷ ys) before same =
+    let both : x ∷ take n xs ≡ y ∷ take n ys = before in
+    let first : x ≡ y = cc in
+    let rest : take n xs ≡ take n ys = cc in
+    let next = next_same n xs ys rest same in
+    λ j. first j ∷ next j
+
+-- one row more that is the same
+pub one_more : (one other : List Charge) (first from place : ℕ) → slice_get one (first + place) ≡ slice_get other (from + place) → take place (drop first one) ≡ take place (drop from other)
+    → take (place + 1) (drop first one) ≡ take (place + 1) (drop from other)
+one_more one other first from place same before =
+    let more : place + 1 ≡ suc place = omega arith in
+    rw more (next_same place (drop first one) (drop from other) before (dropped_get first one place (first + place) refl ∙ same ∙ sym (dropped_get from other place (from + place) refl)))
+
+-- runs that are the same have the same row at each place
+pub same_at : (one other : List Charge) (first from place count : ℕ) → place < count → take count (drop first one) ≡ take count (drop from other) → slice_get one (first + place) ≡ slice_get other (from + place)
+same_at one other first from place count below same =
+    sym (taken_get count (drop first one) place below ∙ dropped_get first one place (first + place) refl)
+    ∙ ap (λ rows. slice_get rows place) same
+    ∙ taken_get count (drop from other) place below
+    ∙ dropped_get from other place (from + place) refl
+
+-- ---- one run after the other
+
+drop_more : {A : Type 0} (n m k : ℕ) (xs : List A) → n + m ≡ k → drop m (drop n xs) ≡ drop k xs
+drop_more zero m k xs at = ap (λ l. drop l xs) (let e : m ≡ k = omega (arith, at) in e)
+drop_more (suc n) m zero xs at = absurd (omega (arith, at))
+drop_more (suc n) m (suc k) [] at = drop-nil m
+drop_more (suc n) m (suc k) (x ∷ xs) at = drop_more n m k xs (omega (arith, at))
+
+-- one run more that is the same
+pub run_more : (part all : List Charge) (first done run : ℕ) → take run (drop (first + done) all) ≡ take run (drop done part) → take done part ≡ take done (drop first all)
+    → take (done + run) part ≡ take (done + run) (drop first all)
+run_more part all first done run same before =
+    let next : take run (drop done part) ≡ take run (drop done (drop first all)) = sym same ∙ ap (take run) (sym (drop_more first done (first + done) all refl)) in
+    take-add done run part ∙ (λ j. before j ++ next j) ∙ sym (take-add done run (drop first all))
+
+-- rows that are the rows from a place on are so in each run of them
+pub same_run : (part all : List Charge) (first done run : ℕ) → done + run ≤ length part → take (length part) (drop first all) ≡ part → take run (drop (first + done) all) ≡ take run (drop done part)
+same_run part all first done run within is =
+    let rows = drop first all in
+    let behind = drop (length part) rows in
+    let whole : rows ≡ part ++ behind = sym (take-append-drop (length part) rows) ∙ ap (λ l. l ++ behind) is in
+    ap (take run) (sym (drop_more first done (first + done) all refl))
+    ∙ sym (drop-take done run rows)
+    ∙ ap (λ l. drop done (take (done + run) l)) whole
+    ∙ ap (drop done) (take-append-le (done + run) part behind within)
+    ∙ drop-take done run part
 
 -- all rows are the same
 pub all_same : (part all : List Charge) (first place : ℕ) → length part ≤ place → place ≤ length part → take place part ≡ take place (drop first all)

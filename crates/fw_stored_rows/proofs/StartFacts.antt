@@ -1,12 +1,12 @@
 -- How many rows stand before each segment.
-use Rattle.std.proofs.Common.{◌≡◌, ◌∙◌, ◌+◌, ◌≤◌, ◌<◌, ◌++◌, ◌∷◌, [], ℕ, List, length, get_or, sym, ap, subst, below_more, arith}
-use Rattle.std.specs.Prelude.{Some, slice_get}
-use Rattle.std.proofs.lemmas.List.{get_or_append_left, get_or_push, length_push}
-use Rattle.std.proofs.lemmas.List.Concat.{get_or-flat_map}
-use Rattle.std.proofs.lemmas.List.Folds.{length-flat_map-take}
-use Rattle.std.proofs.lemmas.Option.{get_or_from_slice_get, slice_get-get_or, slice_get_within}
+use Rattle.std.proofs.Common.{◌≡◌, ◌∙◌, ◌+◌, ◌-◌, ◌≤◌, ◌<◌, ◌++◌, ◌∷◌, [], ℕ, zero, suc, List, length, take, drop, get_or, refl, sym, ap, subst, below_more, arith}
+use Rattle.std.specs.Prelude.{Some, None, slice_get}
+use Rattle.std.proofs.Math.Seq.{drop-append-add}
+use Rattle.std.proofs.lemmas.List.{drop-take, get_or_append_left, get_or_push, length-append, length_push, take-append-le}
+use Rattle.std.proofs.lemmas.Option.{same_Some}
 use Rattle.fw_charge.specs.Charge.{Charge}
 use Rattle.fw_posted.specs.Rows.{rows_before_segment, segment_rows}
+use Rattle.fw_posted.proofs.PartFacts.{count_next}
 
 -- the starts of so many segments
 pub record AreFirst (starts : List ℕ) (segments : List (List Charge)) (place : ℕ) : Type 0 where
@@ -23,24 +23,29 @@ first_more starts segments place start are is = record {
       (get_or_push starts start 0 place are.long ∙ is);
 }
 
--- the rows before a segment, and its own, are no more than all
-pub start_within : (segments : List (List Charge)) (k : ℕ) (rows : List Charge) → slice_get segments k ≡ Some rows → rows_before_segment segments k + length rows ≤ length (segment_rows segments)
-start_within segments k rows there =
-    let is : get_or segments k [] ≡ rows = get_or_from_slice_get segments k rows [] there in
-    let all = length-flat_map-take (λ r. r) segments k [] (slice_get_within segments k rows there) in
-    subst (λ r. rows_before_segment segments k + length r ≤ length (segment_rows segments)) is all
+-- where a row stands in the segment that has it
+pub place_in : (segments : List (List Charge)) (k start place : ℕ) (rows : List Charge) → slice_get segments k ≡ Some rows → start ≡ rows_before_segment segments k
+    → rows_before_segment segments k ≤ place → place < rows_before_segment segments (k + 1) → (rows_before_segment segments k + (place - start) ≡ place) × (place - start < length rows)
+place_in segments k start place rows there is from until =
+    let next = count_next segments k rows there in
+    (omega (arith, is, from), omega (arith, is, next, from, until))
 
--- the row at a place of a segment
-pub row_there : (segments : List (List Charge)) (k j place : ℕ) (rows : List Charge) (row : Charge) → slice_get segments k ≡ Some rows → slice_get rows j ≡ Some row → rows_before_segment segments k + j ≡ place
-    → slice_get (segment_rows segments) place ≡ Some row
-row_there segments k j place rows row there here at =
-    let is : get_or segments k [] ≡ rows = get_or_from_slice_get segments k rows [] there in
-    let inside = slice_get_within rows j row here in
-    let all = start_within segments k rows there in
-    slice_get-get_or (segment_rows segments) place row (omega arith)
-    ∙ ap Some (
-    ap (λ n. get_or (segment_rows segments) n row) (sym at)
-    ∙ get_or-flat_map (λ r. r) segments k j [] row (slice_get_within segments k rows there) (subst (λ r. j < length r) (sym is) inside)
-    ∙ ap (λ r. get_or r j row) is
-    ∙ get_or_from_slice_get rows j row row here
-    )
+-- so many rows of a segment, from one of them on
+pub run_there : (segments : List (List Charge)) (k from place run : ℕ) (rows : List Charge) → slice_get segments k ≡ Some rows → rows_before_segment segments k + from ≡ place → from + run ≤ length rows
+    → take run (drop from rows) ≡ take run (drop place (segment_rows segments))
+run_there [] k from place run rows there at within = absurd (let wrong : None ≡ Some rows = there in cc)
+run_there (r ∷ segments) zero from place run rows there at within =
+    let same : r ≡ rows = same_Some r rows there in
+    let fits : from + run ≤ length r = subst (λ l. from + run ≤ length l) (sym same) within in
+    let here : from ≡ place = omega (arith, at) in
+    ap (λ l. take run (drop from l)) (sym same)
+    ∙ sym (drop-take from run r)
+    ∙ ap (drop from) (sym (take-append-le (from + run) r (segment_rows segments) fits))
+    ∙ drop-take from run (segment_rows (r ∷ segments))
+    ∙ ap (λ n. take run (drop n (segment_rows (r ∷ segments)))) here
+run_there (r ∷ segments) (suc k) from place run rows there at within =
+    let behind = rows_before_segment segments k + from in
+    let moved : length r + behind ≡ place = omega (arith, at, length-append r (segment_rows (take k segments))) in
+    run_there segments k from behind run rows there refl within
+    ∙ ap (take run) (sym (drop-append-add r (segment_rows segments) behind))
+    ∙ ap (λ n. take run (drop n (segment_rows (r ∷ segments)))) moved

@@ -17,3 +17,9 @@ pub record AgreeInTexts (one other : Charge) : Type 0 where
   pub unit : one.unit ≡ other.unit
   pub sku : one.sku ≡ other.sku
   pub sub_account : one.sub_account ≡ other.sub_account
+
+-- all but the tags
+pub record AgreeBesideTags (one other : Charge) : Type 0 where
+  pub numbers : AgreeInNumbers one other
+  pub texts : AgreeInTexts one other
+  pub discount : one.discount ≡ other.discount

@@ -1,3 +1,4 @@
 pub mod Starts
 pub mod StoredView
 pub mod Comparing
+pub mod Runs

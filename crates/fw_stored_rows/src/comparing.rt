@@ -2,7 +2,7 @@
 ghost use Rattle.std.specs.Prelude.{◌≡◌, ◌↔◌, IsTrue, option_map};
 ghost use Rattle.std.specs.Option.{option_copied};
 ghost use Rattle.fw_row_table.specs.Lending.{discount_lent, tag_lent, tags_lent};
-ghost use Rattle.fw_stored_rows.specs.Comparing.{AgreeInNumbers, AgreeInTexts};
+ghost use Rattle.fw_stored_rows.specs.Comparing.{AgreeBesideTags, AgreeInNumbers, AgreeInTexts};
 
 use fw_columns::{LentDiscount, LentRow, LentTag, LentTags};
 use fw_money::Nanos;
@@ -11,10 +11,16 @@ use fw_money::Nanos;
 pub fn is_same_row(one: &LentRow<'_>, other: &LentRow<'_>) -> bool
     ensures { IsTrue result ↔ (one.now ≡ other.now) }
 {
+    agree_beside_tags(one, other) && are_same_tags(one.tags(), other.tags())
+}
+
+/// Whether two rows agree in all but their tags.
+pub(crate) fn agree_beside_tags(one: &LentRow<'_>, other: &LentRow<'_>) -> bool
+    ensures { IsTrue result ↔ AgreeBesideTags one.now other.now }
+{
     agree_in_numbers(one, other)
         && agree_in_texts(one, other)
         && is_same_discount(one.discount(), other.discount())
-        && are_same_tags(one.tags(), other.tags())
 }
 
 // Whether two rows agree in costs, times, category, class and quantity.
@@ -82,8 +88,8 @@ fn is_same_tag(one: LentTag<'_>, other: LentTag<'_>) -> bool
     one.key == other.key && one.value == other.value
 }
 
-// Whether two lists have the same tags.
-fn are_same_tags(one: LentTags<'_>, other: LentTags<'_>) -> bool
+/// Whether two lists have the same tags.
+pub(crate) fn are_same_tags(one: LentTags<'_>, other: LentTags<'_>) -> bool
     ensures { IsTrue result ↔ (tags_lent one.entry ≡ tags_lent other.entry) }
 {
     match (one.split_first(), other.split_first()) {

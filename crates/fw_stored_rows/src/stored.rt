@@ -1,9 +1,9 @@
 //! The rows of segments, by their places.
 ghost use Rattle.std.specs.Prelude.{◌≡◌, ◌<◌, ◌≤◌, ◌+◌, ◌↔◌, IfOk, IsTrue, Some, length, slice_get, take, drop};
 ghost use Rattle.fw_posted.specs.Rows.{rows_before_segment, segment_rows};
-ghost use Rattle.fw_stored_rows.specs.Starts.{AreStarts};
+ghost use Rattle.fw_stored_rows.specs.Starts.{AreRowsFrom, AreStarts};
 
-use crate::comparing::is_same_row;
+use crate::runs::are_same_runs;
 use fw_columns::{Columns, LentRow};
 use fw_persistent::Sequence;
 use std::alloc::{AllocError, Global};
@@ -71,7 +71,8 @@ impl StoredRows {
         lent_row(&self.segments, self.starts.as_slice(), place)
     }
 
-    /// Whether the rows from a place on are those of a part, each in all its fields. It reads rows up to the first that differs.
+    /// Whether the rows from a place on are those of a part, each in all its fields. It reads rows up to the first that differs, and those of each segment
+    /// as [`are_same_runs`] does.
     pub fn has_at(&self, first: usize, part: &Columns) -> bool
         ensures { IsTrue result
             ↔ (take (length part.now) (drop first self.now) ≡ part.now) }
@@ -80,10 +81,15 @@ impl StoredRows {
         if self.len().saturating_sub(first) < count {
             return false;
         }
-        for place in 0..count {
-            if !is_same_row(&self.lent(first + place), &part.lent(place)) {
+        let alloc = *self.starts.allocator();
+        let mut done = 0;
+        while done < count {
+            let (rows, from) = row_in(&self.segments, self.starts.as_slice(), first + done);
+            let run = (rows.len() - from).min(count - done);
+            if !are_same_runs(alloc, rows, from, part, done, run) {
                 return false;
             }
+            done += run;
         }
         true
     }
@@ -128,12 +134,27 @@ fn segment_of(segments: &Sequence<Columns>, starts: &[usize], row: usize) -> usi
     first
 }
 
+// The segment that has the row at a place among those of segments, and the row's place in it.
+fn row_in<'a>(
+    segments: &'a Sequence<Columns>,
+    starts: &[usize],
+    place: usize,
+) -> (&'a Columns, usize)
+    requires starts { AreStarts starts.now segments.now }
+    requires inside { place < length (segment_rows segments.now) }
+    ensures within { result.1 < length result.0.now }
+    ensures rows { AreRowsFrom result.0.now result.1 (segment_rows segments.now) place }
+{
+    let segment = segment_of(segments, starts, place);
+    (segments.get(segment), place - starts[segment])
+}
+
 // The row at a place among those of segments.
 fn lent_row<'a>(segments: &'a Sequence<Columns>, starts: &[usize], place: usize) -> LentRow<'a>
     requires starts { AreStarts starts.now segments.now }
     requires inside { place < length (segment_rows segments.now) }
     ensures { slice_get (segment_rows segments.now) place ≡ Some result }
 {
-    let segment = segment_of(segments, starts, place);
-    segments.get(segment).lent(place - starts[segment])
+    let (rows, row) = row_in(segments, starts, place);
+    rows.lent(row)
 }

@@ -25,7 +25,8 @@ impl Groups {
     // Counts the correction of a row of which so much is left: none where nothing was taken of it.
     fn correct_row(&mut self, key: &str, row: &LentRow<'_>, left: u64) -> Result<(), AllocError>
         requires { (costs : List Cost) × Counts self.old costs }
-        ensures { OnOk result ((costs : List Cost) → Counts self.old costs → Counts self.new (costs ++ correction_of key.now row.now left)) }
+        ensures { OnOk result ((costs : List Cost) → Counts self.old costs
+            → Counts self.new (costs ++ correction_of key.now row.now left)) }
     {
         if left < quantity_of(row) && is_eligible(row) {
             self.add(
@@ -46,7 +47,8 @@ impl Groups {
     ) -> Result<(), AllocError>
         requires counts { (costs : List Cost) × Counts self.old costs }
         requires one_each { length left.now ≡ length rows.now }
-        ensures { OnOk result ((costs : List Cost) → Counts self.old costs → Counts self.new (costs ++ corrections key.now rows.now (slice_index left.now))) }
+        ensures { OnOk result ((costs : List Cost) → Counts self.old costs
+            → Counts self.new (costs ++ corrections key.now rows.now (slice_index left.now))) }
     {
         for (place, row) in rows.iter().enumerate() {
             self.correct_row(key, row, left[place])?;

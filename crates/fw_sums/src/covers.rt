@@ -95,8 +95,11 @@ impl Covers {
     // Takes out what is kept of a key. Of one that was asked for before, the sums of whole segments that aren't kept yet are found first; of a new key
     // there is nothing.
     pub(crate) fn take(&mut self, key: &str, segments: &[&Columns]) -> Kept
-        ensures covers { (cs : List CommitmentValue) (rows : List Charge) → AreKept cs rows self.old → AreKept cs rows self.new }
-        ensures kept { (cs : List CommitmentValue) → AreKept cs (all_rows (lent segments.now)) self.old → IsKept cs (all_rows (lent segments.now)) key.now result }
+        ensures covers { (cs : List CommitmentValue) (rows : List Charge) → AreKept cs rows self.old
+            → AreKept cs rows self.new }
+        ensures kept { (cs : List CommitmentValue)
+            → AreKept cs (all_rows (lent segments.now)) self.old
+            → IsKept cs (all_rows (lent segments.now)) key.now result }
     {
         match self.remove(key) {
             Some(Kept { hours, mut wholes }) => {
@@ -110,8 +113,10 @@ impl Covers {
     // Takes out what is kept of a key, if it was asked for before.
     #[tactic(auto, unfolding(crate::specs::Covers::AreKept))]
     fn remove(&mut self, key: &str) -> Option<Kept>
-        ensures covers { (cs : List CommitmentValue) (rows : List Charge) → AreKept cs rows self.old → AreKept cs rows self.new }
-        ensures kept { (cs : List CommitmentValue) (rows : List Charge) → AreKept cs rows self.old → IfSome result (IsKept cs rows key.now) }
+        ensures covers { (cs : List CommitmentValue) (rows : List Charge) → AreKept cs rows self.old
+            → AreKept cs rows self.new }
+        ensures kept { (cs : List CommitmentValue) (rows : List Charge) → AreKept cs rows self.old
+            → IfSome result (IsKept cs rows key.now) }
     {
         let place = self.keys.iter().position(|sums| sums.key.as_str() == key)?;
         Some(self.keys.remove(place).kept)
@@ -120,7 +125,8 @@ impl Covers {
     // Lets go of the key that was asked for longest ago, where there are as many as are kept.
     #[tactic(auto, unfolding(crate::specs::Covers::AreKept))]
     fn make_room(&mut self)
-        ensures { (cs : List CommitmentValue) (rows : List Charge) → AreKept cs rows self.old → AreKept cs rows self.new }
+        ensures { (cs : List CommitmentValue) (rows : List Charge) → AreKept cs rows self.old
+            → AreKept cs rows self.new }
     {
         if self.keys.len() >= MOST_KEYS {
             let _oldest = self.keys.remove(0);
@@ -129,7 +135,8 @@ impl Covers {
 
     // Keeps what was found of a key. Where memory is short nothing of it is kept, and the next report finds it anew.
     pub(crate) fn put(&mut self, key: &str, kept: Kept)
-        ensures { (cs : List CommitmentValue) (rows : List Charge) → AreKept cs rows self.old → IsKept cs rows key.now kept → AreKept cs rows self.new }
+        ensures { (cs : List CommitmentValue) (rows : List Charge) → AreKept cs rows self.old
+            → IsKept cs rows key.now kept → AreKept cs rows self.new }
     {
         self.make_room();
         if let Ok(key) = String::from_str(self.alloc, key) {
@@ -141,7 +148,8 @@ impl Covers {
 impl Kept {
     // Nothing is kept.
     pub(crate) fn new(alloc: Global) -> Kept
-        ensures { (cs : List CommitmentValue) (rows : List Charge) (key : List ℕ) → IsKept cs rows key result }
+        ensures { (cs : List CommitmentValue) (rows : List Charge) (key : List ℕ)
+            → IsKept cs rows key result }
     {
         Kept {
             hours: HourSums::new(alloc),
@@ -170,7 +178,8 @@ impl HourSums {
 
     // Keeps what commitments bring to an hour. Where memory is short, or as many groups are kept as may be, nothing is kept, and the next report finds it anew.
     pub(crate) fn keep(&mut self, hour: u32, sums: Groups)
-        ensures { (h : ℕ) → (kept_at self.new h ≡ kept_at self.old h) ⊎ ((h ≡ hour) × (kept_at self.new h ≡ Some sums)) }
+        ensures { (h : ℕ) → (kept_at self.new h ≡ kept_at self.old h)
+            ⊎ ((h ≡ hour) × (kept_at self.new h ≡ Some sums)) }
     {
         let groups = self.groups.saturating_add(sums.by_group.len());
         if groups > MOST_GROUPS {
@@ -188,7 +197,9 @@ impl HourSums {
 
     // Keeps what was found of hours.
     fn keep_found(&mut self, found: Vec<HourSum>)
-        ensures kept { (cs : List CommitmentValue) (rows : List Charge) (key : List ℕ) → All (IsFound cs rows key) found.items → AreKeptUnder cs rows key self.old → AreKeptUnder cs rows key self.new }
+        ensures kept { (cs : List CommitmentValue) (rows : List Charge) (key : List ℕ)
+            → All (IsFound cs rows key) found.items → AreKeptUnder cs rows key self.old
+            → AreKeptUnder cs rows key self.new }
         ensures more { KeepsMore self.old self.new }
     {
         for one in found {
@@ -199,7 +210,9 @@ impl HourSums {
 
     // Keeps what a worker found of the hours that it took: nothing where memory was short.
     fn keep_any(&mut self, found: Result<Vec<HourSum>, AllocError>)
-        ensures kept { (cs : List CommitmentValue) (rows : List Charge) (key : List ℕ) → AreFound cs rows key found → AreKeptUnder cs rows key self.old → AreKeptUnder cs rows key self.new }
+        ensures kept { (cs : List CommitmentValue) (rows : List Charge) (key : List ℕ)
+            → AreFound cs rows key found → AreKeptUnder cs rows key self.old
+            → AreKeptUnder cs rows key self.new }
         ensures more { KeepsMore self.old self.new }
     {
         if let Ok(found) = found {
@@ -209,7 +222,9 @@ impl HourSums {
 
     // Keeps what workers found, each of the hours that it took.
     pub(crate) fn keep_each(&mut self, each: Vec<Result<Vec<HourSum>, AllocError>>)
-        ensures kept { (cs : List CommitmentValue) (rows : List Charge) (key : List ℕ) → All (AreFound cs rows key) each.items → AreKeptUnder cs rows key self.old → AreKeptUnder cs rows key self.new }
+        ensures kept { (cs : List CommitmentValue) (rows : List Charge) (key : List ℕ)
+            → All (AreFound cs rows key) each.items → AreKeptUnder cs rows key self.old
+            → AreKeptUnder cs rows key self.new }
         ensures more { KeepsMore self.old self.new }
     {
         for found in each {
@@ -234,7 +249,9 @@ impl HourSums {
     ) -> Result<Vec<bool>, AllocError>
         requires fits { from + length touched.now < 2 ^ 64 }
         requires early { (k : ℕ) → slice_index_or touched.now k false ≡ true → from + k < 2 ^ 32 }
-        ensures { IfOk result (λ marks. marks.items ≡ map (λ k. is_open self.now (slice_index_or touched.now k false) (from + k)) (range_with_len 0 (length touched.now))) }
+        ensures { IfOk result (λ marks. marks.items
+            ≡ map (λ k. is_open self.now (slice_index_or touched.now k false) (from + k))
+            (range_with_len 0 (length touched.now))) }
     {
         let mut marks = Vec::with_capacity(alloc, touched.len())?;
         for (place, is_touched) in touched.iter().enumerate() {

@@ -98,11 +98,19 @@ impl Groups {
         requires fits { from + length hours.now.by_hour.items < 2 ^ 64 }
         requires roster { HasHours roster.now from (length hours.now.by_hour.items) }
         requires listed { AreListed (lent segments.now) roster.now listed.now }
-        requires hours { AreOpen (lent segments.now) (all_rows (lent segments.now)) roster.now.commitments kept.old from (length hours.now.by_hour.items) hours.now }
-        requires rows { Counts rows (map (row_cost key.now) (rows_marked (replicate (length hours.now.by_hour.items) true) from (all_rows (lent segments.now)))) }
-        requires kept { AreKeptUnder roster.now.commitments (all_rows (lent segments.now)) key.now kept.old }
-        ensures kept { AreKeptUnder roster.now.commitments (all_rows (lent segments.now)) key.now kept.new }
-        ensures groups { IfOk result (λ groups. CountsHours groups [] key.now roster.now.commitments (map (λ h. rows_in h (all_rows (lent segments.now))) (range_with_len from (length hours.now.by_hour.items))) from) }
+        requires hours { AreOpen (lent segments.now)
+            (all_rows (lent segments.now)) roster.now.commitments kept.old from
+            (length hours.now.by_hour.items) hours.now }
+        requires rows { Counts rows (map (row_cost key.now)
+            (rows_marked (replicate (length hours.now.by_hour.items) true) from
+            (all_rows (lent segments.now)))) }
+        requires kept { AreKeptUnder roster.now.commitments
+            (all_rows (lent segments.now)) key.now kept.old }
+        ensures kept { AreKeptUnder roster.now.commitments
+            (all_rows (lent segments.now)) key.now kept.new }
+        ensures groups { IfOk result (λ groups. CountsHours groups [] key.now roster.now.commitments
+            (map (λ h. rows_in h (all_rows (lent segments.now)))
+            (range_with_len from (length hours.now.by_hour.items))) from) }
     {
         rows.add_hours(
             key,
@@ -135,11 +143,19 @@ impl Groups {
         requires listed { AreListed (lent segments.now) roster.now listed.now }
         requires many { length touched.now ≡ length by_hour.now }
         requires touched { AreTouched roster.now.commitments from (length by_hour.now) touched.now }
-        requires by_hour { AreOpenByHour (lent segments.now) (all_rows (lent segments.now)) roster.now.commitments kept.old from (length by_hour.now) by_hour.now }
-        requires counts { Counts self.old (map (row_cost key.now) (rows_marked (replicate (length by_hour.now) true) from (all_rows (lent segments.now)))) }
-        requires kept { AreKeptUnder roster.now.commitments (all_rows (lent segments.now)) key.now kept.old }
-        ensures kept { AreKeptUnder roster.now.commitments (all_rows (lent segments.now)) key.now kept.new }
-        ensures counts { OnOk result (CountsHours self.new [] key.now roster.now.commitments (map (λ h. rows_in h (all_rows (lent segments.now))) (range_with_len from (length by_hour.now))) from) }
+        requires by_hour { AreOpenByHour (lent segments.now)
+            (all_rows (lent segments.now)) roster.now.commitments kept.old from
+            (length by_hour.now) by_hour.now }
+        requires counts { Counts self.old (map (row_cost key.now)
+            (rows_marked (replicate (length by_hour.now) true) from
+            (all_rows (lent segments.now)))) }
+        requires kept { AreKeptUnder roster.now.commitments
+            (all_rows (lent segments.now)) key.now kept.old }
+        ensures kept { AreKeptUnder roster.now.commitments
+            (all_rows (lent segments.now)) key.now kept.new }
+        ensures counts { OnOk result (CountsHours self.new [] key.now roster.now.commitments
+            (map (λ h. rows_in h (all_rows (lent segments.now)))
+            (range_with_len from (length by_hour.now))) from) }
     {
         let mut hour = from;
         for places in by_hour {
@@ -175,11 +191,18 @@ impl Groups {
         requires hour { HasHour roster.now hour }
         requires listed { AreListed (lent segments.now) roster.now listed.now }
         requires there { All (IsThere (lent segments.now)) places.now }
-        requires rows { IfNone (kept_at kept.old hour) (rows_at (lent segments.now) places.now ≡ rows_in hour (all_rows (lent segments.now))) }
-        requires kept { AreKeptUnder roster.now.commitments (all_rows (lent segments.now)) key.now kept.old }
-        ensures kept { AreKeptUnder roster.now.commitments (all_rows (lent segments.now)) key.now kept.new }
+        requires rows { IfNone (kept_at kept.old hour)
+            (rows_at (lent segments.now) places.now ≡ rows_in hour (all_rows (lent segments.now))) }
+        requires kept { AreKeptUnder roster.now.commitments
+            (all_rows (lent segments.now)) key.now kept.old }
+        ensures kept { AreKeptUnder roster.now.commitments
+            (all_rows (lent segments.now)) key.now kept.new }
         ensures others { (h : ℕ) → hour < h → kept_at kept.new h ≡ kept_at kept.old h }
-        ensures counts { OnOk result ((costs : List Cost) → Counts self.old (costs ++ map (row_cost key.now) (rows_in hour (all_rows (lent segments.now)))) → CountsHour self.new costs key.now roster.now.commitments (rows_in hour (all_rows (lent segments.now))) hour) }
+        ensures counts { OnOk result ((costs : List Cost)
+            → Counts self.old (costs ++ map (row_cost key.now)
+            (rows_in hour (all_rows (lent segments.now))))
+            → CountsHour self.new costs key.now roster.now.commitments
+            (rows_in hour (all_rows (lent segments.now))) hour) }
     {
         if let Some(sums) = kept.of_hour(hour) {
             return self.add_groups(sums);
@@ -204,7 +227,8 @@ impl Groups {
         requires hour { HasHour roster.now hour }
         requires listed { AreListed (lent segments.now) roster.now listed.now }
         requires there { All (IsThere (lent segments.now)) places.now }
-        ensures { IfOk result (AreOwnSums roster.now.commitments (rows_at (lent segments.now) places.now) key.now hour) }
+        ensures { IfOk result (AreOwnSums roster.now.commitments
+            (rows_at (lent segments.now) places.now) key.now hour) }
     {
         let at = listed.places(alloc, segments, places)?;
         let at = at.as_slice();
@@ -223,7 +247,8 @@ impl Groups {
     // Counts lines.
     fn add_lines(&mut self, key: &str, lines: &[Line<'_>]) -> Result<(), AllocError>
         requires { (costs : List Cost) × Counts self.old costs }
-        ensures { OnOk result ((costs : List Cost) → Counts self.old costs → Counts self.new (costs ++ costs_of key.now lines.now)) }
+        ensures { OnOk result ((costs : List Cost) → Counts self.old costs
+            → Counts self.new (costs ++ costs_of key.now lines.now)) }
     {
         for line in lines {
             self.add(line.tags().group(key), line.billed(), line.effective())?;
@@ -239,7 +264,9 @@ impl Groups {
         effective: Nanos,
     ) -> Result<(), AllocError>
         requires { (costs : List Cost) × Counts self.old costs }
-        ensures { OnOk result ((costs : List Cost) → Counts self.old costs → Counts self.new (costs ++ record { group = group.now; billed = billed; effective = effective } ∷ [])) }
+        ensures { OnOk result ((costs : List Cost) → Counts self.old costs
+            → Counts self.new (costs ++ record
+            { group = group.now; billed = billed; effective = effective } ∷ [])) }
     {
         let Some(lines) = self.lines.checked_add(1) else {
             return Err(AllocError);
@@ -253,7 +280,8 @@ impl Groups {
     pub(crate) fn put(&mut self, group: &str, added: Sums) -> Result<(), AllocError>
         requires room { IfSome (sums_at self.old group.now) HasRoom }
         requires small { HasRoom added }
-        ensures { OnOk result (AddsLine self.old self.new (record { group = group.now; billed = added.billed; effective = added.effective })) }
+        ensures { OnOk result (AddsLine self.old self.new
+            (record { group = group.now; billed = added.billed; effective = added.effective })) }
     {
         match self.by_group.get_mut(group) {
             Some(sums) => sums.add(&added),
@@ -275,7 +303,8 @@ impl Groups {
 
     // The totals of the groups, in rising byte order of the groups.
     pub(crate) fn into_totals(self) -> Result<Vec<Total>, AllocError>
-        ensures { IfOk result (λ totals. (costs : List Cost) → AreSums self costs → AreTotals costs totals.items) }
+        ensures { IfOk result (λ totals. (costs : List Cost) → AreSums self costs
+            → AreTotals costs totals.items) }
     {
         let sorted = self.in_order()?;
         kept_totals(sorted.alloc, sorted.by_group)

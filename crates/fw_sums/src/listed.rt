@@ -69,7 +69,8 @@ fn offers_by_code<'r, 'a>(
     from: u64,
     marks: &[bool],
 ) -> Result<Vec<Option<SkuOffers<'r, 'a>>>, AllocError>
-    ensures { IfOk result (λ by_code. AreOffersByCode roster.now (names_of segment.now) by_code.items) }
+    ensures { IfOk result (λ by_code. AreOffersByCode roster.now
+        (names_of segment.now) by_code.items) }
 {
     let hours = segment.hours();
     let mut used = Vec::new(alloc);
@@ -145,7 +146,8 @@ impl<'r, 'a> Listed<'r, 'a> {
     // What was found of the code of the SKU of the row at a place of a segment.
     fn found_of(&self, segment: &Columns, at: &RowPlace) -> Option<SkuOffers<'r, 'a>>
         requires { at.now.place < length segment.now }
-        ensures { result ≡ found_at self.now at.now.segment (slice_index_or (sku_codes segment.now) at.now.place 0) }
+        ensures { result ≡ found_at self.now at.now.segment
+            (slice_index_or (sku_codes segment.now) at.now.place 0) }
     {
         let code = segment.sku_codes()[usize::from(at.place)];
         self.found(at.segment as usize, code as usize)
@@ -159,7 +161,11 @@ impl<'r, 'a> Listed<'r, 'a> {
         at: &RowPlace,
     ) -> SkuOffers<'r, 'a>
         requires { at.now.place < length segment.now }
-        ensures { (segments : List (List Charge)) → slice_index_or segments at.now.segment [] ≡ segment.now → AreListed segments roster.now self.now → (row : Charge) → slice_get segment.now at.now.place ≡ Some row → sku_offers result ≡ offers_of_row roster.now row }
+        ensures { (segments : List (List Charge))
+            → slice_index_or segments at.now.segment [] ≡ segment.now
+            → AreListed segments roster.now self.now → (row : Charge)
+            → slice_get segment.now at.now.place ≡ Some row
+            → sku_offers result ≡ offers_of_row roster.now row }
     {
         match self.found_of(segment, at) {
             Some(found) => found,
@@ -177,7 +183,8 @@ impl<'r, 'a> Listed<'r, 'a> {
     ) -> Result<Vec<SkuOffers<'r, 'a>>, AllocError>
         requires there { All (HasRow (lent segments.now)) places.now }
         requires listed { AreListed (lent segments.now) roster.now self.now }
-        ensures { IfOk result (λ offers. map sku_offers offers.items ≡ map (offers_of_row roster.now) (filter_map (row_at (lent segments.now)) places.now)) }
+        ensures { IfOk result (λ offers. map sku_offers offers.items
+            ≡ map (offers_of_row roster.now) (filter_map (row_at (lent segments.now)) places.now)) }
     {
         let mut offers = Vec::with_capacity(alloc, places.len())?;
         for at in places {
@@ -190,7 +197,8 @@ impl<'r, 'a> Listed<'r, 'a> {
     // Whether the SKU of the row at a place of a segment may be one that a commitment lists.
     fn may_list(&self, segment: &Columns, at: &RowPlace) -> bool
         requires { at.now.place < length segment.now }
-        ensures { result ≡ not (is_marked_code self.now at.now.segment (slice_index_or (sku_codes segment.now) at.now.place 0)) }
+        ensures { result ≡ not (is_marked_code self.now at.now.segment
+            (slice_index_or (sku_codes segment.now) at.now.place 0)) }
     {
         let code = segment.sku_codes()[usize::from(at.place)];
         !self.is_marked(at.segment as usize, code as usize)
@@ -239,7 +247,10 @@ impl<'r, 'a> Listed<'r, 'a> {
         places: &[u16],
     ) -> Result<(), AllocError>
         requires { All (λ place. place < length segment.now) places.now }
-        ensures { OnOk result ((segments : List (List Charge)) → slice_index_or segments number [] ≡ segment.now → listed.new.items ≡ listed.old.items ++ filter (may_be_listed self.now segments) (row_places number places.now)) }
+        ensures { OnOk result ((segments : List (List Charge))
+            → slice_index_or segments number [] ≡ segment.now
+            → listed.new.items ≡ listed.old.items
+            ++ filter (may_be_listed self.now segments) (row_places number places.now)) }
     {
         for place in places {
             let at = RowPlace {
@@ -262,7 +273,10 @@ impl<'r, 'a> Listed<'r, 'a> {
         at: HourPlace,
     ) -> Result<(), AllocError>
         requires { at.number < length (hours_of segment.now) }
-        ensures { OnOk result ((segments : List (List Charge)) → slice_index_or segments at.segment [] ≡ segment.now → listed.new.items ≡ listed.old.items ++ filter (may_be_listed self.now segments) (row_places_there segments at)) }
+        ensures { OnOk result ((segments : List (List Charge))
+            → slice_index_or segments at.segment [] ≡ segment.now
+            → listed.new.items ≡ listed.old.items
+            ++ filter (may_be_listed self.now segments) (row_places_there segments at)) }
     {
         let number = at.number as usize;
         let codes = segment.skus_in(number);
@@ -290,7 +304,9 @@ impl<'r, 'a> Listed<'r, 'a> {
         places: &[HourPlace],
     ) -> Result<Vec<RowPlace>, AllocError>
         requires { All (IsThere (lent segments.now)) places.now }
-        ensures { IfOk result (λ listed. listed.items ≡ filter (may_be_listed self.now (lent segments.now)) (row_places_at (lent segments.now) places.now)) }
+        ensures { IfOk result (λ listed. listed.items
+            ≡ filter (may_be_listed self.now (lent segments.now))
+            (row_places_at (lent segments.now) places.now)) }
     {
         let mut listed = Vec::with_capacity(alloc, count_at(segments, places))?;
         for at in places {

@@ -49,7 +49,8 @@ pub(crate) fn mask_of(
     from: u64,
     marks: &[bool],
 ) -> Result<Mask, AllocError>
-    ensures { IfOk result (λ mask. mask ≡ map (λ row. is_marked marks.now from (hour_of row.start)) segment.now) }
+    ensures { IfOk result (λ mask. mask ≡ map
+        (λ row. is_marked marks.now from (hour_of row.start)) segment.now) }
 {
     let mut mask = Mask::new(alloc, segment.len())?;
     match every_second(from, marks) {
@@ -64,7 +65,8 @@ pub(crate) fn mask_of(
 fn mask_between(segment: &Columns, from: u64, marks: &[bool], seconds: (i64, i64), mask: &mut Mask)
     requires same { length mask.old ≡ length segment.now }
     requires every { list_all (λ mark. mark) marks.now ≡ true }
-    requires between { (s : ℕ) → is_between seconds.0 seconds.1 (pos s) ≡ is_marked marks.now from (hour_of s) }
+    requires between { (s : ℕ) → is_between seconds.0 seconds.1 (pos s)
+        ≡ is_marked marks.now from (hour_of s) }
     ensures { mask.new ≡ map (λ row. is_marked marks.now from (hour_of row.start)) segment.now }
 {
     if are_within(segment, from, marks.len() as u64) {
@@ -86,7 +88,8 @@ fn are_within(segment: &Columns, from: u64, hours: u64) -> bool
 // what a second of a row can be.
 fn every_second(from: u64, marks: &[bool]) -> Option<(i64, i64)>
     ensures every { IfSome result (λ r. list_all (λ mark. mark) marks.now ≡ true) }
-    ensures between { IfSome result (λ r. (s : ℕ) → is_between r.0 r.1 (pos s) ≡ is_marked marks.now from (hour_of s)) }
+    ensures between { IfSome result (λ r. (s : ℕ)
+        → is_between r.0 r.1 (pos s) ≡ is_marked marks.now from (hour_of s)) }
 {
     if !are_all(marks) {
         return None;

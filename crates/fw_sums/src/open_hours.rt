@@ -59,7 +59,8 @@ impl OpenHours {
         hours: usize,
     ) -> Result<OpenHours, AllocError>
         requires { from + hours < 2 ^ 64 }
-        ensures { IfOk result (AreOpen (lent segments.now) (all_rows (lent segments.now)) commitments.now kept.now from hours) }
+        ensures { IfOk result (AreOpen (lent segments.now)
+            (all_rows (lent segments.now)) commitments.now kept.now from hours) }
     {
         let touched = touched_hours(alloc, commitments, from, hours)?;
         let marks = kept.open_hours(alloc, touched.as_slice(), from)?;
@@ -83,7 +84,8 @@ impl OpenHours {
         place: usize,
     ) -> Option<HourSum>
         requires can { CanFind (lent segments.now) roster.now listed.now from self.now }
-        ensures { IfSome result (IsFound roster.now.commitments (all_rows (lent segments.now)) key.now) }
+        ensures { IfSome result (IsFound roster.now.commitments
+            (all_rows (lent segments.now)) key.now) }
     {
         if place >= self.by_hour.len() {
             return None;
@@ -144,7 +146,8 @@ impl OpenHours {
         workers: u32,
     ) -> Result<Vec<Result<Vec<HourSum>, AllocError>>, AllocError>
         requires can { CanFind (lent segments.now) roster.now listed.now from self.now }
-        ensures { IfOk result (λ each. All (AreFound roster.now.commitments (all_rows (lent segments.now)) key.now) each.items) }
+        ensures { IfOk result (λ each. All (AreFound roster.now.commitments
+            (all_rows (lent segments.now)) key.now) each.items) }
     {
         let end = first.saturating_add(HOURS_AT_ONCE).min(self.by_hour.len());
         let next = AtomicUsize::new(first);
@@ -154,7 +157,8 @@ impl OpenHours {
             workers as usize,
             &|_worker: usize| -> Result<Vec<HourSum>, AllocError>
                 requires { CanFind (lent segments.now) roster.now listed.now from self.now }
-                ensures { AreFound roster.entry.now.commitments (all_rows (lent segments.entry.now)) key.entry.now result }
+                ensures { AreFound roster.entry.now.commitments
+                    (all_rows (lent segments.entry.now)) key.entry.now result }
             { self.find_each(alloc, key, segments, roster, listed, from, &next, end) },
         )
     }
@@ -176,9 +180,13 @@ impl OpenHours {
         requires fits { from + length self.now.by_hour.items < 2 ^ 64 }
         requires roster { HasHours roster.now from (length self.now.by_hour.items) }
         requires listed { AreListed (lent segments.now) roster.now listed.now }
-        requires hours { AreOpen (lent segments.now) (all_rows (lent segments.now)) roster.now.commitments kept.old from (length self.now.by_hour.items) self.now }
-        requires kept { AreKeptUnder roster.now.commitments (all_rows (lent segments.now)) key.now kept.old }
-        ensures kept { AreKeptUnder roster.now.commitments (all_rows (lent segments.now)) key.now kept.new }
+        requires hours { AreOpen (lent segments.now)
+            (all_rows (lent segments.now)) roster.now.commitments kept.old from
+            (length self.now.by_hour.items) self.now }
+        requires kept { AreKeptUnder roster.now.commitments
+            (all_rows (lent segments.now)) key.now kept.old }
+        ensures kept { AreKeptUnder roster.now.commitments
+            (all_rows (lent segments.now)) key.now kept.new }
         ensures more { KeepsMore kept.old kept.new }
     {
         if workers == 1 || !has_mark(self.marks.as_slice()) {

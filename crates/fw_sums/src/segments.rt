@@ -26,7 +26,8 @@ fn lend_rows<'s>(
     places: &[u16],
 ) -> Result<(), AllocError>
     requires { All (λ place. place < length segment.now) places.now }
-    ensures { OnOk result (rows.new.items ≡ rows.old.items ++ rows_of_places segment.now places.now) }
+    ensures { OnOk result (rows.new.items
+        ≡ rows.old.items ++ rows_of_places segment.now places.now) }
 {
     for place in places {
         rows.push(segment.lent(usize::from(*place)))?;
@@ -58,7 +59,8 @@ pub(crate) fn rows_lent<'s>(
     places: &[RowPlace],
 ) -> Result<Vec<LentRow<'s>>, AllocError>
     requires { All (HasRow (lent segments.now)) places.now }
-    ensures { IfOk result (λ rows. rows.items ≡ filter_map (row_at (lent segments.now)) places.now) }
+    ensures { IfOk result (λ rows. rows.items
+        ≡ filter_map (row_at (lent segments.now)) places.now) }
 {
     let mut rows = Vec::with_capacity(alloc, places.len())?;
     for at in places {

@@ -53,10 +53,14 @@ impl Groups {
     // Adds the sums of a code to those of its group, where a row has the code.
     fn add_code(&mut self, names: &Names, sums: &[CodeSum], code: usize) -> Result<(), AllocError>
         requires within { code < length sums.now }
-        requires billed_small { nat_abs (slice_index_or (billed_of sums.now) code (pos 0)) < 2 ^ 126 }
-        requires effective_small { nat_abs (slice_index_or (effective_of sums.now) code (pos 0)) < 2 ^ 126 }
+        requires billed_small { nat_abs (slice_index_or (billed_of sums.now) code (pos 0))
+            < 2 ^ 126 }
+        requires effective_small { nat_abs (slice_index_or (effective_of sums.now) code (pos 0))
+            < 2 ^ 126 }
         requires room { IfSome (sums_at self.old (code_text names.now code)) HasRoom }
-        ensures { OnOk result (MatchBool (slice_index_or (marks_of sums.now) code false) (AddsLine self.old self.new (code_cost names.now sums.now code)) (self.new ≡ self.old)) }
+        ensures { OnOk result (MatchBool (slice_index_or (marks_of sums.now) code false)
+            (AddsLine self.old self.new (code_cost names.now sums.now code))
+            (self.new ≡ self.old)) }
     {
         let sum = sums[code];
         if !sum.is_marked {
@@ -76,7 +80,9 @@ impl Groups {
         marks: &[bool],
     ) -> Result<(), AllocError>
         requires { (costs : List Cost) × Counts self.old costs }
-        ensures { OnOk result ((costs : List Cost) → Counts self.old costs → Counts self.new (costs ++ map (row_cost key.now) (rows_marked marks.now from segment.now))) }
+        ensures { OnOk result ((costs : List Cost) → Counts self.old costs
+            → Counts self.new (costs ++ map (row_cost key.now)
+            (rows_marked marks.now from segment.now))) }
     {
         let Some(lines) = self.lines.checked_add(segment.len() as u64) else {
             return Err(AllocError);
@@ -103,7 +109,9 @@ impl Groups {
         marks: &[bool],
     ) -> Result<(), AllocError>
         requires { (costs : List Cost) × Counts self.old costs }
-        ensures { OnOk result ((costs : List Cost) → Counts self.old costs → Counts self.new (costs ++ map (row_cost key.now) (rows_marked marks.now from (all_rows (lent segments.now))))) }
+        ensures { OnOk result ((costs : List Cost) → Counts self.old costs
+            → Counts self.new (costs ++ map (row_cost key.now)
+            (rows_marked marks.now from (all_rows (lent segments.now))))) }
     {
         for segment in segments {
             self.add_segment(key, segment, from, marks)?;

@@ -33,7 +33,11 @@ impl Model for Total {
 impl Total {
     // The total of a group with these sums.
     pub(crate) fn of_sums(group: String, billed: i128, effective: i128) -> Total
-        ensures { result ≡ record { group = string_bytes group; billed = billed; effective = effective } }
+        ensures { result ≡ record {
+          group = string_bytes group;
+          billed = billed;
+          effective = effective;
+        } }
     {
         Total {
             group,

@@ -40,7 +40,9 @@ pub fn totals_keeping<'a>(
     requires some_workers { 1 ≤ workers }
     requires kept { AreKept commitments.now (all_rows (lent segments.now)) covers.old }
     ensures kept { AreKept commitments.now (all_rows (lent segments.now)) covers.new }
-    ensures totals { IfOk result (λ totals. HasTotals commitments.now (all_rows (lent segments.now)) query.now.key.now query.now.from_hour query.now.to_hour totals.items) }
+    ensures totals { IfOk result (λ totals. HasTotals commitments.now
+        (all_rows (lent segments.now)) query.now.key.now query.now.from_hour query.now.to_hour
+        totals.items) }
 {
     let mut kept = covers.take(query.key, segments);
     let rows = Groups::of_wholes(
@@ -94,7 +96,9 @@ pub fn totals_alone<'a>(
     query: &Query<'_>,
 ) -> Result<Vec<Total>, AllocError>
     requires range { IsRange query.now.from_hour query.now.to_hour }
-    ensures totals { IfOk result (λ totals. HasTotals commitments.now (all_rows (lent segments.now)) query.now.key.now query.now.from_hour query.now.to_hour totals.items) }
+    ensures totals { IfOk result (λ totals. HasTotals commitments.now
+        (all_rows (lent segments.now)) query.now.key.now query.now.from_hour query.now.to_hour
+        totals.items) }
 {
     let marks = every_hour(alloc, (query.to_hour - query.from_hour) as usize)?;
     let rows = Groups::of_piece(
@@ -126,7 +130,9 @@ fn open_hours(
     query: &Query<'_>,
 ) -> Result<OpenHours, AllocError>
     requires { IsRange query.now.from_hour query.now.to_hour }
-    ensures { IfOk result (AreOpen (lent segments.now) (all_rows (lent segments.now)) commitments.now kept.now query.now.from_hour (query.now.to_hour - query.now.from_hour)) }
+    ensures { IfOk result (AreOpen (lent segments.now)
+        (all_rows (lent segments.now)) commitments.now kept.now query.now.from_hour
+        (query.now.to_hour - query.now.from_hour)) }
 {
     let hours = (query.to_hour - query.from_hour) as usize;
     OpenHours::of_range(alloc, segments, commitments, kept, query.from_hour, hours)
@@ -143,13 +149,21 @@ fn totals_of<'r, 'a>(
     query: &Query<'_>,
 ) -> Result<Vec<Total>, AllocError>
     requires range { IsRange query.now.from_hour query.now.to_hour }
-    requires rows { Counts rows (range_costs query.now.key.now query.now.from_hour query.now.to_hour (all_rows (lent segments.now))) }
-    requires roster { HasHours roster.now query.now.from_hour (query.now.to_hour - query.now.from_hour) }
+    requires rows { Counts rows (range_costs query.now.key.now query.now.from_hour query.now.to_hour
+        (all_rows (lent segments.now))) }
+    requires roster { HasHours roster.now query.now.from_hour
+        (query.now.to_hour - query.now.from_hour) }
     requires listed { AreListed (lent segments.now) roster.now listed.now }
-    requires hours { AreOpen (lent segments.now) (all_rows (lent segments.now)) roster.now.commitments kept.old query.now.from_hour (query.now.to_hour - query.now.from_hour) hours.now }
-    requires kept { AreKeptUnder roster.now.commitments (all_rows (lent segments.now)) query.now.key.now kept.old }
-    ensures kept { AreKeptUnder roster.now.commitments (all_rows (lent segments.now)) query.now.key.now kept.new }
-    ensures totals { IfOk result (λ totals. HasTotals roster.now.commitments (all_rows (lent segments.now)) query.now.key.now query.now.from_hour query.now.to_hour totals.items) }
+    requires hours { AreOpen (lent segments.now)
+        (all_rows (lent segments.now)) roster.now.commitments kept.old query.now.from_hour
+        (query.now.to_hour - query.now.from_hour) hours.now }
+    requires kept { AreKeptUnder roster.now.commitments
+        (all_rows (lent segments.now)) query.now.key.now kept.old }
+    ensures kept { AreKeptUnder roster.now.commitments
+        (all_rows (lent segments.now)) query.now.key.now kept.new }
+    ensures totals { IfOk result (λ totals. HasTotals roster.now.commitments
+        (all_rows (lent segments.now)) query.now.key.now query.now.from_hour query.now.to_hour
+        totals.items) }
 {
     let key = query.key;
     let from = query.from_hour;

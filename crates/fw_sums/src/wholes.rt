@@ -57,7 +57,8 @@ impl Whole {
     // The sums of a segment's rows. There are none where its rows are of more hours than a report can have, or of none.
     fn of_segment(alloc: Global, key: &str, segment: &Columns) -> Result<Option<Whole>, AllocError>
         ensures sums { IfOk result (λ found. IfSome found (IsWhole key.now segment.now)) }
-        ensures len { IfOk result (λ found. IfSome found (λ whole. whole.len ≡ length segment.now)) }
+        ensures len { IfOk result (λ found. IfSome found
+            (λ whole. whole.len ≡ length segment.now)) }
     {
         let (from, to) = hours_between(segment);
         let hours = to.saturating_sub(from);
@@ -103,7 +104,8 @@ impl Wholes {
 
     // Keeps the sums of a segment whose first row is at this place. Where memory is short nothing is kept, and the next report finds it anew.
     fn keep(&mut self, first: u64, whole: Whole)
-        ensures { (f : ℕ) → (whole_at self.new f ≡ whole_at self.old f) ⊎ ((f ≡ first) × (whole_at self.new f ≡ Some whole)) }
+        ensures { (f : ℕ) → (whole_at self.new f ≡ whole_at self.old f)
+            ⊎ ((f ≡ first) × (whole_at self.new f ≡ Some whole)) }
     {
         let groups = self.groups.saturating_add(whole.sums.by_group.len());
         if self.by_first.insert(first, whole).is_ok() {
@@ -113,7 +115,8 @@ impl Wholes {
 
     // Keeps the sums of the segment whose first row is at this place, where nothing is kept of it and there is room. Where memory is short they aren't kept.
     fn keep_segment(&mut self, alloc: Global, key: &str, segment: &Columns, first: u64)
-        ensures { (rows : List Charge) → take (length segment.now) (drop first rows) ≡ segment.now → AreWholes key.now rows self.old → AreWholes key.now rows self.new }
+        ensures { (rows : List Charge) → take (length segment.now) (drop first rows) ≡ segment.now
+            → AreWholes key.now rows self.old → AreWholes key.now rows self.new }
     {
         if self.groups >= MOST_GROUPS || self.of_first(first).is_some() {
             return;
@@ -125,7 +128,8 @@ impl Wholes {
 
     // Keeps the sums of the segments of which nothing is kept, while there is room.
     pub(crate) fn fill(&mut self, alloc: Global, key: &str, segments: &[&Columns])
-        ensures { AreWholes key.now (all_rows (lent segments.now)) self.old → AreWholes key.now (all_rows (lent segments.now)) self.new }
+        ensures { AreWholes key.now (all_rows (lent segments.now)) self.old
+            → AreWholes key.now (all_rows (lent segments.now)) self.new }
     {
         let mut first = 0_u64;
         for segment in segments {
@@ -139,7 +143,8 @@ impl Wholes {
 
     // The sums that are kept of the segment with so many rows whose first row is at this place.
     fn of_rows(&self, first: u64, len: u64) -> Option<&Whole>
-        ensures { IfSome (option_copied result) (λ whole. (whole.len ≡ len) × (whole_at self.now first ≡ Some whole)) }
+        ensures { IfSome (option_copied result)
+            (λ whole. (whole.len ≡ len) × (whole_at self.now first ≡ Some whole)) }
     {
         match self.of_first(first) {
             Some(whole) if whole.len == len => Some(whole),
@@ -160,7 +165,10 @@ impl Groups {
     ) -> Result<Vec<&'a Columns>, AllocError>
         requires none { Counts self.old [] }
         requires wholes { (key : List ℕ) × AreWholes key (all_rows (lent segments.now)) wholes.now }
-        ensures { IfOk result (λ others. (key : List ℕ) → AreWholes key (all_rows (lent segments.now)) wholes.now → AreDivided key from to (all_rows (lent segments.now)) self.new (all_rows (lent others.items))) }
+        ensures { IfOk result (λ others. (key : List ℕ)
+            → AreWholes key (all_rows (lent segments.now)) wholes.now
+            → AreDivided key from to (all_rows (lent segments.now)) self.new
+            (all_rows (lent others.items))) }
     {
         let mut others = Vec::new(self.alloc);
         let mut first = 0_u64;

@@ -29,7 +29,8 @@ impl Groups {
     pub(crate) fn add_groups(&mut self, other: &Groups) -> Result<(), AllocError>
         requires counts { (costs : List Cost) × Counts self.old costs }
         requires others { (costs : List Cost) × Counts other.now costs }
-        ensures { OnOk result ((costs more : List Cost) → Counts self.old costs → Counts other.now more → Counts self.new (costs ++ more)) }
+        ensures { OnOk result ((costs more : List Cost) → Counts self.old costs
+            → Counts other.now more → Counts self.new (costs ++ more)) }
     {
         let Some(lines) = self.lines.checked_add(other.lines) else {
             return Err(AllocError);
@@ -46,7 +47,8 @@ impl Groups {
     // The sums of the lines of all parts.
     fn of_parts(alloc: Global, parts: &[Result<Groups, AllocError>]) -> Result<Groups, AllocError>
         requires { (pieces : List (List Cost)) × AllZip PartCounts pieces parts.now }
-        ensures { IfOk result (λ groups. (pieces : List (List Cost)) → AllZip PartCounts pieces parts.now → Counts groups (in_turn pieces)) }
+        ensures { IfOk result (λ groups. (pieces : List (List Cost))
+            → AllZip PartCounts pieces parts.now → Counts groups (in_turn pieces)) }
     {
         let mut all = Groups::new(alloc);
         for part in parts {
@@ -66,7 +68,8 @@ impl Groups {
         from: u64,
         marks: &[bool],
     ) -> Result<Groups, AllocError>
-        ensures { PartCounts (map (row_cost key.now) (rows_marked marks.now from (all_rows (lent segments.now)))) result }
+        ensures { PartCounts (map (row_cost key.now)
+            (rows_marked marks.now from (all_rows (lent segments.now)))) result }
     {
         let mut groups = Groups::new(alloc);
         groups.add_segments(key, segments, from, marks)?;
@@ -84,7 +87,8 @@ impl Groups {
         workers: u32,
     ) -> Result<Groups, AllocError>
         requires { 0 < workers }
-        ensures { PartCounts (map (row_cost key.now) (rows_marked marks.now from (all_rows (lent segments.now)))) result }
+        ensures { PartCounts (map (row_cost key.now)
+            (rows_marked marks.now from (all_rows (lent segments.now)))) result }
     {
         let workers = (workers as usize).min(segments.len()).max(1);
         let size = segments.len().div_ceil(workers);
@@ -93,7 +97,10 @@ impl Groups {
             alloc,
             workers,
             &|worker: usize| -> Result<Groups, AllocError>
-                ensures { PartCounts (map (row_cost key.entry.now) (rows_marked marks.entry.now from (all_rows (lent (take size (drop (size * worker) segments.entry.now)))))) result }
+                ensures { PartCounts (map (row_cost key.entry.now)
+                    (rows_marked marks.entry.now from
+                    (all_rows (lent (take size (drop (size * worker) segments.entry.now))))))
+                    result }
             { Groups::of_piece(alloc, key, piece(segments, size, worker), from, marks) },
         )?;
         Groups::of_parts(alloc, parts.as_slice())

@@ -68,7 +68,8 @@ fn grouped(alloc: Global, digits: &str) -> Result<String, AllocError>
 #[tactic(auto, unfolding(crate::specs::Amounts::comma_before))]
 fn push_digit(text: &mut String, digit: u8, after: usize) -> Result<(), AllocError>
     requires { digit < 128 }
-    ensures { OnOk result (string_bytes text.new ≡ string_bytes text.old ++ digit ∷ comma_before after) }
+    ensures { OnOk result (string_bytes text.new
+        ≡ string_bytes text.old ++ digit ∷ comma_before after) }
 {
     text.push(char::from(digit))?;
     if after > 0 && after % GROUP == 0 {
@@ -79,7 +80,9 @@ fn push_digit(text: &mut String, digit: u8, after: usize) -> Result<(), AllocErr
 
 // The sign, the whole part, a point and two digits.
 fn joined(alloc: Global, minus: &str, whole: &str, rest: u32) -> Result<String, AllocError>
-    ensures { IfOk result (λ s. string_bytes s ≡ minus.now ++ (whole.now ++ (46 ∷ padded_integral (format_spec 32 0 4 2 (2 ^ 64 - 1)) false [] (decimal rest)))) }
+    ensures { IfOk result (λ s. string_bytes s
+        ≡ minus.now ++ (whole.now ++ (46
+        ∷ padded_integral (format_spec 32 0 4 2 (2 ^ 64 - 1)) false [] (decimal rest)))) }
 {
     format!(in alloc; "{minus}{whole}.{rest:02}")
 }

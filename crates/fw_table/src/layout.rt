@@ -109,7 +109,8 @@ fn push_line(
     widths: &[usize],
     line: &ShownLine,
 ) -> Result<(), AllocError>
-    ensures { OnOk result (AreShownLines (string_bytes text.old) → AreShownLines (string_bytes text.new)) }
+    ensures { OnOk result (AreShownLines (string_bytes text.old)
+        → AreShownLines (string_bytes text.new)) }
 {
     match line {
         ShownLine::Cells(cells) => push_cells(text, aligns, widths, cells.as_slice())?,
@@ -127,7 +128,8 @@ fn push_cells(
     widths: &[usize],
     cells: &[Shown],
 ) -> Result<(), AllocError>
-    ensures { OnOk result (AreShownLines (string_bytes text.old) → AreShownLines (string_bytes text.new)) }
+    ensures { OnOk result (AreShownLines (string_bytes text.old)
+        → AreShownLines (string_bytes text.new)) }
 {
     let mut owed = 0;
     for (place, cell) in cells.iter().enumerate() {
@@ -148,7 +150,8 @@ fn push_cells(
 
 // Adds a text of a column.
 fn push_cell(text: &mut String, cell: &Shown) -> Result<(), AllocError>
-    ensures { OnOk result (AreShownLines (string_bytes text.old) → AreShownLines (string_bytes text.new)) }
+    ensures { OnOk result (AreShownLines (string_bytes text.old)
+        → AreShownLines (string_bytes text.new)) }
 {
     text.push_str(cell.as_str())?;
     Ok(())
@@ -157,7 +160,8 @@ fn push_cell(text: &mut String, cell: &Shown) -> Result<(), AllocError>
 // Adds dashes as wide as each column.
 #[tactic(auto, unfolding(crate::specs::Shown::is_acting_in_lines, crate::specs::Shown::is_acting))]
 fn push_rule(text: &mut String, widths: &[usize]) -> Result<(), AllocError>
-    ensures { OnOk result (AreShownLines (string_bytes text.old) → AreShownLines (string_bytes text.new)) }
+    ensures { OnOk result (AreShownLines (string_bytes text.old)
+        → AreShownLines (string_bytes text.new)) }
 {
     for (place, width) in widths.iter().enumerate() {
         if place > 0 {
@@ -171,7 +175,8 @@ fn push_rule(text: &mut String, widths: &[usize]) -> Result<(), AllocError>
 // Adds a character so many times.
 fn push_repeated(text: &mut String, what: char, times: usize) -> Result<(), AllocError>
     requires { is_acting_in_lines what ≡ false }
-    ensures { OnOk result (AreShownLines (string_bytes text.old) → AreShownLines (string_bytes text.new)) }
+    ensures { OnOk result (AreShownLines (string_bytes text.old)
+        → AreShownLines (string_bytes text.new)) }
 {
     for _ in 0..times {
         text.push(what)?;

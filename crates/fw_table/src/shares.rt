@@ -37,7 +37,8 @@ fn tenths(part: i128, whole: i128) -> Option<u128>
 fn nearest_tenths(part: u128, whole: u128) -> Option<u128>
     requires some { 0 < whole }
     requires small { whole < 2 ^ 127 }
-    ensures { MatchOption result (2 ^ 128 ≤ 2000 * part + whole) (λ t. t ≡ (2000 * part + whole) / (2 * whole)) }
+    ensures { MatchOption result (2 ^ 128 ≤ 2000 * part + whole)
+        (λ t. t ≡ (2000 * part + whole) / (2 * whole)) }
 {
     let above = part.checked_mul(2_000)?.checked_add(whole)?;
     above.checked_div(whole.checked_mul(2)?)

@@ -21,7 +21,8 @@ pub fn shown_text(alloc: Global, text: &str) -> Result<String, AllocError>
 // Adds a character, or its code where it acts on a terminal.
 #[tactic(auto, unfolding(crate::specs::Shown::shown))]
 fn push_shown(text: &mut String, letter: char) -> Result<(), AllocError>
-    ensures { OnOk result (string_bytes text.new ≡ string_bytes text.old ++ encode_utf8_all (shown letter)) }
+    ensures { OnOk result (string_bytes text.new
+        ≡ string_bytes text.old ++ encode_utf8_all (shown letter)) }
 {
     if !is_acting(letter) {
         return text.push(letter);
@@ -86,5 +87,6 @@ impl Shown {
 /// A text as it is shown has no character that acts on a terminal, and a text that has none is shown as it stands.
 pub fn what_is_shown_acts_on_no_terminal()
     ensures safe { (text : List ℕ) → IsUtf8 text → NoCharPasses is_acting (shown_text text) }
-    ensures same { (text : List ℕ) → NoCharPasses is_acting text → IsUtf8 text → shown_text text ≡ text }
+    ensures same { (text : List ℕ) → NoCharPasses is_acting text → IsUtf8 text
+        → shown_text text ≡ text }
 {}

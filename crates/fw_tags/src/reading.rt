@@ -33,7 +33,8 @@ pub fn read_tags(alloc: Global, text: &str) -> Result<Tags, TagFault>
 
 /// The members of the JSON object that a text is: `NotTags` where it is none.
 fn members_of(alloc: Global, text: &str) -> Result<Map<String, Value>, TagFault>
-    ensures members { IfOk result (λ members. members_in text.now ≡ Some (members_view members.entries)) }
+    ensures members { IfOk result (λ members. members_in text.now
+        ≡ Some (members_view members.entries)) }
     ensures none { IfErr result (λ fault. fault ≡ NotTags → members_in text.now ≡ None) }
     ensures not_long { result ≢ Err TooLong }
 {
@@ -65,8 +66,10 @@ fn tags_of_members(
     alloc: Global,
     members: Map<String, Value>,
 ) -> Result<Option<Vec<Tag>>, AllocError>
-    ensures tags { IfOk result (λ tags. option_map (λ v. v.items) tags ≡ tags_of (members_view members.entries)) }
-    ensures rising { IfOk result (λ tags. IfSome tags (λ v. IsStrictlySortedBy (slice_cmp nat_cmp) (map (λ t. t.key) v.items))) }
+    ensures tags { IfOk result (λ tags. option_map (λ v. v.items) tags
+        ≡ tags_of (members_view members.entries)) }
+    ensures rising { IfOk result (λ tags. IfSome tags
+        (λ v. IsStrictlySortedBy (slice_cmp nat_cmp) (map (λ t. t.key) v.items))) }
 {
     let mut tags = Vec::new(alloc);
     for (key, value) in members {

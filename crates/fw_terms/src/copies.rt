@@ -55,7 +55,8 @@ fn copy_usage(alloc: Global, unit: &str, skus: &[String]) -> Result<Terms, Alloc
 
 /// An equal text, if there is one.
 fn copy_text(text: Option<&String>) -> Result<Option<String>, AllocError>
-    ensures { IfOk result (λ copy. option_map string_bytes copy ≡ option_map (λ t. string_bytes t.now) text.entry) }
+    ensures { IfOk result (λ copy. option_map string_bytes copy
+        ≡ option_map (λ t. string_bytes t.now) text.entry) }
 {
     match text {
         Some(text) => Ok(Some(text.clone()?)),
@@ -87,7 +88,8 @@ pub(crate) fn with_one_more(
     purchase: &Purchase,
 ) -> Result<CommitmentFields, AllocError>
     requires { length fields.now.purchases.items < most_purchases }
-    ensures value { IfOk result (λ f. commitment_of f ≡ with_purchase (commitment_of fields.now) purchase.now) }
+    ensures value { IfOk result (λ f. commitment_of f
+        ≡ with_purchase (commitment_of fields.now) purchase.now) }
     ensures capacity { IfOk result (λ f. f.capacity ≡ fields.now.capacity) }
 {
     let id = fields.id.clone()?;

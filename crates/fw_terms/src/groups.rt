@@ -59,7 +59,8 @@ fn gives_to_from(rules: &[Rule], give: &Give) -> bool
 /// Whether a group that is given to is the `from` of a rule, which no policy allows.
 pub fn has_target_from(rules: &[Rule]) -> bool
     ensures test { result ≡ has_target_from rules.now rules.now }
-    ensures meaning { IsTrue result ↔ Any (λ g. Contains (froms rules.now) g) (targets_of rules.now) }
+    ensures meaning { IsTrue result ↔ Any (λ g. Contains (froms rules.now) g)
+        (targets_of rules.now) }
 {
     for rule in rules {
         if gives_to_from(rules, rule.give()) {

@@ -5,6 +5,8 @@ ghost use Rattle.fw_terms.specs.Commitment.{CommitmentValue, PurchaseValue, IsCo
 
 /// A commitment with one purchase more, which it takes, keeps the limits, and costs as much more as was paid.
 pub fn a_purchase_adds_its_cost()
-    ensures limits { (c : CommitmentValue) (p : PurchaseValue) → IsCommitment c → IsTrue (takes_purchase c p) → p.at ≤ last_second → IsCommitment (with_purchase c p) }
-    ensures cost { (c : CommitmentValue) (p : PurchaseValue) → cost_of (with_purchase c p).purchases ≡ cost_of c.purchases + p.billed }
+    ensures limits { (c : CommitmentValue) (p : PurchaseValue) → IsCommitment c
+        → IsTrue (takes_purchase c p) → p.at ≤ last_second → IsCommitment (with_purchase c p) }
+    ensures cost { (c : CommitmentValue) (p : PurchaseValue)
+        → cost_of (with_purchase c p).purchases ≡ cost_of c.purchases + p.billed }
 {}

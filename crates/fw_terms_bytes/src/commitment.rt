@@ -157,7 +157,8 @@ fn term_of(bytes: &[u8]) -> Result<(TermFields, &[u8]), ReadError>
 
 /// So many SKUs.
 fn skus_after(alloc: Global, count: u32, bytes: &[u8]) -> Result<(Vec<String>, &[u8]), ReadError>
-    ensures { Gives (λ x. (map string_bytes x.0.items, x.1.now)) result (times short_text_at count bytes.now) }
+    ensures { Gives (λ x. (map string_bytes x.0.items, x.1.now)) result
+        (times short_text_at count bytes.now) }
 {
     let mut skus = Vec::new(alloc);
     let mut rest = bytes;

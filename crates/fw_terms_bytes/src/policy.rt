@@ -104,7 +104,8 @@ fn rules_agree(rules: &[Rule]) -> bool
 /// The key and the rules of a policy.
 #[tactic(auto, unfolding(crate::specs::Reading::parts_at, crate::specs::Reading::rules_at, fw_bytes::specs::Reading::both))]
 fn parts_of(alloc: Global, bytes: &[u8]) -> Result<((String, Vec<Rule>), &[u8]), ReadError>
-    ensures { Gives (λ x. ((string_bytes x.0.0, x.0.1.items), x.1.now)) result (parts_at bytes.now) }
+    ensures { Gives (λ x. ((string_bytes x.0.0, x.0.1.items), x.1.now)) result
+        (parts_at bytes.now) }
 {
     let (key, rest) = key_of(alloc, bytes)?;
     let (rules, rest) = list_of(alloc, 0, Policy::MOST_RULES as u32, rest)?;

@@ -41,7 +41,8 @@ fn put_term(out: &mut Vec<u8>, one: &Commitment) -> Result<(), AllocError>
 /// Writes SKUs: their number, and each in turn.
 fn put_skus(out: &mut Vec<u8>, skus: &[String]) -> Result<(), AllocError>
     requires { AreSkus (map string_bytes skus.now) }
-    ensures { OnOk result (out.new.items ≡ out.old.items ++ listed text (map string_bytes skus.now)) }
+    ensures { OnOk result (out.new.items
+        ≡ out.old.items ++ listed text (map string_bytes skus.now)) }
 {
     put_u32(out, skus.len() as u32)?;
     for sku in skus {

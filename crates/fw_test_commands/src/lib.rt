@@ -1,5 +1,5 @@
-//! Tests of what the program's commands call: cutting, checking and importing files, loading them, and serving scripts. They are over the public
-//! calls.
+//! Tests of what the program's commands call: cutting, checking and importing files, columns that are kept as tags, loading, and serving
+//! scripts. They are over the public calls.
 //!
 //! They stand in a crate of their own so that the crates which they test are proved once.
 #![tactic(auto)]
@@ -12,6 +12,8 @@ mod cutting;
 mod ended;
 #[cfg(test)]
 mod importing;
+#[cfg(test)]
+mod keeping;
 #[cfg(test)]
 mod limits;
 #[cfg(test)]

@@ -21,7 +21,8 @@ fn tag(alloc: Global, key: &str, value: &str) -> Result<Tag, AllocError>
 
 /// The tags `app` and `team`.
 fn two_tags(alloc: Global) -> Result<Tags, AllocError>
-    ensures { IfOk result (λ tags. tags ≡ record { key = codes "app"; value = codes "web" } ∷ record { key = codes "team"; value = [] } ∷ []) }
+    ensures { IfOk result (λ tags. tags ≡ record { key = codes "app"; value = codes "web" }
+        ∷ record { key = codes "team"; value = [] } ∷ []) }
 {
     let mut items = Vec::new(alloc);
     items.push(tag(alloc, "app", "web")?)?;

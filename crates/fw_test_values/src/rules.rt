@@ -26,7 +26,8 @@ impl Ruled for Span {
 
 #[tactic(auto, unfolding(fw_rules::specs::Table::FirstBroken, fw_rules::specs::Table::NoneBroken))]
 fn first_fault(span: &Span) -> Option<SpanFault>
-    ensures { let rules = ⟦<Span as Ruled>⟧.rules span.now in MatchOption result (NoneBroken rules) (λ f. FirstBroken rules f) }
+    ensures { let rules = ⟦<Span as Ruled>⟧.rules span.now
+        in MatchOption result (NoneBroken rules) (λ f. FirstBroken rules f) }
 {
     first_is_one(span);
     first_or_none(span);

@@ -96,7 +96,11 @@ impl<J: Naming, V: Volume> Publisher<J, V> {
         requires front { (front ≡ store.history) × (writer.desk.shown.value.front ≡ store.history) }
         requires growing { growing ≡ J.fronts }
         requires pending { drop writer.behind writer.log.items ≡ [] }
-        ensures { result ≡ record { published = store.history; store = store; unpublished = false } }
+        ensures { result ≡ record {
+          published = store.history;
+          store = store;
+          unpublished = false;
+        } }
     {
         Publisher {
             alloc,
@@ -232,7 +236,8 @@ fn store_group<J: Naming, V: Volume, R: Wait>(
     ensures committed { IfOk result (λ s. Committed V.tells V.view store.old store.new
         (accepted_of store.old.history.entries (entries_of hand.now))) }
     ensures front { IfOk result (λ s. s.front
-        ≡ with_more store.old.history (accepted_of store.old.history.entries (entries_of hand.now))) }
+        ≡ with_more store.old.history
+        (accepted_of store.old.history.entries (entries_of hand.now))) }
     ensures answers { IfOk result (λ s. s.answers.items
         ≡ answers_on s.front store.old.history.entries (entries_of hand.now)) }
     ensures shown { IfOk result (λ s. (writer.new.desk.shown.value.front ≡ s.front)

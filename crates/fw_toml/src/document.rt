@@ -19,7 +19,8 @@ pub enum TableFault {
 ///
 /// `Syntax` comes exactly where the text is not UTF-8 or no TOML document; `NoMemory` where memory runs out.
 pub fn table_of(alloc: Global, text: &[u8]) -> Result<Table, TableFault>
-    ensures { MatchResult result (λ table. IsTable text.now (stated table)) (λ fault. fault ≡ TableFault.Syntax → (ms : Members) → ¬ IsTable text.now ms) }
+    ensures { MatchResult result (λ table. IsTable text.now (stated table))
+        (λ fault. fault ≡ TableFault.Syntax → (ms : Members) → ¬ IsTable text.now ms) }
 {
     let Ok(text) = str::from_utf8(text) else {
         return Err(TableFault::Syntax);

@@ -8,21 +8,24 @@ use toml::{Table, Value};
 
 /// The value under a name in a table.
 pub fn member<'a>(table: &'a Table, name: &str) -> Option<&'a Value>
-    ensures { MatchOption result (at (stated table.now) name.now ≡ None) (λ value. at (stated table.now) name.now ≡ Some (view value.now)) }
+    ensures { MatchOption result (at (stated table.now) name.now ≡ None)
+        (λ value. at (stated table.now) name.now ≡ Some (view value.now)) }
 {
     table.get(name)
 }
 
 /// The text that a value is, if it is one.
 pub fn as_text(value: &Value) -> Option<&str>
-    ensures { MatchOption result (¬ IsText Anything (view value.now)) (λ text. view value.now ≡ string text.now) }
+    ensures { MatchOption result (¬ IsText Anything (view value.now))
+        (λ text. view value.now ≡ string text.now) }
 {
     value.as_str()
 }
 
 /// The integer that a value is, if it is one.
 pub fn as_integer(value: &Value) -> Option<i64>
-    ensures { MatchOption result (¬ IsInteger Anything (view value.now)) (λ number. view value.now ≡ integer number) }
+    ensures { MatchOption result (¬ IsInteger Anything (view value.now))
+        (λ number. view value.now ≡ integer number) }
 {
     value.as_integer()
 }
@@ -36,7 +39,8 @@ pub fn is_true(value: &Value) -> bool
 
 /// The text under a name in a table, if there is one.
 pub fn text<'a>(table: &'a Table, name: &str) -> Option<&'a str>
-    ensures { MatchOption result (¬ IsThere (at (stated table.now) name.now) (IsText Anything)) (λ text. at (stated table.now) name.now ≡ Some (string text.now)) }
+    ensures { MatchOption result (¬ IsThere (at (stated table.now) name.now) (IsText Anything))
+        (λ text. at (stated table.now) name.now ≡ Some (string text.now)) }
 {
     match member(table, name) {
         Some(value) => as_text(value),
@@ -46,7 +50,8 @@ pub fn text<'a>(table: &'a Table, name: &str) -> Option<&'a str>
 
 /// The integer under a name in a table, if there is one.
 pub fn integer(table: &Table, name: &str) -> Option<i64>
-    ensures { MatchOption result (¬ IsThere (at (stated table.now) name.now) (IsInteger Anything)) (λ number. at (stated table.now) name.now ≡ Some (integer number)) }
+    ensures { MatchOption result (¬ IsThere (at (stated table.now) name.now) (IsInteger Anything))
+        (λ number. at (stated table.now) name.now ≡ Some (integer number)) }
 {
     match member(table, name) {
         Some(value) => as_integer(value),

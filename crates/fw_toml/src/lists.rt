@@ -11,7 +11,9 @@ use toml::{Table, Value};
 
 /// The texts of an array of texts, in order; `None` where the value is not one.
 pub fn texts(alloc: Global, value: &Value) -> Result<Option<Vec<&str>>, AllocError>
-    ensures { IfOk result (λ found. MatchOption found (¬ IsArrayOf (All (IsText Anything)) (view value.now)) (λ v. AreTexts (map (λ t. t.now) v.items) (view value.now))) }
+    ensures { IfOk result (λ found. MatchOption found
+        (¬ IsArrayOf (All (IsText Anything)) (view value.now))
+        (λ v. AreTexts (map (λ t. t.now) v.items) (view value.now))) }
 {
     let Some(array) = value.as_array() else {
         return Ok(None);
@@ -28,7 +30,9 @@ pub fn texts(alloc: Global, value: &Value) -> Result<Option<Vec<&str>>, AllocErr
 
 /// The tables of an array of tables, in order; `None` where the value is not one.
 pub fn tables(alloc: Global, value: &Value) -> Result<Option<Vec<&Table>>, AllocError>
-    ensures { IfOk result (λ found. MatchOption found (¬ IsArrayOf (All (IsTableOf Anything)) (view value.now)) (λ v. AreTables (map (λ t. stated t.now) v.items) (view value.now))) }
+    ensures { IfOk result (λ found. MatchOption found
+        (¬ IsArrayOf (All (IsTableOf Anything)) (view value.now))
+        (λ v. AreTables (map (λ t. stated t.now) v.items) (view value.now))) }
 {
     let Some(array) = value.as_array() else {
         return Ok(None);
@@ -45,8 +49,10 @@ pub fn tables(alloc: Global, value: &Value) -> Result<Option<Vec<&Table>>, Alloc
 
 /// The names and integers of a table of integers, in byte order of the names; `None` where the value is not one.
 pub fn integers(alloc: Global, value: &Value) -> Result<Option<Vec<(&str, i64)>>, AllocError>
-    ensures { IfOk result (λ found. MatchOption found (¬ IsTableOf (λ ms. All (λ m. IsInteger Anything m.1) (members_list ms)) (view value.now))
-        (λ v. AreIntegers (map (λ e. (e.0.now, e.1)) v.items) (view value.now) × IsStrictlySortedBy (slice_cmp nat_cmp) (map (λ e. e.0.now) v.items))) }
+    ensures { IfOk result (λ found. MatchOption found
+        (¬ IsTableOf (λ ms. All (λ m. IsInteger Anything m.1) (members_list ms)) (view value.now))
+        (λ v. AreIntegers (map (λ e. (e.0.now, e.1)) v.items) (view value.now)
+        × IsStrictlySortedBy (slice_cmp nat_cmp) (map (λ e. e.0.now) v.items))) }
 {
     let Some(table) = value.as_table() else {
         return Ok(None);
@@ -63,8 +69,10 @@ pub fn integers(alloc: Global, value: &Value) -> Result<Option<Vec<(&str, i64)>>
 
 /// The names and texts of a table of texts, in byte order of the names; `None` where the value is not one.
 pub fn named_texts(alloc: Global, value: &Value) -> Result<Option<Vec<(&str, &str)>>, AllocError>
-    ensures { IfOk result (λ found. MatchOption found (¬ IsTableOf (λ ms. All (λ m. IsText Anything m.1) (members_list ms)) (view value.now))
-        (λ v. AreNamedTexts (map (λ e. (e.0.now, e.1.now)) v.items) (view value.now) × IsStrictlySortedBy (slice_cmp nat_cmp) (map (λ e. e.0.now) v.items))) }
+    ensures { IfOk result (λ found. MatchOption found
+        (¬ IsTableOf (λ ms. All (λ m. IsText Anything m.1) (members_list ms)) (view value.now))
+        (λ v. AreNamedTexts (map (λ e. (e.0.now, e.1.now)) v.items) (view value.now)
+        × IsStrictlySortedBy (slice_cmp nat_cmp) (map (λ e. e.0.now) v.items))) }
 {
     let Some(table) = value.as_table() else {
         return Ok(None);

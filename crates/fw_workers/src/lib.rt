@@ -51,7 +51,8 @@ fn calls_from<R: Threads + Sync, X: Send + Drop, F: Fn(usize) -> X + Sync>(
     work: &F,
 ) -> Result<Vec<X>, AllocError>
     requires room { from + count < 2 ^ 64 }
-    requires accepts { (number : ℕ) → from ≤ number → number < from + count → F.pre work.now number }
+    requires accepts { (number : ℕ) → from ≤ number → number < from + count
+        → F.pre work.now number }
     ensures { IfOk result (λ results. GivesFrom F.Fn work.now from count results.items) }
 {
     if count == 0 {
@@ -64,7 +65,8 @@ fn calls_from<R: Threads + Sync, X: Send + Drop, F: Fn(usize) -> X + Sync>(
         ensures { F.post work.entry.now from result }
     { work(from) };
     let others = move || -> Result<Vec<X>, AllocError>
-        requires { IsSync R.row × IsSync F.row × IsSend X.row × (next + more < 2 ^ 64) × ((number : ℕ) → next ≤ number → number < next + more → F.pre work.now number) }
+        requires { IsSync R.row × IsSync F.row × IsSend X.row × (next + more < 2 ^ 64)
+            × ((number : ℕ) → next ≤ number → number < next + more → F.pre work.now number) }
         ensures { IfOk result (λ results. GivesFrom F.Fn work.entry.now next more results.items) }
     { calls_from(rt, alloc, next, more, work) };
     let (first, others) = join(rt, first, others);

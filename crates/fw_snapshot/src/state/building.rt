@@ -1,5 +1,5 @@
 //! A state that is made again of its parts: of its segments as they stand, and of the heads of its entries, one after the other.
-ghost use Rattle.std.specs.Prelude.{◌≡◌, ◌<◌, ◌≤◌, ◌+◌, ◌++◌, ◌∷◌, ◌||◌, [], ℕ, List, false, true, if◌then◌else◌, length, take, drop, slice_get, All, IsTrue, Some, IfOk, IfSome, OnErr};
+ghost use Rattle.std.specs.Prelude.{◌≡◌, ◌<◌, ◌≤◌, ◌+◌, ◌++◌, ◌∷◌, ◌||◌, [], ℕ, List, false, true, if◌then◌else◌, length, take, drop, slice_get, slice_range, All, IsTrue, Some, IfOk, IfSome, OnErr};
 ghost use Rattle.std.specs.List.{list_any};
 ghost use Rattle.std.specs.Option.{option_map_or};
 ghost use Rattle.std.specs.Str.{bytes_eq};
@@ -31,10 +31,10 @@ use crate::judging::{
     withdrawal_conflict,
 };
 use crate::parts::{
-    carried_with, commitments_after, commitments_in, policy_after, registered_after, shared_text,
-    withdrawn_after,
+    carried_with_run, commitments_after, commitments_in, policy_after, registered_after,
+    shared_text, withdrawn_after,
 };
-use crate::places::{Place, next_row};
+use crate::places::{Place, Run, next_run};
 use crate::posts::{Span, entries_from, origins_after, span_named, span_of};
 use crate::state::State;
 use crate::verdict::{Conflict, Verdict};
@@ -127,7 +127,12 @@ impl StateBuilder {
         currency: Currency,
         segments: Sequence<Columns>,
     ) -> Result<StateBuilder, AllocError>
-        ensures { IfOk result (λ builder. builder ≡ record { history = record { currency = currency; entries = [] }; segments = segments; taken = 0 }) }
+        ensures { IfOk result (λ builder. builder
+            ≡ record {
+              history = record { currency = currency; entries = [] };
+              segments = segments;
+              taken = 0;
+            }) }
     {
         let posted = PostedRows::all_of(alloc, segments)?;
         let marks = vec![in alloc; true; posted.len()]?;
@@ -158,8 +163,13 @@ impl StateBuilder {
         requires seq { 0 < seq }
         requires content { HasRows (content_view content) }
         requires enough { row_count (content_view content) ≤ length (left_rows self.old) }
-        ensures answer { IfOk result (λ added. added ≡ goes_behind self.old.history.entries (next_entry self.old (record { origin = origin.now; seq = seq; content = content_view content }))) }
-        ensures added { IfOk result (λ added. added ≡ true → self.new ≡ with_next self.old (record { origin = origin.now; seq = seq; content = content_view content })) }
+        ensures answer { IfOk result (λ added. added
+            ≡ goes_behind self.old.history.entries
+            (next_entry self.old (record
+            { origin = origin.now; seq = seq; content = content_view content }))) }
+        ensures added { IfOk result (λ added. added ≡ true
+            → self.new ≡ with_next self.old
+            (record { origin = origin.now; seq = seq; content = content_view content })) }
         ensures refused { IfOk result (λ added. added ≡ false → self.new ≡ self.old) }
         ensures no_memory { OnErr result (self.new ≡ self.old) }
     {
@@ -236,12 +246,22 @@ impl StateBuilder {
     fn brought(&self, content: &Content) -> Result<Brought, AllocError>
         requires content { HasRows (content_view content.now) }
         requires enough { row_count (content_view content.now) ≤ length (left_rows self.now) }
-        ensures len { IfOk result (λ b. b.len ≡ length (brought (command_of (content_view content.now) (take (row_count (content_view content.now)) (left_rows self.now))))) }
-        ensures valid { IfOk result (λ _. IsCommand (command_of (content_view content.now) (take (row_count (content_view content.now)) (left_rows self.now)))) }
+        ensures len { IfOk result (λ b. b.len ≡ length
+            (brought (command_of (content_view content.now)
+            (take (row_count (content_view content.now)) (left_rows self.now))))) }
+        ensures valid { IfOk result (λ _. IsCommand
+            (command_of (content_view content.now)
+            (take (row_count (content_view content.now)) (left_rows self.now)))) }
         ensures few { IfOk result (λ b. b.len < 4294967296) }
-        ensures own { IfOk result (λ b. b.own ≡ carries_any (take (row_count (content_view content.now)) (left_rows self.now)) (committed_of self.now.history.entries)) }
-        ensures carried { IfOk result (λ b. (id : List ℕ) → count_of id b.carried ≡ posts_with id self.now.history.entries + (if carries id (take (row_count (content_view content.now)) (left_rows self.now)) then 1 else 0)) }
-        ensures place { IfOk result (λ b. rows_before self.now.segments b.place ≡ self.now.taken + row_count (content_view content.now)) }
+        ensures own { IfOk result (λ b. b.own ≡ carries_any
+            (take (row_count (content_view content.now)) (left_rows self.now))
+            (committed_of self.now.history.entries)) }
+        ensures carried { IfOk result (λ b. (id : List ℕ)
+            → count_of id b.carried ≡ posts_with id self.now.history.entries
+            + (if carries id (take (row_count (content_view content.now)) (left_rows self.now))
+            then 1 else 0)) }
+        ensures place { IfOk result (λ b. rows_before self.now.segments b.place
+            ≡ self.now.taken + row_count (content_view content.now)) }
         ensures inside { IfOk result (λ b. IsInside self.now.segments b.place) }
     {
         match content {
@@ -273,7 +293,8 @@ impl StateBuilder {
     fn without_rows(&self, len: usize) -> Result<Brought, AllocError>
         ensures len { IfOk result (λ b. b.len ≡ len) }
         ensures own { IfOk result (λ b. b.own ≡ false) }
-        ensures carried { IfOk result (λ b. (id : List ℕ) → count_of id b.carried ≡ posts_with id self.now.history.entries) }
+        ensures carried { IfOk result (λ b. (id : List ℕ)
+            → count_of id b.carried ≡ posts_with id self.now.history.entries) }
         ensures place { IfOk result (λ b. rows_before self.now.segments b.place ≡ self.now.taken) }
         ensures inside { IfOk result (λ b. IsInside self.now.segments b.place) }
     {
@@ -289,11 +310,17 @@ impl StateBuilder {
     #[tactic(auto, unfolding(crate::specs::Verdicts::goes_behind, fw_entry::specs::Spelling::entry, fw_entry::specs::Spelling::command))]
     fn accepts(&self, origin: &str, seq: u64, content: &Content, brings: &Brought) -> bool
         requires enough { row_count (content_view content.now) ≤ length (left_rows self.now) }
-        requires len { brings.now.len ≡ length (brought (command_of (content_view content.now) (take (row_count (content_view content.now)) (left_rows self.now)))) }
+        requires len { brings.now.len ≡ length (brought
+            (command_of (content_view content.now)
+            (take (row_count (content_view content.now)) (left_rows self.now)))) }
         requires few { brings.now.len < 4294967296 }
         requires origin { length origin.now ≤ most_origin_bytes }
-        requires own { brings.now.own ≡ carries_any (take (row_count (content_view content.now)) (left_rows self.now)) (committed_of self.now.history.entries) }
-        ensures { result ≡ goes_behind self.now.history.entries (next_entry self.now (record { origin = origin.now; seq = seq; content = content_view content.now })) }
+        requires own { brings.now.own ≡ carries_any
+            (take (row_count (content_view content.now)) (left_rows self.now))
+            (committed_of self.now.history.entries) }
+        ensures { result ≡ goes_behind self.now.history.entries
+            (next_entry self.now (record
+            { origin = origin.now; seq = seq; content = content_view content.now })) }
     {
         let len = 13 + origin.len() + brings.len;
         len <= Entry::MOST_BYTES && self.verdict(origin, seq, content, brings.own).is_accept()
@@ -302,9 +329,12 @@ impl StateBuilder {
     // The verdict on an entry, where its rows carry the id of a commitment or don't.
     #[tactic(auto, using(std::proofs::lemmas::Bool::Decides::nat_tests), unfolding(crate::specs::Judging::judged))]
     fn verdict(&self, origin: &str, seq: u64, content: &Content, own: bool) -> Verdict
-        requires own { own ≡ carries_any (take (row_count (content_view content.now)) (left_rows self.now)) (committed_of self.now.history.entries) }
+        requires own { own ≡ carries_any (take (row_count (content_view content.now))
+            (left_rows self.now)) (committed_of self.now.history.entries) }
         requires enough { row_count (content_view content.now) ≤ length (left_rows self.now) }
-        ensures { result ≡ judged self.now.history.entries (next_entry self.now (record { origin = origin.now; seq = seq; content = content_view content.now })) }
+        ensures { result ≡ judged self.now.history.entries
+            (next_entry self.now (record
+            { origin = origin.now; seq = seq; content = content_view content.now })) }
     {
         if let Some(verdict) = out_of_turn(self.accepted_from(origin), seq) {
             return verdict;
@@ -317,9 +347,12 @@ impl StateBuilder {
 
     // Why what an entry brings can't follow, if it can't, where its rows carry the id of a commitment or don't.
     fn conflict(&self, origin: &str, content: &Content, own: bool) -> Option<Conflict>
-        requires own { own ≡ carries_any (take (row_count (content_view content.now)) (left_rows self.now)) (committed_of self.now.history.entries) }
+        requires own { own ≡ carries_any (take (row_count (content_view content.now))
+            (left_rows self.now)) (committed_of self.now.history.entries) }
         requires enough { row_count (content_view content.now) ≤ length (left_rows self.now) }
-        ensures { result ≡ command_conflict self.now.history.entries origin.now (command_of (content_view content.now) (take (row_count (content_view content.now)) (left_rows self.now))) }
+        ensures { result ≡ command_conflict self.now.history.entries origin.now
+            (command_of (content_view content.now)
+            (take (row_count (content_view content.now)) (left_rows self.now))) }
     {
         match content {
             Content::Post { rows } => rows_conflict(self.rows, *rows as usize, own),
@@ -392,16 +425,36 @@ impl Parts {
         span: Span,
         named: Option<Span>,
     ) -> Result<Parts, AllocError>
-        requires commitments { NoneRefuses (held_commitments self.now.commitments) (command_of (content_view content) []) }
-        requires within { IfSome named (λ span. span.start + span.rows ≤ length (segment_rows posted.now.segments)) }
+        requires commitments { NoneRefuses (held_commitments self.now.commitments)
+            (command_of (content_view content) []) }
+        requires within { IfSome named (λ span. span.start + span.rows
+            ≤ length (segment_rows posted.now.segments)) }
         requires some { IfSome named (λ span. 0 < span.rows) }
         requires few { IfSome named (λ span. span.rows ≤ most_post_rows) }
-        ensures heads { IfOk result (λ parts. parts.heads ≡ self.now.heads ++ record { origin = origin.now; seq = seq; content = content_view content } ∷ []) }
-        ensures commitments { IfOk result (λ parts. held_commitments parts.commitments ≡ commitments_after (held_commitments self.now.commitments) (command_of (content_view content) [])) }
-        ensures policy { IfOk result (λ parts. held_policy parts.policy ≡ policy_after (held_policy self.now.policy) (command_of (content_view content) [])) }
-        ensures origins { IfOk result (λ parts. (other : List ℕ) → spans_at other parts.origins ≡ spans_at other self.now.origins ++ (if bytes_eq other origin.now then span ∷ [] else [])) }
-        ensures registered { IfOk result (λ parts. (id : List ℕ) → count_of id parts.registered ≡ count_of id self.now.registered + commitments_with id (committed (command_of (content_view content) []))) }
-        ensures withdrawn { IfOk result (λ parts. (id : List ℕ) → count_of id parts.withdrawn ≡ count_of id self.now.withdrawn + times_named id named (segment_rows posted.now.segments)) }
+        ensures heads { IfOk result (λ parts. parts.heads
+            ≡ self.now.heads ++ record {
+              origin = origin.now;
+              seq = seq;
+              content = content_view
+                  content;
+            } ∷ []) }
+        ensures commitments { IfOk result (λ parts. held_commitments parts.commitments
+            ≡ commitments_after (held_commitments self.now.commitments)
+            (command_of (content_view content) [])) }
+        ensures policy { IfOk result (λ parts. held_policy parts.policy
+            ≡ policy_after (held_policy self.now.policy) (command_of (content_view content) [])) }
+        ensures origins { IfOk result (λ parts. (other : List ℕ)
+            → spans_at other parts.origins
+            ≡ spans_at other self.now.origins
+            ++ (if bytes_eq other origin.now then span ∷ [] else [])) }
+        ensures registered { IfOk result (λ parts. (id : List ℕ)
+            → count_of id parts.registered
+            ≡ count_of id self.now.registered
+            + commitments_with id (committed (command_of (content_view content) []))) }
+        ensures withdrawn { IfOk result (λ parts. (id : List ℕ)
+            → count_of id parts.withdrawn
+            ≡ count_of id self.now.withdrawn
+            + times_named id named (segment_rows posted.now.segments)) }
     {
         let withdrawn = withdrawn_after(alloc, &self.withdrawn, posted, named)?;
         let origin = shared_text(alloc, self.origins.key(origin), origin)?;
@@ -434,7 +487,8 @@ fn withdrawal_len(seq: u64) -> usize
 // The marks of the rows of a span taken away, if there is one.
 fn take_away(marks: &mut Vec<bool>, named: Option<Span>)
     requires { IfSome named (λ span. span.start + span.rows ≤ length marks.old.items) }
-    ensures { marks.new.items ≡ option_map_or (λ span. without span.start span.rows marks.old.items) named marks.old.items }
+    ensures { marks.new.items ≡ option_map_or
+        (λ span. without span.start span.rows marks.old.items) named marks.old.items }
 {
     if let Some(span) = named {
         for place in span.start..span.start + span.rows {
@@ -455,24 +509,38 @@ fn posted(
     requires few { count ≤ most_post_rows }
     requires enough { rows_before segments.now start + count ≤ length (segment_rows segments.now) }
     requires inside { IsInside segments.now start }
-    ensures len { IfOk result (λ b. b.len ≡ length (listed row (take count (drop (rows_before segments.now start) (segment_rows segments.now))))) }
+    ensures len { IfOk result (λ b. b.len ≡ length
+        (listed row (take count (drop (rows_before segments.now start)
+        (segment_rows segments.now))))) }
     ensures few { IfOk result (λ b. b.len < 4294967296) }
-    ensures valid { IfOk result (λ _. All IsRow (take count (drop (rows_before segments.now start) (segment_rows segments.now)))) }
-    ensures own { IfOk result (λ b. b.own ≡ list_any (has_counted_id registered.now) (take count (drop (rows_before segments.now start) (segment_rows segments.now)))) }
-    ensures carried { IfOk result (λ b. (id : List ℕ) → count_of id b.carried ≡ count_of id carried.now + (if carries id (take count (drop (rows_before segments.now start) (segment_rows segments.now))) then 1 else 0)) }
-    ensures place { IfOk result (λ b. rows_before segments.now b.place ≡ rows_before segments.now start + count) }
+    ensures valid { IfOk result (λ _. All IsRow
+        (take count (drop (rows_before segments.now start) (segment_rows segments.now)))) }
+    ensures own { IfOk result (λ b. b.own ≡ list_any (has_counted_id registered.now)
+        (take count (drop (rows_before segments.now start) (segment_rows segments.now)))) }
+    ensures carried { IfOk result (λ b. (id : List ℕ)
+        → count_of id b.carried ≡ count_of id carried.now
+        + (if carries id (take count
+        (drop (rows_before segments.now start) (segment_rows segments.now))) then 1 else 0)) }
+    ensures place { IfOk result (λ b. rows_before segments.now b.place
+        ≡ rows_before segments.now start + count) }
     ensures inside { IfOk result (λ b. IsInside segments.now b.place) }
 {
     let mut len = 4;
     let mut own = false;
     let mut after = carried.copy()?;
     let mut place = start;
-    for _ in 0..count {
-        let (row, next) = next_row(segments, place);
-        len += row.encoded_len();
-        own = own || carries_counted(registered, &row);
-        after = carried_with(alloc, carried, &after, &row)?;
-        place = next;
+    let mut done = 0;
+    while done < count {
+        let run = next_run(segments, place, count - done);
+        let columns = segments.get(run.segment);
+        len += columns.rows_len(run.first, run.end);
+        own = own || carry_counted(registered, columns, run);
+        after = carried_with_run(alloc, carried, &after, columns, run)?;
+        place = Place {
+            segment: run.segment,
+            row: run.end,
+        };
+        done += run.end - run.first;
     }
     Ok(Brought {
         len,
@@ -480,6 +548,25 @@ fn posted(
         carried: after,
         place,
     })
+}
+
+// Whether a row of a run, whose segment is given, carries an id that is counted.
+fn carry_counted(counts: &Counters, columns: &Columns, run: Run) -> bool
+    requires order { run.first ≤ run.end }
+    requires within { run.end ≤ length columns.now }
+    ensures { result
+        ≡ list_any (has_counted_id counts.now) (slice_range columns.now run.first run.end) }
+{
+    let discounts = columns.discount_codes();
+    for place in run.first..run.end {
+        if discounts[place] != 0 {
+            let row = columns.lent(place);
+            if carries_counted(counts, &row) {
+                return true;
+            }
+        }
+    }
+    false
 }
 
 // Whether a row carries an id that is counted.

@@ -1,6 +1,5 @@
 use Rattle.std.proofs.Common.{◌≡◌, ◌∙◌, ◌++◌, Bor, ap, map, subst, sym}
 use Rattle.fw_charge.specs.Charge.{Charge}
-use Rattle.fw_finops.specs.Listed.{ArePricedLines}
 use Rattle.fw_select.specs.Selectors.{costs_of}
 use Rattle.fw_select.specs.Table.{AreSums}
 use Rattle.fw_figures.proofs.PriceFacts.{costs_of-append, counts_none}

@@ -1,9 +1,16 @@
-use Rattle.std.proofs.Common.{◌≡◌, ◌++◌, length, take, All}
+use Rattle.std.proofs.Common.{◌≡◌, ◌++◌, length, map, take, All}
 use Rattle.std.specs.List.{flat_map}
 use Rattle.fw_bytes.specs.Spelling.{number32}
-use Rattle.fw_charge.specs.Spelling.{row, IsRow}
+use Rattle.fw_charge.specs.Spelling.{row, tags, IsRow}
+use Rattle.fw_row_table.specs.Lists.{tag_lists}
+use Rattle.fw_row_table.specs.Table.{tags_of}
+use Rattle.fw_row_table.specs.Texts.{names_of}
 use Rattle.fw_row_bytes.proofs.writing.put_rows.Given as goal
 
--- the number and the rows so far are written, and each of them is a row
+-- the number and the rows so far are written, each of them is a row, and what the first lists of tags are spelled as is kept
 abbrev pub invariant-loop-place : goal.invariant-loop-place
-invariant-loop-place l = (l.out.items ≡ l.fn.out.items ++ (number32 (length l.rows) ++ flat_map row (take l.place l.rows))) × All IsRow (take l.place l.rows)
+invariant-loop-place l = record {
+  written : l.out.items ≡ l.fn.out.items ++ (number32 (length l.rows) ++ flat_map row (take l.place l.rows));
+  rows : All IsRow (take l.place l.rows);
+  kept : l.spelled ≡ map (λ list. tags (tags_of (names_of l.rows) list)) (take (length l.spelled) (tag_lists l.rows));
+}

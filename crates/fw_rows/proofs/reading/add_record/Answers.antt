@@ -10,4 +10,4 @@ returns-then-len-places-clause-row g c = λ header are. inl ((λ same. c.if-len-
 
 -- a record of ASCII is one of text
 pub add_text-requires-clause-text : goal.add_text-requires-clause-text
-add_text-requires-clause-text g c = ascii_is_text 0 _ _ (rw c.as_slice.ensures at c.if-is_ascii.ensures.cases)
+add_text-requires-clause-text g c = ascii_is_text 0 _ _ (rw c.as_slice.ensures at c.if-is_ascii.ensures refl)

@@ -1,4 +1,4 @@
-use Rattle.std.proofs.Common.{◌≡◌, ◌+◌, ℕ, List, length, take, drop, if◌then◌else◌}
+use Rattle.std.proofs.Common.{◌≡◌, ◌≤◌, ◌+◌, ◌-◌, ℕ, List, take, drop, if◌then◌else◌}
 use Rattle.fw_charge.specs.Charge.{Charge}
 use Rattle.fw_persistent.specs.Counts.{Counts, count_of}
 use Rattle.fw_posted.specs.Rows.{segment_rows}
@@ -13,5 +13,8 @@ pub record HasCarried (segments : List (List Charge)) (start : ℕ) (before afte
   pub place : rows_before segments at ≡ start + n
   pub inside : IsInside segments at
 
-abbrev pub invariant-loop : goal.invariant-loop
-invariant-loop l = HasCarried l.segments (rows_before l.segments l.fn.start) l.before l.after l.place l.counter
+abbrev pub invariant-loop-done : goal.invariant-loop-done
+invariant-loop-done l = record { seen : HasCarried l.segments (rows_before l.segments l.fn.start) l.before l.after l.place l.done; few : l.done ≤ l.count }
+
+abbrev pub decreases-loop-done : goal.decreases-loop-done
+decreases-loop-done l = l.count - l.done

@@ -1,23 +1,16 @@
-use Rattle.std.proofs.Common.{◌≡◌, ◌+◌, ◌-◌, slice_index_or, arith}
-use Rattle.fw_posted.specs.Rows.{rows_before_segment}
-use Rattle.fw_posted.proofs.PartFacts.{count_next}
-use Rattle.fw_stored_rows.proofs.StartFacts.{row_there}
+use Rattle.std.proofs.Common.{◌≡◌, ◌∙◌, ◌+◌, ap, sym, arith}
+use Rattle.std.specs.Prelude.{slice_get}
+use Rattle.fw_posted.specs.Rows.{segment_rows}
+use Rattle.fw_stored_rows.proofs.RowFacts.{same_at}
 use Rattle.fw_stored_rows.proofs.stored.lent_row.Goals as goal
-
-pub lent-requires : goal.lent-requires
-lent-requires c =
-    let segments = c.args.segments.now in
-    let k = c.segment_of-segment.result in
-    let rows = c.get.result.now in
-    let start : slice_index_or c.args.starts.now k 0 ≡ rows_before_segment segments k = c.requires.starts.each k c.segment_of-segment.ensures.within in
-    let next = count_next segments k rows c.get.ensures in
-    omega (arith, start, next, c.segment_of-segment.ensures.from, c.segment_of-segment.ensures.until)
 
 pub returns : goal.returns
 returns c =
-    let segments = c.args.segments.now in
-    let k = c.segment_of-segment.result in
-    let rows = c.get.result.now in
-    let start : slice_index_or c.args.starts.now k 0 ≡ rows_before_segment segments k = c.requires.starts.each k c.segment_of-segment.ensures.within in
-    let at : rows_before_segment segments k + (c.args.place - slice_index_or c.args.starts.now k 0) ≡ c.args.place = omega (arith, start, c.segment_of-segment.ensures.from) in
-    row_there segments k (c.args.place - slice_index_or c.args.starts.now k 0) c.args.place rows c.lent.result c.get.ensures c.lent.ensures at
+    let all = segment_rows c.args.segments.now in
+    let rows = c.row_in-row.result.0.now in
+    let row = c.row_in-row.result.1 in
+    let run = c.row_in-row.ensures.rows 1 (omega (arith, c.row_in-row.ensures.within)) in
+    let same : slice_get rows (row + 0) ≡ slice_get all (c.args.place + 0) = same_at rows all row c.args.place 0 1 (omega arith) run in
+    let here : row + 0 ≡ row = omega arith in
+    let there : c.args.place + 0 ≡ c.args.place = omega arith in
+    sym (ap (slice_get all) there) ∙ sym same ∙ ap (slice_get rows) here ∙ c.lent.ensures

@@ -1,4 +1,4 @@
-use Rattle.std.proofs.Common.{◌≡◌, ◌+◌, ◌*◌, ◌≤◌, ◌<◌, ℕ, Bool, List, length, take, drop, All, if◌then◌else◌}
+use Rattle.std.proofs.Common.{◌≡◌, ◌+◌, ◌-◌, ◌*◌, ◌≤◌, ℕ, Bool, List, length, take, drop, All, if◌then◌else◌}
 use Rattle.std.specs.List.{flat_map, list_any}
 use Rattle.fw_charge.specs.Charge.{Charge}
 use Rattle.fw_charge.specs.Spelling.{row, IsRow}
@@ -19,5 +19,11 @@ pub record HasSeen (segments : List (List Charge)) (start : ℕ) (registered bef
   pub place : rows_before segments at ≡ start + n
   pub inside : IsInside segments at
 
-abbrev pub invariant-loop : goal.invariant-loop
-invariant-loop l = HasSeen l.segments (rows_before l.segments l.fn.start) l.registered l.carried l.len l.own l.after l.place l.counter
+abbrev pub invariant-loop-done : goal.invariant-loop-done
+invariant-loop-done l = record {
+  seen : HasSeen l.segments (rows_before l.segments l.fn.start) l.registered l.carried l.len l.own l.after l.place l.done;
+  few : l.done ≤ l.count;
+}
+
+abbrev pub decreases-loop-done : goal.decreases-loop-done
+decreases-loop-done l = l.count - l.done

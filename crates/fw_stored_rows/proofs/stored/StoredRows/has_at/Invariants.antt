@@ -1,6 +1,12 @@
-use Rattle.std.proofs.Common.{◌≡◌, take, drop}
+use Rattle.std.proofs.Common.{◌≡◌, ◌≤◌, ◌-◌, length, take, drop}
 use Rattle.fw_stored_rows.proofs.stored.StoredRows.has_at.Given as goal
 
 -- the rows so far are the same
-abbrev pub invariant-loop-place : goal.invariant-loop-place
-invariant-loop-place l = take l.place l.part ≡ take l.place (drop l.first l.self)
+abbrev pub invariant-loop-done : goal.invariant-loop-done
+invariant-loop-done l = record {
+  same : take l.done l.part ≡ take l.done (drop l.first l.self);
+  within : l.done ≤ length l.part;
+}
+
+abbrev pub decreases-loop-done : goal.decreases-loop-done
+decreases-loop-done l = length l.part - l.done

@@ -1,4 +1,4 @@
-use Rattle.std.proofs.Common.{◌≡◌, ◌∙◌, ◌+◌, ◌++◌, ◌∷◌, [], ℕ, List, if◌then◌else◌, ap}
+use Rattle.std.proofs.Common.{◌∙◌, ◌+◌, ◌++◌, ◌∷◌, [], if◌then◌else◌, ap}
 use Rattle.std.specs.Str.{bytes_eq}
 use Rattle.fw_persistent.specs.Counts.{count_of}
 use Rattle.fw_snapshot.specs.Heads.{HeadValue}

@@ -1,4 +1,4 @@
-use Rattle.std.proofs.Common.{◌≡◌, ◌∙◌, ◌+◌, ◌++◌, ◌∷◌, ◌<◌, ◌≤◌, [], ℕ, List, Option, IfSome, if◌then◌else◌, length, take, sym, ap, subst, refl, arith}
+use Rattle.std.proofs.Common.{◌≡◌, ◌∙◌, ◌+◌, ◌++◌, ◌∷◌, ◌≤◌, [], IfSome, if◌then◌else◌, length, take, sym, ap, subst, refl, arith}
 use Rattle.std.specs.Str.{bytes_eq}
 use Rattle.fw_entry.specs.Entry.{EntryValue}
 use Rattle.fw_entry.specs.Spelling.{IsCommand, IsEntry}
@@ -9,7 +9,7 @@ use Rattle.fw_snapshot.specs.BuilderView.{builder_view, state_so_far}
 use Rattle.fw_snapshot.specs.Heads.{HeadValue, command_of, row_count}
 use Rattle.fw_snapshot.specs.HeadView.{content_view}
 use Rattle.fw_snapshot.specs.Judging.{carries, judged}
-use Rattle.fw_snapshot.specs.Posts.{named_in, spans_at, target_of, IsNamed}
+use Rattle.fw_snapshot.specs.Posts.{named_in, spans_at, IsNamed}
 use Rattle.fw_snapshot.specs.StateView.{state_entries}
 use Rattle.fw_snapshot.specs.Uses.{posts_with}
 use Rattle.fw_snapshot.specs.declared.posts.Span.{Span}

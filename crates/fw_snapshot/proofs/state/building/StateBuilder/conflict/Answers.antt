@@ -1,4 +1,4 @@
-use Rattle.std.proofs.Common.{◌≡◌, ◌∙◌, length, take, refl, sym, ap, arith}
+use Rattle.std.proofs.Common.{◌∙◌, length, take, refl, ap, arith}
 use Rattle.std.specs.List.{list_any}
 use Rattle.std.proofs.lemmas.List.{length-take-le}
 use Rattle.fw_snapshot.specs.Building.{Built, left_rows}

@@ -1,4 +1,4 @@
-use Rattle.std.proofs.Common.{◌≡◌, ◌∙◌, ap, nat_lt, sym}
+use Rattle.std.proofs.Common.{◌∙◌, ap, nat_lt, sym}
 use Rattle.fw_snapshot.specs.BuilderView.{state_so_far}
 use Rattle.fw_snapshot.specs.History.{committed_of}
 use Rattle.fw_snapshot.specs.Judging.{is_registered}

@@ -1,4 +1,4 @@
-use Rattle.std.proofs.Common.{◌≡◌, ◌∙◌, ◌<◌, not, length, ap, sym, arith}
+use Rattle.std.proofs.Common.{◌∙◌, ◌<◌, not, length, ap, sym, arith}
 use Rattle.std.proofs.lemmas.Option.{get_or_from_slice_get, slice_get_within}
 use Rattle.fw_snapshot.specs.Building.{Built}
 use Rattle.fw_snapshot.specs.BuilderView.{state_so_far}

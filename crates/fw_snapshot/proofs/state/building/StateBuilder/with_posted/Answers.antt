@@ -1,6 +1,5 @@
-use Rattle.std.proofs.Common.{◌≡◌, ◌∙◌, ◌≤◌, List, length, drop, take, sym, ap, arith, length-drop}
+use Rattle.std.proofs.Common.{◌≡◌, ◌∙◌, ◌≤◌, length, drop, sym, ap, arith, length-drop}
 use Rattle.std.proofs.lemmas.List.{take_all}
-use Rattle.fw_charge.specs.Charge.{Charge}
 use Rattle.fw_posted.specs.Rows.{segment_rows}
 use Rattle.fw_snapshot.specs.Building.{Built, left_rows}
 use Rattle.fw_snapshot.specs.BuilderView.{state_so_far}
