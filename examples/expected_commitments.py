@@ -132,3 +132,30 @@ def units(warehouse, low, high):
         for commitment in commitments:
             eligible[commitment.id] += usable(commitment, row)
     return {id: (unit, capacity, used, eligible[id]) for id, _, unit, capacity, used, *_ in warehouse.coverage(low, high)}
+
+
+def unit_records(warehouse, low, high, keys=()):
+    """The records of quantities of a range of hours as the program has them: each its kind, its name, its unit, which is empty where it is the
+    currency, and in nanos of the unit the capacity, which a group doesn't have, what rows used of it and what they could have used. A row counts
+    once in its unit, and once in the currency: with the most that it could have used of one commitment."""
+    used, eligible, capacities = defaultdict(int), defaultdict(int), defaultdict(int)
+    units = {c.id: c.unit if c.kind == "Usage" else "" for c in warehouse.commitments}
+
+    def add(sums, name, unit, quantity):
+        for place in ([(name, unit)] if keys else []) + [(None, unit)]:
+            sums[place] += quantity
+
+    for line in warehouse.lines_between(low, high):
+        if line.owner[0] in units and line.owner[2] == "Used":
+            add(used, tuple(key.of(line) for key in keys), units[line.owner[0]], line.weight)
+    for row, commitments in eligible_rows(warehouse, low, high):
+        for kind in ("Usage", "Spend"):
+            alike = [c for c in commitments if c.kind == kind]
+            if alike:
+                add(eligible, tuple(of_row(key, row) for key in keys), units[alike[0].id], max(usable(c, row) for c in alike))
+    for id, _, unit, capacity, *_ in warehouse.coverage(low, high):
+        capacities[unit] += capacity
+    places = sorted({place for place in [*used, *eligible] if place[0] is not None}, key=lambda place: [text.encode() for text in (*place[0], place[1])])
+    groups = [("group units", name, unit, None, used[name, unit], eligible[name, unit]) for name, unit in places]
+    of_all = sorted(capacities, key=str.encode)
+    return groups + [("total units", None, unit, capacities[unit], used[None, unit], eligible[None, unit]) for unit in of_all]

@@ -92,7 +92,7 @@ class Chance:
             text += f'sub_account = "{dice.choice(ACCOUNTS)}"\n'
         skus = sorted(dice.sample(SKUS, dice.randrange(1, 4)))
         if dice.random() < 0.5:
-            text += 'category = "Usage"\nunit = "Hours"\nskus = [' + ", ".join(f'"{sku}"' for sku in skus) + "]\n"
+            text += f'category = "Usage"\nunit = "{dice.choice(["Hours", "Hours", "Other"])}"\nskus = [' + ", ".join(f'"{sku}"' for sku in skus) + "]\n"
         else:
             text += 'category = "Spend"\nrates = { ' + ", ".join(f"{sku} = {dice.choice([1, 250_000, 600_000, 1_000_000])}" for sku in skus) + " }\n"
         if dice.random() < 0.6:
@@ -142,6 +142,9 @@ class House:
         return self.well("commitments", "--dir", self.folder, *words)
 
 
+UNITS = ("Unit", "Capacity", "UsedCapacity", "EligibleCapacity")
+
+
 def amount_of(text):
     return expected.nanos(text) if text else None
 
@@ -150,18 +153,18 @@ def read_csv(text, keys, by_period, has_list=False):
     """The records of a CSV: each its hours, kind, keeper, name, units, amounts and how many rows have no price."""
     header, *rows = csv.reader(io.StringIO(text.decode()))
     hours = ["From", "To"] if by_period else []
-    names = [key.name for key in keys] or ["CommitmentDiscountId", "Unit", "Capacity", "UsedCapacity", "EligibleCapacity"]
-    if header != [*hours, "Kind", "Keeper", *names, *oracle.AMOUNTS, *["UnpricedRows"] * has_list]:
+    names = [key.name for key in keys] or ["CommitmentDiscountId"]
+    if header != [*hours, "Kind", "Keeper", *names, *UNITS, *oracle.AMOUNTS, *["UnpricedRows"] * has_list]:
         raise AssertionError(header)
     for row in rows:
         cells = iter(row)
         period = tuple(next(cells) for _ in hours)
         kind, keeper = next(cells), next(cells)
         name = tuple(next(cells) for _ in (keys or [0]))
-        units = None if keys else (next(cells), *(amount_of(next(cells)) for _ in range(3)))
+        units = (next(cells), *(amount_of(next(cells)) for _ in range(3)))
         amounts = tuple(amount_of(next(cells)) for _ in oracle.AMOUNTS)
         unpriced = next(cells, "")
-        yield period, (kind, keeper, None if kind == "total" else name, amounts, int(unpriced) if unpriced else None), units
+        yield period, (kind, keeper, None if kind.startswith("total") else name, amounts, int(unpriced) if unpriced else None), units
 
 
 # The figures of a page: a cost by its place among the amounts, or a rate by those of its part and its whole.
@@ -256,12 +259,15 @@ class Figures(unittest.TestCase):
         words = ["--from", LOW, "--to", HIGH, *self.words(keys, price_tag)]
         right = oracle.records(house.kept, LOW, HIGH, keys, price_tag)
         found = list(read_csv(house.asked(*words, "--format", "csv"), keys, False, price_tag is not None))
-        self.assertEqual([record for _, record, _ in found], right)
+        costs, units = found[: len(right)], oracle.unit_records(house.kept, LOW, HIGH, keys)
+        self.assertEqual([record for _, record, _ in costs], right)
+        self.assertEqual([self.unit_record(one) for one in found[len(right) :]], [((), *one) for one in units])
         told = json.loads(house.asked(*words, "--format", "json"))
+        self.check_json_units(told, units, keys)
+        kept = {} if keys else oracle.units(house.kept, LOW, HIGH)
+        self.check_units(costs, lambda _: kept)
         if not keys:
-            kept = oracle.units(house.kept, LOW, HIGH)
-            self.check_units(found, lambda _: kept)
-            for one, (_, record, _) in zip(told["records"], found):
+            for one, (_, record, _) in zip(told["records"], costs):
                 own = record[:2] == ("commitment", "own")
                 members = [one.get(member) for member in ("unit", "capacity", "usedCapacity", "eligibleCapacity")]
                 unit, *quantities = kept[record[2][0]] if own else (None, None, None, None)
@@ -269,9 +275,26 @@ class Figures(unittest.TestCase):
         self.check_json(told, right, keys, price_tag)
         self.check_note(house.asked(*words).decode(), right, price_tag)
 
+    def unit_record(self, found):
+        """A record of quantities, without the costs, which it doesn't have."""
+        period, (kind, keeper, name, amounts, unpriced), (unit, capacity, used, eligible) = found
+        self.assertEqual((keeper, set(amounts), unpriced), ("own", {None}, None))
+        return period, kind, name, unit, capacity, used, eligible
+
+    def check_json_units(self, found, units, keys):
+        """The quantities of groups and of all as JSON."""
+        right = []
+        for kind, name, unit, capacity, used, eligible in units:
+            one = {"kind": kind.split()[0], "unit": unit, "usedCapacity": expected.spelled(used), "eligibleCapacity": expected.spelled(eligible)}
+            one |= {} if name is None else {"keys": {key.name: text for key, text in zip(keys, name)}}
+            right.append(one | ({} if capacity is None else {"capacity": expected.spelled(capacity)}))
+        self.assertEqual(found["units"], right)
+
     def check_units(self, found, units):
         """What is known in units of each own commitment, and of no other record; and rows used no more than they could have used."""
         for period, (kind, keeper, name, _, _), shown in found:
+            if kind.endswith("units"):
+                continue
             own = kind == "commitment" and keeper == "own"
             self.assertEqual(shown, units(period)[name[0]] if own else ("", None, None, None), name)
             if own:
@@ -309,12 +332,15 @@ class Figures(unittest.TestCase):
         words = ["--from", LOW, "--to", HIGH, *self.words(keys, price_tag), "--by", step]
         right = [(period, record) for period in periods(step) for record in oracle.records(house.kept, *period, keys, price_tag)]
         found = list(read_csv(house.asked(*words, "--format", "csv"), keys, True, price_tag is not None))
-        self.assertEqual([(period, record) for period, record, _ in found], right)
-        if not keys:
-            self.check_units(found, lambda period: oracle.units(house.kept, *period))
+        self.assertEqual([(period, record) for period, record, _ in found if not record[0].endswith("units")], right)
+        units = [(period, *one) for period in periods(step) for one in oracle.unit_records(house.kept, *period, keys)]
+        self.assertEqual([self.unit_record(one) for one in found if one[1][0].endswith("units")], units)
+        self.check_units(found, lambda period: {} if keys else oracle.units(house.kept, *period))
         told = json.loads(house.asked(*words, "--format", "json"))
         self.assertEqual((told["by"], [(one["from"], one["to"]) for one in told["periods"]]), (step, periods(step)))
         self.assertEqual(sum(len(one["records"]) for one in told["periods"]), len(right))
+        for period, one in zip(periods(step), told["periods"]):
+            self.check_json_units(one, oracle.unit_records(house.kept, *period, keys), keys)
 
     def check_page(self, house, keys, price_tag, step):
         """The tables that a reader of a page gets, cell by cell, the chart, and what is said of prices."""
@@ -328,11 +354,25 @@ class Figures(unittest.TestCase):
                 texts = ["Total", *[""] * (len(keys) - 1)] if kind == "total" else [text or "(none)" for text in name]
                 yield [*period, *texts, keeper, *shown(amounts)]
 
+        def unit_rows(low, high, period):
+            by_name = [] if keys else [(None, (id,), *found) for id, found in sorted(oracle.units(house.kept, low, high).items(), key=lambda one: one[0].encode())]
+            for _, name, unit, capacity, used, eligible in by_name + oracle.unit_records(house.kept, low, high, keys):
+                texts = ["Total", *[""] * (len(keys) - 1)] if name is None else [text or "(none)" for text in name]
+                rates = percent(used, capacity), percent(used, eligible)
+                yield [*period, *texts, unit or "USD", "" if capacity is None else cents(capacity), cents(used), rates[0], cents(eligible), rates[1]]
+
         wanted = []
         if step:
             found = [row for low, high in periods(step) for row in rows(low, high, [low[: 7 if step == "month" else 10]])]
             wanted.append(("Figures by period", [["Period", *names], *found]))
         wanted.append(("Figures of the whole range", [names, *rows(LOW, HIGH, [])]))
+        in_units = list(unit_rows(LOW, HIGH, []))
+        if in_units:
+            names = [*([key.name for key in keys] or ["Commitment"]), "Unit", "Capacity", "UsedCapacity", "Utilization", "EligibleCapacity", "Coverage"]
+            if step:
+                found = [row for low, high in periods(step) for row in unit_rows(low, high, [low[: 7 if step == "month" else 10]])]
+                wanted.append(("Quantities by period", [["Period", *names], *found]))
+            wanted.append(("Quantities of the whole range", [names, *in_units]))
         self.assertEqual([(label, cells) for label, cells, _ in page.tables], wanted)
         for _, cells, headings in page.tables:
             self.assertEqual(headings, [[(at, "col") for at in range(len(cells[0]))], *[[(0, "row")]] * (len(cells) - 1)])
@@ -378,6 +418,12 @@ class Figures(unittest.TestCase):
                 "----------  --------  -----------  ----------  -------------  -----------  ------------  --------  -------  -----------",
                 "Total       own             50.0%        2.00           4.00         5.00         11.00     45.5%     1.00         9.1%",
                 "Total       provider        75.0%        1.00           4.00",
+                "",
+                "Commitment  Unit   Capacity  UsedCapacity  Utilization  EligibleCapacity  Coverage",
+                "----------  -----  --------  ------------  -----------  ----------------  --------",
+                "own         Hours      6.00          3.00        50.0%              6.00     50.0%",
+                "----------  -----  --------  ------------  -----------  ----------------  --------",
+                "Total       Hours      6.00          3.00        50.0%              6.00     50.0%",
             ],
         )
 

@@ -33,6 +33,10 @@ whose CommitmentDiscountStatus is Used, Savings is CoveredCost less AmortizedCos
 of CoveredCost. What they could have covered stays unknown. Rows of these that have no amount there add nothing to
 CoveredCost; they are counted, in UnpricedRows of csv, in unpricedRows of json and below a table.
 
+The quantities of own commitments are in a table of their own, unit by unit: the capacity, what rows used of it, and
+what they could have used. There Utilization and Coverage are what was used in percent of the one and of the other. The
+unit of a commitment to a cost is the currency. A row counts once in a unit, and a group has no capacity of its own.
+
 A table and a page (html) show cents, and percent with one digit after the point, rounded from the exact sums; csv and json
 are exact, to the nano, and have both parts of each rate. With --by the range is cut where a new hour, day or month begins.
 A page has all figures, and with --by a chart too.

@@ -1,8 +1,9 @@
 //! The figures of commitments by what they are asked for: by commitment, or by the values of keys.
 use crate::figures::{Amount, Figures};
 use fw_charge::{Category, DiscountStatus};
+use fw_coverage::Coverage;
 use fw_select::Group;
-use fw_terms::Commitment;
+use fw_terms::{Commitment, Terms};
 use std::alloc::{AllocError, Global};
 use std::collections::BTreeMap;
 
@@ -36,6 +37,64 @@ pub(crate) struct Book {
     provider: BTreeMap<Vec<String>, Figures>,
     own_total: Figures,
     provider_total: Figures,
+    // of own commitments: by the values of keys and, behind them, the unit; and by the unit alone
+    quantities: BTreeMap<Vec<String>, Quantities>,
+    quantity_totals: BTreeMap<Vec<String>, Quantities>,
+}
+
+/// What commitments have of one unit, and what rows used and could have used of that, in nanos of the unit.
+#[derive(Clone, Copy, Drop)]
+pub(crate) struct Quantities {
+    pub(crate) capacity: i128,
+    pub(crate) used: i128,
+    pub(crate) usable: i128,
+}
+
+impl Quantities {
+    // So much of a capacity.
+    fn of_capacity(capacity: u128) -> Result<Quantities, AllocError> {
+        match i128::try_from(capacity) {
+            Ok(capacity) => Ok(Quantities {
+                capacity,
+                used: 0,
+                usable: 0,
+            }),
+            Err(_) => Err(AllocError),
+        }
+    }
+
+    // So much that rows used.
+    fn of_used(used: i128) -> Quantities {
+        Quantities {
+            capacity: 0,
+            used,
+            usable: 0,
+        }
+    }
+
+    // So much that rows could have used.
+    fn of_usable(usable: i128) -> Quantities {
+        Quantities {
+            capacity: 0,
+            used: 0,
+            usable,
+        }
+    }
+
+    // These and others. A sum past 2^127 takes more lines than any memory holds, and is answered as out of memory.
+    fn with(self, more: Quantities) -> Result<Quantities, AllocError> {
+        let capacity = self.capacity.checked_add(more.capacity);
+        let used = self.used.checked_add(more.used);
+        let usable = self.usable.checked_add(more.usable);
+        match (capacity, used, usable) {
+            (Some(capacity), Some(used), Some(usable)) => Ok(Quantities {
+                capacity,
+                used,
+                usable,
+            }),
+            _ => Err(AllocError),
+        }
+    }
 }
 
 impl Drop for Book {
@@ -48,6 +107,8 @@ impl Drop for Book {
             provider: _,
             own_total: _,
             provider_total: _,
+            quantities: _,
+            quantity_totals: _,
         } = self;
     }
 }
@@ -63,6 +124,8 @@ impl Book {
             provider: BTreeMap::new(alloc),
             own_total: Figures::none(),
             provider_total: Figures::none(),
+            quantities: BTreeMap::new(alloc),
+            quantity_totals: BTreeMap::new(alloc),
         }
     }
 
@@ -93,6 +156,27 @@ impl Book {
             Keeper::Own => self.own_total,
             Keeper::Provider => self.provider_total,
         }
+    }
+
+    /// Of own commitments what rows used and could have used, by the values of keys and, behind them, the unit, in rising order; none where the names
+    /// are ids. A row counts once in its unit, and once in the currency, however many commitments apply to it.
+    pub(crate) fn quantities(&self) -> &BTreeMap<Vec<String>, Quantities> {
+        &self.quantities
+    }
+
+    /// The same of all own commitments, by the unit alone, with the capacity that they have.
+    pub(crate) fn quantity_totals(&self) -> &BTreeMap<Vec<String>, Quantities> {
+        &self.quantity_totals
+    }
+
+    /// Adds the capacities of own commitments.
+    pub(crate) fn add_capacities(&mut self, units: &[Coverage<'_>]) -> Result<(), AllocError> {
+        for one in units {
+            let more = Quantities::of_capacity(one.capacity())?;
+            let unit = name_with(self.alloc, unit_of(one.commitment()))?;
+            put_quantities(&mut self.quantity_totals, unit, more)?;
+        }
+        Ok(())
     }
 
     /// Adds what the lines of a range came to, by the keys, CommitmentDiscountId, CommitmentDiscountStatus and ChargeCategory.
@@ -138,45 +222,81 @@ impl Book {
     ) -> Result<(), AllocError> {
         for group in groups {
             let parts = Parts::of(group, self.keys);
+            let own = own_with(commitments, parts.id);
             if parts.status == DiscountStatus::Used.word() {
-                let keeper = keeper_of(commitments, parts.id);
-                self.add_covered(keeper, group, parts)?;
+                self.add_covered(own, group, parts)?;
             } else {
-                self.add_eligible(group, parts)?;
+                self.add_eligible(own, group, parts)?;
             }
         }
         Ok(())
     }
 
-    // Adds what was covered. Of a provider's commitment BilledCost of the lines counts the rows that have no price.
+    // Adds what was covered. Of an own commitment BilledCost of the lines is what of its capacity was used, and of a provider's it counts the rows that
+    // have no price.
     fn add_covered(
         &mut self,
-        keeper: Keeper,
+        own: Option<&Commitment>,
         group: &Group,
         parts: Parts<'_>,
     ) -> Result<(), AllocError> {
-        self.add(keeper, group, parts, Amount::Covered, group.effective())?;
-        match keeper {
-            Keeper::Own => Ok(()),
-            Keeper::Provider => self.add(keeper, group, parts, Amount::Unpriced, group.billed()),
-        }
+        let cost = group.effective();
+        let Some(commitment) = own else {
+            self.add(Keeper::Provider, group, parts, Amount::Covered, cost)?;
+            return self.add(
+                Keeper::Provider,
+                group,
+                parts,
+                Amount::Unpriced,
+                group.billed(),
+            );
+        };
+        self.add(Keeper::Own, group, parts, Amount::Covered, cost)?;
+        self.add_quantities(commitment, group, Quantities::of_used(group.billed()))
     }
 
-    // Adds what could have been covered: beside a commitment to the figures of the commitment, and by itself to those of the keys and of all. Beside a
-    // commitment BilledCost of the lines is what of its capacity they could have used.
-    fn add_eligible(&mut self, group: &Group, parts: Parts<'_>) -> Result<(), AllocError> {
+    // Adds what could have been covered: by itself to the figures of the keys and of all, in a unit to the quantities, and beside a commitment to the
+    // figures of the commitment. In a unit and beside a commitment BilledCost of the lines is what of a capacity they could have used.
+    fn add_eligible(
+        &mut self,
+        own: Option<&Commitment>,
+        group: &Group,
+        parts: Parts<'_>,
+    ) -> Result<(), AllocError> {
         let cost = group.effective();
-        if parts.id.is_empty() {
+        let Some(commitment) = own else {
             self.own_total = self.own_total.with(Amount::Eligible, cost)?;
+            if self.is_by_commitment() {
+                return Ok(());
+            }
+            return self.add_named(Keeper::Own, group, parts, Amount::Eligible, cost);
+        };
+        if parts.status == DiscountStatus::Unused.word() {
+            return self.add_quantities(commitment, group, Quantities::of_usable(group.billed()));
         }
-        if parts.id.is_empty() == self.is_by_commitment() {
+        if !self.is_by_commitment() {
             return Ok(());
         }
         self.add_named(Keeper::Own, group, parts, Amount::Eligible, cost)?;
+        self.add_named(Keeper::Own, group, parts, Amount::Usable, group.billed())
+    }
+
+    // Adds quantities in the unit of an own commitment to those of a group, where the names are values of keys, and to those of all.
+    fn add_quantities(
+        &mut self,
+        commitment: &Commitment,
+        group: &Group,
+        more: Quantities,
+    ) -> Result<(), AllocError> {
+        let unit = unit_of(commitment);
+        let total = name_with(self.alloc, unit)?;
+        put_quantities(&mut self.quantity_totals, total, more)?;
         if self.is_by_commitment() {
-            self.add_named(Keeper::Own, group, parts, Amount::Usable, group.billed())?;
+            return Ok(());
         }
-        Ok(())
+        let mut name = texts_of(self.alloc, group, self.keys)?;
+        name.push(String::from_str(self.alloc, unit)?)?;
+        put_quantities(&mut self.quantities, name, more)
     }
 
     // Adds an amount to the figures of a name, and to those of all.
@@ -246,14 +366,49 @@ fn name_of(
     parts: Parts<'_>,
     keys: usize,
 ) -> Result<Vec<String>, AllocError> {
-    let mut name = Vec::new(alloc);
     if keys == 0 {
-        name.push(String::from_str(alloc, parts.id)?)?;
+        return name_with(alloc, parts.id);
     }
+    texts_of(alloc, group, keys)
+}
+
+// The texts of the keys of a group.
+fn texts_of(alloc: Global, group: &Group, keys: usize) -> Result<Vec<String>, AllocError> {
+    let mut texts = Vec::new(alloc);
     for text in group.texts().iter().take(keys) {
-        name.push(String::from_str(alloc, text.as_str())?)?;
+        texts.push(String::from_str(alloc, text.as_str())?)?;
     }
+    Ok(texts)
+}
+
+// A text as a name.
+fn name_with(alloc: Global, text: &str) -> Result<Vec<String>, AllocError> {
+    let mut name = Vec::new(alloc);
+    name.push(String::from_str(alloc, text)?)?;
     Ok(name)
+}
+
+// Adds quantities to those under a name.
+fn put_quantities(
+    by_name: &mut BTreeMap<Vec<String>, Quantities>,
+    name: Vec<String>,
+    more: Quantities,
+) -> Result<(), AllocError> {
+    match by_name.get_mut(&name) {
+        Some(quantities) => *quantities = quantities.with(more)?,
+        None => {
+            by_name.insert(name, more)?;
+        }
+    }
+    Ok(())
+}
+
+/// The unit of a commitment's capacity; the empty text where it is the currency.
+pub(crate) fn unit_of(commitment: &Commitment) -> &str {
+    match commitment.terms() {
+        Terms::Usage { unit, .. } => unit.as_str(),
+        Terms::Spend { .. } => "",
+    }
 }
 
 // Adds an amount to the figures of a name.
@@ -274,9 +429,13 @@ fn put(
 
 // Who keeps the commitment with an id.
 fn keeper_of(commitments: &[Commitment], id: &str) -> Keeper {
-    if commitments.iter().any(|commitment| commitment.id() == id) {
-        Keeper::Own
-    } else {
-        Keeper::Provider
+    match own_with(commitments, id) {
+        Some(_) => Keeper::Own,
+        None => Keeper::Provider,
     }
+}
+
+// The warehouse's own commitment with an id, if it has one.
+fn own_with<'c>(commitments: &'c [Commitment], id: &str) -> Option<&'c Commitment> {
+    commitments.iter().find(|commitment| commitment.id() == id)
 }

@@ -1,7 +1,10 @@
 //! The figures of commitments as JSON.
 use crate::csv_text::quantity_text;
 use crate::parts::{Commitments, Part};
-use crate::record::{Record, amounts_of, records_of, savings_whole, unpriced_of};
+use crate::record::{
+    Record, UnitRecord, amounts_of, records_of, savings_whole, units_by_name, units_of_all,
+    unpriced_of,
+};
 use crate::sheet::Sheet;
 use fw_calendar::{Period, hour_text};
 use serde_json::Value;
@@ -80,7 +83,49 @@ fn push_part(
         }
         push_record(alloc, text, sheet, record)?;
     }
+    text.push_str("],\"units\":[")?;
+    let by_name = if sheet.keys.is_empty() {
+        Vec::new(alloc)
+    } else {
+        units_by_name(alloc, part)?
+    };
+    let of_all = units_of_all(alloc, part)?;
+    for (place, record) in by_name.iter().chain(of_all.iter()).enumerate() {
+        if place > 0 {
+            text.push(',')?;
+        }
+        push_unit_record(alloc, text, sheet, record)?;
+    }
     text.push(']')
+}
+
+// Adds the object of quantities of a group, or of all, in a unit.
+fn push_unit_record(
+    alloc: Global,
+    text: &mut String,
+    sheet: &Sheet<'_, '_, '_>,
+    record: &UnitRecord<'_>,
+) -> Result<(), AllocError> {
+    text.push('{')?;
+    match record.texts {
+        Some(texts) => {
+            text.push_str("\"kind\":\"group\"")?;
+            push_keys(alloc, text, sheet, texts)?;
+        }
+        None => text.push_str("\"kind\":\"total\"")?,
+    }
+    let unit = json_string(alloc, record.unit)?;
+    let used = fw_money::text(alloc, record.used)?;
+    let usable = fw_money::text(alloc, record.usable)?;
+    write!(
+        text,
+        ",\"unit\":{unit},\"usedCapacity\":\"{used}\",\"eligibleCapacity\":\"{usable}\""
+    )?;
+    if let Some(capacity) = record.capacity {
+        let capacity = fw_money::text(alloc, capacity)?;
+        write!(text, ",\"capacity\":\"{capacity}\"")?;
+    }
+    text.push('}')
 }
 
 // Adds the object of a record.
@@ -93,8 +138,8 @@ fn push_record(
     let kind = record.kind(sheet.keys.len());
     let keeper = record.keeper.word();
     write!(text, "{{\"kind\":\"{kind}\",\"keeper\":\"{keeper}\"")?;
-    if record.texts.is_some() {
-        push_name(alloc, text, sheet, record)?;
+    if let Some(texts) = record.texts {
+        push_name(alloc, text, sheet, record, texts)?;
     }
     push_amounts(alloc, text, record)?;
     text.push('}')
@@ -106,19 +151,30 @@ fn push_name(
     text: &mut String,
     sheet: &Sheet<'_, '_, '_>,
     record: &Record<'_>,
+    texts: &[String],
 ) -> Result<(), AllocError> {
     if sheet.keys.is_empty() {
         let id = json_string(alloc, record.text_at(0))?;
         write!(text, ",\"id\":{id}")?;
         return push_units(alloc, text, record);
     }
+    push_keys(alloc, text, sheet, texts)
+}
+
+// Adds the member that has the values of the keys.
+fn push_keys(
+    alloc: Global,
+    text: &mut String,
+    sheet: &Sheet<'_, '_, '_>,
+    texts: &[String],
+) -> Result<(), AllocError> {
     text.push_str(",\"keys\":{")?;
-    for (place, key) in sheet.keys.iter().enumerate() {
+    for (place, (key, value)) in sheet.keys.iter().zip(texts.iter()).enumerate() {
         if place > 0 {
             text.push(',')?;
         }
         let name = json_string(alloc, *key)?;
-        let value = json_string(alloc, record.text_at(place))?;
+        let value = json_string(alloc, value.as_str())?;
         write!(text, "{name}:{value}")?;
     }
     text.push('}')

@@ -2,9 +2,14 @@
 use crate::book::Keeper;
 use crate::figures::Amount;
 use crate::parts::{Commitments, Part};
-use crate::record::{Record, amounts_of, records_of, savings_whole};
+use crate::record::{
+    Record, UnitRecord, amounts_of, records_of, savings_whole, units_by_name, units_of_all,
+};
 use crate::sheet::Sheet;
-use crate::table::{cost_text, name_columns, rate_text, shown_at, unpriced_note};
+use crate::table::{
+    UNIT_NAMES, cost_text, name_columns, rate_text, shown_at, shown_text_of, unit_cells,
+    unit_shown, unpriced_note,
+};
 use fw_calendar::{Step, hour_text};
 use fw_query::{Entry, Report};
 use fw_series::{
@@ -31,6 +36,7 @@ const NAMES: [&str; 11] = [
 const DRAWN: [&str; 2] = ["UsedCost", "UnusedCost"];
 
 /// The figures as a page: with periods a chart of what commitments cost, used and unused, and a table of each period; and a table of the whole range.
+/// Where the warehouse has commitments of its own, tables of their quantities are below.
 pub(crate) fn page_text(
     alloc: Global,
     commitments: &Commitments<'_>,
@@ -44,6 +50,9 @@ pub(crate) fn page_text(
         push_periods(alloc, &mut page, commitments, sheet, step)?;
     }
     push_whole(alloc, &mut page, commitments, sheet)?;
+    if !commitments.whole.units.is_empty() {
+        push_units(alloc, &mut page, commitments, sheet)?;
+    }
     if let Some(tag) = sheet.price_tag {
         push_note(alloc, &mut page, &commitments.whole, tag)?;
     }
@@ -153,7 +162,15 @@ fn push_periods(
     sheet: &Sheet<'_, '_, '_>,
     step: Step,
 ) -> Result<(), AllocError> {
-    push_columns(alloc, page, sheet, "Figures by period", true)?;
+    push_columns(
+        alloc,
+        page,
+        sheet,
+        "Figures by period",
+        true,
+        "Keeper",
+        NAMES.as_slice(),
+    )?;
     for part in &commitments.parts {
         let period = step.text(alloc, part.period.from)?;
         let period = Some(period.as_str());
@@ -170,20 +187,117 @@ fn push_whole(
     commitments: &Commitments<'_>,
     sheet: &Sheet<'_, '_, '_>,
 ) -> Result<(), AllocError> {
-    push_columns(alloc, page, sheet, "Figures of the whole range", false)?;
+    push_columns(
+        alloc,
+        page,
+        sheet,
+        "Figures of the whole range",
+        false,
+        "Keeper",
+        NAMES.as_slice(),
+    )?;
     push_rows(alloc, page, sheet, &commitments.whole, None, false)?;
     push_markup(page, "</tbody>\n<tfoot>\n")?;
     push_rows(alloc, page, sheet, &commitments.whole, None, true)?;
     push_markup(page, "</tfoot>\n</table></div>\n")
 }
 
-// Adds a heading, and the front of a table up to its rows.
+// Adds the tables of quantities: with periods one of each period, and one of the whole range.
+fn push_units(
+    alloc: Global,
+    page: &mut Vec<u8>,
+    commitments: &Commitments<'_>,
+    sheet: &Sheet<'_, '_, '_>,
+) -> Result<(), AllocError> {
+    let names = UNIT_NAMES.as_slice();
+    if let Some(step) = sheet.step {
+        push_columns(
+            alloc,
+            page,
+            sheet,
+            "Quantities by period",
+            true,
+            "Unit",
+            names,
+        )?;
+        for part in &commitments.parts {
+            let period = step.text(alloc, part.period.from)?;
+            let period = Some(period.as_str());
+            push_unit_rows(alloc, page, sheet, &units_by_name(alloc, part)?, period)?;
+            push_unit_rows(alloc, page, sheet, &units_of_all(alloc, part)?, period)?;
+        }
+        push_markup(page, "</tbody>\n</table></div>\n")?;
+    }
+    let whole = &commitments.whole;
+    push_columns(
+        alloc,
+        page,
+        sheet,
+        "Quantities of the whole range",
+        false,
+        "Unit",
+        names,
+    )?;
+    push_unit_rows(alloc, page, sheet, &units_by_name(alloc, whole)?, None)?;
+    push_markup(page, "</tbody>\n<tfoot>\n")?;
+    push_unit_rows(alloc, page, sheet, &units_of_all(alloc, whole)?, None)?;
+    push_markup(page, "</tfoot>\n</table></div>\n")
+}
+
+// Adds rows of quantities.
+fn push_unit_rows(
+    alloc: Global,
+    page: &mut Vec<u8>,
+    sheet: &Sheet<'_, '_, '_>,
+    records: &[UnitRecord<'_>],
+    period: Option<&str>,
+) -> Result<(), AllocError> {
+    for record in records {
+        push_unit_row(alloc, page, sheet, record, period)?;
+    }
+    Ok(())
+}
+
+// Adds the row of quantities of a name, or of all, whose first cell is its heading.
+fn push_unit_row(
+    alloc: Global,
+    page: &mut Vec<u8>,
+    sheet: &Sheet<'_, '_, '_>,
+    record: &UnitRecord<'_>,
+    period: Option<&str>,
+) -> Result<(), AllocError> {
+    push_markup(page, "<tr>")?;
+    if let Some(period) = period {
+        push_text(alloc, page, period, true)?;
+    }
+    for place in 0..name_columns(sheet) {
+        let text = shown_text_of(sheet, record.texts, record.text_at(place), place);
+        push_text(alloc, page, text, period.is_none() && place == 0)?;
+    }
+    push_text(alloc, page, unit_shown(sheet, record), false)?;
+    push_amounts(page, &unit_cells(alloc, record)?)?;
+    push_markup(page, "</tr>\n")
+}
+
+// Adds cells of amounts.
+fn push_amounts(page: &mut Vec<u8>, amounts: &[String]) -> Result<(), AllocError> {
+    for amount in amounts {
+        push_markup(page, "<td>")?;
+        push_markup(page, amount.as_str())?;
+        push_markup(page, "</td>")?;
+    }
+    Ok(())
+}
+
+// Adds a heading, and the front of a table up to its rows: the names of the columns of texts, the last of which is given, and those of amounts.
 fn push_columns(
     alloc: Global,
     page: &mut Vec<u8>,
     sheet: &Sheet<'_, '_, '_>,
     heading: &str,
     has_periods: bool,
+    last: &str,
+    amounts: &[&str],
 ) -> Result<(), AllocError> {
     let front = format!(in alloc;
         "<h2>{heading}</h2>\n<div class=\"wide\" tabindex=\"0\"><table aria-label=\"{heading}\">\n<thead><tr>"
@@ -198,8 +312,8 @@ fn push_columns(
     for key in sheet.keys {
         push_column(alloc, page, *key, true)?;
     }
-    push_column(alloc, page, "Keeper", true)?;
-    for name in NAMES.iter() {
+    push_column(alloc, page, last, true)?;
+    for name in amounts {
         push_column(alloc, page, *name, false)?;
     }
     push_markup(page, "</tr></thead>\n<tbody>\n")
@@ -256,11 +370,7 @@ fn push_row(
         push_text(alloc, page, shown_at(sheet, record, place), is_first)?;
     }
     push_text(alloc, page, record.keeper.word(), false)?;
-    for amount in &figures_of(alloc, record)? {
-        push_markup(page, "<td>")?;
-        push_markup(page, amount.as_str())?;
-        push_markup(page, "</td>")?;
-    }
+    push_amounts(page, &figures_of(alloc, record)?)?;
     push_markup(page, "</tr>\n")
 }
 

@@ -15,7 +15,7 @@ pub struct Part<'a> {
     pub period: Period,
     /// The figures by name.
     pub(crate) book: Book,
-    /// How well the warehouse's own commitments were used, in their units; none where the names aren't ids.
+    /// How well the warehouse's own commitments were used, in their units.
     pub(crate) units: Vec<Coverage<'a>>,
 }
 
@@ -96,11 +96,8 @@ fn part_of<'a>(
     book.add_lines(commitments, lines.groups())?;
     let prices = priced(alloc, snapshot, selector, price_tag, from, to)?;
     book.add_prices(commitments, prices.as_slice())?;
-    let units = if book.is_by_commitment() {
-        coverage(alloc, snapshot, from, to)?
-    } else {
-        Vec::new(alloc)
-    };
+    let units = coverage(alloc, snapshot, from, to)?;
+    book.add_capacities(units.as_slice())?;
     Ok(Part {
         period,
         book,

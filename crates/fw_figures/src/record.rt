@@ -1,9 +1,8 @@
 //! What is shown of a name: its figures, and what comes of them.
-use crate::book::{Book, Keeper};
+use crate::book::{Book, Keeper, Quantities, unit_of};
 use crate::figures::Figures;
 use crate::parts::Part;
 use fw_coverage::Coverage;
-use fw_terms::Terms;
 use std::alloc::{AllocError, Global};
 
 /// What is shown of a name, or of all.
@@ -32,13 +31,7 @@ impl<'b> Record<'b> {
 
     /// The text of the name at a place, for programs.
     pub(crate) fn text_at(&self, place: usize) -> &'b str {
-        match self.texts {
-            Some(texts) => match texts.get(place) {
-                Some(text) => text.as_str(),
-                None => "",
-            },
-            None => "",
-        }
+        text_of(self.texts, place)
     }
 }
 
@@ -58,14 +51,130 @@ fn units_of<'b>(units: &'b [Coverage<'b>], texts: &[String], usable: i128) -> Op
         .iter()
         .find(|one| one.commitment().id() == id.as_str())?;
     Some(Units {
-        unit: match found.commitment().terms() {
-            Terms::Usage { unit, .. } => unit.as_str(),
-            Terms::Spend { .. } => "",
-        },
+        unit: unit_of(found.commitment()),
         capacity: found.capacity(),
         used: found.used(),
         usable,
     })
+}
+
+/// What is shown of a name, or of all own commitments, in a unit.
+#[derive(Clone, Copy)]
+pub(crate) struct UnitRecord<'b> {
+    /// The texts of the name; none where the record is of all.
+    pub(crate) texts: Option<&'b [String]>,
+    /// The unit; empty where it is the currency.
+    pub(crate) unit: &'b str,
+    /// The capacity, in nanos of the unit; none of a group, as a commitment's capacity is no group's.
+    pub(crate) capacity: Option<i128>,
+    /// What rows used of the capacity.
+    pub(crate) used: i128,
+    /// What rows could have used of it.
+    pub(crate) usable: i128,
+}
+
+impl<'b> UnitRecord<'b> {
+    // The record of a commitment.
+    fn of_commitment(texts: &'b [String], units: Units<'b>) -> Result<UnitRecord<'b>, AllocError> {
+        let capacity = i128::try_from(units.capacity);
+        let used = i128::try_from(units.used);
+        let (Ok(capacity), Ok(used)) = (capacity, used) else {
+            return Err(AllocError);
+        };
+        Ok(UnitRecord {
+            texts: Some(texts),
+            unit: units.unit,
+            capacity: Some(capacity),
+            used,
+            usable: units.usable,
+        })
+    }
+
+    // The record of a group: behind the texts of its name comes the unit.
+    fn of_group(name: &'b [String], quantities: Quantities) -> UnitRecord<'b> {
+        let (texts, unit) = match name {
+            [texts @ .., unit] => (texts, unit.as_str()),
+            [] => (name, ""),
+        };
+        UnitRecord {
+            texts: Some(texts),
+            unit,
+            capacity: None,
+            used: quantities.used,
+            usable: quantities.usable,
+        }
+    }
+
+    // The record of all commitments in a unit.
+    fn of_total(unit: &'b str, quantities: Quantities) -> UnitRecord<'b> {
+        UnitRecord {
+            texts: None,
+            unit,
+            capacity: Some(quantities.capacity),
+            used: quantities.used,
+            usable: quantities.usable,
+        }
+    }
+
+    /// Whether the record is of a group or of all, for programs.
+    pub(crate) fn kind(&self) -> &'static str {
+        match self.texts {
+            Some(_) => "group units",
+            None => "total units",
+        }
+    }
+
+    /// The text of the name at a place.
+    pub(crate) fn text_at(&self, place: usize) -> &'b str {
+        text_of(self.texts, place)
+    }
+}
+
+// The text of a name at a place; empty where there is none.
+fn text_of<'b>(texts: Option<&'b [String]>, place: usize) -> &'b str {
+    match texts {
+        Some(texts) => match texts.get(place) {
+            Some(text) => text.as_str(),
+            None => "",
+        },
+        None => "",
+    }
+}
+
+/// What is known in units of the warehouse's own commitments, of each name: of each commitment, or of each group in each unit.
+pub(crate) fn units_by_name<'b>(
+    alloc: Global,
+    part: &'b Part<'b>,
+) -> Result<Vec<UnitRecord<'b>>, AllocError> {
+    let mut records = Vec::new(alloc);
+    if part.book.is_by_commitment() {
+        for (texts, figures) in part.book.figures(Keeper::Own).iter() {
+            let units = units_of(part.units.as_slice(), texts.as_slice(), figures.usable);
+            if let Some(units) = units {
+                records.push(UnitRecord::of_commitment(texts.as_slice(), units)?)?;
+            }
+        }
+    }
+    for (name, quantities) in part.book.quantities().iter() {
+        records.push(UnitRecord::of_group(name.as_slice(), *quantities))?;
+    }
+    Ok(records)
+}
+
+/// What is known in units of all own commitments together, in each unit.
+pub(crate) fn units_of_all<'b>(
+    alloc: Global,
+    part: &'b Part<'b>,
+) -> Result<Vec<UnitRecord<'b>>, AllocError> {
+    let mut records = Vec::new(alloc);
+    for (name, quantities) in part.book.quantity_totals().iter() {
+        let unit = match name.as_slice() {
+            [unit, ..] => unit.as_str(),
+            [] => "",
+        };
+        records.push(UnitRecord::of_total(unit, *quantities))?;
+    }
+    Ok(records)
 }
 
 /// The records of some hours: of each name of the warehouse's own commitments, of each of those that providers keep, and of all of both.

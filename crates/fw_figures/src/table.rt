@@ -1,7 +1,9 @@
 //! The figures of commitments as tables.
 use crate::book::Keeper;
 use crate::parts::{Commitments, Part};
-use crate::record::{Record, amounts_of, records_of, savings_whole};
+use crate::record::{
+    Record, UnitRecord, amounts_of, records_of, savings_whole, units_by_name, units_of_all,
+};
 use crate::sheet::Sheet;
 use fw_table::{Align, Line, cents_text, share_text, shown_text, table_text};
 use std::alloc::{AllocError, Global};
@@ -18,14 +20,24 @@ const NAMES: [&str; 8] = [
     "SavingsRate",
 ];
 
-/// The figures as a table: a line for each commitment or group, of each period where there are periods, and lines with the figures of all.
+/// The names of the columns behind the texts, of the table of quantities.
+pub(crate) const UNIT_NAMES: [&str; 5] = [
+    "Capacity",
+    "UsedCapacity",
+    "Utilization",
+    "EligibleCapacity",
+    "Coverage",
+];
+
+/// The figures as a table: a line for each commitment or group, of each period where there are periods, and lines with the figures of all. Where the
+/// warehouse has commitments of its own, a table of their quantities is below.
 pub(crate) fn table_of(
     alloc: Global,
     commitments: &Commitments<'_>,
     sheet: &Sheet<'_, '_, '_>,
 ) -> Result<String, AllocError> {
     let mut table = Vec::new(alloc);
-    table.push(head_line(alloc, sheet)?)?;
+    table.push(names_line(alloc, sheet, "Keeper", NAMES.as_slice())?)?;
     table.push(Line::Rule)?;
     if sheet.step.is_none() {
         push_lines(alloc, &mut table, sheet, &commitments.whole, false)?;
@@ -35,11 +47,99 @@ pub(crate) fn table_of(
     }
     table.push(Line::Rule)?;
     push_lines(alloc, &mut table, sheet, &commitments.whole, true)?;
-    let mut text = table_text(alloc, aligns_of(alloc, sheet)?.as_slice(), table.as_slice())?;
+    let aligns = aligns_of(alloc, sheet, NAMES.len())?;
+    let mut text = table_text(alloc, aligns.as_slice(), table.as_slice())?;
+    if !commitments.whole.units.is_empty() {
+        push_units(alloc, &mut text, commitments, sheet)?;
+    }
     if let Some(tag) = sheet.price_tag {
         push_note(alloc, &mut text, &commitments.whole, tag)?;
     }
     Ok(text)
+}
+
+// Adds the table of quantities.
+fn push_units(
+    alloc: Global,
+    text: &mut String,
+    commitments: &Commitments<'_>,
+    sheet: &Sheet<'_, '_, '_>,
+) -> Result<(), AllocError> {
+    let mut table = Vec::new(alloc);
+    table.push(names_line(alloc, sheet, "Unit", UNIT_NAMES.as_slice())?)?;
+    table.push(Line::Rule)?;
+    if sheet.step.is_none() {
+        push_unit_lines(alloc, &mut table, sheet, &commitments.whole)?;
+    }
+    for part in &commitments.parts {
+        push_unit_lines(alloc, &mut table, sheet, part)?;
+    }
+    table.push(Line::Rule)?;
+    for record in &units_of_all(alloc, &commitments.whole)? {
+        table.push(unit_line(alloc, sheet, &commitments.whole, record)?)?;
+    }
+    let aligns = aligns_of(alloc, sheet, UNIT_NAMES.len())?;
+    let units = table_text(alloc, aligns.as_slice(), table.as_slice())?;
+    text.push('\n')?;
+    text.push_str(units.as_str())
+}
+
+// Adds the lines of the quantities of the names of some hours.
+fn push_unit_lines(
+    alloc: Global,
+    table: &mut Vec<Line>,
+    sheet: &Sheet<'_, '_, '_>,
+    part: &Part<'_>,
+) -> Result<(), AllocError> {
+    for record in &units_by_name(alloc, part)? {
+        table.push(unit_line(alloc, sheet, part, record)?)?;
+    }
+    Ok(())
+}
+
+// The line of quantities of a name, or of all.
+fn unit_line(
+    alloc: Global,
+    sheet: &Sheet<'_, '_, '_>,
+    part: &Part<'_>,
+    record: &UnitRecord<'_>,
+) -> Result<Line, AllocError> {
+    let mut cells = Vec::new(alloc);
+    push_period(alloc, &mut cells, sheet, part, record.texts.is_none())?;
+    for place in 0..name_columns(sheet) {
+        let text = shown_text_of(sheet, record.texts, record.text_at(place), place);
+        cells.push(String::from_str(alloc, text)?)?;
+    }
+    cells.push(String::from_str(alloc, unit_shown(sheet, record))?)?;
+    for cell in unit_cells(alloc, record)? {
+        cells.push(cell)?;
+    }
+    Ok(Line::Cells(cells))
+}
+
+/// What people see of the unit of a record.
+pub(crate) fn unit_shown<'b>(sheet: &Sheet<'_, '_, 'b>, record: &UnitRecord<'b>) -> &'b str {
+    if record.unit.is_empty() {
+        sheet.currency
+    } else {
+        record.unit
+    }
+}
+
+/// The texts of the quantities of a record, in the order of their columns: in hundredths of the unit, and rates as those of costs.
+pub(crate) fn unit_cells(
+    alloc: Global,
+    record: &UnitRecord<'_>,
+) -> Result<Vec<String>, AllocError> {
+    let used = Some(record.used);
+    let usable = Some(record.usable);
+    let mut cells = Vec::new(alloc);
+    cells.push(cost_text(alloc, record.capacity)?)?;
+    cells.push(cost_text(alloc, used)?)?;
+    cells.push(rate_text(alloc, used, record.capacity)?)?;
+    cells.push(cost_text(alloc, usable)?)?;
+    cells.push(rate_text(alloc, used, usable)?)?;
+    Ok(cells)
 }
 
 // Adds a line that says how many rows have no price, where some have none.
@@ -77,7 +177,7 @@ pub(crate) fn unpriced_note(
     )?))
 }
 
-// How many columns have texts: the period, the name, and who keeps the commitments.
+// How many columns have texts: the period, the name, and who keeps the commitments, or the unit.
 fn text_columns(sheet: &Sheet<'_, '_, '_>) -> usize {
     let periods = if sheet.step.is_some() {
         1_usize
@@ -94,17 +194,26 @@ pub(crate) fn name_columns(sheet: &Sheet<'_, '_, '_>) -> usize {
     sheet.keys.len().max(1)
 }
 
-// How the columns line up.
-fn aligns_of(alloc: Global, sheet: &Sheet<'_, '_, '_>) -> Result<Vec<Align>, AllocError> {
+// How the columns line up, of which so many have amounts.
+fn aligns_of(
+    alloc: Global,
+    sheet: &Sheet<'_, '_, '_>,
+    amounts: usize,
+) -> Result<Vec<Align>, AllocError> {
     let mut aligns = vec![in alloc; Align::Left; text_columns(sheet)]?;
-    for _name in 0..NAMES.len() {
+    for _amount in 0..amounts {
         aligns.push(Align::Right)?;
     }
     Ok(aligns)
 }
 
-// The line of the names of the columns.
-fn head_line(alloc: Global, sheet: &Sheet<'_, '_, '_>) -> Result<Line, AllocError> {
+// The line of the names of the columns: of the texts, the last of which is given, and of the amounts.
+fn names_line(
+    alloc: Global,
+    sheet: &Sheet<'_, '_, '_>,
+    last: &str,
+    amounts: &[&str],
+) -> Result<Line, AllocError> {
     let mut cells = Vec::new(alloc);
     if sheet.step.is_some() {
         cells.push(String::from_str(alloc, "Period")?)?;
@@ -115,9 +224,9 @@ fn head_line(alloc: Global, sheet: &Sheet<'_, '_, '_>) -> Result<Line, AllocErro
     for key in sheet.keys {
         cells.push(String::from_str(alloc, *key)?)?;
     }
-    cells.push(String::from_str(alloc, "Keeper")?)?;
-    for name in NAMES {
-        cells.push(String::from_str(alloc, name)?)?;
+    cells.push(String::from_str(alloc, last)?)?;
+    for name in amounts {
+        cells.push(String::from_str(alloc, *name)?)?;
     }
     Ok(Line::Cells(cells))
 }
@@ -147,12 +256,7 @@ fn record_line(
     record: &Record<'_>,
 ) -> Result<Line, AllocError> {
     let mut cells = Vec::new(alloc);
-    if let Some(step) = sheet.step {
-        cells.push(match record.texts {
-            Some(_) => step.text(alloc, part.period.from)?,
-            None => String::new(alloc),
-        })?;
-    }
+    push_period(alloc, &mut cells, sheet, part, record.texts.is_none())?;
     for place in 0..name_columns(sheet) {
         cells.push(String::from_str(alloc, shown_at(sheet, record, place))?)?;
     }
@@ -161,16 +265,45 @@ fn record_line(
     Ok(Line::Cells(cells))
 }
 
+// Adds the period of a line, where lines have one; that of all has none.
+fn push_period(
+    alloc: Global,
+    cells: &mut Vec<String>,
+    sheet: &Sheet<'_, '_, '_>,
+    part: &Part<'_>,
+    is_of_all: bool,
+) -> Result<(), AllocError> {
+    let Some(step) = sheet.step else {
+        return Ok(());
+    };
+    let period = if is_of_all {
+        String::new(alloc)
+    } else {
+        step.text(alloc, part.period.from)?
+    };
+    cells.push(period)?;
+    Ok(())
+}
+
 /// What people see of a name at a place.
 pub(crate) fn shown_at<'b>(
     sheet: &Sheet<'_, '_, '_>,
     record: &Record<'b>,
     place: usize,
 ) -> &'b str {
-    if record.texts.is_none() {
+    shown_text_of(sheet, record.texts, record.text_at(place), place)
+}
+
+/// What people see of a text of a name at a place; of all, where there is no name.
+pub(crate) fn shown_text_of<'b>(
+    sheet: &Sheet<'_, '_, '_>,
+    texts: Option<&'b [String]>,
+    text: &'b str,
+    place: usize,
+) -> &'b str {
+    if texts.is_none() {
         return if place == 0 { "Total" } else { "" };
     }
-    let text = record.text_at(place);
     if text.is_empty() && !sheet.keys.is_empty() {
         return "(none)";
     }

@@ -17,7 +17,7 @@ use Rattle.fw_cover.specs.declared.taken.Taken.{Taken}
 use Rattle.fw_cover.proofs.Sorting.{two_ways}
 use Rattle.fw_amortise.specs.LineValue.{LineValue}
 use Rattle.fw_amortise.specs.Lines.{given_line}
-use Rattle.fw_finops.specs.Lines.{applies, coverable_line, coverable_of, covered_after, covered_by, covered_line, covered_lines, eligible_line, eligible_of, is_beside, open_lines, open_lines_of, price_lines}
+use Rattle.fw_finops.specs.Lines.{applies, coverable_line, coverable_of, covered_after, covered_by, covered_line, covered_lines, counts, eligible_line, eligible_of, is_beside, most_of, open_lines, open_lines_of, price_lines, unit_line, unit_lines_of}
 use Rattle.fw_finops.specs.Listed.{billed_of_all}
 use Rattle.fw_finops.specs.Usable.{usable, usable_of, whole_at}
 use Rattle.fw_finops.proofs.PartFacts.{open_eligible}
@@ -69,6 +69,19 @@ alone_beside id cs hour row = two_ways (list_any (applies hour row) cs)
     (λ yes. rw (yes, without_discount id row.discount (no_discount row (open_eligible cs hour row yes))) refl)
     (λ no. rw no refl)
 
+-- ---- a row once in a unit is beside none
+most_beside : (id : List ℕ) (hour : ℕ) (row : Charge) (cs : List CommitmentValue) → filter (is_beside id) (most_of hour row cs) ≡ []
+unfolding unit_line
+most_beside id hour row [] = refl
+most_beside id hour row (c ∷ cs) = two_ways (bytes_eq c.id id) (λ same. rw same refl) (λ other. rw other refl)
+
+units_beside : (id : List ℕ) (cs : List CommitmentValue) (hour : ℕ) (row : Charge) → filter (is_beside id) (unit_lines_of cs hour row) ≡ []
+unfolding unit_lines_of
+units_beside id cs hour row =
+    let quantity : List LineValue = most_of hour row (filter (counts hour row false) cs) in
+    let cost : List LineValue = most_of hour row (filter (counts hour row true) cs) in
+    filter-append (is_beside id) quantity cost ∙ (rw (most_beside id hour row (filter (counts hour row false) cs), most_beside id hour row (filter (counts hour row true) cs)) refl)
+
 -- ---- a row beside the commitments that apply to it
 none_usable : (hour : ℕ) (row : Charge) (c : CommitmentValue) → applies hour row c ≡ false → usable hour row c ≡ 0
 unfolding applies usable
@@ -104,10 +117,12 @@ rows_say id hour cs (row ∷ rows) =
     let rest = rows_say id hour cs rows in
     let own = row_says id hour row cs in
     let alone : billed_of_all (filter (is_beside id) (coverable_of cs hour row)) ≡ pos 0 = ap billed_of_all (alone_beside id cs hour row) ∙ billed_none in
-    let here = beside_append id (eligible_of cs hour row) (coverable_of cs hour row) in
-    let both = beside_append id (eligible_of cs hour row ++ coverable_of cs hour row) (flat_map (open_lines_of cs hour) rows) in
+    let units : billed_of_all (filter (is_beside id) (unit_lines_of cs hour row)) ≡ pos 0 = ap billed_of_all (units_beside id cs hour row) ∙ billed_none in
+    let behind = beside_append id (unit_lines_of cs hour row) (coverable_of cs hour row) in
+    let here = beside_append id (eligible_of cs hour row) (unit_lines_of cs hour row ++ coverable_of cs hour row) in
+    let both = beside_append id (eligible_of cs hour row ++ (unit_lines_of cs hour row ++ coverable_of cs hour row)) (flat_map (open_lines_of cs hour) rows) in
     let sum = sum_by-cons (λ (row : Charge). sum_by (usable hour row) (filter (λ c. bytes_eq c.id id) cs)) row rows in
-    omega (arith, ints, rest, own, alone, here, both, sum)
+    omega (arith, ints, rest, own, alone, units, behind, here, both, sum)
 
 -- ---- by commitment
 no_rows : (hour : ℕ) (cs : List CommitmentValue) → sum_by (usable_of hour []) cs ≡ 0

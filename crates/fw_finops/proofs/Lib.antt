@@ -8,3 +8,4 @@ pub mod UsableFacts
 pub mod PartFacts
 pub mod SavingFacts
 pub mod BesideFacts
+pub mod OnceFacts

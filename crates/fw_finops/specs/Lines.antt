@@ -1,5 +1,5 @@
 -- Lines at the rows' own prices: what commitments took of an hour's rows, and what they could have taken.
-use Rattle.std.specs.Prelude.{ℕ, ◌-◌, ◌&&◌, Bool, false, is_none, List, [], ◌∷◌, ◌++◌, map, filter, Option, Some, None, is_some, pos, slice_get, if◌then◌else◌}
+use Rattle.std.specs.Prelude.{ℕ, ◌-◌, ◌&&◌, not, Bool, true, false, is_none, List, [], ◌∷◌, ◌++◌, map, filter, max, Option, Some, None, is_some, pos, slice_get, if◌then◌else◌}
 use Rattle.std.specs.List.{flat_map, list_any}
 use Rattle.std.specs.Option.{option_map_or}
 use Rattle.std.specs.Str.{bytes_eq}
@@ -18,14 +18,15 @@ use Rattle.fw_finops.specs.Usable.{usable}
 
 -- ---- what was taken
 
--- what a commitment took of a row of which so much was left before: a used line, at the row's own prices
+-- what a commitment took of a row of which so much was left before: a used line, at the row's own price. A line has no capacity: what was used of the
+-- commitment's stands as BilledCost, so that sums of it say how much that is
 unfoldable pub covered_line : ℕ → CommitmentValue → Charge → Taken → ℕ → LineValue
 covered_line hour c row t before = record {
   hour = hour;
   kind = kind.Used;
   category = category.Usage;
   commitment = Some (discount_by c (Some status.Used));
-  billed = pos (taken_cost row.billed row before (before - t.quantity));
+  billed = pos t.weight;
   effective = pos (taken_cost row.effective row before (before - t.quantity));
   quantity = Some (pos t.quantity);
   sku = row.sku;
@@ -55,8 +56,7 @@ covered_lines cs rows hour = covered_after cs rows hour [] (hour_cover cs rows h
 unfoldable pub applies : ℕ → Charge → CommitmentValue → Bool
 applies hour row c = is_some (applied c hour row)
 
--- a row that a commitment could have taken, beside the commitment. A line has no capacity: what the row could have used of the commitment's stands as
--- BilledCost, so that sums of it say how much that is
+-- a row that a commitment could have taken, beside the commitment: what the row could have used of its capacity stands as BilledCost
 unfoldable pub eligible_line : ℕ → Charge → CommitmentValue → LineValue
 eligible_line hour row c =
     record (given_line hour row) { kind = kind.Rest; commitment = Some (discount_by c None); billed = pos (usable hour row c) }
@@ -65,11 +65,44 @@ eligible_line hour row c =
 abbrev pub is_beside : List ℕ → LineValue → Bool
 is_beside id line = option_map_or (λ d. bytes_eq d.id id && is_none d.status) line.commitment false
 
+-- whether a commitment that applies at a rate, or at none, counts the cost of the row; or else its quantity
+abbrev pub counts_at : Bool → Option (Option ℕ) → Bool
+counts_at cost None = false
+counts_at cost (Some None) = not cost
+counts_at cost (Some (Some rate)) = cost
+
+-- whether a commitment counts the cost of a row of an hour, or its quantity; neither, where it doesn't apply
+unfoldable pub counts : ℕ → Charge → Bool → CommitmentValue → Bool
+counts hour row cost c = counts_at cost (applied c hour row)
+
+-- the most that a row could have used of one of some commitments
+abbrev pub most_usable : ℕ → Charge → List CommitmentValue → ℕ
+most_usable hour row [] = 0
+most_usable hour row (c ∷ cs) = max (usable hour row c) (most_usable hour row cs)
+
+-- the first of commitments, where there is one already; else the next
+abbrev pub first_or : Option CommitmentValue → CommitmentValue → Option CommitmentValue
+first_or None next = Some next
+first_or (Some first) next = Some first
+
+-- a row that a commitment counts, and so much as BilledCost. The status tells these lines from those beside a commitment
+unfoldable pub unit_line : ℕ → Charge → CommitmentValue → ℕ → LineValue
+unit_line hour row c most = record (given_line hour row) { kind = kind.Rest; commitment = Some (discount_by c (Some status.Unused)); billed = pos most }
+
+-- a row once, where some commitments count it: with the first of them, whose unit is that of all, and the most that the row could have used of one
+abbrev pub most_of : ℕ → Charge → List CommitmentValue → List LineValue
+most_of hour row [] = []
+most_of hour row (c ∷ cs) = unit_line hour row c (most_usable hour row (c ∷ cs)) ∷ []
+
+-- the same of the commitments that count its quantity, all in its unit, and of those that count its cost, all in the currency
+unfoldable pub unit_lines_of : List CommitmentValue → ℕ → Charge → List LineValue
+unit_lines_of cs hour row = most_of hour row (filter (counts hour row false) cs) ++ most_of hour row (filter (counts hour row true) cs)
+
 -- a row that some commitment could have taken
 unfoldable pub coverable_line : ℕ → Charge → LineValue
 coverable_line hour row = record (given_line hour row) { kind = kind.Rest }
 
--- the lines of a row: beside each commitment that applies to it, and by itself where one does
+-- the lines of a row: beside each commitment that applies to it, once in each unit, and by itself where one applies
 unfoldable pub eligible_of : List CommitmentValue → ℕ → Charge → List LineValue
 eligible_of cs hour row = map (eligible_line hour row) (filter (applies hour row) cs)
 
@@ -77,7 +110,7 @@ unfoldable pub coverable_of : List CommitmentValue → ℕ → Charge → List L
 coverable_of cs hour row = if list_any (applies hour row) cs then coverable_line hour row ∷ [] else []
 
 unfoldable pub open_lines_of : List CommitmentValue → ℕ → Charge → List LineValue
-open_lines_of cs hour row = eligible_of cs hour row ++ coverable_of cs hour row
+open_lines_of cs hour row = eligible_of cs hour row ++ (unit_lines_of cs hour row ++ coverable_of cs hour row)
 
 unfoldable pub open_lines : List CommitmentValue → List Charge → ℕ → List LineValue
 open_lines cs rows hour = flat_map (open_lines_of cs hour) rows

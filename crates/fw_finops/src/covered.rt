@@ -13,7 +13,7 @@ use fw_row_table::LentRow;
 use fw_terms::Commitment;
 use std::alloc::{AllocError, Global};
 
-// What a commitment took of a row of which so much was left before.
+// What a commitment took of a row of which so much was left before. What that used of its capacity stands as BilledCost.
 #[tactic(auto, unfolding(crate::specs::Lines::covered_line))]
 fn covered_line<'a>(
     commitment: &'a Commitment,
@@ -23,6 +23,7 @@ fn covered_line<'a>(
     hour: u32,
 ) -> Line<'a>
     requires quantity { take.now.quantity ≤ 10 ^ 17 }
+    requires weight { take.now.weight ≤ 10 ^ 17 }
     requires before { before ≤ quantity_of row.now }
     ensures { result ≡ covered_line hour commitment.now row.now take.now before }
 {
@@ -36,7 +37,7 @@ fn covered_line<'a>(
             kind: commitment.kind(),
             status: Some(DiscountStatus::Used),
         }),
-        billed: taken_cost(row, row.billed(), before, after),
+        billed: Nanos::of_fields(take.weight as i64),
         effective: taken_cost(row, row.effective(), before, after),
         quantity: Some(Nanos::of_fields(take.quantity as i64)),
         sku: row.sku(),

@@ -1,17 +1,17 @@
 //! What holds of the lines at the rows' own prices: laws, each the contract of a function that does nothing.
-ghost use Rattle.std.specs.Prelude.{◌≡◌, ◌≤◌, ◌+ℤ◌, ◌-ℤ◌, ℕ, List, [], Some, filter, pos, slice_get, sum_by};
-ghost use Rattle.std.specs.List.{AllZip, flat_map};
+ghost use Rattle.std.specs.Prelude.{◌≡◌, ◌≤◌, ◌+ℤ◌, ◌-ℤ◌, ◌≤ℤ◌, ℕ, false, true, List, [], Some, filter, if◌then◌else◌, pos, slice_get, sum_by};
+ghost use Rattle.std.specs.List.{AllZip, flat_map, list_any};
 ghost use Rattle.std.specs.Str.{bytes_eq};
 ghost use Rattle.fw_amortise.specs.Carrying.{cost_of_all};
 ghost use Rattle.fw_amortise.specs.LineValue.{LineValue};
 ghost use Rattle.fw_amortise.specs.Lines.{AreLines, rest_lines, rows_in};
 ghost use Rattle.fw_charge.specs.Charge.{Charge};
 ghost use Rattle.fw_cover.specs.Cover.{used_of};
-ghost use Rattle.fw_cover.specs.Hour.{hour_cover};
+ghost use Rattle.fw_cover.specs.Hour.{hour_cover, quantity_of};
 ghost use Rattle.fw_finops.specs.Costs.{coverable_in, covered_in, is_amortised, uncovered_in, whole_lines};
-ghost use Rattle.fw_finops.specs.Lines.{covered_lines, is_beside, price_lines};
+ghost use Rattle.fw_finops.specs.Lines.{counts, covered_lines, is_beside, most_of, price_lines};
 ghost use Rattle.fw_finops.specs.Listed.{AreListed, ArePrices, billed_of_all};
-ghost use Rattle.fw_finops.specs.Usable.{usable_of};
+ghost use Rattle.fw_finops.specs.Usable.{usable, usable_of};
 ghost use Rattle.fw_terms.specs.Commitment.{CommitmentValue};
 
 /// What commitments took of the rows of an hour, at the rows' own prices, and what is left of the rows that commitments may cover, cost together what
@@ -61,6 +61,18 @@ pub fn lines_beside_a_commitment_say_what_rows_could_have_used()
     ensures { (cs : List CommitmentValue) (rows : List Charge) (hour : ℕ) (id : List ℕ)
         → billed_of_all (filter (is_beside id) (price_lines cs rows hour))
         ≡ pos (sum_by (usable_of hour rows) (filter (λ c. bytes_eq c.id id) cs)) }
+{}
+
+/// However many commitments to a quantity apply to a row, the line of the row in its unit says its quantity, as BilledCost, once; and of those that
+/// count its cost, none could have had more of it than the line of the row in the currency says.
+pub fn a_row_counts_once_in_a_unit()
+    ensures quantity { (cs : List CommitmentValue) (row : Charge) (hour : ℕ)
+        → billed_of_all (most_of hour row (filter (counts hour row false) cs))
+        ≡ pos (if list_any (counts hour row false) cs then quantity_of row else 0) }
+    ensures cost { (cs : List CommitmentValue) (row : Charge) (hour place : ℕ)
+        (c : CommitmentValue) → slice_get cs place ≡ Some c → counts hour row true c ≡ true
+        → pos (usable hour row c)
+        ≤ℤ billed_of_all (most_of hour row (filter (counts hour row true) cs)) }
 {}
 
 /// What rows use of a commitment they could have used, in an hour and in any hours.

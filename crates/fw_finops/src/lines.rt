@@ -35,11 +35,15 @@ fn price_lines<'a>(
 /// The lines of one of a roster's hours, counted from 1970, at the own prices of these rows; and, where a tag has prices, behind them those of the
 /// rows that providers' commitments cover at these prices.
 ///
-/// First comes what the commitments took, in the order in which they took it. Each of these lines is a Used line whose costs are the parts of the
-/// row's costs that were taken: what was left of the row before costs more by that than what is left of it after, each rounded down. Then for
-/// each row comes the row beside each commitment that applies to it, and, where one does, the row by itself. Beside a commitment BilledCost is what
-/// the row could have used of it, in nanos of its unit: its whole quantity; or, of a commitment to a cost, its whole BilledCost at the rate,
-/// rounded up.
+/// First comes what the commitments took, in the order in which they took it. Each of these lines is a Used line whose EffectiveCost is the part of
+/// the row's that was taken: what was left of the row before costs more by that than what is left of it after, each rounded down. Its BilledCost is
+/// what was used of the commitment's capacity, in nanos of its unit.
+///
+/// Then for each row comes the row beside each commitment that applies to it. Beside a commitment BilledCost is what the row could have used of it, in
+/// nanos of its unit: its whole quantity; or, of a commitment to a cost, its whole BilledCost at the rate, rounded up. Commitments to a quantity
+/// that apply to a row are all in its unit. So behind these comes the row once for them, and once for those to a cost, where there are such: with
+/// the first of them, the status Unused, and as BilledCost the most that it could have used of one. Where a commitment applies, the row by itself
+/// comes last.
 ///
 /// Then comes each row whose CommitmentDiscountStatus is Used. The price is the amount that its tag's text reads as, and stands as EffectiveCost.
 /// Where the row has no such tag, or its text is no amount, EffectiveCost is 0 and BilledCost is one nano, so that sums of it count such rows;

@@ -1,11 +1,10 @@
 //! What of a commitment's capacity a row could have used.
-ghost use Rattle.std.specs.Prelude.{◌≡◌, ◌≤◌, ◌*◌, ◌^◌, IfSome, pos};
+ghost use Rattle.std.specs.Prelude.{◌≡◌, ◌≤◌, ◌*◌, ◌^◌, IfSome};
 ghost use Rattle.fw_cover.specs.Part.{ceil_div};
 ghost use Rattle.fw_finops.specs.Usable.{usable, whole_of};
 
 use crate::applied::applied;
 use fw_amortise::quantity_of;
-use fw_money::Nanos;
 use fw_row_table::LentRow;
 use fw_terms::Commitment;
 
@@ -36,11 +35,12 @@ fn whole_of(row: &LentRow<'_>, rate: Option<u32>) -> u64
 
 /// What of a commitment's capacity a row of an hour could have used; nothing where the commitment doesn't apply to it.
 #[tactic(auto, unfolding(crate::specs::Usable::usable))]
-pub(crate) fn usable(commitment: &Commitment, row: &LentRow<'_>, hour: u32) -> Nanos
-    ensures { result ≡ pos (usable hour row.now commitment.now) }
+pub(crate) fn usable(commitment: &Commitment, row: &LentRow<'_>, hour: u32) -> u64
+    ensures value { result ≡ usable hour row.now commitment.now }
+    ensures within { result ≤ 10 ^ 17 }
 {
     match applied(commitment, row, hour) {
-        Some(rate) => Nanos::of_fields(whole_of(row, rate) as i64),
-        None => Nanos::of_fields(0),
+        Some(rate) => whole_of(row, rate),
+        None => 0,
     }
 }
