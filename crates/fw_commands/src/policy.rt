@@ -65,11 +65,20 @@ impl<'p> GivenPolicy<'p> {
     /// Says that a report applied the policy of the file.
     pub fn say(self, rt: &HostRuntime) -> Result<(), AllocError> {
         let key = shown_text(rt.alloc(), self.policy.key())?;
-        let file = shown_text(rt.alloc(), self.file)?;
+        let file = self.shown_file(rt.alloc())?;
         let _ = eprintln!(rt;
-            "costs are shared by the policy for the tag {key}: the one of the file {file}"
+            "costs are shared by the policy for the tag {key}: the one of {file}"
         );
         Ok(())
+    }
+
+    // What people see of the file.
+    fn shown_file(self, alloc: Global) -> Result<String, AllocError> {
+        if self.file == "-" {
+            return String::from_str(alloc, "standard input");
+        }
+        let file = shown_text(alloc, self.file)?;
+        format!(in alloc; "the file {file}")
     }
 
     /// Says that the policy is for another tag than the report is by.

@@ -322,7 +322,7 @@ fn no_keys(rt: &HostRuntime) -> ExitCode
 {
     wrong_use(
         rt,
-        "name what the groups are: --tag KEY or --column COLUMN; or take --total-only for the sums alone",
+        "name what the groups are: --tag KEY or --column COLUMN; a report takes --total-only for the sums alone",
     )
 }
 
