@@ -426,6 +426,19 @@ class Figures(unittest.TestCase):
                 "Total       Hours      6.00          3.00        50.0%              6.00     50.0%",
             ],
         )
+        # The commitment takes 2 Hours of web's row, which comes first, and 1 of the 4 of shop's.
+        lines = [line.rstrip() for line in house.asked("--from", LOW, "--to", HIGH, "--tag", "team", "--by", "day").decode().splitlines()]
+        self.assertEqual(
+            lines[lines.index("") + 1 :],
+            [
+                "Period      team   Unit   Capacity  UsedCapacity  Utilization  EligibleCapacity  Coverage",
+                "----------  -----  -----  --------  ------------  -----------  ----------------  --------",
+                "2024-01-31  shop   Hours                    1.00                           4.00     25.0%",
+                "2024-01-31  web    Hours                    2.00                           2.00    100.0%",
+                "----------  -----  -----  --------  ------------  -----------  ----------------  --------",
+                "            Total  Hours      6.00          3.00        50.0%              6.00     50.0%",
+            ],
+        )
 
     def test_a_page_shows_texts_of_others_as_texts(self):
         """An id and a tag with markup, and what is drawn of a period: 3 used and 1 unused of 4 that are as high as the chart."""
